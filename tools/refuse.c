@@ -1,4 +1,4 @@
-/* Preloaded, it refuses one allocation, once: the nth behind a malloc of REFUSE + n bytes, or of all, where the environment has
+/* Preloaded, it refuses one allocation, once: the nth after a malloc of REFUSE + n bytes, or of all, where the environment has
    REFUSE=n; then it writes a byte to descriptor 9. A malloc of WAS_REFUSED bytes is refused just where one was refused. */
 typedef unsigned long size;
 extern void *__libc_malloc(size);

@@ -41,7 +41,7 @@ module _ (c : Case) (r : Record) where
   behind_prepared true x xs ys h = refl
   behind_prepared false x xs ys h = absurd (cc)
 
-  -- a Prepared begins anew
+  -- a Prepared begins again
   since_prepared : (rs : List Record) → is_prepared c r ≡ true → since_promise c (rs ++ r ∷ []) ≡ r ∷ []
   unfolding has
   since_prepared [] is = refl
@@ -58,7 +58,7 @@ module _ (c : Case) (r : Record) where
   by_rest x xs true rest = rest
   by_rest x xs false rest = refl
 
-  -- any other record goes behind the others
+  -- any other record goes after the others
   since_other : (rs : List Record) → is_prepared c r ≡ false
       → since_promise c (rs ++ r ∷ []) ≡ since_promise c rs ++ r ∷ []
   unfolding has
@@ -222,7 +222,7 @@ module _ (k : Kinds) where
   with_one c (Base n) is = no_more
   with_one c (Pair key value) is = no_more
 
-  -- a Prepared of the case begins anew
+  -- a Prepared of the case begins again
   begun : (c : Case) (r : Record) → is_prepared c r ≡ true
       → (if is_of c r then kinds_after no_kinds r else no_kinds) ≡ (if is_of c r then kinds_after k r else k)
   begun c (Prepared (CaseBranch d) ws) is = here (same_case d c) is
@@ -233,7 +233,7 @@ module _ (k : Kinds) where
       here false h = absurd (cc)
   begun c r is = absurd (cc)
 
--- which records a case has behind one more
+-- which records a case has after one more
 pub kinds_behind : (rs : List Record) (c : Case) (r : Record) → kinds_of c (since_promise c (rs ++ r ∷ []))
     ≡ (if is_of c r then kinds_after (kinds_of c (since_promise c rs)) r else kinds_of c (since_promise c rs))
 kinds_behind rs c r = by_kind (is_prepared c r) refl

@@ -95,7 +95,7 @@ reports_more : (c : Case) (rs : List Record) (r : Record)
 unfolding reported_in
 reports_more c rs r = fold-append (reported_behind c) None rs (r ∷ [])
 
--- what is noted of a case behind one more record
+-- what is noted of a case after one more record
 note_more : (rs : List Record) (c : Case) (r : Record)
     → note_of (rs ++ r ∷ []) c ≡ (if is_of c r then note_after (note_of rs c) r else note_of rs c)
 note_more rs c r =
@@ -175,7 +175,7 @@ notes_more rs r (Some d) is = λ i. record {
 noted_more : (rs : List Record) (r : Record) → noted (log_notes_of rs) r ≡ log_notes_of (rs ++ r ∷ [])
 noted_more rs r = notes_more rs r (record_case r) refl
 
--- what is noted behind more records
+-- what is noted after more records
 pub noted_from : (done rest : List Record) → fold noted (log_notes_of done) rest ≡ log_notes_of (done ++ rest)
 noted_from done [] = ap log_notes_of (sym (append-nil done))
 noted_from done (r ∷ rest) =

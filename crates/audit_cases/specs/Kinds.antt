@@ -73,7 +73,7 @@ kinds_of c rs = record {
   forgot = has (is_forgot c) rs;
 }
 
--- which there are behind one more record of the case; a Prepared begins anew
+-- which there are after one more record of the case; a Prepared begins again
 abbrev pub kinds_after : Kinds → Record → Kinds
 kinds_after k (Collecting c ts) = record k { collecting = true }
 kinds_after k (Prepare c ts) = record k { prepare = true }

@@ -54,13 +54,13 @@ pub record CaseNote : Type 0 where
 abbrev pub no_note : CaseNote
 no_note = record { kinds = no_kinds; named = []; reports = None }
 
--- what is reported behind one more record of the case: an End says what, and Cleared undoes it
+-- what is reported after one more record of the case: an End says what, and Cleared undoes it
 abbrev pub reports_behind : Option Reports → Record → Option Reports
 reports_behind rep (End c found) = found
 reports_behind rep (Cleared c) = None
 reports_behind rep _ = rep
 
--- what is reported of a case behind one more record
+-- what is reported of a case after one more record
 abbrev pub reported_behind : Case → Option Reports → Record → Option Reports
 reported_behind c rep (End d found) = if same_case d c then found else rep
 reported_behind c rep (Cleared d) = if same_case d c then None else rep
@@ -83,7 +83,7 @@ tickets_in (Commit c ts) = ts
 tickets_in (Abort c ts) = ts
 tickets_in _ = []
 
--- what is noted behind one more record of the case
+-- what is noted after one more record of the case
 abbrev pub note_after : CaseNote → Record → CaseNote
 note_after n r = record {
   kinds = kinds_after n.kinds r;
@@ -136,16 +136,16 @@ no_notes = record { table = []; promised = [] }
 abbrev pub note_in : Table → Case → CaseNote
 note_in t c = unwrap_or (lookup (same c) t) no_note
 
--- the table behind one more record of the case
+-- the table after one more record of the case
 abbrev pub noted_of : Table → Case → Record → Table
 noted_of t c r = insert_entry same t c (note_after (note_in t c) r)
 
--- what is noted behind one more record, of this case if it is of any
+-- what is noted after one more record, of this case if it is of any
 abbrev pub noted_by : LogNotes → Record → Option Case → LogNotes
 noted_by n r None = n
 noted_by n r (Some c) = record { table = noted_of n.table c r; promised = n.promised ++ promised_in r }
 
--- what is noted behind one more record
+-- what is noted after one more record
 abbrev pub noted : LogNotes → Record → LogNotes
 noted n r = noted_by n r (record_case r)
 

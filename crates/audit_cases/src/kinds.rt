@@ -64,7 +64,7 @@ impl Kinds {
         }
     }
 
-    /// One record more of the case. What was before a Prepared is of no account behind it.
+    /// One record more of the case. What was before a Prepared is of no account after it.
     pub fn note(&mut self, record: &Record)
         ensures { self.new ≡ kinds_after self.old record.now }
     {

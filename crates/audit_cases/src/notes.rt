@@ -177,7 +177,7 @@ fn last_places(alloc: Global, cases: &[Case]) -> Result<Vec<Case>, AllocError>
     Ok(listed)
 }
 
-/// These cases, as a list made anew.
+/// These cases, as a list made again.
 fn cases_of(alloc: Global, cases: &IndexMap<Case, Noted>) -> Result<Vec<Case>, AllocError>
     ensures { IfOk result (λ listed. listed.items ≡ map (λ e. e.0) cases.now.entries) }
 {

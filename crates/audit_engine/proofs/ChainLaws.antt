@@ -156,7 +156,7 @@ module _ (tree : List TreeEntry) (logs : Logs) where
   one_less zero some = absurd (some refl)
   one_less (suc k) some = (k, refl)
 
-  -- a step and those behind it
+  -- a step and those after it
   pub one_step : (c : Case) (t : Ticket) (p : ProcessId) (most : ℕ) → (most ≡ 0 → ⊥) → c.ticket ≡ Some t
       → parent_of tree (process_of c) ≡ Some p
       → steps_within most tree logs c

@@ -19,12 +19,12 @@ use Rattle.audit_engine.specs.declared.ending.Ending.TheVariants as ending
 
 -- The text of a report.
 
--- the lines of cases, and behind them the number of mismatches
+-- the lines of cases, and after them the number of mismatches
 unfoldable pub report_text : List Line → List ℕ
 report_text ls = lines_text ls ++ count_text (mismatches_in ls)
 
 -- the lines of cases in these logs of this tree, each explained that is in doubt, shows a mismatch or reports
--- tickets, and behind them the number of mismatches
+-- tickets, and after them the number of mismatches
 unfoldable pub explained_text : List TreeEntry → Logs → List Line → List ℕ
 explained_text tree logs ls = flat_map (explained_line tree logs) ls ++ count_text (mismatches_in ls)
 
@@ -87,7 +87,7 @@ IsTrueReport d ending.Agrees input text = ReportsRuns d input text
 IsTrueReport d ending.Differs input text = ReportsRuns d input text
 IsTrueReport d ending.Refused input text = ⊤
 
--- how an audit with so many mismatches ends
+-- how an audit with N mismatches ends
 abbrev pub ending_by : ℕ → Ending
 ending_by n = if nat_eq n 0 then ending.Agrees else ending.Differs
 

@@ -34,7 +34,7 @@ abbrev pub steps_on : (Case → List Step) → Option Case → List Step
 steps_on more None = []
 steps_on more (Some c) = more c
 
--- the step in which a ticket asks this parent and finds this, and those behind it
+-- the step in which a ticket asks this parent and finds this, and those after it
 abbrev pub steps_from : (Case → List Step) → Ticket → ProcessId → Found → List Step
 steps_from more t p f = record { ticket = t; process = p; found = f } ∷ steps_on more (asks_on f)
 
@@ -50,7 +50,7 @@ abbrev pub found_in : Logs → Txn → Option Ticket → ProcessId → Found
 found_in logs x None p = Nothing
 found_in logs x (Some t) p = finds (notes_of (logs p)) x t
 
--- the steps from a case upward, so many at most
+-- the steps from a case upward, N at most
 abbrev pub steps_within : ℕ → List TreeEntry → Logs → Case → List Step
 steps_within zero tree logs c = []
 steps_within (suc k) tree logs c =
@@ -75,7 +75,7 @@ deed_by c p (Kept d Collecting) more = Restart p
 deed_by c p (Kept d Prepare) more = more d
 deed_by c p f more = asks c c.ticket
 
--- what is to be done about a case in doubt behind these steps: the last case in doubt asks, or the process
+-- what is to be done about a case in doubt after these steps: the last case in doubt asks, or the process
 -- that collects votes is restarted
 abbrev pub deed_behind : Case → List Step → Deed
 deed_behind c [] = asks c c.ticket
@@ -92,7 +92,7 @@ abbrev pub AreNamings : List TreeEntry → Logs → TreeFounds → Type 0
 AreNamings tree logs ns = (q : ProcessId) → is_listed tree q ≡ true
     → (s : Founds) × (lookup (same_id q) ns ≡ Some s) × AreNamed (notes_of (logs q)) s
 
--- behind what processes find this one finds what it does by what is noted of it, if anything is
+-- after what processes find this one finds what it does by what is noted of it, if anything is
 abbrev pub Adds : Option LogNotes → ProcessId → TreeFounds → TreeFounds → Type 0
 Adds None q old new = new ≡ old
 Adds (Some n) q old new = (s : Founds) × AreNamed n.table s × (new ≡ insert_entry same_id old q s)

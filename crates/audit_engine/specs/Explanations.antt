@@ -93,7 +93,7 @@ abbrev pub steps_of : List TreeEntry → Logs → Case → Option Outcome → Li
 steps_of tree logs c None = chain_of tree logs c
 steps_of tree logs c (Some o) = []
 
--- what to do: about a mismatch, or else about a case in doubt behind these steps
+-- what to do: about a mismatch, or else about a case in doubt after these steps
 abbrev pub do_text : Bool → Case → List Step → List ℕ
 do_text true c ss = mend_text c
 do_text false c ss = deed_text (deed_behind c ss)
@@ -120,7 +120,7 @@ abbrev pub way_on : (ProcessId → List ℕ) → ProcessId → Option ProcessId 
 way_on more p None = []
 way_on more p (Some q) = codes ", " ++ decimal p.0 ++ codes " told " ++ decimal q.0 ++ more q
 
--- the way of a report from a process up to the root, of so many steps at most
+-- the way of a report from a process up to the root, of N steps at most
 unfoldable pub way_text : ℕ → List TreeEntry → ProcessId → List ℕ
 way_text zero tree p = []
 way_text (suc n) tree p = way_on (way_text n tree) p (parent_of tree p)
@@ -157,7 +157,7 @@ reports_text tree root (Some r) = reported_text tree root r
 abbrev pub why_text : List TreeEntry → Logs → Line → List ℕ
 why_text tree logs l = if is_explained l then explanation_text tree logs l else []
 
--- a line, and behind it why its case stands so, where it is explained, and who reported what the root's End
+-- a line, and after it why its case stands so, where it is explained, and who reported what the root's End
 -- reports
 abbrev pub explained_line : List TreeEntry → Logs → Line → List ℕ
 explained_line tree logs l = line_text l ++ (why_text tree logs l ++ reports_text tree l.case l.reports)

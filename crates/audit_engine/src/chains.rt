@@ -68,7 +68,7 @@ fn asks_next(found: Found) -> Option<Case>
     }
 }
 
-/// The steps from a case upward, so many at most.
+/// The steps from a case upward, N at most.
 fn push_steps(
     steps: &mut Vec<Step>,
     tree: &Tree,
@@ -128,7 +128,7 @@ fn asking(case: &Case) -> Deed
     }
 }
 
-/// What is to be done about a case in doubt behind these steps: the last case in doubt asks, or the process
+/// What is to be done about a case in doubt after these steps: the last case in doubt asks, or the process
 /// that collects votes is restarted.
 pub fn deed_of(case: &Case, steps: &[Step]) -> Deed
     ensures { result ≡ deed_behind case.now steps.now }

@@ -5,7 +5,7 @@
 pub enum Detail {
     /// A line for each case.
     Lines,
-    /// A line for each case, and behind one that is in doubt or shows a mismatch what decided it, and what
-    /// to do; behind a root's that reports tickets who reported each, and what to do.
+    /// A line for each case, and after one that is in doubt or shows a mismatch what decided it, and what
+    /// to do; after a root's that reports tickets who reported each, and what to do.
     Explained,
 }

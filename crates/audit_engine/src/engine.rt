@@ -19,8 +19,8 @@ use tree_audit::{AuditError, Report, all_notes, audit_notes};
 use tree_model::Tree;
 
 /// Reads a tree with its logs, audits them, and writes a line for each case that is told of and the number
-/// of mismatches; as the detail asks, behind a line that is in doubt or shows a mismatch what decided it and
-/// what to do, and behind a root's that reports tickets who reported each and what to do. Or one line that
+/// of mismatches; as the detail asks, after a line that is in doubt or shows a mismatch what decided it and
+/// what to do, and after a root's that reports tickets who reported each and what to do. Or one line that
 /// says which log is damaged where, or why the input is refused.
 ///
 /// Where a run of the model left the logs, with no process failed, each outcome is that of its transaction

@@ -167,7 +167,7 @@ fn push_told_part(
     }
 }
 
-/// What to do about the case of a line: about a mismatch, or else about a case in doubt behind these steps.
+/// What to do about the case of a line: about a mismatch, or else about a case in doubt after these steps.
 fn push_do(out: &mut Vec<u8>, line: &Line, steps: &[Step]) -> Result<(), AllocError>
     ensures { OnOk result (out.new.items ≡ out.old.items
         ++ do_text line.now.mismatch line.now.case steps.now) }
@@ -369,7 +369,7 @@ fn push_why(
     Ok(())
 }
 
-/// A line, and behind it why its case stands so, where it is in doubt or shows a mismatch, and who reported
+/// A line, and after it why its case stands so, where it is in doubt or shows a mismatch, and who reported
 /// what the root's End reports.
 pub(crate) fn push_explained(
     out: &mut Vec<u8>,

@@ -89,7 +89,7 @@ pub not_closed : (tree : List TreeEntry) (events : List Event) (why : Failure)
 not_closed tree events why (inl memory) = inl memory
 not_closed tree events why (inr (exhausted, closes)) = inr (inr (exhausted, closes))
 
--- one of the events was refused for a reason behind which no run goes on
+-- one of the events was refused for a reason after which no run goes on
 pub not_posted : (tree : List TreeEntry) (events : List Event) (made : ℕ) (refusal : PostError) (why : Failure)
     → made < length events → (why ≡ failure.Memory) ⊎ IsPostFailure refusal why
     → (why ≡ failure.Memory) ⊎ CannotWrite tree events why

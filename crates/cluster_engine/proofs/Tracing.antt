@@ -8,12 +8,12 @@ use Rattle.tree_engine.specs.Failures.{message_count}
 use Rattle.trace_lines.specs.Trace.{entries_text, entry_text}
 use Rattle.tree_ties.specs.Views.{entries_in}
 
--- the entry at a place and those behind it
+-- the entry at a place and those after it
 dropped_at : (xs : List (ℕ × Entry)) (i : ℕ) (d : ℕ × Entry) → i < length xs
     → drop i xs ≡ get_or xs i d ∷ drop (i + 1) xs
 dropped_at xs i d within = rw add-one (drop-cons xs i d within)
 
--- the text behind one entry more
+-- the text after one entry more
 pub entry_added : (xs : List (ℕ × Entry)) (i : ℕ) (d : ℕ × Entry) (sent next : ℕ) (old new all : List ℕ)
     → i < length xs → next ≡ sent + length (get_or xs i d).1.reaction.messages
     → new ≡ old ++ entry_text sent (get_or xs i d).1
@@ -37,7 +37,7 @@ rest_sent xs i d within =
     ap (λ (ys : List (ℕ × Entry)). message_count (entries_in ys)) (dropped_at xs i d within)
     ∙ length-append (get_or xs i d).1.reaction.messages (flat_map (λ (e : Entry). e.reaction.messages) rest)
 
--- so many are sent behind one entry more
+-- N are sent after one entry more
 pub sent_more : (xs : List (ℕ × Entry)) (i : ℕ) (d : ℕ × Entry) (sent next : ℕ) → i < length xs
     → next ≡ sent + length (get_or xs i d).1.reaction.messages
     → sent + message_count (entries_in (drop i xs)) ≡ message_count (entries_in xs)
@@ -53,7 +53,7 @@ pub sent_past : (xs : List (ℕ × Entry)) (i : ℕ) (d : ℕ × Entry) (sent : 
 sent_past xs i d sent within past so =
     let rest = rest_sent xs i d within in omega (arith, rest, past, so)
 
--- none is left behind the last
+-- none is left after the last
 pub all_added : (xs : List (ℕ × Entry)) (i sent : ℕ) (old all : List ℕ) → length xs ≤ i
     → old ++ entries_text sent (entries_in (drop i xs)) ≡ all → old ≡ all
 all_added xs i sent old all past so =

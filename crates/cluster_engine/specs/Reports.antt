@@ -39,7 +39,7 @@ abbrev pub journal_text : List TreeEntry → List (ℕ × Entry) → List ℕ
 journal_text tree journal =
     (opened_text tree ++ entries_text 0 (entries_in journal)) ++ (codes "end" ++ 10 ∷ [])
 
--- what was told, by boot and sequence, and behind it this line
+-- what was told, by boot and sequence, and after it this line
 abbrev pub TellsJournal : List (ℕ × Entry) → List ℕ → List ℕ → Type 0
 TellsJournal journal last text = (lines : List ℕ) × TellsAll journal lines × (text ≡ lines ++ last)
 
@@ -87,7 +87,7 @@ refusal_number (Step steps.Exhausted) = None
 refusal_number (Step e) = Some (step_error_number e)
 refusal_number Memory = None
 
--- the text is the one line of an event that was refused so, behind so many that were made
+-- the text is the one line of an event that was refused so, after N that were made
 pub record RefusesBehind (made : ℕ) (text : List ℕ) : Type 0 where
   pub why : PostError
   pub number : ℕ
@@ -119,7 +119,7 @@ IsClusterReport output Refused input text = RefusesScript input text
 
 -- Why nothing is written, where memory was not refused and neither reading nor writing failed.
 
--- no run goes on behind this refusal of an event, for the same reason
+-- no run goes on after this refusal of an event, for the same reason
 abbrev pub IsPostFailure : PostError → Failure → Type 0
 IsPostFailure (Step e) why = IsFailure e why
 IsPostFailure Memory why = why ≡ failure.Memory
@@ -133,7 +133,7 @@ PostFails events why = (made : ℕ) × (made < length events) × (refusal : Post
 abbrev pub IsUnnumbered : List (ℕ × Entry) → Type 0
 IsUnnumbered journal = 2 ^ 64 ≤ message_count (entries_in journal)
 
--- so many were sent in the journal of a closed cluster on this tree
+-- N were sent in the journal of a closed cluster on this tree
 abbrev pub ClosesUnnumbered : List TreeEntry → Type 0
 ClosesUnnumbered tree =
     (journal : List (ℕ × Entry)) × (logs : List (List LogRecord)) × IsClosed tree journal logs × IsUnnumbered journal

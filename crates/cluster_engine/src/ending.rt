@@ -33,7 +33,7 @@ fn refusal_number(why: PostError) -> Result<u8, Failure>
     }
 }
 
-/// The line of an event that was refused behind so many that were made.
+/// The line of an event that was refused after N that were made.
 pub(crate) fn refused_line(
     alloc: Global,
     made: usize,
@@ -109,7 +109,7 @@ fn journal_told(
     }
 }
 
-/// The lines of what was told, and behind them whether the journal, made once more on one thread, leaves the
+/// The lines of what was told, and after them whether the journal, made once more on one thread, leaves the
 /// same logs.
 fn told_text(
     alloc: Global,

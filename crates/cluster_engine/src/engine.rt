@@ -37,7 +37,7 @@ pub enum Output {
 /// Reads a tree script, posts its events to processes that run at the same time, and writes what the
 /// application was told, in order of boot and sequence; then whether a tree on one thread that makes the
 /// events of the journal leaves the same logs. Or it writes the journal, as a trace. A settle delivers
-/// every message by so many workers. A refused event is the only line; so is one that says why the script
+/// every message by N workers. A refused event is the only line; so is one that says why the script
 /// is refused.
 ///
 /// What is told is that of a journal which is a run of the script's tree in the model, of which the

@@ -12,7 +12,7 @@ use std::alloc::{AllocError, Global};
 use tree_model::{Entry, Event, Happening, Input, LogRecord, StepError, Tree};
 use tree_world::World;
 
-/// How many bytes the first so many of these take.
+/// How many bytes the first N of these take.
 fn bytes_of(sizes: &[u64], count: u64) -> u64 {
     let mut bytes: u64 = 0;
     for (place, size) in sizes.iter().enumerate() {

@@ -37,7 +37,7 @@ fn push_opened(alloc: Global, out: &mut Vec<u8>, tree: &[TreeEntry]) -> Result<(
     Ok(())
 }
 
-/// The lines of an entry, before which so many messages were sent. How many were with its own. Exhausted:
+/// The lines of an entry, before which N messages were sent. How many were with its own. Exhausted:
 /// 2^64 or more.
 #[tactic(auto, unfolding(trace_lines::specs::Trace::entry_text))]
 fn push_entry(out: &mut Vec<u8>, sent: u64, entry: &Entry) -> Result<u64, Failure>

@@ -26,7 +26,7 @@ past : (b : Bool) (k : ℕ) (o p q : Option ℕ) → (if b then Some k else o) �
 past true k o p q h next = absurd (cc)
 past false k o p q h next = next h
 
--- an open message behind ones that are not is the first open one
+-- an open message after ones that are not is the first open one
 pub opens : (q : ProcessId) (k : ℕ) (ms : List Marked) (p : ℕ) (m d : Marked) → p < length ms
     → first_open q k (take p ms) ≡ None → m ≡ get_or ms p d → is_open_to q m ≡ true
     → first_open q k ms ≡ Some (p + k)
@@ -51,7 +51,7 @@ one_further q k (x ∷ ms) (suc p) m d lt front at is =
     goes_by (is_open_to q x) k (first_open q (k + 1) (take p ms)) (first_open q (k + 1) (take (suc p) ms)) front
     (λ none. one_further q (k + 1) ms p m d (omega (arith, lt)) none at is)
 
--- behind a message that is not open none is open as far as it
+-- after a message that is not open none is open as far as it
 pub goes_on : (q : ProcessId) (k : ℕ) (ms : List Marked) (p : ℕ) (m d : Marked) → p < length ms
     → first_open q k (take p ms) ≡ None → m ≡ get_or ms p d → is_open_to q m ≡ false
     → first_open q k (take (p + 1) ms) ≡ None
@@ -59,7 +59,7 @@ goes_on q k ms p m d lt front at is =
     let next : suc p ≡ p + 1 = omega arith in
     subst (λ n. first_open q k (take n ms) ≡ None) next (one_further q k ms p m d lt front at is)
 
--- a change behind a front leaves it
+-- a change after a front leaves it
 pub take_set : (ms : List Marked) (p : ℕ) (m : Marked) (n : ℕ) → n ≤ p → take n (slice_set ms p m) ≡ take n ms
 take_set [] p m n le = refl
 take_set (x ∷ ms) zero m zero le = refl

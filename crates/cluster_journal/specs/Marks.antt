@@ -81,7 +81,7 @@ abbrev pub one_if : Bool → ℕ
 one_if true = 1
 one_if false = 0
 
--- Of these messages: none to this receiver is open before the place that it names, and so many to it are open, and
+-- Of these messages: none to this receiver is open before the place that it names, and N to it are open, and
 -- claimed, as it says.
 pub record IsTold (ms : List Marked) (r : Receiver) : Type 0 where
   pub within : r.settled ≤ length ms

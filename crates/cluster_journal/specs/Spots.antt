@@ -4,7 +4,7 @@ use Rattle.tree_model.specs.declared.events.Entry.{Entry}
 use Rattle.tree_model.specs.declared.messages.Envelope.{Envelope}
 use Rattle.cluster_journal.specs.declared.spots.Spot.{Spot}
 
--- the places of so many messages of the entry at this place
+-- the places of N messages of the entry at this place
 abbrev pub spots_at : ℕ → ℕ → List Spot
 spots_at n zero = []
 spots_at n (suc m) = spots_at n m ++ record { entry = n; message = m } ∷ []

@@ -23,7 +23,7 @@ use tree_model::{Entry, Envelope, ProcessId};
 pub struct ClusterJournal {
     /// The entries that are placed, the oldest first.
     placed: Vec<(u64, Entry)>,
-    /// Those behind them, each in the room that was made for it.
+    /// Those after them, each in the room that was made for it.
     late: LinkedList<(u64, Entry)>,
     /// Where each message of the placed entries stands.
     spots: Vec<Spot>,

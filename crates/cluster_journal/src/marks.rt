@@ -55,9 +55,9 @@ pub(crate) struct Receiver {
     pub(crate) process: ProcessId,
     /// No message to it before this place is open.
     pub(crate) settled: usize,
-    /// So many messages to it are open.
+    /// N messages to it are open.
     pub(crate) waiting: usize,
-    /// So many messages to it are claimed: one, or none.
+    /// N messages to it are claimed: one, or none.
     pub(crate) claimed: usize,
 }
 
@@ -299,7 +299,7 @@ fn settled_before(settled: usize, place: usize, mark: Mark) -> usize
     }
 }
 
-/// A count among so many, where one of them was counted or not, and is.
+/// A count among N, where one of them was counted or not, and is.
 fn counted(among: usize, count: usize, was: bool, is: bool) -> usize
     requires { (one_if was ≤ count) × (count + one_if is ≤ among + one_if was) }
     ensures { result + one_if was ≡ count + one_if is }
@@ -424,7 +424,7 @@ fn is_claimed(mark: Mark) -> bool
     matches!(mark, Mark::Claimed)
 }
 
-/// The place of the message with this number, among so many.
+/// The place of the message with this number, among N.
 fn place_of(number: u64, marks: usize) -> Option<usize>
     ensures found { IfSome result (λ place. (place < marks) × (number ≡ place + 1)) }
     ensures none { IfNone result ((number ≡ 0) ⊎ (marks < number)) }

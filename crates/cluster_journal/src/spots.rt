@@ -23,7 +23,7 @@ pub(crate) fn spot_at(spots: &[Spot], place: usize) -> Option<Spot>
     }
 }
 
-/// The places of so many messages of the entry at this place, where there is room for them.
+/// The places of N messages of the entry at this place, where there is room for them.
 pub(crate) fn add_spots(spots: &mut Vec<Spot>, entry: usize, count: usize)
     requires { vec_len spots.old + count ≤ vec_capacity spots.old }
     ensures { spots.new.items ≡ spots.old.items ++ spots_at entry count }

@@ -13,7 +13,7 @@ use tree_model::{Act, Entry, Event, Presumption, Tree, Txn};
 use tree_threads::{Open, Pass};
 use tree_ties::seats::{Opened, Seats};
 
-/// So many times each caller begins a transaction.
+/// N times each caller begins a transaction.
 const TIMES: u64 = 100;
 
 /// What a caller was answered: its number, the place of the entry, from 1, and the transaction.

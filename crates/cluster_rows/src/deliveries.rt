@@ -13,7 +13,7 @@ use tree_model::{Act, Case, Entry, Event, Happening, Input, ProcessId, Tree};
 use tree_threads::{Open, Pass};
 use tree_ties::seats::{Opened, Seats};
 
-/// So many managers a transaction has.
+/// N managers a transaction has.
 pub const MANAGERS: u32 = 6;
 
 /// The root invites each manager.
@@ -70,7 +70,7 @@ fn commit_all<N: Seats + Send + Sync, R: Threads + Wait + Sync>(
     Some(())
 }
 
-/// Transactions of many managers, whose messages so many workers deliver.
+/// Transactions of many managers, whose messages N workers deliver.
 fn deliver_all<N: Seats + Send + Sync, R: Threads + Wait + Sync>(
     rt: &R,
     alloc: Global,

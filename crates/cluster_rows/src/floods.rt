@@ -60,7 +60,7 @@ fn fill<N: Seats + Send + Sync, R: Threads + Wait + Sync>(
     Some(last == MOST_ENTRIES && why == PostError::JournalFull && journal.len() == MOST_ENTRIES)
 }
 
-/// Whether the entry behind the last that a journal takes is refused, and the journal stands.
+/// Whether the entry after the last that a journal takes is refused, and the journal stands.
 pub fn journal_is_full<R: Threads + Wait + Sync>(rt: &R, alloc: Global) -> Option<bool> {
     let tree = tree(alloc, 1)?;
     let opened = seats(alloc, &tree).ok()?;

@@ -80,7 +80,7 @@ fn deliver_two<N: Seats + Send + Sync, R: Threads + Wait + Sync>(
     deliver_by(rt, cluster, passes, gate)
 }
 
-/// Whether the two steps meet, by so many workers.
+/// Whether the two steps meet, by N workers.
 fn meet<N: Seats + Send + Sync, R: Threads + Wait + Sync>(
     rt: &R,
     alloc: Global,

@@ -24,7 +24,7 @@ fn entry(id: u32, kind: Kind, parent: Option<u32>) -> TreeEntry {
     }
 }
 
-/// The entries of a root with so many managers, whose names begin at 2.
+/// The entries of a root with N managers, whose names begin at 2.
 fn entries(alloc: Global, managers: u32) -> Result<Vec<TreeEntry>, AllocError> {
     let mut entries = Vec::new(alloc);
     entries.push(entry(1, Kind::Coordinator, None))?;

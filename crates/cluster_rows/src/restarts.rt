@@ -16,7 +16,7 @@ use tree_node::copied_tree;
 use tree_threads::{Open, Pass};
 use tree_ties::seats::{Opened, Seats};
 
-/// So many times each process restarts.
+/// N times each process restarts.
 const TIMES: u32 = 100;
 
 /// Restarts each process again and again; each other time the unforced records are lost.

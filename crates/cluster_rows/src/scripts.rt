@@ -36,7 +36,7 @@ impl<'a> Row<'a> {
     }
 }
 
-/// Runs a script by so many workers: the exit status, and what it writes. No status where it fails.
+/// Runs a script by N workers: the exit status, and what it writes. No status where it fails.
 fn run<R: Threads + Wait + Sync>(
     rt: &R,
     alloc: Global,

@@ -13,16 +13,16 @@ use tree_model::{Act, Bytes, Case, Conclusion, Entry, Event, Op, ProcessId, Tree
 use tree_threads::{Open, Pass};
 use tree_ties::seats::{Opened, Seats};
 
-/// So many managers a transaction has.
+/// N managers a transaction has.
 const MANAGERS: u32 = 2;
 
 /// So often transactions are made at once.
 const ROUNDS: u32 = 6;
 
-/// So many transactions are made at once.
+/// N transactions are made at once.
 const AT_ONCE: u32 = 100;
 
-/// So many works each manager has in a transaction.
+/// N works each manager has in a transaction.
 const WORKS: u32 = 16;
 
 /// A write of a key of its own.
@@ -67,7 +67,7 @@ fn work<N: Seats, R: Wait>(
     Some(())
 }
 
-/// Makes so many transactions at once.
+/// Makes N transactions at once.
 fn make_round<N: Seats + Send + Sync, R: Threads + Wait + Sync>(
     rt: &R,
     alloc: Global,
@@ -118,7 +118,7 @@ fn committed(journal: &[(u64, Entry)]) -> u32 {
     count
 }
 
-/// Transactions with many works at each manager, whose messages so many workers deliver. Whether all commit.
+/// Transactions with many works at each manager, whose messages N workers deliver. Whether all commit.
 fn commit_by<N: Seats + Send + Sync, R: Threads + Wait + Sync>(
     rt: &R,
     alloc: Global,

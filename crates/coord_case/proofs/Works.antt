@@ -9,7 +9,7 @@ use Rattle.coord_case.specs.declared.child.Child.{Child}
 use Rattle.coord_case.specs.Lives.{accepted_in, are_distinct, changing, sending, works_found, works_in}
 use Rattle.coord_case.proofs.Children.{Each, and_first, and_second, each_differs, each_two, first_false, of_not, same_process-sym, same_ticket-is, same_ticket-refl, second_false, ticket_child}
 
--- so many, if it holds
+-- N, if it holds
 abbrev pub count_if : Bool → ℕ → ℕ
 count_if true n = n
 count_if false n = 0

@@ -91,7 +91,7 @@ changing t f (c ∷ cs) = if same_ticket c.ticket t then f c ∷ cs else c ∷ c
 abbrev pub voting : Option Vote → Child → Child
 voting w c = record c { vote = w }
 
--- the child to which so many works were sent
+-- the child to which N works were sent
 abbrev pub sending : ℕ → Child → Child
 sending n c = record c { works = n }
 
@@ -117,7 +117,7 @@ yes_by w = cond (is_vote Yes w) 1 0
 abbrev pub yes_in : List Child → ℕ
 yes_in cs = count_by (λ c. is_vote Yes c.vote) cs
 
--- no two of the children are of one process, so many of them have not voted, and so many voted YES
+-- no two of the children are of one process, M of them have not voted, and N voted YES
 pub record AreCounted (cs : List Child) (m n : ℕ) : Type 0 where
   pub distinct : are_distinct cs ≡ true
   pub missing : m ≡ missing_in cs

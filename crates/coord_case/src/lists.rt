@@ -232,7 +232,7 @@ pub(crate) fn works_sent(children: &[Child], ticket: &Ticket) -> u64
     }
 }
 
-/// So many works were sent to the first child of the ticket.
+/// N works were sent to the first child of the ticket.
 pub(crate) fn set_works(children: &mut Children, ticket: &Ticket, works: u64)
     ensures items { children.new.items ≡ changing ticket.now (sending works) children.old.items }
 {

@@ -212,7 +212,7 @@ impl Live {
         works_sent(self.children.as_slice(), ticket)
     }
 
-    /// One work more is sent to the accepted ticket; so many were sent to it before.
+    /// One work more is sent to the accepted ticket; N were sent to it before.
     pub fn add_work(&mut self, ticket: &Ticket, sent: u64)
         requires accepted { is_in self.old.accepted ticket.now ≡ true }
         requires sent { sent ≡ works_in_list self.old.works ticket.now }
@@ -237,7 +237,7 @@ impl Live {
         self.standing = Standing::Collecting;
     }
 
-    /// It collects votes behind a record that names these. Memory: nothing changed.
+    /// It collects votes after a record that names these. Memory: nothing changed.
     pub fn collect_named(&mut self, tickets: &[Ticket]) -> Result<(), AllocError>
         ensures ok { OnOk result (self.new ≡ record self.old {
           standing = Standing.Collecting;
@@ -369,7 +369,7 @@ impl Live {
         Ok(())
     }
 
-    /// What the acknowledgements found that were counted, and these findings behind it.
+    /// What the acknowledgements found that were counted, and these findings after it.
     pub fn found_with(
         &self,
         alloc: Global,

@@ -56,7 +56,7 @@ same_itself v = same_log v v.log refl
 
 -- A restart.
 
--- the coordinator behind its restart
+-- the coordinator after its restart
 abbrev pub rebuilt_as : CoordinatorValue → LogState → Rebuilt → CoordinatorValue
 rebuilt_as v log r = record v { log = log; boot = r.boot; begun = 0; given = 0; slots = r.cases }
 

@@ -116,7 +116,7 @@ impl<L: LogStore> Coordinator<L> {
         self.log.failed()
     }
 
-    /// The bytes of its log, as a list made anew. Behind a failure of the device a torn frame may stand at
+    /// The bytes of its log, as a list made again. After a failure of the device a torn frame may stand at
     /// the end.
     pub fn log_text(&self) -> Result<Vec<u8>, AllocError>
         ensures { IfOk result (λ text. ReadsAs (log_form self.now.me kind.Coordinator) text.items
@@ -125,14 +125,14 @@ impl<L: LogStore> Coordinator<L> {
         self.log.text(self.alloc)
     }
 
-    /// How many bytes its log has. A crash that keeps so many behind the forced front keeps every record.
+    /// How many bytes its log has. A crash that keeps N after the forced front keeps every record.
     pub fn log_size(&self) -> usize
         ensures { left_by (state self.now).log result ≡ records_of (state self.now).log.kept }
     {
         self.log.size()
     }
 
-    /// How many of the records behind the forced ones a crash would leave that keeps so many bytes behind
+    /// How many of the records after the forced ones a crash would leave that keeps N bytes after
     /// the forced front.
     pub fn left_behind(&self, keep: usize) -> Result<usize, AllocError>
         ensures { IfOk result (λ count. count
@@ -148,7 +148,7 @@ impl<L: LogStore> Coordinator<L> {
         self.log.records_are_sound();
     }
 
-    /// The records of its log, as a list made anew.
+    /// The records of its log, as a list made again.
     pub fn records(&self) -> Result<Vec<LogRecord>, AllocError>
         ensures { IfOk result (λ records. records.items ≡ records_of (state self.now).log.kept) }
     {

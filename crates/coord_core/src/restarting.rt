@@ -67,7 +67,7 @@ fn reopen_error(error: StepError) -> ReopenError
 }
 
 impl<L: LogStore> Coordinator<L> {
-    /// Restarts after a crash that keeps so many of the log's unforced bytes: what is left of the log is
+    /// Restarts after a crash that keeps N of the log's unforced bytes: what is left of the log is
     /// read, Opened with the next boot is appended, and an Abort record of each case that collected votes
     /// after a record, all of it forced by one write. Decisions go out again, and cases in doubt ask. All
     /// memory is taken before the crash, and the records are gone through once. Memory: nothing changed.

@@ -1,4 +1,4 @@
-//! A record that a row writes, and where the case is left behind it.
+//! A record that a row writes, and where the case is left after it.
 
 ghost use Rattle.std.specs.Prelude.{◌≡◌, ◌∷◌, [], true, IfErr, IfOk, OnErr, OnOk};
 ghost use Rattle.tree_model.specs.CoordinatorRows.{awaits as awaits_view};
@@ -81,7 +81,7 @@ pub fn decides_owed(
     Ok(effect)
 }
 
-/// A record behind which nobody owes anything: the case is forgotten. The errors are those of `decides_owed`.
+/// A record after which nobody owes anything: the case is forgotten. The errors are those of `decides_owed`.
 pub fn forgets_behind(
     alloc: Global,
     seat: Seat,

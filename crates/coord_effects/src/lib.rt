@@ -5,7 +5,7 @@
 //! ```text
 //! seat      a coordinator in one of its cases, and the messages that it sends from there
 //! effect    what a row does: at most one record, what is told, and the messages
-//! deciding  a record, and where the case is left behind it: it waits for those that owe, or is forgotten
+//! deciding  a record, and where the case is left after it: it waits for those that owe, or is forgotten
 //! prepared  the rows of a case that promised: COMMIT, ABORT, PREPARE again, and the ask act
 //! resuming  what a case sends again as its coordinator restarts
 //! ```

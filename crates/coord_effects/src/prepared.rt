@@ -19,7 +19,7 @@ use std::alloc::{AllocError, Global};
 use tree_model::{Message, Outcome, Presumption, Record, Sequence, StepError};
 
 /// Prepared, COMMIT: the promised are told. Under Presumed Abort the decision is forced and names those that
-/// owe an acknowledgement; it is acknowledged itself behind the last of theirs. Under Presumed Commit nobody
+/// owe an acknowledgement; it is acknowledged itself after the last of theirs. Under Presumed Commit nobody
 /// owes one. Memory, Exhausted: nothing changed.
 pub fn prepared_commit(alloc: Global, seat: Seat, live: &mut Live) -> Result<RowEffect, StepError>
     ensures ok { IfOk result (λ effect. Does seat

@@ -10,7 +10,7 @@ use coord_case::Live;
 use std::alloc::AllocError;
 use tree_model::{Envelope, Envelopes, Message, Outcome, Standing};
 
-/// Behind these messages an inquiry to the parent, where there is one.
+/// After these messages an inquiry to the parent, where there is one.
 fn inquire(messages: &mut Envelopes, seat: Seat) -> Result<(), AllocError>
     ensures { OnOk result (messages.new ≡ messages.old
         ++ up_of (seat_meant seat) (Message.Inquire seat.case)) }
@@ -25,7 +25,7 @@ fn inquire(messages: &mut Envelopes, seat: Seat) -> Result<(), AllocError>
     }
 }
 
-/// Behind these messages what the case sends again: a decision goes to each that owes an acknowledgement,
+/// After these messages what the case sends again: a decision goes to each that owes an acknowledgement,
 /// and a case in doubt asks its parent.
 pub fn resume(messages: &mut Envelopes, seat: Seat, live: &Live) -> Result<(), AllocError>
     ensures { OnOk result (messages.new ≡ messages.old

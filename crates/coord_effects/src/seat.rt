@@ -149,7 +149,7 @@ pub fn outcome_message(seat: Seat, outcome: Outcome, ticket: Ticket) -> Envelope
     }
 }
 
-/// Behind these messages the outcome to each of the children.
+/// After these messages the outcome to each of the children.
 pub fn tell_each(
     messages: &mut Envelopes,
     seat: Seat,

@@ -94,7 +94,7 @@ does_same s r q effect view same does =
       view_is = same_view-trans view r.view q.view does.view_is same.view;
     }
 
--- the row behind a vote that counts is the row of the vote
+-- the row after a vote that counts is the row of the vote
 pub does_vote : (s : Seat) (t : Ticket) (w : Vote) (old mid new : CoordinatorView) (effect : RowEffect)
     → is_counted old.accepted old.votes t ≡ true
     → SameView mid (record old { votes = old.votes ++ (t, w) ∷ [] })

@@ -1,4 +1,4 @@
--- The End behind the last acknowledgement that is owed.
+-- The End after the last acknowledgement that is owed.
 use Rattle.std.proofs.Common.{◌≡◌, ◌∙◌, true, false, if◌then◌else◌, None, Some, List, [], ◌∷◌, Result, Ok, Err, IfOk, OnOk, ap, refl, subst, sym}
 use Rattle.tree_model.specs.declared.names.Outcome.{Outcome}
 use Rattle.tree_model.specs.declared.names.ProcessId.{ProcessId}

@@ -70,7 +70,7 @@ pub(crate) fn reports_of(alloc: Global, findings: &[Finding]) -> Result<Reports,
     })
 }
 
-/// These findings in the order of an acknowledgement's text: the mixed tickets, and the unreported ones behind
+/// These findings in the order of an acknowledgement's text: the mixed tickets, and the unreported ones after
 /// them.
 pub(crate) fn in_order(alloc: Global, findings: &[Finding]) -> Result<Findings, AllocError>
     ensures { IfOk result (λ ordered. ordered ≡ ordered_so findings.now) }

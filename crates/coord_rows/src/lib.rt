@@ -29,7 +29,7 @@
 //! | none | PREPARE, COMMIT, ABORT, INQUIRE | `unknown_prepare`, `unknown_commit`, `unknown_abort`, `unknown_inquiry` |
 //! | none, reported at the root | forget | `clears` |
 //!
-//! A coordinator below the root acknowledges an outcome behind the last ACK that it is owed, with what was found
+//! A coordinator below the root acknowledges an outcome after the last ACK that it is owed, with what was found
 //! below it: `decided_ack`. So its ACK speaks for its whole subtree, and `committing_commit` and `aborting_abort`
 //! say nothing. Of a case of which nothing is known the own ticket is unreported.
 //!

@@ -1,4 +1,4 @@
--- A case whose ticket stays active takes children and work behind the row, too.
+-- A case whose ticket stays active takes children and work after the row, too.
 use Rattle.std.proofs.Common.{◌≡◌, Bool, true, false, List, ◌++◌, refl, subst, sym, if◌then◌else◌}
 use Rattle.tree_model.specs.declared.messages.Finding.{Finding}
 use Rattle.tree_model.specs.declared.names.Outcome.{Outcome}

@@ -31,11 +31,11 @@ entry_is p q same = cc
 view_is : (v w : CoordinatorView) → Some v ≡ Some w → v ≡ w
 view_is v w same = cc
 
--- what is given behind a row
+-- what is given after a row
 abbrev given_if : Bool → Held → Option Case
 given_if b h = if b then None else h.given_for
 
--- the case of the key stands so behind a row; it is there, or it left the table
+-- the case of the key stands so after a row; it is there, or it left the table
 record Left (old new : Slots) (key : ℕ) (c : Case) (b : Bool) (h : Held)
     (behind : CoordinatorView) : Type 0 where
   pub held : Held

@@ -516,7 +516,7 @@ module _ (n : Node) (s s' : CoreState) (me p : ProcessId) (tree : List TreeEntry
             closes_nothing rs d (retires (memory d) c) (memory d).phase refl (λ e. shut (one ∙ e))
             (λ e. silent (one ∙ e))
 
-    -- what is remembered of the case behind ABORT
+    -- what is remembered of the case after ABORT
     closed_is : (c : Case) (ph : Phase) → (memory c).phase ≡ ph
         → (if same_case c c then closes (retires (memory c) c) (memory c).phase else retires (memory c) c)
         ≡ closes (retires (memory c) c) ph
@@ -1050,7 +1050,7 @@ module _ (n : Node) (s s' : CoreState) (me p : ProcessId) (tree : List TreeEntry
         }
     given_self k d none c = ap (λ o. joins_self me boot (self_of (memory c)) d o) (none_there c d none)
 
-    -- what is remembered of a case behind the fresh ticket
+    -- what is remembered of a case after the fresh ticket
     fresh_then : (k : ℕ) (d : Case) → active_ticket (memory d).active d ≡ None → (c : Case)
         → remembers me (Below p) boot c (memory c) (heard (join k d))
         ≡ (if same_case c (child_case d.txn (next c)) then opens_case (gives (memory c) d (next c)) else gives

@@ -32,7 +32,7 @@ says_nothing c d rs = record {
   owing = listed (owing_in c) rs d refl;
 }
 
--- a case reads as before behind a report that was seen to
+-- a case reads as before after a report that was seen to
 pub cleared_read : (c d : Case) (rs : List Record) (m : Memory)
     → view_at (coordinator_standing (rs ++ Cleared d ∷ []) c m) (rs ++ Cleared d ∷ []) c m
     ≡ view_at (coordinator_standing rs c m) rs c m

@@ -66,7 +66,7 @@ module _ (n : Node) (s s' : CoreState) (place : Place) (a : DataAnswer)
   abbrev pub view : Case → CoordinatorView
   view c = coordinator_view place n c
 
-  -- what is remembered of a case behind the input
+  -- what is remembered of a case after the input
   abbrev pub next : Input → Case → Memory
   next i c = remembers place.me place.role boot c (memory c) (heard i)
 
@@ -91,7 +91,7 @@ module _ (n : Node) (s s' : CoreState) (place : Place) (a : DataAnswer)
       ap self_of (memory_of-after place n (heard i) e c (same_boot n (entries_written e.written) quiet))
       ∙ self_remembers place.me boot c place.role (memory c) (heard i)
 
-  -- another case's view behind a row
+  -- another case's view after a row
   row_others : (i : Input) (c d : Case) (row : Row) → IsOf c row → same_case c d ≡ false → Keeps i d
       → coordinator_view place (after n (heard i) (row_effect c row)) d ≡ view d
   unfolding coordinator_view
@@ -99,7 +99,7 @@ module _ (n : Node) (s s' : CoreState) (place : Place) (a : DataAnswer)
       view-after place n (heard i) (row_effect c row) d own.boot
       ∙ own.others d (kept n) (next i d) apart ∙ keeps
 
-  -- any view behind a report that was seen to
+  -- any view after a report that was seen to
   pub cleared_written : (i : Input) (e : Effect) (c d : Case) → entries_written e.written ≡ ClearedRecord c ∷ []
       → Keeps i d → coordinator_view place (after n (heard i) e) d ≡ view d
   unfolding coordinator_view
@@ -107,7 +107,7 @@ module _ (n : Node) (s s' : CoreState) (place : Place) (a : DataAnswer)
       view-after place n (heard i) e d (λ b. rw one refl)
       ∙ ap (λ rs. read (kept n ++ rs) d (next i d)) one ∙ cleared_read d c (kept n) (next i d) ∙ keeps
 
-  -- any view behind what writes nothing
+  -- any view after what writes nothing
   pub nothing_written : (i : Input) (e : Effect) → e.written ≡ [] → (d : Case) → Keeps i d
       → coordinator_view place (after n (heard i) e) d ≡ view d
   unfolding coordinator_view
@@ -115,7 +115,7 @@ module _ (n : Node) (s s' : CoreState) (place : Place) (a : DataAnswer)
       view-after place n (heard i) e d (λ b. rw none refl)
       ∙ rw none (ap (λ rs. read rs d (next i d)) (append-nil (kept n)) ∙ keeps)
 
-  -- the case's own view behind a row, by how the extended lists read
+  -- the case's own view after a row, by how the extended lists read
   pub own_moved : (i : Input) (c : Case) (row : Row) → IsOf c row
       → read (kept n ++ entries_written row.written) c (next i c) ≡ row.view
       → coordinator_view place (after n (heard i) (row_effect c row)) c ≡ row.view
@@ -132,7 +132,7 @@ module _ (n : Node) (s s' : CoreState) (place : Place) (a : DataAnswer)
     pub sees : (c : Case) → SameView (s.view_of c) (view c)
     sees c = subst (λ v. SameView (s.view_of c) v) (views_are n c) (up.views c)
 
-    -- what is behind an input whose records are none of a boot, but for the views
+    -- what is after an input whose records are none of a boot, but for the views
     pub record Behind (i : Input) (e : Effect) : Type 0 where
       pub forced : s'.log.kept.forced ≡ map (in_log (parent_of place.role)) (after n (heard i) e).forced
       pub unforced : s'.log.kept.unforced ≡ map (in_log (parent_of place.role)) (after n (heard i) e).unforced

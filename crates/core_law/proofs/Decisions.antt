@@ -1,4 +1,4 @@
--- What an operator decided of a branch, behind a row of a manager.
+-- What an operator decided of a branch, after a row of a manager.
 use Rattle.std.proofs.Common.{◌≡◌, ◌+◌, ◌==◌, ◌&&◌, ℕ, not, Bool, true, false, if◌then◌else◌, Option, Some, None, List, [], ◌∷◌, ◌++◌, fold, refl, sym, ap, ◌∙◌}
 use Rattle.tree_model.specs.declared.names.Case.{Case}
 use Rattle.tree_model.specs.declared.names.Outcome.{Outcome}
@@ -22,13 +22,13 @@ use Rattle.tree_nodes.specs.Marks.{is_branch_record}
 use Rattle.tree_nodes.proofs.Orders.{same_is}
 use Rattle.core_law.proofs.TrimmedFolds.{trims_alike}
 
--- the records of a whole list decide behind those of its front
+-- the records of a whole list decide after those of its front
 decision-append : (c : Case) (k : Option Outcome) (rs new : List Record)
     → fold (decision_after c) k (rs ++ new) ≡ fold (decision_after c) (fold (decision_after c) k rs) new
 decision-append c k [] new = refl
 decision-append c k (r ∷ rs) new = decision-append c (decision_after c k r) rs new
 
--- what an operator decided behind an input
+-- what an operator decided after an input
 pub decision-after : (n : Node) (h : Heard) (e : Effect) (c : Case)
     → decision_of (kept (after n h e)) c
     ≡ fold (decision_after c) (decision_of (kept n) c) (entries_written e.written)
@@ -176,7 +176,7 @@ forget_decides l st = record {
   stays = λ is. absurd (cc);
 }
 
--- Behind a trim.
+-- After a trim.
 
 promised_anew : (d : Case) (r : Record) → prepares_branch (CaseBranch d) r ≡ true → (k : Option Outcome)
     → decision_after d k r ≡ None

@@ -140,7 +140,7 @@ module _ (n : Node) (s s' : CoreState) (me p : ProcessId) (tree : List TreeEntry
     holds : Holds (Some p) n s.log
     holds = record { forced = stands.forced; unforced = stands.unforced; failed = stands.failed }
 
-    -- the manager's numbers and active tickets behind an input
+    -- the manager's numbers and active tickets after an input
     counted : (i : Input) (e : Effect) → NoBoot (entries_written e.written) → (c : Case)
         → givens_of (memory_of place (after n (heard i) e) c) ≡ gives_heard me boot (givens_of (memory c)) a i
     counted i e quiet c =
@@ -154,7 +154,7 @@ module _ (n : Node) (s s' : CoreState) (me p : ProcessId) (tree : List TreeEntry
         ∙ sym (ap (λ (m : Memory). m.begun) (memory_of-after place n (heard i) e c
         (same_boot n (entries_written e.written) quiet)))
 
-    -- what is behind an input whose records are none of a boot, but for the branches
+    -- what is after an input whose records are none of a boot, but for the branches
     record Behind (i : Input) (e : Effect) : Type 0 where
       forced : s'.log.kept.forced ≡ map (in_log (Some p)) (after n (heard i) e).forced
       unforced : s'.log.kept.unforced ≡ map (in_log (Some p)) (after n (heard i) e).unforced
@@ -166,7 +166,7 @@ module _ (n : Node) (s s' : CoreState) (me p : ProcessId) (tree : List TreeEntry
           (memory_of place (after n (heard i) e) d).active d
       views : (c : Case) → SameView (s'.view_of c) unknown_view
 
-    -- behind an effect what was decided of a decided branch is what its records say
+    -- after an effect what was decided of a decided branch is what its records say
     abbrev DecidedSo : Input → Effect → Type 0
     DecidedSo i e = (c : Case) → (s'.branch_of c).standing ≡ standing.Heuristic
         → s'.decided_of c ≡ fold (decision_after c) (decision_of (kept n) c) (entries_written e.written)

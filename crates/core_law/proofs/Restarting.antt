@@ -158,7 +158,7 @@ module _ (n : Node) (old new : CoreState) (keep : ℕ) (stands : Stands n old)
             (stands_restarted reaction made);
       }
 
-  -- The device fails: what was left stands, and behind it a front of what the restart writes.
+  -- The device fails: what was left stands, and after it a front of what the restart writes.
 
   module _ (breaks : NotRestarted old keep new Device) where
     abbrev appended : ℕ

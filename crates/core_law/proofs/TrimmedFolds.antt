@@ -1,4 +1,4 @@
--- What a manager's records say of a branch, one by one, they say behind a trim: what is said anew from each promise on, and
+-- What a manager's records say of a branch, one by one, they say after a trim: what is said again from each promise on, and
 -- what other records leave.
 use Rattle.std.proofs.Common.{◌≡◌, ◌∙◌, ◌&&◌, ◌||◌, not, Bool, true, false, if◌then◌else◌, List, [], ◌∷◌, ◌++◌, fold, refl, sym, ap, subst, arith}
 use Rattle.tree_model.specs.declared.names.Case.{Case}
@@ -45,7 +45,7 @@ module _ {X : Type 0} (p : ProcessId) (whole : List Record) (d : Case)
   abbrev left : List Record → List Record
   left rs = staying (AtLeaf p) whole rs
 
-  -- behind it the branch promises again
+  -- after it the branch promises again
   again : (r : Record) (rs : List Record) (s : Bool) → has (prepares_branch (CaseBranch d)) rs ≡ true
       → SaysAlike after d (left rs) rs → SaysAlike after d (if s then r ∷ left rs else left rs) (r ∷ rs)
   again r rs true e rest = record {
@@ -121,7 +121,7 @@ module _ {X : Type 0} (p : ProcessId) (whole : List Record) (d : Case)
           (last r rs none rest)
       by_test false none false is rest = other r rs (stays (AtLeaf p) whole rs r) is none rest
 
--- so it is said behind a trim of an open branch
+-- so it is said after a trim of an open branch
 pub trims_alike : {X : Type 0} (p : ProcessId) (rs : List Record) (d : Case)
     → is_open (mark_of (CaseBranch d) rs) ≡ true → (after : X → Record → X) (start : X)
     → ((r : Record) → prepares_branch (CaseBranch d) r ≡ true → (x : X) → after x r ≡ start)

@@ -59,7 +59,7 @@ RefusesAsTheModel = (n : Node) (old new : CoreState) (a : DataAnswer) (i : Input
     → (reacts old.place n (heard_now a i) ≡ Refused e) × Stands n new
 
 -- The model's process makes the input too, its device fails in it with some front of the records appended and
--- some of those behind the forced front forced, and the process stands for what that leaves.
+-- some of those after the forced front forced, and the process stands for what that leaves.
 pub record BrokenAs (n : Node) (h : Heard) (old new : CoreState) : Type 0 where
   pub effect : Effect
   pub does : reacts old.place n h ≡ Does effect

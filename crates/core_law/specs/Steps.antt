@@ -62,7 +62,7 @@ pub record FaultsAs (n : Node) (old new : CoreState) (q : ProcessId) (i : Input)
   pub stands : Stands left new
 
 -- A device's failure in an input is a move of the model's process with a fault in it. Of an input that is
--- passed over the model writes nothing, not even a front of the records that stand behind the forced ones.
+-- passed over the model writes nothing, not even a front of the records that stand after the forced ones.
 abbrev pub FaultsAreMoves : Type 0
 FaultsAreMoves = (n : Node) (old new : CoreState) (a : DataAnswer) (i : Input)
     → Stands n old → (n.failed ≡ false → NodeFits old.place.role old.place n)
@@ -80,16 +80,16 @@ quiet_move q happening fault =
       version = this_version;
     }
 
--- how many of its unforced records a process keeps in a restart that keeps so many bytes behind the forced
+-- how many of its unforced records a process keeps in a restart that keeps N bytes after the forced
 -- front: those that stand whole within them
 abbrev pub records_kept : CoreState → ℕ → ℕ
 records_kept s keep = length (whole_within (s.log.behind + keep) s.log.kept.unforced)
 
--- what the journal shows of a restart: so many records were kept
+-- what the journal shows of a restart: N records were kept
 abbrev pub restart_of : CoreState → ℕ → Happening
 restart_of s keep = Restart (records_kept s keep)
 
--- what the journal shows of a trim that left so many records
+-- what the journal shows of a trim that left N records
 abbrev pub trim_reaction : ℕ → Reaction
 trim_reaction remain =
     record { begun = None; written = []; told = None; messages = []; kept = Some remain }

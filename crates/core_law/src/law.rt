@@ -70,7 +70,7 @@ pub fn opened_stands()
 {}
 
 /// Where a process of any role that keeps records of its own alone stands for a process of the model, its
-/// restart is a move of that: it shows the same, and stands for what is left. So many unforced records are
+/// restart is a move of that: it shows the same, and stands for what is left. N unforced records are
 /// kept there as stand whole within the bytes that are kept.
 pub fn restarts_are_moves()
     ensures { RestartsAreMoves }
@@ -83,7 +83,7 @@ pub fn restart_faults_are_moves()
 {}
 
 /// Where a process of any role that is up stands for a process of the model that keeps what every run keeps,
-/// and the records of its log can stand in one, its trim is a move of that: so many records remain in both,
+/// and the records of its log can stand in one, its trim is a move of that: N records remain in both,
 /// and it stands for what is left.
 pub fn trims_are_moves()
     ensures { TrimsAreMoves }

@@ -1,4 +1,4 @@
--- A force that fails behind a record that was appended.
+-- A force that fails after a record that was appended.
 use Rattle.std.proofs.Common.{◌≡◌, ◌≤◌, ◌+◌, ◌++◌, ◌∷◌, [], ℕ, zero, suc, List, length, take, append_assoc, IfErr, Ok, Err, Result, refl, subst, sym, ap, ◌∙◌}
 use Rattle.std.proofs.lemmas.List.{append-nil}
 use Rattle.tree_model.specs.declared.records.LogRecord.{LogRecord}

@@ -16,7 +16,7 @@ use Rattle.core_model.specs.States.{wrote}
 abbrev pub HasRoom : LogState → Type 0
 HasRoom l = 65540 ≤ l.room
 
--- the record stands behind the others; where it is forced, all records are
+-- the record stands after the others; where it is forced, all records are
 pub record Writes (old new : LogState) (l : LogRecord) (forced : Bool) : Type 0 where
   pub sight : new.sight ≡ wrote old.sight (record { entry = l.entry; is_forced = forced } ∷ []) (l ∷ [])
 

@@ -35,12 +35,12 @@ retires (MessageInput k (Prepare c n)) d t = same_case (child_case d.txn t) c
 retires (MessageInput k (Abort c)) d t = same_case (child_case d.txn t) c
 retires _ d t = false
 
--- the active ticket of the parent's case d behind an input
+-- the active ticket of the parent's case d after an input
 abbrev pub retired_by : Input → Case → Option Ticket → Option Ticket
 retired_by i d None = None
 retired_by i d (Some t) = if retires i d t then None else Some t
 
--- what an operator decided of the case behind an input
+-- what an operator decided of the case after an input
 abbrev pub decided_by : Input → Case → Option Outcome → Option Outcome
 decided_by (ActInput (Decide c o)) d decided = if same_case c d then Some o else decided
 decided_by _ d decided = decided

@@ -63,7 +63,7 @@ reopening role me left =
       remains = None;
     }
 
--- the records that a restart appends where a crash keeps so many bytes behind the forced front
+-- the records that a restart appends where a crash keeps N bytes after the forced front
 abbrev pub reopened : CoreState → ℕ → List Record
 reopened s keep = reopens s.place.role (read_of s (left_by s.log keep))
 
@@ -80,7 +80,7 @@ pub record Restarts (old : CoreState) (keep : ℕ) (new : CoreState) (reaction :
   pub shown : reaction ≡ reaction_of
       (reopening old.place.role old.place.me (read_of old (left_by old.log keep)))
 
--- a record that a restart appends can stand in no log of this sort of process: no boot below 2^63 comes behind the
+-- a record that a restart appends can stand in no log of this sort of process: no boot below 2^63 comes after the
 -- last one, or an Abort names more than 255 tickets
 abbrev pub CannotReopen : CoreState → ℕ → Type 0
 CannotReopen s keep = AllByRecursion (IsSound (kind_of_role s.place.role)) (logged s (reopened s keep)) → ⊥
@@ -101,13 +101,13 @@ pub record LeftSo (old : CoreState) (place : Place) (failures : ℕ) : Type 0 wh
 
 -- Trim.
 
--- the log that a trim leaves: what stays of its records, and a manager's data behind them
+-- the log that a trim leaves: what stays of its records, and a manager's data after them
 abbrev pub trimmed_log : CoreState → List LogRecord
 trimmed_log s =
     front_of_trim (records_of s.log.kept)
     ++ logged s (data_records s.place.role (read_of s (records_of s.log.kept)))
 
--- the log was trimmed, all of it forced, and nothing else moved; so many records remain
+-- the log was trimmed, all of it forced, and nothing else moved; N records remain
 pub record Trims (old new : CoreState) (remain : ℕ) : Type 0 where
   pub log : new.log ≡ forced_sight (form_of old.place) (trimmed_log old) old.log.failures
   pub counts : remain ≡ length (trimmed_log old)

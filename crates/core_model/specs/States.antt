@@ -66,7 +66,7 @@ pub record HasNumbers (s : CoreState) : Type 0 where
 abbrev pub logged : CoreState → List Record → List LogRecord
 logged s rs = map (in_log (parent s)) rs
 
--- a log with these records behind its own; where one of them is forced, all records are
+-- a log with these records after its own; where one of them is forced, all records are
 abbrev pub wrote : LogSight → List Written → List LogRecord → LogSight
 wrote l ws ls =
     if is_any_forced ws

@@ -205,7 +205,7 @@ abbrev pub vote_turn : CoreState → Vote → Ticket → Option Case → Turn
 vote_turn s w t None = Says []
 vote_turn s w t (Some c) = let v = s.view_of c in Takes c (on_vote (seat_in s c) t w v v.standing)
 
--- an acknowledgement with these findings, in the case that was found for the child: they come behind those that
+-- an acknowledgement with these findings, in the case that was found for the child: they come after those that
 -- were found before
 abbrev pub ack_turn : CoreState → Outcome → List Finding → Ticket → Option Case → Turn
 ack_turn s o fs t None = Says []

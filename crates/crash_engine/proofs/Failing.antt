@@ -63,14 +63,14 @@ run_breaks o events first why opens cannot = inr (record {
   cannot = cannot;
 })
 
--- then neither can they with a crash behind them
+-- then neither can they with a crash after them
 pub events_break : (o : Origin) (events : List Event) (p : Option Point) (first : Run) (why : Failure)
     → Opens o first → CannotMake (state first.world) events why → TrialBreaksOff o events p why
 events_break o events p first why opens cannot =
     inl (run_breaks o (events ++ crash_of p) first why opens
     (cannot_longer (state first.world) events (crash_of p) why cannot))
 
--- the crash behind them cannot be made
+-- the crash after them cannot be made
 pub crash_breaks : (o : Origin) (events crash : List Event) (p : Option Point) (first : Run) (why : Failure)
     → Opens o first → crash ≡ crash_of p → CannotMake (state first.world) (events ++ crash) why
     → TrialBreaksOff o events p why
@@ -87,7 +87,7 @@ unfolding ran_by ran replayed
 starts_at tree None first now given refusal n begins come = refl
 starts_at tree (Some logs) first now given refusal n begins come = refl
 
--- the questions behind a crash cannot all be made, with all that comes of them
+-- the questions after a crash cannot all be made, with all that comes of them
 settled_breaks : (o : Origin) (events : List Event) (p : Option Point) (r : Report) (first : Run) (now : WorldState)
     (refusal : Refusal) (n : ℕ) (why : Failure) → Opens o first
     → ComesTo (state first.world) (events ++ crash_of p) refusal n now → refusal ≡ None → Audits now r
@@ -116,7 +116,7 @@ settle_breaks o events crash asks p r first now refusal n why opens come of_cras
     (subst (λ (es : List Event). CannotMake (state first.world) (((events ++ crash) ++ es) ++ Settle ∷ []) why) of_asks
     cannot)))
 
--- the questions behind a crash cannot all be made
+-- the questions after a crash cannot all be made
 pub questions_break : (o : Origin) (events crash asks : List Event) (p : Option Point) (r : Report) (first : Run)
     (now : WorldState) (refusal : Refusal) (n : ℕ) (why : Failure) → Opens o first
     → ComesTo (state first.world) (events ++ crash) refusal n now → crash ≡ crash_of p → refusal ≡ None
@@ -144,7 +144,7 @@ pub point_breaks : (o : Origin) (events : List Event) (ps : List Point) (p : Poi
     → Contains ps p → TrialBreaksOff o events (Some p) why → PointBreaksOff o events ps why
 point_breaks o events ps p why listed breaks = record { point = p; listed = listed; breaks = breaks }
 
--- not all points behind these events are tried
+-- not all points after these events are tried
 pub points_break : (o : Origin) (events : List Event) (first run : Run) (why : Failure) → Opens o first
     → HasCome (state first.world) events run → is_some run.refusal ≡ false
     → PointBreaksOff o events (points_in (state run.world)) why

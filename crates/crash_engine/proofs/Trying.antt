@@ -56,7 +56,7 @@ still_tree o first run given opens h =
     subst IsTree (sym (plays_tree o.tree o.logs given run.refusal (state run.world) (comes_to o first run given opens h)))
     (opens_tree o.tree o.logs first opens)
 
--- these events and a crash behind them were run
+-- these events and a crash after them were run
 comes_behind : (o : Origin) (first run : Run) (events crash : List Event) (p : Option Point) → Opens o first
     → HasCome (state first.world) (events ++ crash) run → crash ≡ crash_of p
     → PlaysFrom o (events ++ crash_of p) run.refusal (state run.world)
@@ -194,7 +194,7 @@ tried_more o known at events ps i p t old mid new within is pushed there point t
       (one_more o known at events (take i ps) before.0 p t before.2 there point tries),
 )
 
--- all points behind these events were tried
+-- all points after these events were tried
 pub all_tried : (o : Origin) (known : Known) (at : Place) (events : List Event) (now : WorldState) (refusal : Refusal)
     (ps : List Point) (old new : List Trial)
     → is_some refusal ≡ false → PlaysFrom o events refusal now → ps ≡ points_in now

@@ -14,7 +14,7 @@ use Rattle.crash_engine.specs.Texts.{crashes_text, ending_by}
 use Rattle.crash_engine.specs.declared.ending.Ending.{Ending}
 use Rattle.crash_engine.specs.declared.ending.Ending.TheVariants as ending
 
--- each crash behind each of these events was tried, up to the first that is refused, and the text is that of what they
+-- each crash after each of these events was tried, up to the first that is refused, and the text is that of what they
 -- leave without any, and of what crashes leave beyond that
 pub record TriesFrom (o : Origin) (events : List Event) (e : Ending) (text : List ℕ) : Type 0 where
   pub refusal : Refusal

@@ -10,7 +10,7 @@ use Rattle.core_law.specs.worlds.Worlds.{WorldState}
 use Rattle.tree_world.specs.Unforced.{unforced_by}
 use Rattle.crash_engine.specs.declared.points.Point.{Point}
 
--- so many bytes behind the forced front are kept of a process's log
+-- N bytes after the forced front are kept of a process's log
 abbrev pub point_at : ProcessId → ℕ → Point
 point_at q keep = record { process = q; keep = keep }
 

@@ -178,7 +178,7 @@ GoesOver o known events (Some refused) ts =
     (n : ℕ) × (n < length events) × GoesThrough o known events n ts
     × IsRefused o (take (suc n) events) refused
 
--- so many of these events are made: all, or those before the first that is refused
+-- N of these events are made: all, or those before the first that is refused
 abbrev pub made_by : List Event → Refusal → ℕ
 made_by events None = length events
 made_by events (Some refused) = refused.0

@@ -27,7 +27,7 @@ use std::io::{Read, Write};
 use tree_engine::{Refusal, refusal};
 use tree_model::Event;
 
-/// How many percent of the events so many are.
+/// How many percent of the events N are.
 fn percent(made: usize, events: usize) -> u64 {
     (made as u64)
         .saturating_mul(100)
@@ -135,7 +135,7 @@ fn answer<P: Write>(
 /// so far and the crash; then everything is delivered, every case that the logs show in doubt asks its
 /// parent, everything is delivered again, and the logs are audited. Writes first what the script leaves
 /// without any crash, where it leaves a case in doubt or a mismatch; then a line for each crash that leaves
-/// more than that, and the numbers of crashes; behind them which event was refused, if one was, or alone why
+/// more than that, and the numbers of crashes; after them which event was refused, if one was, or alone why
 /// the script was. Where the script begins its events with logs, each run opens over them, and a damaged one is told alone.
 ///
 /// Each of these runs is one of the model: the headline holds of it, and mismatches are reported in it; over logs, so

@@ -19,14 +19,14 @@ pub struct Place {
     pub delivery: usize,
 }
 
-/// A crash that is tried: this process restarts, and keeps so many bytes behind its forced front.
+/// A crash that is tried: this process restarts, and keeps N bytes after its forced front.
 #[derive(Clone, Copy, PartialEq, Eq)]
 pub struct Point {
     pub process: ProcessId,
     pub keep: u64,
 }
 
-/// The points of a process whose unforced records take so many bytes: it keeps none of them, or the first,
+/// The points of a process whose unforced records take N bytes: it keeps none of them, or the first,
 /// and so on to all. Exhausted: they take 2^64 bytes or more.
 fn push_points(points: &mut Vec<Point>, process: ProcessId, sizes: &[u64]) -> Result<(), Failure>
     ensures ok { OnOk result (points.new.items ≡ points.old.items ++ points_at process sizes.now) }

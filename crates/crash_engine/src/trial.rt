@@ -71,7 +71,7 @@ fn found_of(alloc: Global, known: &Left, run: &Run) -> Result<Found, Failure>
     }
 }
 
-/// Runs these events and the crash behind them, if there is one, in a tree that has just opened, settles,
+/// Runs these events and the crash after them, if there is one, in a tree that has just opened, settles,
 /// asks for every case that is in doubt by the logs, settles again, and audits the logs. Where one of these
 /// events or of the crash is refused, or then a log is damaged, that is all. Memory; Device, Exhausted: one of these events cannot be
 /// made for that.
@@ -103,7 +103,7 @@ fn crash(
     found_of(alloc, known, run)
 }
 
-/// Tries this crash behind these events, or none, in a run of its own: what it leaves beyond what is known.
+/// Tries this crash after these events, or none, in a run of its own: what it leaves beyond what is known.
 /// Memory; Device, Exhausted: one of the run's events cannot be made for that, or the tree does not open once more.
 pub fn try_point(
     alloc: Global,
@@ -157,7 +157,7 @@ pub fn try_alone(alloc: Global, origin: &Origin, events: &[Event]) -> Result<Fou
     try_point(alloc, origin, &nothing, front(events, made), None)
 }
 
-/// The first so many events, or all.
+/// The first N events, or all.
 fn front(events: &[Event], count: usize) -> &[Event]
     ensures { result.now ≡ take count events.now }
 {
@@ -168,7 +168,7 @@ fn front(events: &[Event], count: usize) -> &[Event]
     }
 }
 
-/// What is known of crashes behind a run that ends so.
+/// What is known of crashes after a run that ends so.
 pub fn left_alone(alloc: Global, found: &Found) -> Result<Left, AllocError>
     ensures { IfOk result (λ left. known_by left ≡ known_of found.now) }
 {

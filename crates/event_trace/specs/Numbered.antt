@@ -23,11 +23,11 @@ numbered_on begins n (b ∷ bs) = byte_text begins n b ++ numbered_on (b == 10) 
 abbrev pub numbered : ℕ → List ℕ → List ℕ
 numbered n lines = numbered_on true n lines
 
--- how many messages are sent after these steps, if so many were before
+-- how many messages are sent after these steps, if N were before
 unfoldable pub sent_after : ℕ → List Entry → ℕ
 sent_after n [] = n
 sent_after n (e ∷ es) = sent_after (n + length e.reaction.messages) es
 
--- the lines of the steps that one state has more than the other, before which so many messages were sent
+-- the lines of the steps that one state has more than the other, before which N messages were sent
 abbrev pub steps_text : ℕ → WorldState → WorldState → List ℕ
 steps_text sent old new = entries_text sent (drop (length old.entries) new.entries)

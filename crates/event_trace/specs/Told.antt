@@ -17,7 +17,7 @@ use Rattle.tree_engine.specs.Trees.{ending, last_line, trace_by}
 use Rattle.tree_engine.specs.declared.run.Run.{Run}
 use Rattle.event_trace.specs.Numbered.{numbered, sent_after, steps_text}
 
--- These events led a tree from the first state to the next one, so many messages were sent then, and the text has grown by the
+-- These events led a tree from the first state to the next one, N messages were sent then, and the text has grown by the
 -- lines of the steps of each event, each line with the number of its event before it: the first event has 1.
 pub data Tells (start : WorldState) (sent_before : ℕ) (before : List ℕ) : List Event → WorldState → ℕ → List ℕ
     → Type 0 where
@@ -28,7 +28,7 @@ pub data Tells (start : WorldState) (sent_before : ℕ) (before : List ℕ) : Li
       (sent_after sent (drop (length mid.entries) now.entries))
       (text ++ numbered (length es + 1) (steps_text sent mid now))
 
--- so they do up to the event after so many, which is refused for this reason: what it did before that is told, too
+-- so they do up to the event after N, which is refused for this reason: what it did before that is told, too
 pub record TellsUntil (start : WorldState) (sent_before : ℕ) (before : List ℕ) (events : List Event) (made : ℕ)
     (why : StepError) (end : WorldState) (text : List ℕ) : Type 0 where
   pub mid : WorldState

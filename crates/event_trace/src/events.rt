@@ -16,7 +16,7 @@ use tree_engine::{Refusal, own_refusal};
 use tree_model::{Event, StepError};
 use tree_world::World;
 
-/// Makes an event, and adds the lines of its steps, each with this number before it; so many messages were sent before.
+/// Makes an event, and adds the lines of its steps, each with this number before it; N messages were sent before.
 /// Tells how many are sent then, or why the event is refused.
 fn make_event(
     alloc: Global,
@@ -49,7 +49,7 @@ fn make_event(
 }
 
 /// Makes these events, one after another, up to the first that is refused, and adds the lines of the steps of each, with
-/// its number before each line: the first event has 1. So many messages were sent before.
+/// its number before each line: the first event has 1. N messages were sent before.
 pub(crate) fn make_events(
     alloc: Global,
     out: &mut Vec<u8>,

@@ -10,7 +10,7 @@ use tree_model::{
 };
 use tree_world::World;
 
-/// A run up to an event that is refused, its events, and how many steps had been made behind each.
+/// A run up to an event that is refused, its events, and how many steps had been made after each.
 #[derive(Clone, Copy)]
 pub(crate) struct History<'a> {
     pub(crate) world: &'a World<MemoryStore>,
@@ -21,7 +21,7 @@ pub(crate) struct History<'a> {
 }
 
 /// Makes these events in a tree that has just opened, up to the first that is refused; and adds how many steps
-/// had been made behind each.
+/// had been made after each.
 pub(crate) fn play(
     alloc: Global,
     run: &mut Run,

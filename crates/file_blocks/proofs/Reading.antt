@@ -29,7 +29,7 @@ is_short m n h = by_test (nat_lt m n) refl
 pub same_is_true : (a : List ℕ) → bytes_eq a a ≡ true
 same_is_true a = (bytes_eq-Decides a a).1 refl
 
--- the front and the rest of two lists, one behind the other
+-- the front and the rest of two lists, one after the other
 pub front_of : (n : ℕ) (a b : List ℕ) → length a ≡ n → take n (a ++ b) ≡ a
 front_of n a b e = take-append-le n a b (omega (arith, e)) ∙ take_all n a (omega (arith, e))
 

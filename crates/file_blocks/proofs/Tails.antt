@@ -34,7 +34,7 @@ few_no_damage number place bytes h =
     else has_head number place bytes) (few_no_head number place bytes h)
     ∙ few_have_none number place bytes h
 
--- A sound head, and fewer bytes behind it than it tells.
+-- A sound head, and fewer bytes after it than it tells.
 
 pub head_stands : (number place : ℕ) (p rest : List ℕ) → is_head number place (head_text number place p ++ rest) ≡ true
 head_stands number place p rest =
@@ -82,7 +82,7 @@ cut_no_damage number place p rest h less =
 
 -- Both.
 
--- of two lists, one behind the other, a front that takes in the first
+-- of two lists, one after the other, a front that takes in the first
 pub past : (k n : ℕ) (a b : List ℕ) → length a ≡ n → n ≤ k → take k (a ++ b) ≡ a ++ take (k - n) b
 past k n a b e h =
     let sum : k ≡ length a + (k - n) = omega (arith, e) in

@@ -30,23 +30,23 @@ head_text number place payload = label payload ++ seal number place (label paylo
 abbrev pub block_text : ℕ → ℕ → List ℕ → List ℕ
 block_text number place payload = head_text number place payload ++ payload
 
--- the place behind a block of these bytes
+-- the place after a block of these bytes
 abbrev pub behind : ℕ → List ℕ → ℕ
 behind place payload = place + (72 + length payload)
 
--- blocks, one behind the other
+-- blocks, one after the other
 abbrev pub blocks_text : ℕ → ℕ → List (List ℕ) → List ℕ
 blocks_text number place [] = []
 blocks_text number place (p ∷ ps) = block_text number place p ++ blocks_text number (behind place p) ps
 
--- the place behind these blocks
+-- the place after these blocks
 abbrev pub behind_all : ℕ → List (List ℕ) → ℕ
 behind_all place [] = place
 behind_all place (p ∷ ps) = behind_all (behind place p) ps
 
 -- Reading.
 
--- the block whose head is this and which has so many of these bytes: its bytes, and what is behind it
+-- the block whose head is this and which has N of these bytes: its bytes, and what is after it
 abbrev pub whole_block : ℕ → ℕ → List ℕ → ℕ → List ℕ → Option (List ℕ × List ℕ)
 whole_block number place head size rest =
     if nat_lt (length rest) size then None
@@ -54,7 +54,7 @@ whole_block number place head size rest =
     then Some (take size rest, drop size rest)
     else None)
 
--- the block with which these bytes begin at this place, and what is behind it: none where it is not whole
+-- the block with which these bytes begin at this place, and what is after it: none where it is not whole
 abbrev pub first_block : ℕ → ℕ → List ℕ → Option (List ℕ × List ℕ)
 first_block number place bytes =
     if nat_lt (length bytes) 72 then None
@@ -73,7 +73,7 @@ abbrev pub has_head : ℕ → ℕ → List ℕ → Bool
 has_head number place [] = false
 has_head number place (b ∷ bs) = is_head number place (b ∷ bs) || has_head number (place + 1) bs
 
--- Behind the last whole block a head of this file stands: another block was begun behind one that is broken,
+-- After the last whole block a head of this file stands: another block was begun after one that is broken,
 -- and so that one was safe. Where the broken block's own head is sound its bytes are passed over.
 abbrev pub is_damaged : ℕ → ℕ → List ℕ → Bool
 is_damaged number place tail =

@@ -4,11 +4,11 @@ use Rattle.std.specs.List.{AllByRecursion, concat}
 use Rattle.file_blocks.specs.Blocks.{behind, behind_all, block_text, blocks_text, first_block, head_text, is_damaged, is_head}
 use Rattle.file_blocks.specs.Files.{Holds, IsDamaged, IsFile, file_number, file_text}
 
--- so many bytes can be told by a head
+-- N bytes can be told by a head
 abbrev pub AreTold : List (List ℕ) → Type 0
 AreTold ps = AllByRecursion (λ p. length p < 2 ^ 64) ps
 
--- A block reads as its bytes, whatever stands behind it; and what reads as a block is one.
+-- A block reads as its bytes, whatever stands after it; and what reads as a block is one.
 abbrev pub BlocksReadBack : Type 0
 BlocksReadBack = (number place : ℕ) (p rest : List ℕ) → length p < 2 ^ 64
     → first_block number place (block_text number place p ++ rest) ≡ Some (p, rest)
@@ -38,7 +38,7 @@ BrokenBlocksAreTold = (number place : ℕ) (p t q more : List ℕ) → length p 
     ⊎ (is_head number place (t ++ (head_text number (behind place p) q ++ more)) ≡ false)
     → is_damaged number place (t ++ (head_text number (behind place p) q ++ more)) ≡ true
 
--- A file with one block more is the file and that block behind it.
+-- A file with one block more is the file and that block after it.
 abbrev pub BlocksGoBehind : Type 0
 BlocksGoBehind = (number place : ℕ) (ps : List (List ℕ)) (p : List ℕ)
     → blocks_text number place (ps ++ p ∷ [])

@@ -20,7 +20,7 @@ use sha2::{Digest, Sha256};
 /// How many bytes stand before a block's own.
 pub const HEAD: usize = 72;
 
-/// One behind the other, these bytes fill what is to be written.
+/// One after the other, these bytes fill what is to be written.
 pub(crate) fn join(out: &mut [u8], front: &[u8], back: &[u8])
     requires { length out.old ≡ length front.now + length back.now }
     ensures { out.new ≡ front.now ++ back.now }
@@ -85,7 +85,7 @@ pub fn head_of(number: u64, place: u64, payload: &[u8]) -> [u8; 72]
     head
 }
 
-/// The block whose head is this and which has so many of these bytes: its bytes, and those behind it.
+/// The block whose head is this and which has N of these bytes: its bytes, and those after it.
 fn whole_block<'a>(
     number: u64,
     place: u64,
@@ -108,7 +108,7 @@ fn whole_block<'a>(
 }
 
 /// The block with which these bytes begin at this place of the file with this number: its bytes, and those
-/// behind it. None where it is not whole. It takes no memory.
+/// after it. None where it is not whole. It takes no memory.
 pub fn first_block(number: u64, place: u64, bytes: &[u8]) -> Option<(&[u8], &[u8])>
     ensures { option_map (λ p. (p.0.now, p.1.now)) result ≡ first_block number place bytes.now }
 {
@@ -146,8 +146,8 @@ pub fn has_head(number: u64, place: u64, bytes: &[u8]) -> bool
     false
 }
 
-/// Whether what stands behind the last whole block, at this place, is more than what a cut of power leaves of
-/// a write: a head of this file stands behind a block that is broken.
+/// Whether what stands after the last whole block, at this place, is more than what a cut of power leaves of
+/// a write: a head of this file stands after a block that is broken.
 pub fn is_damaged(number: u64, place: u64, tail: &[u8]) -> bool
     requires { place + length tail.now < 2 ^ 64 }
     ensures { result ≡ is_damaged number place tail.now }

@@ -10,7 +10,7 @@ ghost use Rattle.file_blocks.specs.Laws.{
   ReadBlocksAreWritten,
 };
 
-/// A block that was written reads as its bytes, whatever stands behind it, and what reads as a block was
+/// A block that was written reads as its bytes, whatever stands after it, and what reads as a block was
 /// written as one.
 pub fn blocks_read_back()
     ensures back { BlocksReadBack }
@@ -33,7 +33,7 @@ pub fn broken_blocks_are_told()
     ensures { BrokenBlocksAreTold }
 {}
 
-/// A file with one block more is that block behind it.
+/// A file with one block more is that block after it.
 pub fn blocks_go_behind()
     ensures { BlocksGoBehind }
 {}

@@ -8,7 +8,7 @@
 //! | 0 to 7 | `RSTARLOG` |
 //! | 8 to 15 | the file's number, the highest byte first |
 //! | 16 to 47 | the digest of these 16 bytes |
-//! | from 48 | blocks, one behind the other |
+//! | from 48 | blocks, one after the other |
 //!
 //! A block at a place of the file:
 //!

@@ -1,4 +1,4 @@
-//! A file in memory whose calls fail behind so many.
+//! A file in memory whose calls fail after N.
 
 ghost use Rattle.std.specs.Prelude.{◌≡◌, ◌++◌, OnOk, take};
 

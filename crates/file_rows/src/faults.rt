@@ -1,4 +1,4 @@
-//! What each failure, and each cut of power behind it, leaves of a file.
+//! What each failure, and each cut of power after it, leaves of a file.
 
 use crate::fake::FakeFile;
 use file_blocks::read_file;
@@ -78,10 +78,10 @@ fn reads(alloc: Global, text: &[u8], safe: &Safe) -> bool {
     }
 }
 
-/// What stands behind a front that is left, where anything does.
+/// What stands after a front that is left, where anything does.
 const BEHIND: [u8; 2] = [0, 165];
 
-/// Whether a front of the file reads so, with nothing behind it, with zeros, and with other bytes.
+/// Whether a front of the file reads so, with nothing after it, with zeros, and with other bytes.
 fn front_reads(alloc: Global, held: &[u8], keep: usize, safe: &Safe) -> Result<bool, AllocError> {
     let keep = keep.min(held.len());
     let mut text = Vec::from_slice(alloc, &held[..keep])?;
@@ -113,7 +113,7 @@ fn ends(alloc: Global, file: &FakeFile, safe: &Safe) -> Result<Option<u64>, Allo
     Ok(Some(count))
 }
 
-/// A store over a file of which so many calls fail behind so many. None: the first one failed.
+/// A store over a file: after `calls` calls the next `failing` fail. None: the first one failed.
 fn opened(alloc: Global, calls: u64, failing: u64, part: usize) -> Option<FileStore<FakeFile>> {
     let file = FakeFile {
         held: Vec::new(alloc),
@@ -125,7 +125,7 @@ fn opened(alloc: Global, calls: u64, failing: u64, part: usize) -> Option<FileSt
     FileStore::settle(file, 0, Vec::new(alloc)).ok()
 }
 
-/// A store over a file whose calls fail behind so many, and what is then left. None: it does not read so.
+/// A store over a file whose calls fail after N, and what is then left. None: it does not read so.
 fn fault(alloc: Global, calls: u64, part: usize) -> Result<Option<u64>, AllocError> {
     let Some(mut store) = opened(alloc, calls, u64::MAX, part) else {
         return Ok(if calls == 0 { Some(1) } else { None });
@@ -142,7 +142,7 @@ fn fault(alloc: Global, calls: u64, part: usize) -> Result<Option<u64>, AllocErr
     ends(alloc, &file, &safe)
 }
 
-/// Whether a store of which one call of the device fails goes on: what stands and what is appended is in the file behind
+/// Whether a store of which one call of the device fails goes on: what stands and what is appended is in the file after
 /// the next force, all of it safe.
 fn goes_on(alloc: Global, calls: u64, part: usize) -> Result<bool, AllocError> {
     let Some(mut store) = opened(alloc, calls, 1, part) else {

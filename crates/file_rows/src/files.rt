@@ -31,7 +31,7 @@ fn holds(rt: &HostRuntime, text: &[u8]) -> bool {
     }
 }
 
-/// Whether the log, with its byte at this place turned and these bytes behind it, opens as damaged.
+/// Whether the log, with its byte at this place turned and these bytes after it, opens as damaged.
 fn damages(rt: &HostRuntime, place: usize) -> bool {
     let Ok(mut text) = fs::read(rt, LOG) else {
         return false;
@@ -79,7 +79,7 @@ fn damages_no_more(rt: &HostRuntime, place: usize) -> bool {
     fs::write(rt, LOG, text.as_slice()).is_ok()
 }
 
-/// Whether the log with these bytes behind its blocks opens as before.
+/// Whether the log with these bytes after its blocks opens as before.
 fn passes_over(rt: &HostRuntime, more: &[u8], text: &[u8]) -> bool {
     let Ok(mut held) = fs::read(rt, LOG) else {
         return false;

@@ -31,7 +31,7 @@ module _ {F : Type 0} where
     pub failures : new.failures ≡ old.failures
     pub stale : new.stale ≡ old.stale
 
-  -- what was not forced was written to the file, in one block behind the others, and then the file was synced
+  -- what was not forced was written to the file, in one block after the others, and then the file was synced
   pub record WritesBlock (writes : F → F → ℕ → List ℕ → Type 0) (syncs : F → F → Type 0)
       (old new : FileStore F) (end : ℕ) : Type 0 where
     pub mid : F

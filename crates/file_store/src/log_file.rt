@@ -8,7 +8,7 @@ use std::io;
 /// system does: so the members say what was asked for and answered Ok, and a type over memory says by them
 /// which bytes it then holds.
 pub trait LogFile: Drop {
-    /// From the one to the other these bytes were written behind so many.
+    /// From the one to the other these bytes were written after N.
     ghost writes: { Self → Self → ℕ → List ℕ → Type 0 } = { λ _ _ _ _. ⊤ };
 
     /// From the one to the other what was written became safe.
@@ -17,13 +17,13 @@ pub trait LogFile: Drop {
     /// From the one to the other a file of these bytes alone, all of them safe, took its place.
     ghost replaces: { Self → Self → List ℕ → Type 0 } = { λ _ _ _. ⊤ };
 
-    /// Writes these bytes, one behind the other, behind so many of the file. Ok: a read returns them. Err:
+    /// Writes these bytes, one after the other, after N of the file. Ok: a read returns them. Err:
     /// any of them may stand there.
     fn write(&mut self, place: u64, head: &[u8], more: &[u8]) -> io::Result<()>
         ensures { OnOk result (writes self.old self.new place (head.now ++ more.now)) };
 
     /// Ok: what was written is on the disk. Err: nothing is known of what was written since the last Ok, now
-    /// or ever, but by a file written anew.
+    /// or ever, but by a file written again.
     fn sync(&mut self) -> io::Result<()>
         ensures { OnOk result (syncs self.old self.new) };
 

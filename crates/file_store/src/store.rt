@@ -13,7 +13,7 @@ use std::alloc::AllocError;
 use std::io;
 
 /// A store in a file. What one force covers is written as one block, then: until it is forced nothing of it
-/// is in the file. Behind a failure the file may hold other bytes than the store: the next force, or `replace`,
+/// is in the file. After a failure the file may hold other bytes than the store: the next force, or `replace`,
 /// writes all that is to stand to a new file, which takes its place.
 #[derive(Drop)]
 pub struct FileStore<F> {
@@ -30,7 +30,7 @@ pub struct FileStore<F> {
     ghost within: { forced ≤ length bytes.items },
 }
 
-/// Where the block that begins behind a block at this place with so many bytes; None, where no file is so
+/// Where the block that begins after a block at this place with N bytes; None, where no file is so
 /// long.
 fn end_of(place: u64, size: usize) -> Option<u64>
     ensures { IfSome result (λ end. end ≡ place + (72 + size)) }
@@ -55,7 +55,7 @@ impl<F: LogFile> FileStore<F> {
       file_forced,
     };
 
-    /// A store over a file which held these bytes under this number: they are written anew, since what was
+    /// A store over a file which held these bytes under this number: they are written again, since what was
     /// read may not be on the disk. Err: the device failed under it, or the numbers of files are used up. It takes no
     /// memory.
     pub fn settle(mut file: F, number: u64, bytes: Vec<u8>) -> io::Result<Self>
@@ -221,7 +221,7 @@ impl<F: LogFile> LogStore for FileStore<F> {
         }
     }
 
-    /// What is not forced is written as one block, and the file is synced. Behind a failure all that stands is
+    /// What is not forced is written as one block, and the file is synced. After a failure all that stands is
     /// written to a new file instead, which takes the place of the old one.
     fn force(&mut self) -> Result<(), StoreError>
         ensures ok { OnOk result (Forces text_of forced_of failures_of self.old self.new) }

@@ -19,7 +19,7 @@ pub(crate) fn line_at(alloc: Global, text: &str, number: u64) -> Result<Option<&
     }
 }
 
-/// The place of the line that asks for an event behind so many that do, from 0.
+/// The place of the line that asks for an event after N that do, from 0.
 pub fn event_place(lines: &[&str], made: usize) -> Option<usize>
     ensures asks { IfSome result (λ place. option_map (λ s. is_skipped s.now) (slice_get lines.now place) ≡ Some false) }
     ensures made { IfSome result (λ place. count_by (λ s. not (is_skipped s.now)) (take place lines.now) ≡ made) }
@@ -44,7 +44,7 @@ fn line_ends(bytes: &[u8]) -> usize
     bytes.iter().filter(|b| **b == b'\n').count()
 }
 
-/// The number of the line in which the byte at this place stands, counted from 1; behind the last byte, that of
+/// The number of the line in which the byte at this place stands, counted from 1; after the last byte, that of
 /// the last line.
 pub(crate) fn line_of_byte(bytes: &[u8], place: usize) -> u64
     ensures { place ≤ length bytes.now → result ≡ count_by (λ b. nat_eq b 10) (take place bytes.now) + 1 }

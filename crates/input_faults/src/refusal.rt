@@ -125,7 +125,7 @@ fn push_front(
             writeln!(out, "{fault}")?;
             writeln!(
                 out,
-                "wanted: the processes as TOML, a line ---, and the lines behind it"
+                "wanted: the processes as TOML, a line ---, and the lines after it"
             )
         }
     }

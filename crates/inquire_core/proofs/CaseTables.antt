@@ -74,7 +74,7 @@ cases_more : (rs : List Record) (r : Record) → cases_in (rs ++ r ∷ []) ≡ w
 unfolding cases_in
 cases_more rs r = fold-append with_record [] rs (r ∷ [])
 
--- a list with one more at its end, and others behind
+-- a list with one more at its end, and others after
 pub one_then : {A : Type 0} (ks : List A) (a : A) (bs : List A) → (ks ++ a ∷ []) ++ bs ≡ ks ++ a ∷ bs
 one_then ks a bs = append_assoc ks (a ∷ []) bs
 

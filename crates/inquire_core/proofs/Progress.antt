@@ -65,7 +65,7 @@ module _ (s : Summary) where
   by_record c (Base n) = refl
   by_record c (Pair k v) = refl
 
--- how far it has come behind more records
+-- how far it has come after more records
 more_progress : (c : Case) (done rest : List Record)
     → fold (progress_after c) (progress_of (summary_of done c)) rest ≡ progress_of (summary_of (done ++ rest) c)
 more_progress c done [] = ap (λ rs. progress_of (summary_of rs c)) (sym (append-nil done))

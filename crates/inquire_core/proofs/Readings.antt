@@ -35,7 +35,7 @@ noted_more : (rs : List Record) (r : Record) → noted (reading_of rs) r ≡ rea
 noted_more rs r = λ i.
     record { boot = sym (boot_more rs r) i; table = table_more rs r (record_case r) refl i }
 
--- what is read behind more records
+-- what is read after more records
 pub read_more : (done rest : List Record) → fold noted (reading_of done) rest ≡ reading_of (done ++ rest)
 read_more done [] = ap reading_of (sym (append-nil done))
 read_more done (r ∷ rest) =
@@ -104,7 +104,7 @@ standing_is rs c = standing_known (standing_of (summary_in (reading_of rs).table
 
 -- A plan.
 
--- what is read behind what a restart appends
+-- what is read after what a restart appends
 pub planned : (rs new : List Record) (reading behind : ReadLog) → reading ≡ reading_of rs
     → new ≡ reopened_by reading → behind ≡ fold noted reading new
     → (new ≡ coordinator_reopens rs) × (behind ≡ reading_of (rs ++ coordinator_reopens rs))

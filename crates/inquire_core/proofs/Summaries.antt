@@ -120,7 +120,7 @@ module _ (e co a p col : Bool) (ps ns os : List Ticket) where
   before : Summary
   before = record { stage = stage_by e co a p col; promised = ps; named = ns; owing = os }
 
-  -- what is said behind one more record
+  -- what is said after one more record
   behind : Case → Record → Summary
   behind c r =
       record {
@@ -265,7 +265,7 @@ module _ (e co a p col : Bool) (ps ns os : List Ticket) where
   by_record c (Base n) = nothing_more
   by_record c (Pair k v) = nothing_more
 
--- what the records of a case say behind one more
+-- what the records of a case say after one more
 pub summary_more : (rs : List Record) (c : Case) (r : Record)
     → summary_of (rs ++ r ∷ []) c ≡ (if is_of c r then summary_after (summary_of rs c) r else summary_of rs c)
 unfolding before behind

@@ -12,7 +12,7 @@ pub record IsPlan (rs : List Record) (p : RestartPlan) : Type 0 where
   pub appended : p.appended.items ≡ coordinator_reopens rs
   pub reading : p.reading ≡ reading_of (rs ++ coordinator_reopens rs)
 
--- why no restart was planned behind this boot: memory was refused, or there is no next boot
+-- why no restart was planned after this boot: memory was refused, or there is no next boot
 abbrev pub NotPlanned : ℕ → StepError → Type 0
 NotPlanned boot Memory = ⊤
 NotPlanned boot Exhausted = 2 ^ 63 ≤ boot + 1

@@ -16,15 +16,15 @@ use Rattle.inquire_core.specs.Summaries.{furthest, standing_at}
 abbrev pub no_progress : Progress
 no_progress = record { stage = stage.Nothing; nobody = true }
 
--- how far it has come behind a record of this stage
+-- how far it has come after a record of this stage
 abbrev pub reaches : Stage → Progress → Progress
 reaches t p = record p { stage = furthest p.stage t }
 
--- how far it has come behind a decision that names these
+-- how far it has come after a decision that names these
 abbrev pub decides : Stage → List Ticket → Progress → Progress
 decides t ts p = record { stage = furthest p.stage t; nobody = p.nobody && none_of ts }
 
--- how far the case has come behind one more record
+-- how far the case has come after one more record
 abbrev pub progress_after : Case → Progress → Record → Progress
 progress_after c p (Collecting d ts) = if same_case d c then reaches stage.Collecting p else p
 progress_after c p (Prepare d ts) = if same_case d c then reaches stage.Prepared p else p

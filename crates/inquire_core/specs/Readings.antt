@@ -51,16 +51,16 @@ same = cases.ghosts.eq
 abbrev pub summary_in : Table → Case → Summary
 summary_in t c = unwrap_or (lookup (same c) t) no_records
 
--- the table behind one more record of the case
+-- the table after one more record of the case
 abbrev pub noted_of : Table → Case → Record → Table
 noted_of t c r = insert_entry same t c (summary_after (summary_in t c) r)
 
--- the table behind one more record, of this case if it is of any
+-- the table after one more record, of this case if it is of any
 abbrev pub noted_by : Table → Record → Option Case → Table
 noted_by t r None = t
 noted_by t r (Some c) = noted_of t c r
 
--- what is read behind one more record
+-- what is read after one more record
 abbrev pub noted : ReadLog → Record → ReadLog
 noted s r = record { boot = boot_after s.boot r; table = noted_by s.table r (record_case r) }
 

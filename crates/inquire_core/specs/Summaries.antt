@@ -58,17 +58,17 @@ standing_at stage.Ended none = Unknown
 abbrev pub no_records : Summary
 no_records = record { stage = stage.Nothing; promised = []; named = []; owing = [] }
 
--- what is said behind a record of this stage, which names these
+-- what is said after a record of this stage, which names these
 abbrev pub names : Stage → List Ticket → Summary → Summary
 names t ts s =
     record { stage = furthest s.stage t; promised = s.promised; named = s.named ++ ts; owing = s.owing }
 
--- what is said behind a decision, which names these
+-- what is said after a decision, which names these
 abbrev pub decides : Stage → List Ticket → Summary → Summary
 decides t ts s =
     record { stage = furthest s.stage t; promised = s.promised; named = s.named ++ ts; owing = s.owing ++ ts }
 
--- what is said behind one more record of the case
+-- what is said after one more record of the case
 abbrev pub summary_after : Summary → Record → Summary
 summary_after s (CollectingRecord c ts) = names stage.Collecting ts s
 summary_after s (PrepareRecord c ts) = record (names stage.Prepared ts s) { promised = s.promised ++ ts }

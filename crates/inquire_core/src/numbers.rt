@@ -27,7 +27,7 @@ fn is_reached(boot: u64, case: Option<Case>) -> bool
     }
 }
 
-/// The boot that the log has reached behind one more record.
+/// The boot that the log has reached after one more record.
 fn boot_behind(boot: u64, record: &Record) -> u64
     ensures { result ≡ boot_after boot record.now }
 {

@@ -38,7 +38,7 @@ const RULES: Rules = Rules {
 /// How many calls are looked at for one that is legal.
 const TRIES: u32 = 48;
 
-/// So many of them are of one kind.
+/// N of them are of one kind.
 const OF_A_KIND: u32 = 12;
 
 /// Flags of a start, those of legal calls oftener.

@@ -28,7 +28,7 @@ use Rattle.judge_state.specs.declared.parts.Decision.{Decision}
 use Rattle.judge_state.specs.declared.parts.Decision.TheVariants as decision
 use Rattle.judge_state.specs.declared.parts.Stand.{Stand}
 use Rattle.judge_state.specs.declared.parts.Stand.TheVariants as stand
-use Rattle.judge_state.specs.Moves.{committed, gone, prepared, rolled, scans_without, stands}
+use Rattle.judge_state.specs.Moves.{committed, gone, is_prepared_at, prepared, rolled, scans_without, stands}
 use Rattle.judge_state.specs.Sights.{Sight}
 use Rattle.judge_state.specs.Questions.{branch_at}
 use Rattle.judge_rules.specs.declared.calls.BranchVerb.{BranchVerb}
@@ -45,6 +45,7 @@ use Rattle.judged_runs.proofs.Agreements.{off_by}
 use Rattle.judged_runs.proofs.Ending.{by_six}
 use Rattle.judged_runs.proofs.Finishing.{busy_held, committed_mirrors, ended_mirrors, held_proto, in_by, none_in, off_proto, passes, quiet_free, rolled_mirrors, same_tables, stood_mirrors, strange}
 use Rattle.judged_runs.proofs.Flags.{AreRight}
+use Rattle.judged_runs.proofs.Losing.{Added, Kept, Remembers, unprepared}
 use Rattle.judged_runs.proofs.Mirrors.{Mirrors, is_begun, is_quiet, known_here, stand_as, stands_at}
 use Rattle.judged_runs.proofs.Scanning.{scans_more}
 use Rattle.judged_runs.proofs.Rows.{first_in}
@@ -97,6 +98,15 @@ module _ (n : Numbers) (old new : States) (d : Xid → Decision) (s : Sight) (t 
       → branch_rows st c ≡ [] → Contains (branch_rows (state_in old.branches.branches x) c) r → ⊥
   no_rows c r st q e = none_in (branch_rows (state_in old.branches.branches x) c) r (ap (λ k. branch_rows k c) q ∙ e)
 
+  -- a branch that is known still is not gone
+  stays_known : state_in new.branches.branches x ≡ S3 → state_in new.branches.branches x ≡ S0
+      → is_prepared_at (n.xid x) s ≡ false
+  stays_known e z = absurd (let f : S3 ≡ S0 = sym e ∙ z in cc)
+
+  stays_decided : state_in new.branches.branches x ≡ S5 → state_in new.branches.branches x ≡ S0
+      → is_prepared_at (n.xid x) s ≡ false
+  stays_decided e z = absurd (let f : S5 ≡ S0 = sym e ∙ z in cc)
+
   -- Prepares.
 
   abbrev Prepares : Type 0
@@ -108,12 +118,12 @@ module _ (n : Numbers) (old new : States) (d : Xid → Decision) (s : Sight) (t 
   votes right [] e p q h =
       let r = h.row e p (in_rows call.Prepare (code.RdOnly, S0) S2 q (1, omega arith, refl)) in
       passes n old new d s verb.Prepare t x flags answer mirrors (has flags.0 one_phase) refl right opened named refl
-      code.RdOnly (committed (n.xid x) s) e p (off_so verb.Prepare (has flags.0 one_phase) S2 q) r.0
+      code.RdOnly (committed (n.xid x) s) (Added refl) e p (off_so verb.Prepare (has flags.0 one_phase) S2 q) r.0
       (first_in (committed (n.xid x) s) []) (committed_mirrors n old new d s x mirrors r.1 p)
   votes right (w ∷ ws) e p q h =
       let r = h.row e p (in_rows call.Prepare (code.Ok, S3) S2 q (0, omega arith, refl)) in
       passes n old new d s verb.Prepare t x flags answer mirrors (has flags.0 one_phase) refl right opened named refl
-      code.Ok (prepared (n.xid x) s) e p (off_so verb.Prepare (has flags.0 one_phase) S2 q) r.0
+      code.Ok (prepared (n.xid x) s) (Kept refl (λ z. stays_known r.1.branch.own z)) e p (off_so verb.Prepare (has flags.0 one_phase) S2 q) r.0
       (first_in (prepared (n.xid x) s) [])
       (stood_mirrors n old new d s (prepared (n.xid x) s) x S3 mirrors r.1 p refl
       (scans_more n (n.xid x) (scans_without (n.xid x) s.listed s.scans) old.branches.scans s.scans s.listed mirrors.scans)
@@ -152,6 +162,7 @@ module _ (n : Numbers) (old new : States) (d : Xid → Decision) (s : Sight) (t 
   told : (v : BranchVerb) (c : Call) → AreRight (are_wrong v) flags.0
       → (one : Bool) (phase : has flags.0 one_phase ≡ one)
       → branch_defects lacks_forced v s (on n t x flags) ≡ finish_defects lacks_forced v s (on n t x flags)
+      → ((u : Sight) → u.lost ≡ s.lost → state_in new.branches.branches x ≡ S5 → Remembers v n s u x new)
       → off_by v one (Some (stand.Heuristic (d x))) ≡ false
       → ((k : Code) (u : Sight) → Contains (decide_passes lacks_forced v s (on n t x flags) (stand_in (branch_at (n.xid x) s))
       (reply_of k)) u → Contains (branch_passes lacks_forced v s (on n t x flags) (reply_of k)) u)
@@ -161,21 +172,21 @@ module _ (n : Numbers) (old new : States) (d : Xid → Decision) (s : Sight) (t 
       → (o : Outcome) → d x ≡ decision_of o → is_known old.branches.branches x ≡ true → is_held old.associations x ≡ false
       → state_in old.branches.branches x ≡ S5 → Finishes old new x c (heur_code o, S5) answer
       → Goes n v s t x flags answer new d
-  told v c right one phase fin off into listed by Committed is e p q h =
+  told v c right one phase fin lost off into listed by Committed is e p q h =
       let r = h.row e p (in_rows c (code.HeurCom, S5) S5 q (listed code.HeurCom (1, omega arith, refl))) in
       let u = stands (n.xid x) (stand.Heuristic decision.Commit) s in
       passes n old new d s v t x flags answer mirrors one phase right opened named fin
-      code.HeurCom u e p (off_so v one S5 q ∙ off) r.0
+      code.HeurCom u (lost u refl r.1.branch.own) e p (off_so v one S5 q ∙ off) r.0
       (into code.HeurCom u (decided_row n old d s v t x flags (stand.Heuristic decision.Commit) code.HeurCom u mirrors
       (stands_so S5 q ∙ ap (λ k. Some (stand.Heuristic k)) is)
       (subst (λ (us : List Sight). Contains us u) (sym (by decision.Commit reply.HeurCom)) (first_in u []))))
       (stood_mirrors n old new d s u x S5 mirrors r.1 p refl mirrors.scans (stand.Heuristic decision.Commit) refl refl refl refl refl
       (ap (λ k. Some (stand.Heuristic k)) is) (ap is_begun q) refl)
-  told v c right one phase fin off into listed by Aborted is e p q h =
+  told v c right one phase fin lost off into listed by Aborted is e p q h =
       let r = h.row e p (in_rows c (code.HeurRb, S5) S5 q (listed code.HeurRb (2, omega arith, refl))) in
       let u = stands (n.xid x) (stand.Heuristic decision.Rollback) s in
       passes n old new d s v t x flags answer mirrors one phase right opened named fin
-      code.HeurRb u e p (off_so v one S5 q ∙ off) r.0
+      code.HeurRb u (lost u refl r.1.branch.own) e p (off_so v one S5 q ∙ off) r.0
       (into code.HeurRb u (decided_row n old d s v t x flags (stand.Heuristic decision.Rollback) code.HeurRb u mirrors
       (stands_so S5 q ∙ ap (λ k. Some (stand.Heuristic k)) is)
       (subst (λ (us : List Sight). Contains us u) (sym (by decision.Rollback reply.HeurRb)) (first_in u []))))
@@ -212,12 +223,12 @@ module _ (n : Numbers) (old new : States) (d : Xid → Decision) (s : Sight) (t 
       (λ q. let g = subst (λ (st : BranchState). Finishes old new x call.Commit (row_of call.Commit st ws k) answer) q h in
       let r = g.row e p (in_rows call.Commit (code.Ok, S0) S3 q (0, omega arith, refl)) in
       passes n old new d s verb.Commit t x flags answer mirrors false phase right opened named refl
-      code.Ok (committed (n.xid x) s) e p (off_so verb.Commit false S3 q) r.0
+      code.Ok (committed (n.xid x) s) (Added refl) e p (off_so verb.Commit false S3 q) r.0
       (decided_row n old d s verb.Commit t x flags stand.Prepared code.Ok (committed (n.xid x) s) mirrors (stands_so S3 q)
       (first_in (committed (n.xid x) s) []))
       (committed_mirrors n old new d s x mirrors r.1 p))
       (λ q. call_off verb.Commit call.Commit right false phase refl _ S4 refl e p q refl refl h)
-      (λ q. told verb.Commit call.Commit right false phase refl refl (λ j u c. c) (λ j c. c) (λ j a. refl) k.outcome is e p q
+      (λ q. told verb.Commit call.Commit right false phase refl (λ u k z. Kept k (stays_decided z)) refl (λ j u c. c) (λ j c. c) (λ j a. refl) k.outcome is e p q
       (subst (λ (st : BranchState). Finishes old new x call.Commit (row_of call.Commit st ws k) answer) q h))))
       (λ e. strange n old new d s verb.Commit t x flags answer mirrors false phase right opened named refl e (h.unknown e))
 
@@ -232,7 +243,7 @@ module _ (n : Numbers) (old new : States) (d : Xid → Decision) (s : Sight) (t 
       (λ q. absurd (not_busy n old d s x mirrors p q))
       (λ q. let r = h.row e p (in_rows call.CommitOnePhase (code.Ok, S0) S2 q (0, omega arith, refl)) in
       passes n old new d s verb.Commit t x flags answer mirrors true phase right opened named refl
-      code.Ok (committed (n.xid x) s) e p (off_so verb.Commit true S2 q) r.0
+      code.Ok (committed (n.xid x) s) (Added refl) e p (off_so verb.Commit true S2 q) r.0
       (decided_row n old d s verb.Commit t x flags stand.Active code.Ok (committed (n.xid x) s) mirrors (stands_so S2 q)
       (first_in (committed (n.xid x) s) []))
       (committed_mirrors n old new d s x mirrors r.1 p))
@@ -256,7 +267,7 @@ module _ (n : Numbers) (old new : States) (d : Xid → Decision) (s : Sight) (t 
       (ap (λ b. row_of call.Rollback b ws k) q ∙ is) h in
       let r = g.row e p (in_rows call.Rollback (code.Ok, S0) st q listed) in
       passes n old new d s verb.Rollback t x flags answer mirrors (has flags.0 one_phase) refl right opened named refl
-      code.Ok (rolled (n.xid x) s) e p (off_so verb.Rollback (has flags.0 one_phase) st q ∙ off) r.0
+      code.Ok (rolled (n.xid x) s) (Added refl) e p (off_so verb.Rollback (has flags.0 one_phase) st q ∙ off) r.0
       (decided_row n old d s verb.Rollback t x flags j code.Ok (rolled (n.xid x) s) mirrors (stands_so st q ∙ stood) row)
       (rolled_mirrors n old new d s x mirrors r.1 p)
 
@@ -274,7 +285,7 @@ module _ (n : Numbers) (old new : States) (d : Xid → Decision) (s : Sight) (t 
       (λ q. rolls right ws k S3 stand.Prepared e p q refl refl (0, omega arith, refl) refl (first_in (rolled (n.xid x) s) []) h)
       (λ q. rolls right ws k S4 stand.RollbackOnly e p q refl refl (0, omega arith, refl) refl
       (first_in (rolled (n.xid x) s) []) h)
-      (λ q. told verb.Rollback call.Rollback right (has flags.0 one_phase) refl refl refl (λ j u c. c) (λ j c. c) (λ j a. refl)
+      (λ q. told verb.Rollback call.Rollback right (has flags.0 one_phase) refl refl (λ u k z. Kept k (stays_decided z)) refl (λ j u c. c) (λ j c. c) (λ j a. refl)
       k.outcome is e p q
       (subst (λ (st : BranchState). Finishes old new x call.Rollback (row_of call.Rollback st ws k) answer) q h))))
       (λ e. strange n old new d s verb.Rollback t x flags answer mirrors (has flags.0 one_phase) refl right opened named refl
@@ -307,7 +318,7 @@ module _ (n : Numbers) (old new : States) (d : Xid → Decision) (s : Sight) (t 
       (λ q. let p = quiet_free n old d s x mirrors (ap is_quiet q) in
       let r = h.row e p (in_rows call.Forget (code.Ok, S0) S5 q (0, omega arith, refl)) in
       passes n old new d s verb.Forget t x flags answer mirrors (has flags.0 one_phase) refl right opened named refl
-      code.Ok (gone (n.xid x) s) e p (off_so verb.Forget (has flags.0 one_phase) S5 q) r.0
+      code.Ok (gone (n.xid x) s) (Kept refl (λ z. unprepared n old d s x mirrors (λ k. let f : S5 ≡ S3 = sym q ∙ k in cc))) e p (off_so verb.Forget (has flags.0 one_phase) S5 q) r.0
       (first_in (gone (n.xid x) s) [])
       (ended_mirrors n old new d s s x mirrors r.1 p (same_tables s))))
       (λ e. strange n old new d s verb.Forget t x flags answer mirrors (has flags.0 one_phase) refl right opened named refl

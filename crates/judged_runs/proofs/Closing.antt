@@ -166,7 +166,7 @@ module _ (n : Numbers) (old new : States) (d : Xid → Decision) (s : Sight) (fl
     (mirrors : Mirrors n old d s) (counted : AreCounted old.associations.moved) where
   abbrev Closes_so : Type 0
   Closes_so = (u : Sight) × Contains (open_rows lacks_forced (close_defects s flags.0) false s (reply_of c)) u
-      × Mirrors n new d u
+      × Mirrors n new d u × (u.lost ≡ s.lost)
 
   stays : (k : Code) → c ≡ k → IsDefect (close_defects s flags.0) (reply_of k) → new ≡ old → Closes_so
   stays k is defect e = (
@@ -174,6 +174,7 @@ module _ (n : Numbers) (old new : States) (d : Xid → Decision) (s : Sight) (fl
     subst (λ (z : Code). Contains (open_rows lacks_forced (close_defects s flags.0) false s (reply_of z)) s) (sym is)
         (close_told s flags.0 (reply_of k) defect),
     subst (λ (m : States). Mirrors n m d s) (sym e) mirrors,
+    refl,
   )
 
   made : AreRight wrong_elsewhere flags.0 → IsBare old.associations → Closed old new c → Closes_so
@@ -193,6 +194,7 @@ module _ (n : Numbers) (old new : States) (d : Xid → Decision) (s : Sight) (fl
           shut = λ e. subst IsFree (sym done.3) free;
           scans = subst (λ (b : BranchList). AreScans n b.scans s.scans s.listed) (sym done.2) mirrors.scans;
         },
+        refl,
       )
 
   close_by : (l : Result Call Code) → plain_legal call.Close flags.0 ≡ l

@@ -180,7 +180,7 @@ module _ (n : Numbers) (old new : States) (d : Xid → Decision) (s : Sight) (t 
       → is_begun (state_in old.branches.branches x) ≡ true
       → Walks old new t x c (from, code.Ok, T0) (left_state new x false) answer → Result_of
   done c from kind has_one active known w = goes_passed n verb.End s t x flags answer code.Ok new d (unlinked t (n.xid x) s)
-      w.answers (clean known has_one)
+      refl w.answers (clean known has_one)
       (in_else (is_spoiled_at (branch_at (n.xid x) s)) (end_spoiled (on n t x flags) (unlinked t (n.xid x) s) reply.Ok)
       (end_passes lacks_forced (on n t x flags) (unlinked t (n.xid x) s) reply.Ok) (unlinked t (n.xid x) s)
       (spoiled_same n old d s x mirrors ∙ ap spoiled_by active)
@@ -208,7 +208,7 @@ module _ (n : Numbers) (old new : States) (d : Xid → Decision) (s : Sight) (t 
       → state_in old.branches.branches x ≡ S4
       → Walks old new t x c (from, code.RbRollback, T0) (left_state new x true) answer → Result_of
   lost c from kind has_one four w = goes_passed n verb.End s t x flags answer code.RbRollback new d (unlinked t (n.xid x) s)
-      w.answers (clean (ap is_begun four) has_one)
+      refl w.answers (clean (ap is_begun four) has_one)
       (in_then (is_spoiled_at (branch_at (n.xid x) s)) (end_spoiled (on n t x flags) (unlinked t (n.xid x) s) reply.RolledBack)
       (end_passes lacks_forced (on n t x flags) (unlinked t (n.xid x) s) reply.RolledBack) (unlinked t (n.xid x) s)
       (spoiled_same n old d s x mirrors ∙ ap (λ st. spoiled_by (stand_as st (d x))) four)
@@ -233,7 +233,7 @@ module _ (n : Numbers) (old new : States) (d : Xid → Decision) (s : Sight) (t 
       → is_begun (state_in old.branches.branches x) ≡ true
       → Walks old new t x c (from, code.RbRollback, T0) (left_state new x true) answer → Result_of
   failed c from kind has_one active known w = goes_passed n verb.End s t x flags answer code.RbRollback new d
-      (marked (n.xid x) (unlinked t (n.xid x) s)) w.answers (clean known has_one)
+      (marked (n.xid x) (unlinked t (n.xid x) s)) refl w.answers (clean known has_one)
       (in_else (is_spoiled_at (branch_at (n.xid x) s)) (end_spoiled (on n t x flags) (unlinked t (n.xid x) s) reply.RolledBack)
       (end_passes lacks_forced (on n t x flags) (unlinked t (n.xid x) s) reply.RolledBack)
       (marked (n.xid x) (unlinked t (n.xid x) s))

@@ -45,6 +45,7 @@ use Rattle.judged_runs.proofs.Orderly.{orderly_finished}
 use Rattle.judged_runs.proofs.Scanning.{AreScans, scans_less, scans_stay}
 use Rattle.judged_runs.proofs.Rows.{IsClean, IsDefect, Proto, NotA}
 use Rattle.judged_runs.proofs.Sights.{held_same}
+use Rattle.judged_runs.proofs.Losing.{Remembers}
 use Rattle.judged_runs.proofs.Steps.{Goes, goes_passed, goes_refused}
 
 -- Who holds a branch.
@@ -201,10 +202,10 @@ module _ (n : Numbers) (old new : States) (d : Xid → Decision) (s : Sight) (v 
         (and_right (is_forget v) (is_off_row v flags.0 (branch_at (n.xid x) s)) (off_same ∙ o));
   }
 
-  pub passes : (c : Code) (u : Sight) → is_known old.branches.branches x ≡ true → is_held old.associations x ≡ false
+  pub passes : (c : Code) (u : Sight) → Remembers v n s u x new → is_known old.branches.branches x ≡ true → is_held old.associations x ≡ false
       → off_by v one (stand_as (state_in old.branches.branches x) (d x)) ≡ false → answer ≡ c
       → Contains (branch_passes lacks_forced v s (on n t x flags) (reply_of c)) u → Mirrors n new d u → Result_of
-  passes c u e p o is row m = goes_passed n v s t x flags answer c new d u is
+  passes c u lost e p o is row m = goes_passed n v s t x flags answer c new d u lost is
       (subst (λ (r : Refusals). IsClean r) (sym finishes) (clean e p o)) row m
 
 -- What becomes of the tables.

@@ -198,7 +198,7 @@ module _ (n : Numbers) (old new : States) (d : Xid → Decision) (s : Sight) (t 
       → Made (T0, code.Ok, T1) → Joins
   enters active known idle seat w =
       let own = none_of n old new d s t x flags answer mirrors once right opened named plain true false fj fr idle seat in
-      goes_passed n verb.Start s t x flags answer code.Ok new d (linked t (n.xid x) false s) w.answers
+      goes_passed n verb.Start s t x flags answer code.Ok new d (linked t (n.xid x) false s) refl w.answers
       (clean n old new d s t x flags answer mirrors once right opened named plain true false fj fr known idle
       (by_stand (Some stand.Active) false active (ap (λ o. no_start_by (Some stand.Active) true false (is_two o)
       (not (moved_of old.associations x == 0))) own)))

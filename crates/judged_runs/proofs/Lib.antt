@@ -10,6 +10,7 @@ pub mod Flags
 pub mod Branches
 pub mod Checks
 pub mod Orderly
+pub mod Losing
 pub mod Steps
 pub mod Starting
 pub mod Ending
@@ -24,5 +25,7 @@ pub mod Closing
 pub mod Giving
 pub mod Recovering
 pub mod Answering
+pub mod Restarting
 pub mod Conforming
+pub mod Recorded
 pub mod Runs

@@ -1,7 +1,7 @@
 -- An open of the manager, an operator's decision and a thread's work as steps of the judge.
-use Rattle.std.proofs.Common.{◌≡◌, ℕ, Bool, true, false, not, Option, Some, None, List, [], ◌∷◌, length, Result, Ok, Err, ◌&&◌, refl, ap, sym, subst, ◌∙◌, inl, inr, arith}
-use Rattle.std.specs.Prelude.{◌⊎◌, ◌==◌, is_some, nat_eq, Contains, MatchResult, if◌then◌else◌}
-use Rattle.std.proofs.lemmas.Bool.{false≢true, and_from, eqb-true}
+use Rattle.std.proofs.Common.{◌≡◌, ℕ, Bool, true, false, not, Option, Some, None, List, [], ◌∷◌, length, Result, Ok, Err, refl, ap, sym, subst, ◌∙◌, inl, inr, arith}
+use Rattle.std.specs.Prelude.{◌⊎◌, is_some, nat_eq, Contains, MatchResult, if◌then◌else◌}
+use Rattle.std.proofs.lemmas.Bool.{false≢true}
 use Rattle.std.proofs.lemmas.List.Elements.{Contains-append_right}
 use Rattle.xa_codes.specs.declared.code.Code.{Code}
 use Rattle.xa_codes.specs.declared.code.Code.TheVariants as code
@@ -29,10 +29,8 @@ use Rattle.judge_state.specs.declared.parts.Decision.{Decision}
 use Rattle.judge_state.specs.declared.parts.Decision.TheVariants as decision
 use Rattle.judge_state.specs.declared.parts.Link.{Link}
 use Rattle.judge_state.specs.declared.parts.Listed.{Listed}
-use Rattle.judge_state.specs.declared.parts.Stand.{Stand}
 use Rattle.judge_state.specs.declared.parts.Stand.TheVariants as stand
-use Rattle.judge_state.specs.Moves.{decided, is_prepared, is_prepared_at, opened, scans_without, standing}
-use Rattle.judge_state.specs.Parts.{is_named}
+use Rattle.judge_state.specs.Moves.{decided, is_prepared_at, opened, scans_without, standing}
 use Rattle.judge_state.specs.Sights.{Sight}
 use Rattle.judge_rules.specs.declared.calls.Answer.{Answer}
 use Rattle.judge_rules.specs.declared.calls.Answer.TheVariants as answer
@@ -52,17 +50,19 @@ use Rattle.judged_runs.proofs.Finishing.{HasTables, quiet_free, unheld, unmoved_
 use Rattle.judged_runs.specs.Deeds.{AreListedOnce, decision_of, is_commit}
 use Rattle.judged_runs.proofs.Flags.{AreRight, plain_async, plain_errs, plain_legal, plain_reads, plain_wrong}
 use Rattle.judged_runs.proofs.Links.{Tied, is_one, is_two}
-use Rattle.judged_runs.proofs.Lists.{any_pick}
-use Rattle.judged_runs.proofs.Mirrors.{AreBranches, IsBranch, IsFree, IsOrderly, Mirrors, is_begun, is_quiet, stand_as}
+use Rattle.judged_runs.proofs.Losing.{AreLost, prepared_same}
+use Rattle.judged_runs.proofs.Mirrors.{AreBranches, IsFree, IsOrderly, Mirrors, is_begun, is_quiet}
 use Rattle.judged_runs.proofs.Orderly.{orderly_finished}
 use Rattle.judged_runs.proofs.Scanning.{AreScans, scans_more, scans_stay}
 use Rattle.judged_runs.proofs.Rows.{IsDefect, Inval, Async, first_in, has_code, in_else, in_if, in_then, is_clean, is_defect}
 
 -- the judge goes on, by a call and its answer, to a state that is that of the tables after it
-pub record Moves (n : Numbers) (s : Sight) (c : Asked) (a : Answer) (new : States) (d : Xid → Decision) : Type 0 where
+pub record Moves (n : Numbers) (s : Sight) (c : Asked) (a : Answer) (new : States) (d : Xid → Decision) (l : Xid → Bool)
+    : Type 0 where
   pub sight : Sight
   pub row : Contains (next lacks_forced s c a) sight
   pub mirrors : Mirrors n new d sight
+  pub lost : AreLost n l sight.lost
 
 pub in_next : (s : Sight) (c : Asked) (a : Answer) (u : Sight) → s.hung ≡ false → Contains (next_by lacks_forced s c a) u
     → Contains (next lacks_forced s c a) u
@@ -125,6 +125,7 @@ module _ (n : Numbers) (old new : States) (d : Xid → Decision) (s : Sight) (fl
     (mirrors : Mirrors n old d s) (once : AreListedOnce new.associations.holders) where
   abbrev Opens_so : Type 0
   Opens_so = (u : Sight) × Contains (open_rows lacks_forced (open_defects flags.0) true s (reply_of c)) u × Mirrors n new d u
+      × (u.lost ≡ s.lost)
 
   -- the manager was closed
   from_closed : Opened old new migrates c → old.init ≡ R0 → Mirrors n new d (opened true s)
@@ -168,12 +169,14 @@ module _ (n : Numbers) (old new : States) (d : Xid → Decision) (s : Sight) (fl
     subst (λ (z : Code). Contains (open_rows lacks_forced (open_defects flags.0) true s (reply_of z)) (opened true s))
         (sym h.answers) (open_made flags.0 s (plain_reads call.Open k flags.0 e).0),
     by_init old.init refl h,
+    refl,
   )
   open_by (Err k) e h = (
     s,
     subst (λ (z : Code). Contains (open_rows lacks_forced (open_defects flags.0) true s (reply_of z)) s) (sym h.0)
         (told (plain_errs call.Open flags.0 k e)),
     subst (λ (m : States). Mirrors n m d s) (sym h.1) mirrors,
+    refl,
   )
     where
       told : (k ≡ code.Inval) ⊎ (k ≡ code.Async)
@@ -187,24 +190,6 @@ module _ (n : Numbers) (old new : States) (d : Xid → Decision) (s : Sight) (fl
   open_goes h = open_by (plain_legal call.Open flags.0) refl h
 
 -- Operators' decisions.
-
-prepared_stand : (k : Stand) → Some stand.Prepared ≡ Some k → is_prepared k ≡ true
-prepared_stand k h = let is : stand.Prepared ≡ k = cc in subst (λ (j : Stand). is_prepared j ≡ true) is refl
-
--- a branch in S3 is prepared to the judge
-prepared_same : (n : Numbers) (m : States) (d : Xid → Decision) (s : Sight) (x : Xid) → Mirrors n m d s
-    → state_in m.branches.branches x ≡ S3 → is_prepared_at (n.xid x) s ≡ true
-prepared_same n m d s x mirrors q =
-    (any_pick (IsBranch n (state_in m.branches.branches) d) (is_named (n.xid x))
-    (λ (c : Bool) (b : Branch). b.name == n.xid x && is_prepared b.stand)
-    (λ b is named. (
-      true,
-      and_from (b.name == n.xid x) (is_prepared b.stand) named
-          (prepared_stand b.stand (sym (ap (λ st. stand_as st (d x)) q)
-          ∙ subst (λ (y : Xid). stand_as (state_in m.branches.branches y) (d y) ≡ Some b.stand)
-          (n.xids_apart is.xid x (sym is.is ∙ eqb-true b.name (n.xid x) named)) is.stands)),
-    ))
-    s.branches mirrors.branches.each (mirrors.branches.known x ∙ ap is_begun q)).1
 
 decide_mirrors : (n : Numbers) (old new : States) (d d' : Xid → Decision) (s u : Sight) (x : Xid) (c : Decision)
     → Mirrors n old d s → state_in old.branches.branches x ≡ S3 → Takes old new x S5 → d' x ≡ c
@@ -233,13 +218,14 @@ decide_mirrors n old new d d' s u x c mirrors q takes is others o w l m b scanne
 pub decide_goes : (n : Numbers) (old new : States) (d d' : Xid → Decision) (s : Sight) (x : Xid) (o : Outcome)
     → Mirrors n old d s → state_in old.branches.branches x ≡ S3 → Takes old new x S5 → d' x ≡ decision_of o
     → ((y : Xid) → same x y ≡ false → d' y ≡ d y)
-    → (u : Sight) × Contains (decide_next s (n.xid x) (is_commit o) answer.Done) u × Mirrors n new d' u
+    → (u : Sight) × Contains (decide_next s (n.xid x) (is_commit o) answer.Done) u × Mirrors n new d' u × (u.lost ≡ s.lost)
 decide_goes n old new d d' s x Committed mirrors q takes is others = (
   decided (n.xid x) decision.Commit s,
   in_if (is_prepared_at (n.xid x) s) (decided (n.xid x) decision.Commit s) (prepared_same n old d s x mirrors q),
   decide_mirrors n old new d d' s (decided (n.xid x) decision.Commit s) x decision.Commit mirrors q takes is others refl refl
       refl refl refl
       (scans_more n (n.xid x) (scans_without (n.xid x) s.listed s.scans) old.branches.scans s.scans s.listed mirrors.scans),
+  refl,
 )
 decide_goes n old new d d' s x Aborted mirrors q takes is others = (
   decided (n.xid x) decision.Rollback s,
@@ -247,6 +233,7 @@ decide_goes n old new d d' s x Aborted mirrors q takes is others = (
   decide_mirrors n old new d d' s (decided (n.xid x) decision.Rollback s) x decision.Rollback mirrors q takes is others refl
       refl refl refl refl
       (scans_more n (n.xid x) (scans_without (n.xid x) s.listed s.scans) old.branches.scans s.scans s.listed mirrors.scans),
+  refl,
 )
 
 -- A thread's work.

@@ -329,7 +329,7 @@ module _ (n : Numbers) (old new : States) (d : Xid → Decision) (s : Sight) (t 
     defects = recover_defects lacks_forced s t f
 
     abbrev Steps_by : Answer → Type 0
-    Steps_by a = (u : Sight) × Contains (recover_next lacks_forced s t count f a) u × Mirrors n new d u
+    Steps_by a = (u : Sight) × Contains (recover_next lacks_forced s t count f a) u × Mirrors n new d u × (u.lost ≡ s.lost)
 
     told : (c k : Code) → c ≡ k → IsDefect (recover_defects lacks_forced s t f) (reply_of k) → Same old new
         → Steps_by (answer.Code c)
@@ -342,6 +342,7 @@ module _ (n : Numbers) (old new : States) (d : Xid → Decision) (s : Sight) (t 
           (in_if (is_among (recover_defects lacks_forced s t f) (reply_of k)) s
           (has_code (recover_defects lacks_forced s t f) (reply_of k) defect))),
       same_mirrors n old new d s same mirrors,
+      refl,
     )
 
     limited : (c : Code) → c ≡ code.RmErr → Same old new → Steps_by (answer.Code c)
@@ -354,6 +355,7 @@ module _ (n : Numbers) (old new : States) (d : Xid → Decision) (s : Sight) (t 
           (Contains-append_right (one_if (is_among (recover_excuses lacks_forced s t f) reply.RmErr) s)
           (failed lacks_forced s reply.RmErr) s (first_in s []))),
       same_mirrors n old new d s same mirrors,
+      refl,
     )
 
     -- a scan that is refused
@@ -490,6 +492,14 @@ module _ (n : Numbers) (old new : States) (d : Xid → Decision) (s : Sight) (t 
         (not (false || not (nat_le count (length (map n.xid (take count rest)))))
         || list_all (is_paid t (map n.xid (take count rest))) u.listed) g.apart g.may g.few g.owes)))))
 
+    -- a scan leaves what is remembered
+    begun_lost : (b : Bool) → (if b then scan_opened t s else s).lost ≡ s.lost
+    begun_lost true = refl
+    begun_lost false = refl
+
+    same_lost : (u : Sight) → scan_in t f s ≡ u → u.lost ≡ s.lost
+    same_lost u is = ap (λ (z : Sight). z.lost) (sym is) ∙ begun_lost (has_flag f start_scan)
+
     first_of_two : (b : Bool) (u v : Sight) → b ≡ true → (if b then u else v) ≡ u
     first_of_two b u v h = rw h refl
 
@@ -531,6 +541,7 @@ module _ (n : Numbers) (old new : States) (d : Xid → Decision) (s : Sight) (t 
             migrated = base.tables.migrated;
             branches = base.tables.branches;
           }) sc.branches held init (ended u rest base (own true e) sc.left.others),
+          same_lost u base.is,
         )
         by false e = (
           scan_given t ks.items u,
@@ -545,6 +556,7 @@ module _ (n : Numbers) (old new : States) (d : Xid → Decision) (s : Sight) (t 
           }) sc.branches held init
               (subst (λ (zs : List ℕ). AreScans n new.branches.scans u.scans (given_lines t zs u.listed)) (sym numbers_are)
               (goes_on u rest base (own false e) sc.left.others)),
+          same_lost u base.is,
         )
 
     scans_given : (given : List Xid) (ks : Vec ℕ) (k : Call) → is_closed old.init ≡ false → ReadsScan f k

@@ -121,7 +121,7 @@ module _ (n : Numbers) (old new : States) (d : Xid → Decision) (s : Sight) (t 
       → own_state old.associations t x ≡ T2 → Made false (T2, code.Ok, T1) → Resumes_so
   own_at_work active known idle two w =
       let u = linked t (n.xid x) false (unlinked t (n.xid x) s) in
-      goes_passed n verb.Start s t x flags answer code.Ok new d (linked t (n.xid x) false (unlinked t (n.xid x) s)) w.answers
+      goes_passed n verb.Start s t x flags answer code.Ok new d (linked t (n.xid x) false (unlinked t (n.xid x) s)) refl w.answers
       (clean n old new d s t x flags answer mirrors once right opened named plain false true fj fr known idle
       (by_stand (Some stand.Active) T2 false active two refl))
       (row_at_work (unlinked t (n.xid x) s) active
@@ -138,7 +138,7 @@ module _ (n : Numbers) (old new : States) (d : Xid → Decision) (s : Sight) (t 
   own_lost : state_in old.branches.branches x ≡ S4 → is_some (active_of old.associations t) ≡ false
       → own_state old.associations t x ≡ T2 → Made true (T2, code.RbRollback, T0) → Resumes_so
   own_lost four idle two w =
-      goes_passed n verb.Start s t x flags answer code.RbRollback new d (unlinked t (n.xid x) s) w.answers
+      goes_passed n verb.Start s t x flags answer code.RbRollback new d (unlinked t (n.xid x) s) refl w.answers
       (clean n old new d s t x flags answer mirrors once right opened named plain false true fj fr (ap is_begun four) idle
       (by_stand (Some stand.RollbackOnly) T2 false (ap (λ st. stand_as st (d x)) four) two refl))
       (row_lost (unlinked t (n.xid x) s) four
@@ -156,7 +156,7 @@ module _ (n : Numbers) (old new : States) (d : Xid → Decision) (s : Sight) (t 
       → own_state old.associations t x ≡ T0 → (moved_of old.associations x == 0) ≡ false
       → Made false (M, code.Ok, T1) → Resumes_so
   moved_at_work active known idle none some w =
-      goes_passed n verb.Start s t x flags answer code.Ok new d (linked t (n.xid x) false (picked (n.xid x) s)) w.answers
+      goes_passed n verb.Start s t x flags answer code.Ok new d (linked t (n.xid x) false (picked (n.xid x) s)) refl w.answers
       (clean n old new d s t x flags answer mirrors once right opened named plain false true fj fr known idle
       (by_stand (Some stand.Active) T0 false active none (ap (λ b. not (not b)) some)))
       (row_at_work (picked (n.xid x) s) active
@@ -174,7 +174,7 @@ module _ (n : Numbers) (old new : States) (d : Xid → Decision) (s : Sight) (t 
       → own_state old.associations t x ≡ T0 → (moved_of old.associations x == 0) ≡ false
       → Made true (M, code.RbRollback, T0) → Resumes_so
   moved_lost four idle none some w =
-      goes_passed n verb.Start s t x flags answer code.RbRollback new d (picked (n.xid x) s) w.answers
+      goes_passed n verb.Start s t x flags answer code.RbRollback new d (picked (n.xid x) s) refl w.answers
       (clean n old new d s t x flags answer mirrors once right opened named plain false true fj fr (ap is_begun four) idle
       (by_stand (Some stand.RollbackOnly) T0 false (ap (λ st. stand_as st (d x)) four) none (ap (λ b. not (not b)) some)))
       (row_lost (picked (n.xid x) s) four

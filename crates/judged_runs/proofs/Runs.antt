@@ -1,5 +1,6 @@
 -- What the requests of a script make of a key store is what the law of deeds speaks of.
-use Rattle.std.proofs.Common.{◌≡◌, ℕ, Bool, true, false, Option, Some, None, List, [], ◌∷◌, length, Result, Ok, Err, refl, ap, sym, subst, ◌∙◌, arith}
+use Rattle.std.proofs.Common.{◌≡◌, ℕ, Bool, true, false, ◌&&◌, Option, Some, None, List, [], ◌∷◌, ◌++◌, length, Result, Ok, Err, refl, ap, sym, subst, ◌∙◌, inl, inr, nat_lt, arith}
+use Rattle.std.specs.Prelude.{◌⊎◌, if◌then◌else◌}
 use Rattle.std.proofs.lemmas.Bool.{false≢true}
 use Rattle.xa_codes.specs.declared.code.Code.{Code}
 use Rattle.xa_codes.specs.declared.code.Code.TheVariants as code
@@ -8,40 +9,53 @@ use Rattle.xa_tables.specs.declared.call.Call.{Call}
 use Rattle.xa_tables.specs.declared.call.Call.TheVariants as call
 use Rattle.xa_tables.specs.declared.call.Verb.{Verb}
 use Rattle.xa_tables.specs.declared.call.Verb.TheVariants as table_verb
-use Rattle.xa_tables.specs.declared.states.BranchState.TheVariants.{S0, S5}
+use Rattle.xa_tables.specs.declared.states.BranchState.{BranchState}
+use Rattle.xa_tables.specs.declared.states.BranchState.TheVariants.{S0, S1, S2, S3, S4, S5}
 use Rattle.xa_xid.specs.declared.xid.Xid.{Xid}
 use Rattle.xa_branch.specs.Names.{same}
 use Rattle.xa_branch.proofs.Names.{same_is}
-use Rattle.xa_branch.specs.Branches.{state_in}
+use Rattle.xa_branch.specs.Branches.{BranchList, state_in}
+use Rattle.xa_assoc.specs.declared.states.States.{States}
 use Rattle.xa_assoc.specs.Answers.{IsNew, Opens, Recovers, Same, Wanted}
 use Rattle.xa_assoc.specs.Ready.{is_work_verb}
-use Rattle.xa_assoc.specs.Restored.{Restored}
+use Rattle.xa_assoc.specs.Restored.{Restored, has_twice}
 use Rattle.xa_assoc.specs.declared.errors.WorkError.{WorkError}
 use Rattle.xa_assoc.proofs.Finishing.{finishing, off_is, passed, refused_call, works_as}
 use Rattle.xa_heur.specs.declared.decision.Decision.{Decision as Known}
 use Rattle.xa_heur.specs.Cases.{DecisionTable, decision_in, decision_or}
+use Rattle.xa_heur.specs.Decisions.{decided_in}
 use Rattle.tree_model.specs.declared.messages.Op.{Op}
 use Rattle.tree_model.specs.declared.messages.Op.TheVariants.{Put, Get, Delete}
 use Rattle.tree_model.specs.declared.names.Kind.TheVariants.{Manager}
 use Rattle.tree_model.specs.declared.names.Outcome.{Outcome}
+use Rattle.tree_model.specs.declared.names.Outcome.TheVariants as outcome
+use Rattle.tree_model.specs.Standings.{mark_at, mark_of}
 use Rattle.tree_model.specs.declared.records.LogRecord.{LogRecord}
 use Rattle.tree_model.specs.Records.{same_bytes}
 use Rattle.log_rules.specs.order.Logs.{Whole, read_log}
 use Rattle.log_rules.specs.order.Orders.{SeenLog, left_by as in_doubt_by, nothing_seen}
 use Rattle.log_text.specs.Forms.{log_form}
 use Rattle.rec_log.specs.Openings.{Opens as OpensLog}
-use Rattle.rec_log.specs.Sights.{LogState, records_of}
+use Rattle.rec_log.specs.Sights.{LogState, left_by, records_of}
+use Rattle.kv_turns.specs.Turns.{decide_turn, heur_entry}
 use Rattle.kv_core.specs.Replays.{seen_after, seen_of}
-use Rattle.kv_core.specs.Stores.{KeySight, MovesTables}
+use Rattle.kv_core.specs.Stores.{KeySight, MovesTables, state_of}
 use Rattle.kv_core.specs.Ends.{known_of}
 use Rattle.kv_store.specs.writes.Writes.{writes_of}
 use Rattle.manager_model.specs.Ends.{Broke, Failed, Finishes, Limited, Made, Makes as MakesRow, Refused, Unlisted, decided_behind, row_for}
 use Rattle.manager_model.specs.declared.errors.DecideError.{DecideError}
 use Rattle.manager_model.specs.declared.errors.DecideError.TheVariants as decide_error
 use Rattle.kv_manager.specs.Resources.{sight_of}
-use Rattle.kv_manager.specs.Sights.{KvSight, SameManager}
-use Rattle.kv_manager.specs.Turns.{Calls, Refuses as RefusesWork}
-use Rattle.kv_manager.proofs.Keeping.{refused_same}
+use Rattle.manager_model.specs.Restarting.{boot_record, marked_state}
+use Rattle.kv_manager.specs.Restarts.{Restarted}
+use Rattle.kv_manager.specs.Sights.{KvSight, SameManager, doubt_of}
+use Rattle.kv_manager.specs.Turns.{Calls, Finishes as KvFinishes, Makes as MakesTurn, Refuses as RefusesWork, Takes as KvTakes, Made as KvMade, Broke as KvBroke, Spent as KvSpent, Failed as KvFailed, Refused as KvRefused, Taken as KvTaken}
+use Rattle.kv_manager.proofs.Bounds.{none_refused}
+use Rattle.kv_manager.proofs.From.{comes_from}
+use Rattle.kv_manager.proofs.Keeping.{closes_one, opens_one, refused_same}
+use Rattle.kv_manager.proofs.Restarted.{restarted}
+use Rattle.kv_manager.proofs.Staying.{SameDoubts, recovers_doubts, same_doubts, works_doubts}
+use Rattle.kv_manager.proofs.Turns.{due_turn, leads}
 use Rattle.kv_manager.proofs.Resources.{finished, same_tables}
 use Rattle.judge_state.specs.declared.parts.Decision.{Decision}
 use Rattle.judge_rules.specs.declared.calls.Answer.{Answer as Judged}
@@ -58,12 +72,13 @@ use Rattle.xa_engine.specs.declared.script.request.Request.{Request}
 use Rattle.xa_engine.specs.declared.script.request.Request.TheVariants.{Open, Close, Branch, Recover, Work, Restart, Trim, Decide}
 use Rattle.xa_engine.specs.declared.answer.Answer.{Answer}
 use Rattle.xa_engine.specs.declared.answer.Answer.TheVariants as answer
-use Rattle.xa_engine.specs.Makes.{CallsBranch, Decides, IsRead, IsWritten, Joins, Makes, Moves, Trims, Works}
+use Rattle.xa_engine.specs.Makes.{Boots, CallsBranch, Decides, IsCode, IsRead, IsWritten, Joins, Makes, Moves, Scans, Trims, Works, kept_bytes}
 use Rattle.xa_engine.specs.Runs.{IsFresh}
-use Rattle.judged_runs.specs.Deeds.{AreCounted, Closed, Deed, Decided, Ended, Finished, Is, IsScan, Leads, Limited as LimitedDeed, Opened, Recovered, Started, StillKnown, Trimmed, Undecided, Unread, Unwritten, Wrote, decision_of, ends_branch, on, rows_for}
-use Rattle.judged_runs.specs.Events.{AreEvents, IsEvent, LeadsCovered, Says, is_covered, is_failure, tells_failure, verb_of}
+use Rattle.judged_runs.specs.Deeds.{AreCounted, Closed, Deed, Decided, Ended, Finished, Is, IsScan, Leads, Limited as LimitedDeed, Loses, NoMore, Opened, Recovered, Restarted as RestartedDeed, Returns, Started, StillKnown, Trimmed, Undecided, Unread, Unwritten, Wrote, decision_of, ends_branch, none_lost, on, rows_for}
+use Rattle.judged_runs.specs.Events.{AreEvents, HasSoundLog, IsEvent, LeadsCovered, LeadsJudged, Says, is_booted, is_covered, is_failure, is_judged, tells_failure, verb_of}
 use Rattle.judged_runs.specs.Names.{Numbers, lacks_forced, value_number}
 use Rattle.judged_runs.proofs.Conforming.{deeds_legal}
+use Rattle.judged_runs.proofs.Recorded.{IsRecorded, IsSaid, all_left, boot_recorded, lost_after, lost_before, lost_cases, more_recorded, stays_recorded, trim_recorded, turn_recorded, written_recorded}
 
 -- what operators decided, as the key store knows it
 abbrev pub known_in : KvSight → Xid → Decision
@@ -104,9 +119,92 @@ behind_outcome call.RecoverStart k = refl
 behind_outcome call.RecoverEnd k = refl
 behind_outcome call.RecoverWhole k = refl
 
-module _ (n : Numbers) (old new : KvSight) (e : Event) (counted : AreCounted old.store.tables.associations.moved) where
+-- which branches a crash may bring back after a call on a branch, and after a request
+abbrev pub lost_call : BranchCall → (Xid → Bool) → KvSight → KvSight → Xid → Bool
+lost_call Start l old new = l
+lost_call End l old new = l
+lost_call Prepare l old new = lost_after l old new
+lost_call Commit l old new = lost_after l old new
+lost_call Rollback l old new = lost_after l old new
+lost_call Forget l old new = lost_after l old new
+
+abbrev pub lost_next : Request → (Xid → Bool) → KvSight → KvSight → Xid → Bool
+lost_next (Open flags migrates) l old new = l
+lost_next (Close flags) l old new = l
+lost_next (Branch f t x flags) l old new = lost_call f l old new
+lost_next (Recover t count flags) l old new = l
+lost_next (Work t op) l old new = l
+lost_next (Restart keep) l old new = none_lost
+lost_next Trim l old new = l
+lost_next (Decide x o) l old new = l
+
+-- what a crash leaves of a branch, as a restart finds it
+returns_left : (s : BranchState) (k : Known) (t : BranchState) (j : Known) (lost : Bool)
+    → IsSaid (doubt_of s) k t j lost → Returns s t lost
+returns_left S0 k t j lost h = h
+returns_left S1 k t j lost h = h
+returns_left S2 k t j lost h = h
+returns_left S3 k t j lost h = h
+returns_left S4 k t j lost h = h
+returns_left S5 k t j lost h = h.0
+
+returns_whole : (s t : BranchState) (lost : Bool) → t ≡ doubt_of s → Returns s t lost
+returns_whole S0 t lost h = inl h
+returns_whole S1 t lost h = inl h
+returns_whole S2 t lost h = inl h
+returns_whole S3 t lost h = h
+returns_whole S4 t lost h = inl h
+returns_whole S5 t lost h = h
+
+five_left : (s t : BranchState) (b : Bool) → s ≡ S5 → Returns s t b → t ≡ S5
+five_left s t b q h = subst (λ (z : BranchState). Returns z t b) q h
+
+off_by_tests : (a b : Bool) (p q : Code) → (if a then Some p else if b then Some q else None) ≡ None → b ≡ false
+off_by_tests true b p q h = absurd cc
+off_by_tests false true p q h = absurd cc
+off_by_tests false false p q h = refl
+
+module _ (n : Numbers) (old new : KvSight) (e : Event) (counted : AreCounted old.store.tables.associations.moved)
+    (l : Xid → Bool) where
+  abbrev Deed_by : (Xid → Bool) → Type 0
+  Deed_by l' = Deed n old.store.tables new.store.tables (known_in old) (known_in new) l l' e
+
   abbrev Deed_of : Type 0
-  Deed_of = Deed n old.store.tables new.store.tables (known_in old) (known_in new) e
+  Deed_of = Deed_by l
+
+  abbrev Deed_ends : Type 0
+  Deed_ends = Deed_by (lost_after l old new)
+
+  -- a crash may bring back these at most
+  no_more : NoMore l l
+  no_more y h = h
+
+  same_more : Same old.store.tables new.store.tables → NoMore l (lost_after l old new)
+  same_more same y h = elim (lost_cases l old new y h) [
+    | inl was ↦ was
+    | inr left ↦ absurd (let q : S3 ≡ S0 = sym left.0
+        ∙ ap (λ (bs : List (Xid × BranchState)). state_in bs y) (sym same.branches.branches) ∙ left.1 in cc)
+  ]
+
+  loses_by : (x : Xid) → ((y : Xid) → same x y ≡ false
+      → state_in new.store.tables.branches.branches y ≡ state_in old.store.tables.branches.branches y)
+      → Loses old.store.tables new.store.tables x l (lost_after l old new)
+  loses_by x others y h = elim (lost_cases l old new y h) [
+    | inl was ↦ inl was
+    | inr left ↦ by left.0 left.1 (same x y) refl
+  ] where
+    by : state_of old.store y ≡ S3 → state_of new.store y ≡ S0 → (b : Bool) → same x y ≡ b
+        → (l y ≡ true) ⊎ ((same x y ≡ true) × (state_of old.store x ≡ S3) × (state_of new.store x ≡ S0))
+    by p q true is = inr (
+      is,
+      subst (λ (z : Xid). state_of old.store z ≡ S3) (sym (same_is x y is)) p,
+      subst (λ (z : Xid). state_of new.store z ≡ S0) (sym (same_is x y is)) q,
+    )
+    by p q false apart = absurd (let f : S3 ≡ S0 = sym p ∙ sym (others y apart) ∙ q in cc)
+
+  loses_same : (x : Xid) → Same old.store.tables new.store.tables
+      → Loses old.store.tables new.store.tables x l (lost_after l old new)
+  loses_same x same y h = inl (same_more same y h)
 
   still : ((y : Xid) → known_of new.store y ≡ known_of old.store y) → StillKnown new.store.tables (known_in old) (known_in new)
   still h y q = ap (λ (k : Known). decision_of k.outcome) (h y)
@@ -115,7 +213,7 @@ module _ (n : Numbers) (old new : KvSight) (e : Event) (counted : AreCounted old
       → Moves old new c (λ a b. Opens a b flags.0 migrates c)
       → Is e (asked.Function (function.Open flags)) (judged.Code c) → Deed_of
   open_deed flags migrates c ok h is = by_works old new c Deed_of _ ok h
-      (λ m. Opened flags migrates c m.tables (still (same_known old.store new.store m.decisions)) is)
+      (λ m. Opened flags migrates c m.tables (still (same_known old.store new.store m.decisions)) no_more is)
 
   any_row : Wanted
   any_row c = (code.Ok, S0)
@@ -124,13 +222,13 @@ module _ (n : Numbers) (old new : KvSight) (e : Event) (counted : AreCounted old
       → Joins table_verb.Start old new t x flags.0 c
       → Is e (asked.Function (function.Branch verb.Start (on n t x flags))) (judged.Code c) → Deed_of
   start_deed t x flags c ok h is = by_works old new c Deed_of _ ok (h any_row)
-      (λ m. Started any_row t x flags c m.tables (still (same_known old.store new.store m.decisions)) is)
+      (λ m. Started any_row t x flags c m.tables (still (same_known old.store new.store m.decisions)) no_more is)
 
   end_deed : (t : ℕ) (x : Xid) (flags : Flags) (c : Code) → is_failure c ≡ false
       → Joins table_verb.End old new t x flags.0 c
       → Is e (asked.Function (function.Branch verb.End (on n t x flags))) (judged.Code c) → Deed_of
   end_deed t x flags c ok h is = by_works old new c Deed_of _ ok (h any_row)
-      (λ m. Ended any_row t x flags c m.tables (still (same_known old.store new.store m.decisions)) is)
+      (λ m. Ended any_row t x flags c m.tables (still (same_known old.store new.store m.decisions)) no_more is)
 
   -- the row of a call that finishes a branch leaves what is known
   row_known : (x : Xid) (c : Call) → MakesRow (sight_of old) (sight_of new) x c (row_for (sight_of old) x c)
@@ -146,14 +244,14 @@ module _ (n : Numbers) (old new : KvSight) (e : Event) (counted : AreCounted old
   finish_deed : (v : BranchVerb) (w : Verb) (t : ℕ) (x : Xid) (flags : Flags) (c : Code) → ends_branch v w
       → is_work_verb w ≡ false → is_failure c ≡ false
       → Is e (asked.Function (function.Branch v (on n t x flags))) (judged.Code c)
-      → Finishes (sight_of old) (sight_of new) w x flags.0 c → Deed_of
+      → Finishes (sight_of old) (sight_of new) w x flags.0 c → Deed_ends
   finish_deed v w t x flags c ends work ok is (Failed f q same) = absurd (no_failure c q ok)
   finish_deed v w t x flags c ends work ok is (Refused f ready same) =
       Finished v w (writes_of old.store.writes x) (known_of old.store x) t x flags c ends refl
       (refused_call (rows_for old.store.tables x (writes_of old.store.writes x) (known_of old.store x)) old.store.tables
-      new.store.tables w t x flags.0 c work ready same.tables) (still same.rest.decided) is
+      new.store.tables w t x flags.0 c work ready same.tables) (still same.rest.decided) (loses_same x same.tables) is
   finish_deed v w t x flags c ends work ok is (Limited f spent q same) =
-      LimitedDeed v t x flags same.tables (still same.rest.decided)
+      LimitedDeed v t x flags same.tables (still same.rest.decided) (same_more same.tables)
       (record { calls = is.calls; says = is.says ∙ ap (λ z. judged.Code z) q })
   finish_deed v w t x flags c ends work ok is (Unlisted f k ready none q same) =
       Finished v w (writes_of old.store.writes x) (known_of old.store x) t x flags c ends refl
@@ -162,17 +260,17 @@ module _ (n : Numbers) (old new : KvSight) (e : Event) (counted : AreCounted old
       (λ _. (
         q ∙ sym (off_is k (works_as w flags.0 k (passed old.store.tables w x flags.0 k ready).by_flags ∙ work)),
         same.tables,
-      ))) (still same.rest.decided) is
+      ))) (still same.rest.decided) (loses_same x same.tables) is
   finish_deed v w t x flags c ends work ok is (Made f k ready q makes) =
       Finished v w (writes_of old.store.writes x) (known_of old.store x) t x flags c ends refl
       (finishing (rows_for old.store.tables x (writes_of old.store.writes x) (known_of old.store x)) old.store.tables
       new.store.tables w t x flags.0 k c work ready (λ listed. (q, makes.tables)) (λ none. absurd (none makes.listed)))
-      (row_known x k makes) is
+      (row_known x k makes) (loses_by x makes.tables.branch.others) is
   finish_deed v w t x flags c ends work ok is (Broke f k ready q fails) = absurd (no_failure c q ok)
 
   branch_deed : (f : BranchCall) (t : ℕ) (x : Xid) (flags : Flags) (c : Code) → is_failure c ≡ false
       → CallsBranch f old new t x flags.0 c
-      → Is e (asked.Function (function.Branch (verb_of f) (on n t x flags))) (judged.Code c) → Deed_of
+      → Is e (asked.Function (function.Branch (verb_of f) (on n t x flags))) (judged.Code c) → Deed_by (lost_call f l old new)
   branch_deed Start t x flags c ok h is = start_deed t x flags c ok h is
   branch_deed End t x flags c ok h is = end_deed t x flags c ok h is
   branch_deed Prepare t x flags c ok h is = finish_deed verb.Prepare table_verb.Prepare t x flags c refl refl ok is
@@ -197,7 +295,7 @@ module _ (n : Numbers) (old new : KvSight) (e : Event) (counted : AreCounted old
       → IsEvent n (Work t (Get k)) a e → Deed_of
   read_deed t k (answer.Found v) covered h is = absurd (false≢true covered)
   read_deed t k (answer.Refused w) covered h is = refused_work _ w Deed_of h.1
-      (λ same known. Unread t k same (still known) (record { calls = is.calls; says = is.says }))
+      (λ same known. Unread t k same (still known) no_more (record { calls = is.calls; says = is.says }))
   read_deed t k (answer.Code c) covered h is = absurd h
   read_deed t k (answer.Given xs) covered h is = absurd h
   read_deed t k answer.Done covered h is = absurd h
@@ -218,9 +316,9 @@ module _ (n : Numbers) (old new : KvSight) (e : Event) (counted : AreCounted old
       → e.call ≡ asked.Put t (n.word k) (value_number n v) → Says n a e.answer → Deed_of
   write_deed t k v answer.Done h calls says = by_done Deed_of _ h
       (λ w. Wrote t k v (same_tables old.store.tables new.store.tables w.tables)
-      (still (same_known old.store new.store w.decisions)) (record { calls = calls; says = says }))
+      (still (same_known old.store new.store w.decisions)) no_more (record { calls = calls; says = says }))
   write_deed t k v (answer.Refused w) h calls says = refused_work _ w Deed_of h.1
-      (λ same known. Unwritten t k v same (still known) (record { calls = calls; says = says }))
+      (λ same known. Unwritten t k v same (still known) no_more (record { calls = calls; says = says }))
   write_deed t k v (answer.Code c) h calls says = absurd h
   write_deed t k v (answer.Given xs) h calls says = absurd h
   write_deed t k v (answer.Found w) h calls says = absurd h
@@ -238,14 +336,14 @@ module _ (n : Numbers) (old new : KvSight) (e : Event) (counted : AreCounted old
 
   undecided : (x : Xid) (o : Outcome) (w : DecideError) → SameManager old new
       → IsEvent n (Decide x o) (answer.NotDecided w) e → Deed_of
-  undecided x o w same is = Undecided x o same.tables (still (λ y. ap decision_or (same.decisions y)))
+  undecided x o w same is = Undecided x o same.tables (still (λ y. ap decision_or (same.decisions y))) no_more
       (record { calls = is.calls; says = is.says })
 
   decide_deed : (x : Xid) (o : Outcome) (a : Answer) → tells_failure a ≡ false → Decides old new x o a
       → IsEvent n (Decide x o) a e → Deed_of
   decide_deed x o answer.Done ok h is = Decided x o h.0.prepared h.0.tables
       (ap (λ (k : Known). decision_of k.outcome) h.0.decided)
-      (λ y differs. ap (λ (k : Known). decision_of k.outcome) (h.0.others_decided y differs))
+      (λ y differs. ap (λ (k : Known). decision_of k.outcome) (h.0.others_decided y differs)) no_more
       (record { calls = is.calls; says = is.says })
   decide_deed x o (answer.NotDecided decide_error.Memory) ok h is = absurd (h.0 refl)
   decide_deed x o (answer.NotDecided decide_error.Device) ok h is = absurd (false≢true (sym ok))
@@ -262,7 +360,7 @@ module _ (n : Numbers) (old new : KvSight) (e : Event) (counted : AreCounted old
   decide_deed x o (answer.NotTrimmed w) ok h is = absurd h
 
   trim_deed : (a : Answer) → tells_failure a ≡ false → Trims old new a → IsEvent n Trim a e → Deed_of
-  trim_deed (answer.Trimmed r) ok h is = Trimmed h.0.tables (still h.0.rest.decided)
+  trim_deed (answer.Trimmed r) ok h is = Trimmed h.0.tables (still h.0.rest.decided) no_more
       (record { calls = is.calls; says = is.says })
   trim_deed (answer.NotTrimmed w) ok h is = absurd (false≢true (sym ok))
   trim_deed (answer.Code c) ok h is = absurd h
@@ -291,7 +389,7 @@ module _ (n : Numbers) (old new : KvSight) (e : Event) (counted : AreCounted old
   close_by : (flags : Flags) (a : Answer) → tells_failure a ≡ false → Makes old new (Close flags) a
       → IsEvent n (Close flags) a e → Deed_of
   close_by flags (answer.Code c) ok h is = by_works old new c Deed_of _ ok h
-      (λ m. Closed flags c counted m.tables (still (same_known old.store new.store m.decisions))
+      (λ m. Closed flags c counted m.tables (still (same_known old.store new.store m.decisions)) no_more
       (record { calls = is.calls; says = is.says }))
   close_by flags (answer.Given xs) ok h is = absurd h
   close_by flags (answer.Found v) ok h is = absurd h
@@ -304,7 +402,7 @@ module _ (n : Numbers) (old new : KvSight) (e : Event) (counted : AreCounted old
   close_by flags (answer.NotDecided w) ok h is = absurd h
 
   branch_by : (f : BranchCall) (t : ℕ) (x : Xid) (flags : Flags) (a : Answer) → tells_failure a ≡ false
-      → Makes old new (Branch f t x flags) a → IsEvent n (Branch f t x flags) a e → Deed_of
+      → Makes old new (Branch f t x flags) a → IsEvent n (Branch f t x flags) a e → Deed_by (lost_call f l old new)
   branch_by f t x flags (answer.Code c) ok h is =
       branch_deed f t x flags c ok h (record { calls = is.calls; says = is.says })
   branch_by f t x flags (answer.Given xs) ok h is = absurd h
@@ -326,7 +424,7 @@ module _ (n : Numbers) (old new : KvSight) (e : Event) (counted : AreCounted old
     by : (b : Bool) → old.log.sight.failed ≡ b → Deed_of
     by true q = absurd (ok (calls.failed q).0)
     by false q = let m = calls.works q in
-        Recovered t count flags r a m.tables says (still (same_known old.store new.store m.decisions)) is
+        Recovered t count flags r a m.tables says (still (same_known old.store new.store m.decisions)) no_more is
 
   scan_deed : (t count : ℕ) (flags : Flags) (a : Answer) → tells_failure a ≡ false
       → Makes old new (Recover t count flags) a → IsEvent n (Recover t count flags) a e → Deed_of
@@ -343,32 +441,300 @@ module _ (n : Numbers) (old new : KvSight) (e : Event) (counted : AreCounted old
   scan_deed t count flags (answer.NotTrimmed w) ok h is = absurd h
   scan_deed t count flags (answer.NotDecided w) ok h is = absurd h
 
-  pub deed_of : (r : Request) (a : Answer) → is_covered r a ≡ true → tells_failure a ≡ false → Makes old new r a
-      → IsEvent n r a e → Deed_of
-  deed_of (Open flags migrates) a covered ok h is = open_by flags migrates a ok h is
-  deed_of (Close flags) a covered ok h is = close_by flags a ok h is
-  deed_of (Branch f t x flags) a covered ok h is = branch_by f t x flags a ok h is
-  deed_of (Recover t count flags) a covered ok h is = scan_deed t count flags a ok h is
-  deed_of (Work t op) a covered ok h is = work_deed t op a covered h is
-  deed_of (Restart keep) a covered ok h is = absurd (false≢true covered)
-  deed_of Trim a covered ok h is = trim_deed a ok h is
-  deed_of (Decide x o) a covered ok h is = decide_deed x o a ok h is
+  -- a restart
+  restart_by : (cut : Bool) (keep : ℕ) (given : List Xid) → Restarted old new keep given
+      → ((x : Xid) → Returns (state_of old.store x) (marked_state (mark_at (left_by old.log.sight keep) x)) (cut && l x))
+      → ((x : Xid) → state_of old.store x ≡ S5
+      → (decided_in (left_by old.log.sight keep) x).outcome ≡ (known_of old.store x).outcome)
+      → Is e (asked.Restart cut) judged.Told → Deed_by none_lost
+  restart_by cut keep given made states decided is =
+      let after = restarted old new keep given made in
+      RestartedDeed cut (record {
+        left = in_doubt_by made.left.seen;
+        tables = made.left.tables;
+        once = off_by_tests (nat_lt 1024 (length (in_doubt_by made.left.seen))) (has_twice (in_doubt_by made.left.seen))
+            code.RmErr code.DupId (none_refused (left_by old.log.sight keep) made.left.seen made.left.read);
+        states = λ x. subst (λ (t : BranchState). Returns (state_of old.store x) t (cut && l x)) (sym (after.states x)) (states x);
+        known = λ x q. ap decision_of (ap (λ (k : Known). k.outcome) (after.decided x (after.states x
+            ∙ five_left (state_of old.store x) (marked_state (mark_at (left_by old.log.sight keep) x)) (cut && l x) q (states x)))
+            ∙ decided x q);
+        forgets = λ x q. false≢true q;
+      }) is
+
+  restart_deed : (keep : Option ℕ) (a : Answer) → IsRecorded old l → HasSoundLog old → is_booted a ≡ true
+      → Boots old new keep a → IsEvent n (Restart keep) a e → Deed_by none_lost
+  restart_deed (Some k) (answer.Booted b) r log covered h is = restart_by true k h.1 h.2
+      (λ x. returns_left (state_of old.store x) (known_of old.store x) (marked_state (mark_at (left_by old.log.sight k) x))
+      (decided_in (left_by old.log.sight k) x) (l x) (r.left k x))
+      (λ x q. (subst (λ (s : BranchState). IsSaid (doubt_of s) (known_of old.store x)
+      (marked_state (mark_at (left_by old.log.sight k) x)) (decided_in (left_by old.log.sight k) x) (l x)) q (r.left k x)).1)
+      (record { calls = is.calls; says = is.says })
+  restart_deed None (answer.Booted b) r log covered h is = restart_by false (kept_bytes None) h.1 h.2
+      (λ x. returns_whole (state_of old.store x) (marked_state (mark_at (left_by old.log.sight (kept_bytes None)) x)) false
+      (ap (λ ks. marked_state (mark_at ks x)) (all_left old log) ∙ r.now x))
+      (λ x q. ap (λ ks. (decided_in ks x).outcome) (all_left old log) ∙ r.decided x q)
+      (record { calls = is.calls; says = is.says })
+  restart_deed keep (answer.Code c) r log covered h is = absurd (false≢true covered)
+  restart_deed keep (answer.Given xs) r log covered h is = absurd (false≢true covered)
+  restart_deed keep (answer.Found v) r log covered h is = absurd (false≢true covered)
+  restart_deed keep answer.Done r log covered h is = absurd (false≢true covered)
+  restart_deed keep (answer.Refused w) r log covered h is = absurd (false≢true covered)
+  restart_deed keep (answer.NotBooted w) r log covered h is = absurd (false≢true covered)
+  restart_deed keep (answer.Trimmed b) r log covered h is = absurd (false≢true covered)
+  restart_deed keep (answer.NotTrimmed w) r log covered h is = absurd (false≢true covered)
+  restart_deed keep (answer.NotDecided w) r log covered h is = absurd (false≢true covered)
+
+  -- a request but a restart
+  pub deed_but : (r : Request) (a : Answer) → is_covered r a ≡ true → tells_failure a ≡ false → Makes old new r a
+      → IsEvent n r a e → Deed_by (lost_next r l old new)
+  deed_but (Open flags migrates) a covered ok h is = open_by flags migrates a ok h is
+  deed_but (Close flags) a covered ok h is = close_by flags a ok h is
+  deed_but (Branch f t x flags) a covered ok h is = branch_by f t x flags a ok h is
+  deed_but (Recover t count flags) a covered ok h is = scan_deed t count flags a ok h is
+  deed_but (Work t op) a covered ok h is = work_deed t op a covered h is
+  deed_but (Restart keep) a covered ok h is = absurd (false≢true covered)
+  deed_but Trim a covered ok h is = trim_deed a ok h is
+  deed_but (Decide x o) a covered ok h is = decide_deed x o a ok h is
+
+  pub deed_of : (r : Request) (a : Answer) → IsRecorded old l → HasSoundLog old → is_judged r a ≡ true
+      → tells_failure a ≡ false → Makes old new r a → IsEvent n r a e → Deed_by (lost_next r l old new)
+  deed_of (Open flags migrates) a r log covered ok h is = open_by flags migrates a ok h is
+  deed_of (Close flags) a r log covered ok h is = close_by flags a ok h is
+  deed_of (Branch f t x flags) a r log covered ok h is = branch_by f t x flags a ok h is
+  deed_of (Recover t count flags) a r log covered ok h is = scan_deed t count flags a ok h is
+  deed_of (Work t op) a r log covered ok h is = work_deed t op a covered h is
+  deed_of (Restart keep) a r log covered ok h is = restart_deed keep a r log covered h is
+  deed_of Trim a r log covered ok h is = trim_deed a ok h is
+  deed_of (Decide x o) a r log covered ok h is = decide_deed x o a ok h is
+
+-- What a request makes of the log.
+
+module _ (old new : KvSight) (l : Xid → Bool) (r : IsRecorded old l) (log : HasSoundLog old) where
+  -- nothing changes but room
+  same_recorded : SameManager old new → IsRecorded new l
+  same_recorded same = stays_recorded old new l r same.log (same_doubts old.store.tables new.store.tables same.tables)
+      (λ y. ap decision_or (same.decisions y))
+
+  -- a call moves the tables alone
+  moved_recorded : (X : Type 0) (Does : States → States → Type 0)
+      → Calls old new X (λ before after. MovesTables before after Does)
+      → ((a b : States) → Does a b → SameDoubts a b) → IsRecorded new l
+  moved_recorded X Does calls doubts =
+      let m = calls.works r.works in
+      stays_recorded old new l r calls.log (doubts old.store.tables new.store.tables m.tables)
+      (same_known old.store new.store m.decisions)
+
+  branches_doubts : (a b : States) → b.branches ≡ a.branches → SameDoubts a b
+  branches_doubts a b one y = ap (λ (bs : BranchList). doubt_of (state_in bs.branches y)) one
+
+  work_recorded : (v : Verb) (t : ℕ) (x : Xid) (flags : ℕ) (c : Code) → is_work_verb v ≡ true
+      → Joins v old new t x flags c → IsRecorded new l
+  work_recorded v t x flags c work h = moved_recorded _ _ (h (λ k. (code.Ok, S0)))
+      (λ a b. works_doubts (λ k. (code.Ok, S0)) a b v t x flags c work)
+
+  finish_recorded : (v : Verb) (x : Xid) (flags : ℕ) (c : Code) → is_failure c ≡ false → KvFinishes old new v x flags c
+      → IsRecorded new (lost_after l old new)
+  finish_recorded v x flags c ok (KvFailed f q same) = absurd (no_failure c q ok)
+  finish_recorded v x flags c ok (KvRefused f off same) =
+      more_recorded new l (lost_after l old new) (lost_before l old new) (same_recorded same)
+  finish_recorded v x flags c ok (KvTaken f due is takes) = by takes where
+    by : KvTakes old new x due.1 c → IsRecorded new (lost_after l old new)
+    by (KvMade q makes) = turn_recorded old new l x due.0 due.1 r (due_turn old v x flags due.0 due.1 f is) makes
+    by (KvBroke q fails) = absurd (no_failure c q ok)
+    by (KvSpent q commits none same) =
+        more_recorded new l (lost_after l old new) (lost_before l old new) (same_recorded same)
+
+  call_recorded : (f : BranchCall) (t : ℕ) (x : Xid) (flags : ℕ) (c : Code) → is_failure c ≡ false
+      → CallsBranch f old new t x flags c → IsRecorded new (lost_call f l old new)
+  call_recorded Start t x flags c ok h = work_recorded table_verb.Start t x flags c refl h
+  call_recorded End t x flags c ok h = work_recorded table_verb.End t x flags c refl h
+  call_recorded Prepare t x flags c ok h = finish_recorded table_verb.Prepare x flags c ok h
+  call_recorded Commit t x flags c ok h = finish_recorded table_verb.Commit x flags c ok h
+  call_recorded Rollback t x flags c ok h = finish_recorded table_verb.Rollback x flags c ok h
+  call_recorded Forget t x flags c ok h = finish_recorded table_verb.Forget x flags c ok h
+
+  refused_recorded : (refusal : Option WorkError) (w : WorkError) → RefusesWork old new refusal w → IsRecorded new l
+  refused_recorded refusal w h =
+      let same = refused_same old.store new.store refusal w (h.works r.works) in
+      stays_recorded old new l r h.log (same_doubts old.store.tables new.store.tables same.tables)
+      (λ y. ap decision_or (same.decisions y))
+
+  done_recorded : (Does : KeySight → KeySight → Type 0) → Calls old new ⊥ Does
+      → (Does old.store new.store → new.store.tables ≡ old.store.tables)
+      → (Does old.store new.store → new.store.decisions ≡ old.store.decisions) → IsRecorded new l
+  done_recorded Does h tables decisions =
+      let w = h.works r.works in
+      stays_recorded old new l r h.log
+      (same_doubts old.store.tables new.store.tables (same_tables old.store.tables new.store.tables (tables w)))
+      (same_known old.store new.store (decisions w))
+
+  read_recorded : (t : ℕ) (k : List ℕ) (a : Answer) → IsRead old new t k a → IsRecorded new l
+  read_recorded t k (answer.Found v) h = done_recorded _ h (λ w. w.tables) (λ w. w.decisions)
+  read_recorded t k (answer.Refused w) h = refused_recorded _ w h.1
+  read_recorded t k (answer.Code c) h = absurd h
+  read_recorded t k (answer.Given xs) h = absurd h
+  read_recorded t k answer.Done h = absurd h
+  read_recorded t k (answer.Booted b) h = absurd h
+  read_recorded t k (answer.NotBooted w) h = absurd h
+  read_recorded t k (answer.Trimmed b) h = absurd h
+  read_recorded t k (answer.NotTrimmed w) h = absurd h
+  read_recorded t k (answer.NotDecided w) h = absurd h
+
+  write_recorded : (t : ℕ) (k : List ℕ) (v : Option (List ℕ)) (a : Answer) → IsWritten old new t k v a → IsRecorded new l
+  write_recorded t k v answer.Done h = done_recorded _ h (λ w. w.tables) (λ w. w.decisions)
+  write_recorded t k v (answer.Refused w) h = refused_recorded _ w h.1
+  write_recorded t k v (answer.Code c) h = absurd h
+  write_recorded t k v (answer.Given xs) h = absurd h
+  write_recorded t k v (answer.Found w) h = absurd h
+  write_recorded t k v (answer.Booted b) h = absurd h
+  write_recorded t k v (answer.NotBooted w) h = absurd h
+  write_recorded t k v (answer.Trimmed b) h = absurd h
+  write_recorded t k v (answer.NotTrimmed w) h = absurd h
+  write_recorded t k v (answer.NotDecided w) h = absurd h
+
+  op_recorded : (t : ℕ) (op : Op) (a : Answer) → Works old new t op a → IsRecorded new l
+  op_recorded t (Get k) a h = read_recorded t k a h
+  op_recorded t (Put k v) a h = write_recorded t k (Some v) a h
+  op_recorded t (Delete k) a h = write_recorded t k None a h
+
+  -- an operator decided a branch
+
+  from_three : (o : Outcome) → comes_from (heur_entry o) ≡ S3
+  from_three outcome.Committed = refl
+  from_three outcome.Aborted = refl
+
+  to_five : (o : Outcome) → leads (heur_entry o) ≡ S5
+  to_five outcome.Committed = refl
+  to_five outcome.Aborted = refl
+
+  decided_recorded : (x : Xid) (o : Outcome) → state_of old.store x ≡ S3 → MakesTurn old new x (decide_turn o)
+      → IsRecorded new l
+  decided_recorded x o three makes = written_recorded old new l l x (heur_entry o) (writes_of old.store.writes x) true r
+      makes.log (three ∙ sym (from_three o)) (makes.tables.branch.own ∙ sym (to_five o)) makes.tables.branch.others
+      makes.decisions.own (λ y apart. ap decision_or (makes.decisions.others y apart)) (λ q. absurd (false≢true (sym q)))
+      (λ y h. h) (λ p q. absurd (let f : S5 ≡ S0 = sym makes.tables.branch.own ∙ q in cc))
+
+  decide_recorded : (x : Xid) (o : Outcome) (a : Answer) → tells_failure a ≡ false → Decides old new x o a → IsRecorded new l
+  decide_recorded x o answer.Done ok h = decided_recorded x o h.0.prepared h.1
+  decide_recorded x o (answer.NotDecided decide_error.Memory) ok h = absurd (h.0 refl)
+  decide_recorded x o (answer.NotDecided decide_error.Device) ok h = absurd (false≢true (sym ok))
+  decide_recorded x o (answer.NotDecided decide_error.Failed) ok h = absurd (false≢true (sym ok))
+  decide_recorded x o (answer.NotDecided decide_error.NotInDoubt) ok h = same_recorded h.2
+  decide_recorded x o (answer.NotDecided decide_error.Exhausted) ok h = same_recorded h.2
+  decide_recorded x o (answer.Code c) ok h = absurd h
+  decide_recorded x o (answer.Given xs) ok h = absurd h
+  decide_recorded x o (answer.Found v) ok h = absurd h
+  decide_recorded x o (answer.Refused w) ok h = absurd h
+  decide_recorded x o (answer.Booted b) ok h = absurd h
+  decide_recorded x o (answer.NotBooted w) ok h = absurd h
+  decide_recorded x o (answer.Trimmed b) ok h = absurd h
+  decide_recorded x o (answer.NotTrimmed w) ok h = absurd h
+
+  trimmed_recorded : (a : Answer) → tells_failure a ≡ false → Trims old new a → IsRecorded new l
+  trimmed_recorded (answer.Trimmed b) ok h = trim_recorded old new l r log h.0.log
+      (same_doubts old.store.tables new.store.tables h.0.tables) h.0.rest.decided
+  trimmed_recorded (answer.NotTrimmed w) ok h = absurd (false≢true (sym ok))
+  trimmed_recorded (answer.Code c) ok h = absurd h
+  trimmed_recorded (answer.Given xs) ok h = absurd h
+  trimmed_recorded (answer.Found v) ok h = absurd h
+  trimmed_recorded answer.Done ok h = absurd h
+  trimmed_recorded (answer.Refused w) ok h = absurd h
+  trimmed_recorded (answer.Booted b) ok h = absurd h
+  trimmed_recorded (answer.NotBooted w) ok h = absurd h
+  trimmed_recorded (answer.NotDecided w) ok h = absurd h
+
+  restarted_recorded : (keep : Option ℕ) (a : Answer) → is_booted a ≡ true → Boots old new keep a
+      → IsRecorded new none_lost
+  restarted_recorded keep (answer.Booted b) covered h =
+      let made = h.2 in
+      let after = restarted old new (kept_bytes keep) h.1 made in
+      boot_recorded new (left_by old.log.sight (kept_bytes keep)) new.boot made.log.works made.log.forced made.log.unforced
+      after.states after.decided
+  restarted_recorded keep (answer.Code c) covered h = absurd (false≢true covered)
+  restarted_recorded keep (answer.Given xs) covered h = absurd (false≢true covered)
+  restarted_recorded keep (answer.Found v) covered h = absurd (false≢true covered)
+  restarted_recorded keep answer.Done covered h = absurd (false≢true covered)
+  restarted_recorded keep (answer.Refused w) covered h = absurd (false≢true covered)
+  restarted_recorded keep (answer.NotBooted w) covered h = absurd (false≢true covered)
+  restarted_recorded keep (answer.Trimmed b) covered h = absurd (false≢true covered)
+  restarted_recorded keep (answer.NotTrimmed w) covered h = absurd (false≢true covered)
+  restarted_recorded keep (answer.NotDecided w) covered h = absurd (false≢true covered)
+
+  -- the answer is a code
+  with_code : (X : Type 0) (P : Code → Type 0) (a : Answer) → tells_failure a ≡ false → IsCode P a
+      → ((c : Code) → is_failure c ≡ false → P c → X) → X
+  with_code X P (answer.Code c) ok h then_so = then_so c ok h
+  with_code X P (answer.Given xs) ok h then_so = absurd h
+  with_code X P (answer.Found v) ok h then_so = absurd h
+  with_code X P answer.Done ok h then_so = absurd h
+  with_code X P (answer.Refused w) ok h then_so = absurd h
+  with_code X P (answer.Booted b) ok h then_so = absurd h
+  with_code X P (answer.NotBooted w) ok h then_so = absurd h
+  with_code X P (answer.Trimmed b) ok h then_so = absurd h
+  with_code X P (answer.NotTrimmed w) ok h then_so = absurd h
+  with_code X P (answer.NotDecided w) ok h then_so = absurd h
+
+  scan_recorded : (t count flags : ℕ) (a : Answer) → Scans old new t count flags a → IsRecorded new l
+  scan_recorded t count flags (answer.Code c) h = moved_recorded _ _ h (λ a b. recovers_doubts a b t count flags (Err c))
+  scan_recorded t count flags (answer.Given xs) h = moved_recorded _ _ h (λ a b. recovers_doubts a b t count flags (Ok xs))
+  scan_recorded t count flags (answer.Found v) h = absurd h
+  scan_recorded t count flags answer.Done h = absurd h
+  scan_recorded t count flags (answer.Refused w) h = absurd h
+  scan_recorded t count flags (answer.Booted b) h = absurd h
+  scan_recorded t count flags (answer.NotBooted w) h = absurd h
+  scan_recorded t count flags (answer.Trimmed b) h = absurd h
+  scan_recorded t count flags (answer.NotTrimmed w) h = absurd h
+  scan_recorded t count flags (answer.NotDecided w) h = absurd h
+
+  pub recorded_of : (q : Request) (a : Answer) → is_judged q a ≡ true → tells_failure a ≡ false → Makes old new q a
+      → IsRecorded new (lost_next q l old new)
+  recorded_of (Open flags migrates) a covered ok h = with_code (IsRecorded new l) _ a ok h (λ c fine calls.
+      moved_recorded _ _ calls (λ b d opens. branches_doubts b d (opens_one b d flags.0 migrates c opens)))
+  recorded_of (Close flags) a covered ok h = with_code (IsRecorded new l) _ a ok h (λ c fine calls.
+      moved_recorded _ _ calls (λ b d closes. branches_doubts b d (closes_one b d flags.0 c closes)))
+  recorded_of (Branch f t x flags) a covered ok h = with_code (IsRecorded new (lost_call f l old new)) _ a ok h
+      (λ c fine calls. call_recorded f t x flags.0 c fine calls)
+  recorded_of (Recover t count flags) a covered ok h = scan_recorded t count flags.0 a h
+  recorded_of (Work t op) a covered ok h = op_recorded t op a h
+  recorded_of (Restart keep) a covered ok h = restarted_recorded keep a covered h
+  recorded_of Trim a covered ok h = trimmed_recorded a ok h
+  recorded_of (Decide x o) a covered ok h = decide_recorded x o a ok h
 
 -- Whole runs.
 
-leads_of : (n : Numbers) (m k : KvSight) (rs : List Request) (given : List Answer) (es : List Event)
-    → AreCounted m.store.tables.associations.moved → LeadsCovered m rs given k → AreEvents n rs given es → Leads n m.store.tables (known_in m) es
-leads_of n m k [] [] [] counted h is = tt
-leads_of n m k [] [] (e ∷ es) counted h is = absurd is
-leads_of n m k [] (a ∷ given) es counted h is = absurd h
-leads_of n m k (r ∷ rs) [] es counted h is = absurd h
-leads_of n m k (r ∷ rs) (a ∷ given) [] counted h is = absurd is
-leads_of n m k (r ∷ rs) (a ∷ given) (e ∷ es) counted h is = (
+leads_of : (n : Numbers) (m k : KvSight) (l : Xid → Bool) (rs : List Request) (given : List Answer) (es : List Event)
+    → AreCounted m.store.tables.associations.moved → LeadsCovered m rs given k → AreEvents n rs given es
+    → Leads n m.store.tables (known_in m) l es
+leads_of n m k l [] [] [] counted h is = tt
+leads_of n m k l [] [] (e ∷ es) counted h is = absurd is
+leads_of n m k l [] (a ∷ given) es counted h is = absurd h
+leads_of n m k l (q ∷ rs) [] es counted h is = absurd h
+leads_of n m k l (q ∷ rs) (a ∷ given) [] counted h is = absurd is
+leads_of n m k l (q ∷ rs) (a ∷ given) (e ∷ es) counted h is = (
   h.0.store.tables,
   known_in h.0,
+  lost_next q l m h.0,
   h.4.once,
-  deed_of n m h.0 e counted r a h.2 h.3 h.1 is.0,
-  leads_of n h.0 k rs given es h.4.counted h.5 is.1,
+  deed_but n m h.0 e counted l q a h.2 h.3 h.1 is.0,
+  leads_of n h.0 k (lost_next q l m h.0) rs given es h.4.counted h.5 is.1,
+)
+
+-- with restarts
+judged_leads : (n : Numbers) (m k : KvSight) (l : Xid → Bool) (rs : List Request) (given : List Answer) (es : List Event)
+    → AreCounted m.store.tables.associations.moved → IsRecorded m l → LeadsJudged m rs given k → AreEvents n rs given es
+    → Leads n m.store.tables (known_in m) l es
+judged_leads n m k l [] [] [] counted r h is = tt
+judged_leads n m k l [] [] (e ∷ es) counted r h is = absurd is
+judged_leads n m k l [] (a ∷ given) es counted r h is = absurd h
+judged_leads n m k l (q ∷ rs) [] es counted r h is = absurd h
+judged_leads n m k l (q ∷ rs) (a ∷ given) [] counted r h is = absurd is
+judged_leads n m k l (q ∷ rs) (a ∷ given) (e ∷ es) counted r h is = (
+  h.0.store.tables,
+  known_in h.0,
+  lost_next q l m h.0,
+  h.5.once,
+  deed_of n m h.0 e counted l q a r h.1 h.3 h.4 h.2 is.0,
+  judged_leads n h.0 k (lost_next q l m h.0) rs given es h.5.counted (recorded_of m h.0 l r h.1 q a h.3 h.4 h.2) h.6 is.1,
 )
 
 -- a new manager has new tables
@@ -395,6 +761,17 @@ new_tables m fresh =
       seats = tables.seats;
     }
 
+-- its log has the record of its boot alone
+new_recorded : (m : KvSight) → IsFresh m → IsRecorded m none_lost
+unfolding mark_of
+new_recorded m fresh =
+    let none : (x : Xid) → state_of m.store x ≡ S0 =
+    λ x. ap (λ (bs : List (Xid × BranchState)). state_in bs x) (new_tables m fresh).branches in
+    boot_recorded m [] m.boot fresh.starts.works
+    (fresh.starts.forced ∙ ap (λ ls. ls ++ boot_record m.boot ∷ []) (no_records fresh.log fresh.opens))
+    fresh.starts.unforced none
+    (λ x e. absurd (let q : S0 ≡ S5 = sym (none x) ∙ e in cc))
+
 none_counted : (es : List (Xid × ℕ)) → length es ≡ 0 → AreCounted es
 none_counted [] h = tt
 none_counted (e ∷ es) h = absurd (omega arith)
@@ -404,4 +781,12 @@ pub runs_legal : (n : Numbers) (m k : KvSight) (rs : List Request) (given : List
 runs_legal n m k rs given es fresh h is =
     let new = new_tables m fresh in
     deeds_legal n m.store.tables (known_in m) es new
-    (leads_of n m k rs given es (none_counted m.store.tables.associations.moved new.associations.moved) h is)
+    (leads_of n m k none_lost rs given es (none_counted m.store.tables.associations.moved new.associations.moved) h is)
+
+pub restarts_legal : (n : Numbers) (m k : KvSight) (rs : List Request) (given : List Answer) (es : List Event) → IsFresh m
+    → LeadsJudged m rs given k → AreEvents n rs given es → IsLegal lacks_forced es
+restarts_legal n m k rs given es fresh h is =
+    let new = new_tables m fresh in
+    deeds_legal n m.store.tables (known_in m) es new
+    (judged_leads n m k none_lost rs given es (none_counted m.store.tables.associations.moved new.associations.moved)
+    (new_recorded m fresh) h is)

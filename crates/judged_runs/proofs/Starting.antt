@@ -138,7 +138,7 @@ module _ (n : Numbers) (old new : States) (d : Xid → Decision) (s : Sight) (t 
       → is_some (active_of old.associations t) ≡ false
       → Walks old new t x call.Start (T0, code.Ok, T1) S1 answer → Goes n verb.Start s t x flags answer new d
   begins marks e idle w =
-      goes_passed n verb.Start s t x flags answer code.Ok new d (linked t (n.xid x) false (begun t (n.xid x) s)) w.answers
+      goes_passed n verb.Start s t x flags answer code.Ok new d (linked t (n.xid x) false (begun t (n.xid x) s)) refl w.answers
       (plain_clean marks e idle)
       (plain_row n s t x flags (plain_by false false flags.0 marks.0 marks.1) marks.1)
       (record {

@@ -17,6 +17,7 @@ use Rattle.judge_rules.specs.Replies.{reply_of}
 use Rattle.judge_rules.specs.Steps.{branch_rows}
 use Rattle.judged_runs.specs.Deeds.{on}
 use Rattle.judged_runs.specs.Names.{Numbers, lacks_forced}
+use Rattle.judged_runs.proofs.Losing.{Remembers, unchanged}
 use Rattle.judged_runs.proofs.Mirrors.{Mirrors, same_mirrors}
 use Rattle.judged_runs.proofs.Rows.{IsClean, IsDefect, failing, first_in, passed, refused}
 
@@ -26,6 +27,7 @@ pub record Goes (n : Numbers) (v : BranchVerb) (s : Sight) (t : ℕ) (x : Xid) (
   pub sight : Sight
   pub row : Contains (branch_rows lacks_forced v s (on n t x flags) (reply_of answer)) sight
   pub mirrors : Mirrors n new d sight
+  pub lost : Remembers v n s sight x new
 
 -- a call is refused by the code of a defect
 pub goes_refused : (n : Numbers) (v : BranchVerb) (s : Sight) (t : ℕ) (x : Xid) (flags : Flags) (answer c : Code)
@@ -37,6 +39,7 @@ goes_refused n v s t x flags answer c old new d mirrors defect h = record {
   row = refused v s (on n t x flags) (reply_of answer)
       (subst (λ (k : Code). IsDefect (branch_defects lacks_forced v s (on n t x flags)) (reply_of k)) (sym h.0) defect);
   mirrors = same_mirrors n old new d s h.1 mirrors;
+  lost = unchanged v n old new d s x mirrors h.1;
 }
 
 -- a limit of the manager's own is met
@@ -48,19 +51,21 @@ goes_failed n v s t x flags answer old new d mirrors h = record {
   row = subst (λ (k : Code). Contains (branch_rows lacks_forced v s (on n t x flags) (reply_of k)) s) (sym h.0)
       (failing v s (on n t x flags) reply.RmErr (first_in s []));
   mirrors = same_mirrors n old new d s h.1 mirrors;
+  lost = unchanged v n old new d s x mirrors h.1;
 }
 
 -- a call passes
 pub goes_passed : (n : Numbers) (v : BranchVerb) (s : Sight) (t : ℕ) (x : Xid) (flags : Flags) (answer c : Code)
-    (new : States) (d : Xid → Decision) (u : Sight) → answer ≡ c
+    (new : States) (d : Xid → Decision) (u : Sight) → Remembers v n s u x new → answer ≡ c
     → IsClean (branch_defects lacks_forced v s (on n t x flags))
     → Contains (branch_passes lacks_forced v s (on n t x flags) (reply_of c)) u → Mirrors n new d u
     → Goes n v s t x flags answer new d
-goes_passed n v s t x flags answer c new d u is clean row mirrors = record {
+goes_passed n v s t x flags answer c new d u lost is clean row mirrors = record {
   sight = u;
   row = passed v s (on n t x flags) (reply_of answer) u clean
       (subst (λ (k : Code). Contains (branch_passes lacks_forced v s (on n t x flags) (reply_of k)) u) (sym is) row);
   mirrors = mirrors;
+  lost = lost;
 }
 
 -- what a plan makes, by a test

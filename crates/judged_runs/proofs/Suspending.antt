@@ -140,7 +140,7 @@ module _ (n : Numbers) (old new : States) (d : Xid → Decision) (s : Sight) (t 
   -- a branch that can only be rolled back
   rolls : (migrates : Bool) → own_state old.associations t x ≡ T1 → state_in old.branches.branches x ≡ S4
       → Made migrates true (T1, code.RbRollback, T0) → Result_of
-  rolls migrates own four w = goes_passed n verb.End s t x flags answer code.RbRollback new d (unlinked t (n.xid x) s) w.answers
+  rolls migrates own four w = goes_passed n verb.End s t x flags answer code.RbRollback new d (unlinked t (n.xid x) s) refl w.answers
       (clean (ap is_begun four) own)
       (in_then (is_spoiled_at (branch_at (n.xid x) s)) (end_spoiled (on n t x flags) (unlinked t (n.xid x) s) reply.RolledBack)
       (end_passes lacks_forced (on n t x flags) (unlinked t (n.xid x) s) reply.RolledBack) (unlinked t (n.xid x) s)
@@ -178,7 +178,7 @@ module _ (n : Numbers) (old new : States) (d : Xid → Decision) (s : Sight) (t 
       → is_begun (state_in old.branches.branches x) ≡ true
       → Made migrates false (T1, code.Ok, T2) → Result_of
   holds_it migrates none own active known w =
-      goes_passed n verb.End s t x flags answer code.Ok new d (linked t (n.xid x) true (unlinked t (n.xid x) s)) w.answers
+      goes_passed n verb.End s t x flags answer code.Ok new d (linked t (n.xid x) true (unlinked t (n.xid x) s)) refl w.answers
       (clean known own)
       (passes_row code.Ok (linked t (n.xid x) true (unlinked t (n.xid x) s)) active
       (one_in (left (on n t x flags) (unlinked t (n.xid x) s)) (linked t (n.xid x) true (unlinked t (n.xid x) s))
@@ -196,7 +196,7 @@ module _ (n : Numbers) (old new : States) (d : Xid → Decision) (s : Sight) (t 
       → is_begun (state_in old.branches.branches x) ≡ true
       → Made true false (T1, code.NoMigrate, T2) → Result_of
   no_migrate some own active known w =
-      goes_passed n verb.End s t x flags answer code.NoMigrate new d (linked t (n.xid x) true (unlinked t (n.xid x) s)) w.answers
+      goes_passed n verb.End s t x flags answer code.NoMigrate new d (linked t (n.xid x) true (unlinked t (n.xid x) s)) refl w.answers
       (clean known own)
       (passes_row code.NoMigrate (linked t (n.xid x) true (unlinked t (n.xid x) s)) active
       (in_if (has flags.0 migrate && has flags.0 suspend) (linked t (n.xid x) true (unlinked t (n.xid x) s))
@@ -210,7 +210,7 @@ module _ (n : Numbers) (old new : States) (d : Xid → Decision) (s : Sight) (t 
       → is_begun (state_in old.branches.branches x) ≡ true
       → Made true false (T1, code.Ok, M) → Result_of
   moves some own active known w =
-      goes_passed n verb.End s t x flags answer code.Ok new d (migrating (n.xid x) (unlinked t (n.xid x) s)) w.answers
+      goes_passed n verb.End s t x flags answer code.Ok new d (migrating (n.xid x) (unlinked t (n.xid x) s)) refl w.answers
       (clean known own)
       (passes_row code.Ok (migrating (n.xid x) (unlinked t (n.xid x) s)) active
       (one_in (left (on n t x flags) (unlinked t (n.xid x) s)) (migrating (n.xid x) (unlinked t (n.xid x) s))

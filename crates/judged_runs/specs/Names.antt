@@ -30,11 +30,11 @@ are_none _ = false
 abbrev pub sort_of : Xid → XidSort
 sort_of x = if same x null_xid then sort.Null else if are_none x.bqual then sort.Bare else sort.Full
 
--- the key store promises nothing, and lacks one thing: the end of a prepared branch may not be forced, so that a crash
--- may bring the branch back
+-- the key store promises that it decides no branch by itself, and lacks one thing: the end of a prepared branch may not be
+-- forced, so that a crash may bring the branch back
 abbrev pub lacks_forced : Rules
 lacks_forced = record {
-  never = record { heuristics = false; failures = false; rollback = false };
+  never = record { heuristics = true; failures = false; rollback = false };
   lacks = record {
     join = false;
     suspend = false;

@@ -11,14 +11,14 @@ ghost use Rattle.kv_manager.specs.Sights.{KvSight};
 ghost use Rattle.xa_engine.specs.declared.answer.Answer.{Answer as AnyAnswer};
 ghost use Rattle.xa_engine.specs.declared.script.request.Request.{Request as AnyRequest};
 ghost use Rattle.xa_engine.specs.Runs.{IsFresh};
-ghost use Rattle.judged_runs.specs.Deeds.{Leads};
-ghost use Rattle.judged_runs.specs.Events.{AreEvents, LeadsCovered};
+ghost use Rattle.judged_runs.specs.Deeds.{Leads, none_lost};
+ghost use Rattle.judged_runs.specs.Events.{AreEvents, LeadsCovered, LeadsJudged};
 ghost use Rattle.judged_runs.specs.Names.{Numbers, lacks_forced};
 
 /// Whatever happens to the tables of a key store, as far as `Deed` has it, is a legal history of the judge of a manager
-/// that promises nothing and whose end of a prepared branch may not be forced.
+/// that decides no branch by itself, and whose end of a prepared branch may not be forced.
 pub fn deeds_conform()
-    ensures { (n : Numbers) (m : AnyStates) (d : AnyXid → Decision) (es : List Event) → IsNew m → Leads n m d es
+    ensures { (n : Numbers) (m : AnyStates) (d : AnyXid → Decision) (es : List Event) → IsNew m → Leads n m d none_lost es
         → IsLegal lacks_forced es }
 {}
 
@@ -27,4 +27,11 @@ pub fn deeds_conform()
 pub fn runs_conform()
     ensures { (n : Numbers) (m k : KvSight) (requests : List AnyRequest) (answers : List AnyAnswer) (es : List Event)
         → IsFresh m → LeadsCovered m requests answers k → AreEvents n requests answers es → IsLegal lacks_forced es }
+{}
+
+/// The same with restarts, which keep N of the unforced bytes of the log or all of them: a branch that left S3 since the last
+/// restart may be back in it where some bytes are cut off, and no other.
+pub fn restarts_conform()
+    ensures { (n : Numbers) (m k : KvSight) (requests : List AnyRequest) (answers : List AnyAnswer) (es : List Event)
+        → IsFresh m → LeadsJudged m requests answers k → AreEvents n requests answers es → IsLegal lacks_forced es }
 {}

@@ -1,4 +1,4 @@
--- The holders of a key behind a lock and behind a release.
+-- The holders of a key after a lock and after a release.
 use Rattle.std.proofs.Common.{◌≡◌, Bool, true, false, not, ◌||◌, cond, None, List, [], ◌∷◌, ◌++◌, filter, refl, arith, rules, ◌⊎◌, inl, inr}
 use Rattle.std.proofs.lemmas.Grind.{common_steps}
 use Rattle.std.proofs.lemmas.List.Folds.{list_any-append}

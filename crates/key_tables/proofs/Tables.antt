@@ -69,7 +69,7 @@ module _ {X : Type 0} where
         others = λ l apart. refl;
       })
 
-  -- one change of a key behind another
+  -- one change of a key after another
   pub becomes_then : (t u v : List (List ℕ × List X)) (k : List ℕ) (xs ys : List X) → Becomes t u k xs
       → Becomes u v k ys → ys ≡ xs → Becomes t v k xs
   becomes_then t u v k xs ys first next one = record {

@@ -3,7 +3,7 @@
 //! What a key of a key store has: the holders of its lock, and, in contracts, a list in a map by keys.
 //!
 //! ```text
-//! holders    who holds a key, who is in the way of a lock, and who holds it behind one
+//! holders    who holds a key, who is in the way of a lock, and who holds it after one
 //! ```
 #![tactic(auto)]
 

@@ -34,7 +34,7 @@ next d (k ∷ ls) l h fits = (h.0, next (stored_after d (by_xid k)) ls l h.1 fit
 pub counted_front : (ls ks : List LogRecord) → AreCounted (ls ++ ks) → AreCounted ls
 counted_front ls ks h = front no_data ls ks h
 
--- a front of what is behind them
+-- a front of what is after them
 pub counted_taken : (ls ks : List LogRecord) (n : ℕ) → AreCounted (ls ++ ks) → AreCounted (ls ++ take n ks)
 counted_taken ls ks n h = counted_front (ls ++ take n ks) (drop n ks)
     (subst AreCounted (sym (append_assoc ls (take n ks) (drop n ks)
@@ -45,7 +45,7 @@ pub counted_whole : (ls : List LogRecord) → AreCounted ls → (data_of ls).cou
 unfolding stored
 counted_whole ls h = whole no_data ls h
 
--- with others behind
+-- with others after
 pub counted_more : (ls ks : List LogRecord) → AreCounted ls → CountsFrom (data_of ls) (map by_xid ks)
     → AreCounted (ls ++ ks)
 unfolding stored

@@ -18,7 +18,7 @@ use Rattle.log_rules.specs.trim.Trims.{is_name, is_of, prepares, said_of, stayin
 use Rattle.kv_core.proofs.Lookups.{same_is, true_is_false}
 use Rattle.kv_core.proofs.Promised.{branch_same, of_name}
 
--- one record of a manager's log: of another branch it says nothing, and behind a promise of this one nothing
+-- one record of a manager's log: of another branch it says nothing, and after a promise of this one nothing
 -- is known
 pub record Says (x : Xid) (l : LogRecord) : Type 0 where
   pub skips : is_of x l ≡ false → (d : Decision) → decision_after (Foreign x) d (by_xid l) ≡ d
@@ -100,7 +100,7 @@ module _ (x : Xid) where
       (λ c d. refl) (λ h d e. refl)
 
   module _ (ls : List LogRecord) (stands : is_live (said_of x ls) ≡ true) where
-    -- a record of the branch stays that no promise of it stands behind
+    -- a record of the branch stays that no promise of it stands after
     last_stays : (l : LogRecord) (behind : List LogRecord) → is_of x l ≡ true
         → list_any (prepares x) behind ≡ false → stays ls behind l ≡ true
     last_stays l behind of last = by_name (log_name l) of

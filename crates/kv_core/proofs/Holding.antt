@@ -106,7 +106,7 @@ never_held old now new x ws w rest locking e y is refuses =
 
 -- The branches that are left are given back one by one.
 
--- the item that a loop is at, and those behind it
+-- the item that a loop is at, and those after it
 pub item_and_rest : {A : Type 0} (xs : List A) (i : ℕ) (x : A) → i < length xs → x ≡ get_or xs i x
     → drop i xs ≡ x ∷ drop (i + 1) xs
 item_and_rest xs i x within is =

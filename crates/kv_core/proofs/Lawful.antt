@@ -252,7 +252,7 @@ lawful_after s t l d lawful h = by_test (is_some s.boot) (is_opened l.entry) h
     by_test false true h = lawful_followed s t l.parent l.entry d lawful h
     by_test false false h = absurd (cc)
 
--- behind a record that may not follow nothing has been seen
+-- after a record that may not follow nothing has been seen
 pub never_seen : (ls : List LogRecord) (t : SeenLog) → seen_after None ls ≡ Some t → ⊥
 unfolding seen_after
 never_seen [] t e = absurd (cc)

@@ -1,4 +1,4 @@
--- What the map of branches says of one branch behind a change of another.
+-- What the map of branches says of one branch after a change of another.
 use Rattle.std.proofs.Common.{rules, ◌≡◌, Bool, true, false, cond, List, [], ◌∷◌, Option, Some, None, refl, sym, ap, ◌∙◌}
 use Rattle.std.proofs.lemmas.Map.{lookup-remove_entry}
 use Rattle.std.specs.Cmp.{IsEquivalence}

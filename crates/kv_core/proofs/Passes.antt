@@ -74,7 +74,7 @@ data_behind_next : (n : ℕ) (ls : List LogRecord) (l : LogRecord)
 unfolding stored
 data_behind_next n ls l = behind_next n no_data no_data ls l
 
--- a key's value behind so many commits, where the last record counts no more of them, and where it does
+-- a key's value after N commits, where the last record counts no more of them, and where it does
 module _ (ls : List LogRecord) (l : LogRecord) (v w : VersionTable) (back : GoBack v ls)
     (are : AreData w (data_of (ls ++ l ∷ []))) (keeps : KeepsBefore v w l.entry) where
   here : (n : ℕ) (k : List ℕ) → n ≤ w.count → nat_le (data_of (ls ++ l ∷ [])).count n ≡ true

@@ -206,7 +206,7 @@ module _ (x : Xid) where
       → is_open (mark_at ls x) ≡ true → is_live (said_of x ls) ≡ true
   live ls h stands = lives ls h ∙ stands
 
-  -- the data behind more records
+  -- the data after more records
   abbrev pub data_from : Data → List LogRecord → Data
   data_from d ls = fold stored_after d (map by_xid ls)
 
@@ -240,7 +240,7 @@ module _ (x : Xid) where
             ap (λ z. is_live (said_of z ls) && not (list_any (prepares z) behind)) (sym is)
             ∙ ap (λ b. b && not (list_any (prepares x) behind)) stands ∙ ap not last
 
-    -- what one record makes of two data, where none behind it is a promise of the branch
+    -- what one record makes of two data, where none after it is a promise of the branch
     both_take : (l : LogRecord) (d e : Data) → is_managers l.entry ≡ true
         → (prepares x l ≡ false → promise_in d ≡ promise_in e)
         → promise_in (stored_after d (by_xid l)) ≡ promise_in (stored_after e (by_xid l))
@@ -309,7 +309,7 @@ module _ (x : Xid) where
             ap (λ z. is_live (said_of z ls) && not (list_any (prepares z) behind)) (sym (same_is x y f))
             ∙ ap (λ b. b && not (list_any (prepares x) behind)) stands ∙ ap not (none_prepared behind last)
 
-    -- the marks behind one record of two, which are one where no record is of the branch
+    -- the marks after one record of two, which are one where no record is of the branch
     both_marked : (l : LogRecord) (m n : Mark) → is_managers l.entry ≡ true → (is_of x l ≡ false → m ≡ n)
         → mark_after (Foreign x) m (by_xid l) ≡ mark_after (Foreign x) n (by_xid l)
     both_marked l m n h same = (one l.entry l.parent h).marks m ∙ by_test (is_of x l) refl

@@ -53,7 +53,7 @@ more_below : (k j v : List ℕ) (qs : Pairs) → AllBelow k qs → key_below k j
 more_below k j v [] h below = (below, tt)
 more_below k j v (q ∷ qs) h below = (below_both q.0 k j h.0 below, more_below k j v qs h.1 below)
 
--- the first of the pairs comes behind all of these
+-- the first of the pairs comes after all of these
 abbrev HeadBehind : Pairs → Pairs → Type 0
 HeadBehind qs [] = Unit {0}
 HeadBehind qs (p ∷ ps) = AllBelow p.0 qs

@@ -45,7 +45,7 @@ begun f new old x l is none reads sound =
     let spelt : map f new ≡ l ∷ [] = ap (map f) one ∙ ap (λ m. m ∷ []) reads in
     (spelt, subst (AreRecords Manager) (sym spelt) (is_record l sound, tt))
 
--- a pair more behind those of a base
+-- a pair more after those of a base
 pub followed : {F P : Type 0} (f : F → LogRecord) (g : P → LogRecord) (new old : List F) (x : F)
     (b : LogRecord) (ps : List P) (i : ℕ) (p : P)
     → new ≡ old ++ x ∷ [] → f x ≡ g p → IsSound Manager (g p) → i < length ps → p ≡ get_or ps i p

@@ -1,4 +1,4 @@
--- Behind a trim a manager's log makes the data that it made before, and says the same of its open branches.
+-- After a trim a manager's log makes the data that it made before, and says the same of its open branches.
 use Rattle.std.proofs.Common.{◌≡◌, ◌∙◌, ℕ, Bool, true, false, cond, Option, List, [], ◌∷◌, ◌++◌, map, fold, refl, ap}
 use Rattle.std.proofs.lemmas.List.{map-append}
 use Rattle.std.proofs.lemmas.Grind.{fold-append}
@@ -24,7 +24,7 @@ use Rattle.kv_core.proofs.Deciding.{decisions_from}
 use Rattle.kv_core.proofs.Promised.{kept_from, live, marks_from}
 use Rattle.kv_core.proofs.Rebasing.{bases_read, rebased}
 
--- the data behind more records
+-- the data after more records
 abbrev behind : Data → List LogRecord → Data
 behind d ls = fold stored_after d (map by_xid ls)
 

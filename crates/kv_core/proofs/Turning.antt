@@ -79,7 +79,7 @@ is_due s v x flags c turn w is turn_is =
 
 -- What a turn notes of an operator's decision.
 
--- this can be noted of a branch, and if the turn leads to S5 it is known behind it how an operator decided
+-- this can be noted of a branch, and if the turn leads to S5 it is known after it how an operator decided
 abbrev pub IsNoted : Turn → DecisionTable → Xid → Type 0
 IsNoted turn t x = CanNote turn.entry t x
     × (is_decided turn.to ≡ true → is_some (known_behind turn.entry (decision_in t x)) ≡ true)

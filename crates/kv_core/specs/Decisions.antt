@@ -14,7 +14,7 @@ use Rattle.tree_model.specs.Records.{same_branch}
 use Rattle.tree_model.specs.Standings.{Decided, Mark, ToldOf, mark_of}
 use Rattle.tree_model.specs.LogNames.{by_xid}
 
--- what is known of an operator's decision of a branch behind one more record, of which this was known
+-- what is known of an operator's decision of a branch after one more record, of which this was known
 abbrev pub known_after : Branch → Option Decision → Record → Option Decision
 known_after b known (Prepared a ws) = if same_branch a b then None else known
 known_after b known (HeurCommit a) = if same_branch a b then Some (decided_as CommittedOutcome) else known

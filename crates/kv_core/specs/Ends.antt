@@ -102,7 +102,7 @@ LetsGo old new x to = MatchBool (is_let_go to)
     (Leaves old.writes new.writes x [] × Releases old.locks new.locks x)
     ((new.writes ≡ old.writes) × (new.locks ≡ old.locks))
 
--- what is known of an operator's decision behind a record of a branch, of which this was known
+-- what is known of an operator's decision after a record of a branch, of which this was known
 abbrev pub known_behind : Option Entry → Option Decision → Option Decision
 known_behind (Some HeurCommit) known = Some (decided_as outcome.Committed)
 known_behind (Some HeurRollback) known = Some (decided_as outcome.Aborted)

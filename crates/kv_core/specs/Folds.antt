@@ -8,7 +8,7 @@ use Rattle.tree_model.specs.Store.{Data, no_data, stored_after}
 use Rattle.kv_store.specs.Pairs.{found_in}
 use Rattle.kv_store.specs.Versions.{VersionTable, value_at}
 
--- the base of versions behind a record: a Base sets it
+-- the base of versions after a record: a Base sets it
 abbrev pub base_after : ℕ → Record → ℕ
 base_after n (Base m) = m
 base_after n _ = n
@@ -17,20 +17,20 @@ base_after n _ = n
 abbrev pub base_of : List LogRecord → ℕ
 base_of ls = fold base_after 0 (map (λ l. l.entry) ls)
 
--- the later of two data, where it counts at most so many commits
+-- the later of two data, where it counts at most N commits
 abbrev pub latest : ℕ → Data → Data → Data
 latest n before d = if nat_le d.count n then d else before
 
--- the last data that count at most so many commits, of these and those that some more records make
+-- the last data that count at most N commits, of these and those that some more records make
 unfoldable pub last_within : ℕ → Data → Data → List Record → Data
 last_within n before d [] = before
 last_within n before d (r ∷ rs) = last_within n (latest n before (stored_after d r)) (stored_after d r) rs
 
--- the data behind so many commits: those of the longest front of the records that counts at most as many
+-- the data after N commits: those of the longest front of the records that counts at most as many
 abbrev pub data_behind : ℕ → List LogRecord → Data
 data_behind n ls = last_within n no_data no_data (map by_xid ls)
 
--- the versions go back to the last Base, and each key has the value that it had behind each commit since
+-- the versions go back to the last Base, and each key has the value that it had after each commit since
 pub record GoBack (s : VersionTable) (ls : List LogRecord) : Type 0 where
   pub base : s.base ≡ base_of ls
   pub values : (n : ℕ) (k : List ℕ) → s.base ≤ n → n ≤ s.count

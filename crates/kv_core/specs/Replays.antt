@@ -24,7 +24,7 @@ use Rattle.kv_core.specs.declared.fault.ReplayError.TheVariants.{Memory, Malform
 use Rattle.kv_core.specs.Folds.{AreData, GoBack, base_after}
 use Rattle.tree_model.specs.LogNames.{by_xid}
 
--- what has been seen behind some more records; none where one of them may not follow
+-- what has been seen after some more records; none where one of them may not follow
 unfoldable pub seen_after : Option SeenLog → List LogRecord → Option SeenLog
 seen_after s [] = s
 seen_after None (l ∷ ls) = None
@@ -40,7 +40,7 @@ pub record HoldPromises (s : SeenLog) (locks : LockTable) : Type 0 where
       → holders_of locks k ≡ record { xid = x; mode = Exclusive } ∷ []
   pub free : (k : List ℕ) → ((x : Xid) → names_key (promised s x) k ≡ false) → holders_of locks k ≡ []
 
--- these data count fewer than 2^63 commits, and so do those behind each of these records
+-- these data count fewer than 2^63 commits, and so do those after each of these records
 abbrev pub CountsFrom : Data → List Record → Type 0
 CountsFrom d [] = d.count < 2 ^ 63
 CountsFrom d (r ∷ rs) = (d.count < 2 ^ 63) × CountsFrom (stored_after d r) rs
@@ -126,7 +126,7 @@ AreLawful = (ls : List LogRecord) (s : SeenLog) → seen_of ls ≡ Some s → Is
 abbrev pub Takes : SeenLog → LogRecord → VersionTable → VersionTable → Type 0
 Takes s l old new = (d : Data) → IsTied s d → AreData old d → AreData new (stored_after d (by_xid l))
 
--- a record leaves what each key was behind each commit before, back to its base
+-- a record leaves what each key was after each commit before, back to its base
 pub record KeepsBefore (old new : VersionTable) (r : Record) : Type 0 where
   pub base : new.base ≡ base_after old.base r
   pub before : (n : ℕ) → new.base ≤ n → n < new.count

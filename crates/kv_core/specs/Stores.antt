@@ -67,7 +67,7 @@ pub record MovesTables (old new : KeySight) (Moves : States → States → Type 
 abbrev pub has_numbers : KeySight → Bool
 has_numbers s = nat_lt s.versions.count (2 ^ 63 - 1)
 
--- the store behind a restart, with these branches in doubt
+-- the store after a restart, with these branches in doubt
 pub record Rebuilt (s : KeySight) (left : List (Xid × Bool)) (writes : WriteTable) (locks : LockTable)
     (versions : VersionTable) (decisions : DecisionTable) : Type 0 where
   pub tables : Restored left s.tables

@@ -40,7 +40,7 @@ fn set(versions: &mut Versions, key: &Bytes, value: &Bytes, alloc: Global) -> Re
     versions.set(&write)
 }
 
-/// The data take the next record behind those that have been seen.
+/// The data take the next record after those that have been seen.
 pub(crate) fn take(
     versions: &mut Versions,
     seen: &Seen,

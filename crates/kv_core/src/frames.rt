@@ -38,7 +38,7 @@ fn pair(key: &Bytes, value: &Bytes, alloc: Global) -> Result<Frame, AllocError>
     Frame::new(entry, alloc)
 }
 
-/// The frames of a base of so many commits and of these pairs.
+/// The frames of a base of N commits and of these pairs.
 pub fn base_frames(
     count: u64,
     pairs: &[(Bytes, Bytes)],

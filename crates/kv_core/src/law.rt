@@ -9,7 +9,7 @@ pub fn records_are_lawful()
     ensures { AreLawful }
 {}
 
-/// Behind a trim a manager's log makes the data that it made before; each branch that is open has the writes
+/// After a trim a manager's log makes the data that it made before; each branch that is open has the writes
 /// that it promised, and its last record says the same.
 pub fn trims_keep_data()
     ensures { TrimsKeepData }

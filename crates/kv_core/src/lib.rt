@@ -8,13 +8,13 @@
 //! begin_idle         a branch that no thread is in begins
 //! work_idle          it does an operation
 //! due                a prepare, commit, rollback or forget: the first refusal, or the turn that it takes
-//! stage              the branch's writes, unseen; it takes all memory. Behind it the log is written
+//! stage              the branch's writes, unseen; it takes all memory. After it the log is written
 //! reserve_decision   room for an operator's decision, before the log is written
 //! publish, finish    they are data; the branch takes its turn. They take no memory and cannot fail
 //!
 //! What the records say of data, branches and locks:
 //! Opened                   the boot
-//! Base, Pair               the data behind a trim
+//! Base, Pair               the data after a trim
 //! Prepared                 the branch is open: it holds its writes and their locks
 //! Committed, HeurCommit    an open branch's writes become data
 //! Direct                   its own writes become data

@@ -24,7 +24,7 @@ pub struct Replayed {
     pub boot: Option<u64>,
     /// The branches in doubt, in the order of their promises, and whether an operator decided them.
     pub left: Vec<(Xid, bool)>,
-    /// What the commits left, behind the last Base.
+    /// What the commits left, after the last Base.
     pub data: Versions,
     /// What each open branch promised.
     pub writes: BranchWrites,
@@ -75,7 +75,7 @@ fn read(records: Vec<LogRecord>, alloc: Global) -> Result<Reading, ReplayError>
 
 /// What the records of a log leave of a key store. It goes through them twice.
 ///
-/// Malformed: a record may not follow those before it, or a branch that is open behind the last one promised
+/// Malformed: a record may not follow those before it, or a branch that is open after the last one promised
 /// more than 64 writes, a key that has not 1 to 64 bytes, or a value of more than 256. Exhausted: some
 /// records in front count 2^63 commits or more. With an error the records are gone.
 pub fn replay(records: Vec<LogRecord>, alloc: Global) -> Result<Replayed, ReplayError>

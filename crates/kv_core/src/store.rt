@@ -130,7 +130,7 @@ fn copied(bytes: Option<&[u8]>, alloc: Global) -> Result<Option<Bytes>, AllocErr
 }
 
 impl KeyStore {
-    /// The store behind a restart: a manager that is not open, with these branches in doubt, in this order:
+    /// The store after a restart: a manager that is not open, with these branches in doubt, in this order:
     /// prepared (in S3), or where the second is true decided by an operator (in S5). RmErr: they are more
     /// than 1,024. DupId: one of them stands there twice.
     pub fn restored(

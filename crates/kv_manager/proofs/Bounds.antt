@@ -83,7 +83,7 @@ pub few_of : (ls : List LogRecord) (t : SeenLog) → seen_of ls ≡ Some t → l
 few_of ls t h = each_step AreFew (λ l. Unit {0}) (λ s u l q few e. few_after s u l few e) ls (no_claims ls)
     nothing_seen t (omega arith) h
 
--- So none are refused behind a restart.
+-- So none are refused after a restart.
 
 none_twice : (es : Live) → IsDistinct same (keys_of es)
     → has_twice (map (λ e. (e.0, not (opens e.1.mark))) es) ≡ false

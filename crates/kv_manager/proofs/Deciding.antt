@@ -60,7 +60,7 @@ can_decide s x o works here room = record {
       ((decide_turn o).code, (decide_turn o).to)) (sym here) (listed_row o);
 }
 
--- What it makes of a manager, behind the room that was made.
+-- What it makes of a manager, after the room that was made.
 
 module _ (old mid new : KvSight) (x : Xid) (o : Outcome) (works : old.log.sight.failed ≡ false)
     (here : state_of old.store x ≡ S3)

@@ -1,4 +1,4 @@
--- What has been seen of a front of records, and behind one record more.
+-- What has been seen of a front of records, and after one record more.
 use Rattle.std.proofs.Common.{◌≡◌, ℕ, true, List, [], ◌∷◌, ◌++◌, append_assoc, Option, Some, None, refl, sym, ap, ◌∙◌, is_some, take, drop}
 use Rattle.std.proofs.lemmas.List.{take-append-drop}
 use Rattle.tree_model.specs.declared.records.LogRecord.{LogRecord}
@@ -28,7 +28,7 @@ some_front (Some s) ks h = refl
 pub ordered_front : (ls ks : List LogRecord) → are_ordered (ls ++ ks) ≡ true → are_ordered ls ≡ true
 ordered_front ls ks h = some_front (seen_of ls) ks (ap is_some (sym (seen_more (Some nothing_seen) ls ks)) ∙ h)
 
--- and with a front of what is behind them
+-- and with a front of what is after them
 pub ordered_taken : (ls ks : List LogRecord) (n : ℕ) → are_ordered (ls ++ ks) ≡ true
     → are_ordered (ls ++ take n ks) ≡ true
 ordered_taken ls ks n h =

@@ -88,7 +88,7 @@ agrees_stays s t m n k live boot a =
       last = boot;
     }
 
--- the marks behind a record of one branch
+-- the marks after a record of one branch
 abbrev set_at : Xid → Mark → (Xid → Mark) → Xid → Mark
 set_at k v m x = cond (same_branch (Foreign k) (Foreign x)) v (m x)
 
@@ -138,7 +138,7 @@ agrees_off s m n k off a = record {
 
 -- One record more.
 
--- the marks behind a record
+-- the marks after a record
 abbrev next_marks : Option ProcessId → Record → (Xid → Mark) → Xid → Mark
 next_marks q r m x = mark_after (Foreign x) (m x) (renamed_by q (record_branch r) r)
 
@@ -285,7 +285,7 @@ boot_next ls t b h is = sym (by_boot t.boot is) ∙ ap (λ n. n + 1) (agrees_of 
     by_boot None e = cc
     by_boot (Some n) e = (taken (nat_lt n (2 ^ 63 - 1)) (n + 1) b e).1
 
--- no boot comes behind the last one
+-- no boot comes after the last one
 pub boot_last : (ls : List LogRecord) (t : SeenLog) → seen_of ls ≡ Some t → next_boot t.boot ≡ None
     → 2 ^ 63 ≤ boot_behind ls
 boot_last ls t h spent = subst (λ n. 2 ^ 63 ≤ n + 1) (agrees_of ls t h).last (by_boot t.boot spent)

@@ -511,7 +511,7 @@ told_known b o known (Some t) is =
     sym (ap (λ u. record { outcome = (decision_or known).outcome; told = u })
     (first_stays o (decision_or known).told t is))
 
--- what is known of a branch behind a turn that leaves it in S5
+-- what is known of a branch after a turn that leaves it in S5
 known_as : (s : BranchState) (c : Call) (wrote : Bool) (b : Branch)
     (known : Option Decision) → is_work c ≡ false
     → has_rows (branch_rows s c) ≡ true → (turn_of s c wrote b (decision_or known)).to ≡ S5

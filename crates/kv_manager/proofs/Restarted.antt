@@ -1,4 +1,4 @@
--- A key store behind a restart is what a resource manager is then.
+-- A key store after a restart is what a resource manager is then.
 use Rattle.std.proofs.Common.{◌≡◌, ◌∙◌, ℕ, List, [], ◌∷◌, ◌++◌, refl, sym, ap, subst}
 use Rattle.xa_xid.specs.declared.xid.Xid.{Xid}
 use Rattle.xa_assoc.specs.declared.states.States.{States}

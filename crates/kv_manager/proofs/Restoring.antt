@@ -268,7 +268,7 @@ kept_restarted old log keep r kind ready made =
     (ap (λ f. f.kind) made.form ∙ kind) ready.left
     (made.forced ∙ ap (λ l. left_by_crash old.sight keep ++ l ∷ []) ready.spells) made.unforced
 
--- a log that was opened, with the record of the boot behind its own
+-- a log that was opened, with the record of the boot after its own
 pub kept_over : (log new : LogState) (store : KeySight) (boot : ℕ) → log.sight.form.kind ≡ Manager → new.sight.form ≡ log.sight.form
     → StartsOver log (record { store = store; log = new; boot = boot })
     → IsKept (record { store = store; log = new; boot = boot })
@@ -276,7 +276,7 @@ kept_over log new store boot kind same starts =
     kept_left (record { store = store; log = new; boot = boot }) (records_of log.sight.kept) (ap (λ f. f.kind) same ∙ kind)
     starts.left starts.forced starts.unforced
 
--- the record of the boot was written behind those of a log that was opened
+-- the record of the boot was written after those of a log that was opened
 pub starts_over : (log new : LogState) (store : KeySight) (boot : ℕ) → log.sight.failed ≡ false
     → LeavesStore (records_of log.sight.kept) store boot
     → Writes log new (opened boot) true → StartsOver log (record { store = store; log = new; boot = boot })
@@ -300,7 +300,7 @@ starts_none log new store boot Device left broke =
 starts_none log new store boot Unfit left never = absurd never
 starts_none log new store boot ExhaustedRecords left never = absurd never
 
--- a record is written behind room that was made
+-- a record is written after room that was made
 pub writes_behind : (log mid new : LogState) (l m : LogRecord) → mid.sight ≡ log.sight
     → l ≡ m → Writes mid new l true
     → Writes log new m true

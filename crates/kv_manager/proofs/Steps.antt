@@ -113,7 +113,7 @@ followed_by s t l h = by_test (is_some s.boot || is_opened l.entry) h
 pub steps_after : (s t : SeenLog) (l : LogRecord) → after s l ≡ Some t → Steps s t l.parent l.entry
 steps_after s t l h = steps_followed s t l.parent l.entry (followed_by s t l h).1
 
--- what a step keeps holds behind all records
+-- what a step keeps holds after all records
 pub each_step : (P : SeenLog → Type 0) (Q : LogRecord → Type 0)
     → ((s t : SeenLog) (l : LogRecord) → Q l → P s → after s l ≡ Some t → P t)
     → (ls : List LogRecord) → AllByRecursion Q ls → (s t : SeenLog) → P s → seen_after (Some s) ls ≡ Some t → P t
@@ -126,7 +126,7 @@ each_step P Q step (l ∷ ls) all s t p h = by_after (after s l) refl h (λ u e.
     by_after None e g more = absurd (never_seen ls t g)
     by_after (Some u) e g more = more u e g
 
--- A boot was seen behind the first record.
+-- A boot was seen after the first record.
 
 or_false : (b : Bool) → (b || false) ≡ true → b ≡ true
 or_false true h = refl

@@ -37,7 +37,7 @@ is_told (Some p) = told_mark p.mark
 abbrev pub AreTold : SeenLog → (Xid → Decision) → Type 0
 AreTold s ds = (x : Xid) → is_told (found s x) ≡ true → is_some (ds x).told ≡ true
 
--- what is known of a branch behind a record of one
+-- what is known of a branch after a record of one
 abbrev set_at : Xid → (Decision → Decision) → (Xid → Decision) → Xid → Decision
 set_at k v ds x = cond (same_branch (Foreign k) (Foreign x)) (v (ds x)) (ds x)
 
@@ -79,7 +79,7 @@ told_gone s ds k distinct a x h =
     by_test true g = absurd (cc)
     by_test false g = a x g
 
--- what is known behind a record
+-- what is known after a record
 abbrev next_known : Option ProcessId → Record → (Xid → Decision) → Xid → Decision
 next_known q r ds x = decision_after (Foreign x) (ds x) (renamed_by q (record_branch r) r)
 

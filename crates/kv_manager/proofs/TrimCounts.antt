@@ -373,7 +373,7 @@ counts_staying (l ∷ ls) t w d stand within few h = by_after (after t l) refl h
     by_after None e g more = absurd (never_seen ls w g)
     by_after (Some v) e g more = more v e g
 
--- The boot in front, and the data behind.
+-- The boot in front, and the data after.
 
 boot_counts : (q : Option ProcessId) (r : Record) → is_opened r ≡ true
     → AreCounted (record { entry = r; parent = q } ∷ [])

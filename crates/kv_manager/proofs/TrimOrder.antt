@@ -171,7 +171,7 @@ free_kept k es (w ∷ ws) h = by_parts (key_open (map (λ e. e.1) es) w.key) ref
 
 -- Record by record.
 
--- the name stays with these records behind it
+-- the name stays with these records after it
 abbrev pub keeps_name : List LogRecord → List LogRecord → Xid → Bool
 keeps_name all behind x = stays_by all behind (Some x)
 
@@ -361,7 +361,7 @@ live_is : (a u : SeenLog) → a ≡ u → u.live ≡ a.live
 live_is a u h = ap (λ (v : SeenLog). v.live) (sym h)
 
 module _ (all behind : List LogRecord) (s u t : SeenLog) (q : Option ProcessId) where
-  -- behind a record that is no promise
+  -- after a record that is no promise
   before : (r : Record) → is_prepared r ≡ false
       → Trails all (record { entry = r; parent = q } ∷ behind) s t
       → t.live ≡ kept_of (keeps_name all behind) s.live
@@ -511,7 +511,7 @@ booted q (Forgot b) h = absurd (cc)
 booted q (BaseRecord n) h = absurd (cc)
 booted q (PairRecord k v) h = absurd (cc)
 
--- The data behind.
+-- The data after.
 
 -- the pairs may follow, and leave the branches
 record Paired (ps : List (List ℕ × List ℕ)) (v : SeenLog) : Type 0 where

@@ -1,4 +1,4 @@
--- A manager behind a trim of its log.
+-- A manager after a trim of its log.
 use Rattle.std.proofs.Common.{◌≡◌, ◌∙◌, ℕ, Bool, true, false, Option, Some, None, is_some, List, [], ◌∷◌, ◌++◌, map, refl, sym, ap, subst, inl, inr}
 use Rattle.std.proofs.lemmas.List.{append-nil}
 use Rattle.std.specs.List.{AllByRecursion}
@@ -70,7 +70,7 @@ all_of_manager (l ∷ ls) h = (of_manager l.parent l.entry h.0, all_of_manager l
 
 -- The log.
 
--- the frames behind what stays are those of the data
+-- the frames after what stays are those of the data
 abbrev pub AreOfData : KvSight → List LogRecord → Type 0
 AreOfData s rs = rs ≡ map unnamed (base_records (logged s))
 
@@ -130,7 +130,7 @@ some_trimmed ls = some_behind (front_of_trim ls)
     some_behind [] = refl
     some_behind (k ∷ ks) = refl
 
--- the data of the log stand behind a trim, and so do the branches that are prepared or that operators decided
+-- the data of the log stand after a trim, and so do the branches that are prepared or that operators decided
 pub kept_trimmed : (s : KvSight) (log : LogState) (rs : List LogRecord) (n : ℕ) → IsKept s
     → s.log.sight.failed ≡ false
     → AllByRecursion (IsSound Manager) (records_of s.log.sight.kept) → AreOfData s rs → Trimmed s.log log rs n

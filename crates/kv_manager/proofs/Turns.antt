@@ -301,7 +301,7 @@ entry_by_xid HeurRollback x ws = ap (λ y. entry_of HeurRollback (Foreign y) ws)
 entry_by_xid (Told o) x ws = ap (λ y. entry_of (Told o) (Foreign y) ws) (name_again x)
 entry_by_xid Forgot x ws = ap (λ y. entry_of Forgot (Foreign y) ws) (name_again x)
 
--- the fold behind a record of a branch
+-- the fold after a record of a branch
 abbrev pub after_entry : Data → Entry → XidParts → List Write → Data
 after_entry d e x ws = stored_after d (entry_of e (Foreign x) ws)
 
@@ -488,7 +488,7 @@ applied_count d HeurRollback x ws h = absurd (cc)
 applied_count d (Told o) x ws h = absurd (cc)
 applied_count d Forgot x ws h = absurd (cc)
 
--- the commits can be counted behind a record of a branch, where one more can be of a record that commits
+-- the commits can be counted after a record of a branch, where one more can be of a record that commits
 pub record_counts : (s : KvSight) (e : Entry) (x : Xid) (ws : List Write) → IsKept s → s.log.sight.failed ≡ false
     → (applies e ≡ true → s.store.versions.count + 1 < 2 ^ 63)
     → AreCounted (records_of s.log.sight.kept ++ entry_record e x ws ∷ [])
@@ -632,7 +632,7 @@ writes_kept old new x to goes promises =
     ap (λ w. writes_of w x) (subst (λ b. MatchBool b (Leaves old.writes new.writes x [] × Releases old.locks
     new.locks x) ((new.writes ≡ old.writes) × (new.locks ≡ old.locks))) (ap is_let_go promises) goes).0
 
--- a branch that is prepared behind a turn has the writes that the log says it promised
+-- a branch that is prepared after a turn has the writes that the log says it promised
 promises_behind : (s s' : KvSight) (x : Xid) (e : Entry) (to : BranchState) → IsLogged s → to ≡ leads e
     → TakesRow s.store.tables s'.store.tables x to → LetsGo s.store s'.store x to
     → (y : Xid) → state_of s'.store y ≡ S3
@@ -688,7 +688,7 @@ marked_behind s s' x e to ws stands is_to row y is = by_test (same x y) refl
         (own (ap (state_of s'.store) one ∙ is))
     by_test false t = marks_other (said y) e x y ws t ∙ stands.marked y (sym (row.branch.others y t) ∙ is)
 
--- the branches in doubt are those of the log behind a turn
+-- the branches in doubt are those of the log after a turn
 doubts_behind : (s s' : KvSight) (x : Xid) (e : Entry) (to : BranchState) (ws : List Write) → IsLogged s
     → to ≡ leads e → TakesRow s.store.tables s'.store.tables x to → (y : Xid)
     → doubt_of (state_of s'.store y) ≡ marked_state
@@ -707,7 +707,7 @@ doubts_behind s s' x e to ws stands is_to row y = by_test (same x y) refl
     by_test false t = ap doubt_of (row.branch.others y t) ∙ stands.doubts y
         ∙ ap marked_state (sym (marks_other (said y) e x y ws t))
 
--- the records behind a turn
+-- the records after a turn
 records_behind : (s s' : KvSight) (e : Entry) (x : Xid) (ws : List Write) (is_forced : Bool)
     → Writes s.log s'.log (entry_record e x ws) is_forced
     → records_of s'.log.sight.kept ≡ records_of s.log.sight.kept ++ entry_record e x ws ∷ []
@@ -715,7 +715,7 @@ records_behind s s' e x ws is_forced made =
     ap (λ (k : LogSight). records_of k.kept) made.sight
     ∙ wrote_records s.log.sight (entry_record e x ws) is_forced
 
--- of each branch that an operator decided the log says so behind a turn
+-- of each branch that an operator decided the log says so after a turn
 still_decided : (s s' : KvSight) (x : Xid) (c : Call) (turn : Turn) (e : Entry) → IsLogged s
     → IsDueTurn s x c turn → turn.entry ≡ Some e
     → TakesRow s.store.tables s'.store.tables x turn.to

@@ -1,4 +1,4 @@
--- A key store behind a restart: what the records say that its log keeps.
+-- A key store after a restart: what the records say that its log keeps.
 use Rattle.std.specs.Prelude.{◌≡◌, ◌+◌, ◌-◌, ◌^◌, ◌⊎◌, ⊤, ℕ, Bool, false, nat_lt, if◌then◌else◌, List, [], ◌∷◌, ◌++◌, Option, Some, None}
 use Rattle.xa_codes.specs.declared.code.Code.{Code}
 use Rattle.xa_xid.specs.declared.xid.Xid.{Xid}
@@ -43,7 +43,7 @@ error_of replays.Memory = Memory
 error_of replays.Malformed = Unfit
 error_of replays.Exhausted = Exhausted
 
--- the boot behind the last one, while it fits a record
+-- the boot after the last one, while it fits a record
 abbrev pub next_boot : Option ℕ → Option ℕ
 next_boot None = Some 1
 next_boot (Some b) = if nat_lt b (2 ^ 63 - 1) then Some (b + 1) else None
@@ -74,7 +74,7 @@ pub record AreTooMany (ls : List LogRecord) : Type 0 where
   pub refusal : Code
   pub refused : restore_refusal (in_doubt_by seen) ≡ Some refusal
 
--- no boot comes behind the last one
+-- no boot comes after the last one
 pub record AreLastBoots (ls : List LogRecord) : Type 0 where
   pub seen : SeenLog
   pub read : seen_of ls ≡ Some seen
@@ -104,7 +104,7 @@ pub record IsReady (ls : List LogRecord) (r : Ready) : Type 0 where
 
 -- Restart.
 
--- a manager restarted, after a crash that kept so many unforced bytes: the store is what the records that are
+-- a manager restarted, after a crash that kept N unforced bytes: the store is what the records that are
 -- left leave, the log has these and the next boot, all forced, and these branches are in doubt
 pub record Restarted (old new : KvSight) (keep : ℕ) (given : List Xid) : Type 0 where
   pub left : LeavesStore (left_by old.log.sight keep) new.store new.boot
@@ -123,7 +123,7 @@ FailsToRestart old new keep l restarts.Memory = new.sight ≡ old.sight
 FailsToRestart old new keep l restarts.Device = RestartBreaks old new keep (l ∷ [])
 FailsToRestart old new keep l restarts.Exhausted = ⊥
 
--- this boot comes behind the last one of these records
+-- this boot comes after the last one of these records
 pub record ComesNext (ls : List LogRecord) (boot : ℕ) : Type 0 where
   pub seen : SeenLog
   pub read : seen_of ls ≡ Some seen
@@ -138,7 +138,7 @@ pub record RestartFails (old new : KvSight) (keep : ℕ) : Type 0 where
   pub store : new.store ≡ old.store
   pub boot : new.boot ≡ old.boot
 
--- a manager did not restart: nothing changed, also where no boot comes behind the last one; or the device failed,
+-- a manager did not restart: nothing changed, also where no boot comes after the last one; or the device failed,
 -- and the manager has failed
 abbrev pub NotRestarted : KvSight → KvSight → ℕ → RestartError → Type 0
 NotRestarted old new keep restarts.Memory = SameManager old new

@@ -76,7 +76,7 @@ pub record IsKept (s : KvSight) : Type 0 where
   pub counted : AreCounted (records_of s.log.sight.kept)
   pub stands : s.log.sight.failed ≡ false → IsLogged s
 
--- nothing changes but room; what each key was behind each commit stays
+-- nothing changes but room; what each key was after each commit stays
 pub record SameManager (old new : KvSight) : Type 0 where
   pub tables : Same old.store.tables new.store.tables
   pub writes : SameWrites old.store.writes new.store.writes

@@ -105,7 +105,7 @@ impl<L: LogStore> KvManager<L> {
     }
 
     /// A branch takes a turn that makes its writes data. They are staged before the record is written, and
-    /// published behind it.
+    /// published after it.
     fn take_committed(
         &mut self,
         xid: &Xid,

@@ -75,7 +75,7 @@ impl<L: LogStore> KvManager<L> {
         self.boot
     }
 
-    /// The bytes of its log, as a list made anew. Behind a failure of the device a torn frame may stand at
+    /// The bytes of its log, as a list made again. After a failure of the device a torn frame may stand at
     /// the end.
     pub fn log_text(&self) -> Result<Vec<u8>, AllocError>
         ensures { IfOk result (λ text. ReadsAs self.now.log.sight.form text.items
@@ -84,14 +84,14 @@ impl<L: LogStore> KvManager<L> {
         self.log.text(self.alloc)
     }
 
-    /// How many bytes its log has. A crash that keeps so many behind the forced front keeps every record.
+    /// How many bytes its log has. A crash that keeps N after the forced front keeps every record.
     pub fn log_size(&self) -> usize
         ensures { left_by self.now.log.sight result ≡ records_of self.now.log.sight.kept }
     {
         self.log.size()
     }
 
-    /// How many of the records behind the forced ones a crash would leave that keeps so many bytes behind
+    /// How many of the records after the forced ones a crash would leave that keeps N bytes after
     /// the forced front.
     pub fn left_behind(&self, keep: usize) -> Result<usize, AllocError>
         ensures { IfOk result (λ count. count
@@ -121,15 +121,15 @@ impl<L: LogStore> KvManager<L> {
         let _ = &self.alloc;
     }
 
-    /// The records of its log, as a list made anew.
+    /// The records of its log, as a list made again.
     pub fn records(&self) -> Result<Vec<LogRecord>, AllocError>
         ensures { IfOk result (λ records. records.items ≡ records_of self.now.log.sight.kept) }
     {
         self.log.records(self.alloc)
     }
 
-    /// The records that a crash would leave which keeps so many bytes behind the forced front, as a list
-    /// made anew.
+    /// The records that a crash would leave which keeps N bytes after the forced front, as a list
+    /// made again.
     pub fn left(&self, keep: usize) -> Result<Vec<LogRecord>, AllocError>
         ensures { IfOk result (λ records. records.items ≡ left_by self.now.log.sight keep) }
     {
@@ -151,7 +151,7 @@ impl<L: LogStore> KvManager<L> {
     }
 
     /// What an operator decided of a branch, and what it was told since; None where no operator decided it,
-    /// and behind forget.
+    /// and after forget.
     pub fn decision(&self, xid: &Xid) -> Option<Decision>
         ensures { result ≡ decision_at (state_of self.now.store xid.now) (known_of self.now.store xid.now) }
     {
@@ -244,7 +244,7 @@ impl<L: LogStore> KvManager<L> {
         self.store.work_call(verb, thread, xid, flags)
     }
 
-    /// A scan of the branches in doubt: the next of them, at most so many. RmFail: the manager has failed.
+    /// A scan of the branches in doubt: the next of them, at most N. RmFail: the manager has failed.
     /// Inval: the flags. Proto: it is not open. Inval: no scan is open and none begins. RmErr: one begins, and
     /// 256 threads have one. A refusal changes nothing, nor does want of memory.
     pub fn recover(
@@ -266,7 +266,7 @@ impl<L: LogStore> KvManager<L> {
 
     /// A thread begins work in a branch, joins it, or takes it up again. RmFail: the manager has failed. The
     /// other codes are those of `States::work_call`: Inval, Async, Proto, DupId, NotA, RmErr, which change
-    /// nothing, and RbRollback, behind which a resumed association is gone.
+    /// nothing, and RbRollback, after which a resumed association is gone.
     pub fn start(&mut self, thread: u32, xid: &Xid, flags: Flags) -> Result<Code, AllocError>
         ensures answer { IfOk result (λ answer. (wanted : Wanted)
             → Calls self.old self.new (answer ≡ Code.RmFail)
@@ -279,7 +279,7 @@ impl<L: LogStore> KvManager<L> {
 
     /// A thread ends its work in a branch, or suspends it. RmFail: the manager has failed. The other codes are
     /// those of `States::work_call`: Inval, Async, Proto, NotA, RmErr, which change nothing, NoMigrate, and
-    /// RbRollback, behind which the association is gone. With TMSUCCESS and with TMFAIL it takes no memory.
+    /// RbRollback, after which the association is gone. With TMSUCCESS and with TMFAIL it takes no memory.
     pub fn end(&mut self, thread: u32, xid: &Xid, flags: Flags) -> Result<Code, AllocError>
         ensures answer { IfOk result (λ answer. (wanted : Wanted)
             → Calls self.old self.new (answer ≡ Code.RmFail)
@@ -314,8 +314,8 @@ impl<L: LogStore> KvManager<L> {
         self.store.work_idle(xid, op)
     }
 
-    /// What the manager restarts as behind a crash that keeps so many of the log's unforced bytes. Memory.
-    /// Exhausted: no boot comes behind the last one.
+    /// What the manager restarts as after a crash that keeps N of the log's unforced bytes. Memory.
+    /// Exhausted: no boot comes after the last one.
     fn ready(&self, keep: usize) -> Result<Ready, RestartError>
         ensures ok { IfOk result (IsReady (left_by self.now.log.sight keep)) }
         ensures err { IfErr result (NotReady (left_by self.now.log.sight keep)) }
@@ -331,7 +331,7 @@ impl<L: LogStore> KvManager<L> {
         }
     }
 
-    /// What was made ready takes the manager's place, behind the log's restart. What stood before is left in
+    /// What was made ready takes the manager's place, after the log's restart. What stood before is left in
     /// its stead.
     fn reopen(&mut self, keep: usize, ready: &mut Ready) -> Result<(), RestartError>
         requires { IsReady (left_by self.old.log.sight keep) ready.old }
@@ -345,9 +345,9 @@ impl<L: LogStore> KvManager<L> {
         Ok(())
     }
 
-    /// Restarts the manager behind a crash that keeps so many of the log's unforced bytes: it stands as the
+    /// Restarts the manager after a crash that keeps N of the log's unforced bytes: it stands as the
     /// records that are left say, not open, and gives the branches in doubt, in the order of their promises.
-    /// Its own records are never refused. Memory: nothing changed. Exhausted: no boot below 2^63 comes behind
+    /// Its own records are never refused. Memory: nothing changed. Exhausted: no boot below 2^63 comes after
     /// the last one; nothing changed. Device: the manager has failed until it is restarted.
     pub fn restart(&mut self, keep: usize) -> Result<Vec<Xid>, RestartError>
         ensures ok { IfOk result (λ given. Restarted self.old self.new keep given.items) }
@@ -406,7 +406,7 @@ impl<L: LogStore + Drop> KvManager<L> {
     }
 
     /// The manager of this process over the log in a store, which is not open: it stands as the log's records
-    /// say, and the record of its boot is written behind them. With a refusal the store is handed back. Log:
+    /// say, and the record of its boot is written after them. With a refusal the store is handed back. Log:
     /// the bytes are no log, or it was not opened. Records: the log's records leave no manager, and the log is
     /// as it was opened; or the record could not be written.
     pub fn restore(store: L, process: ProcessId, alloc: Global) -> Result<Self, (RestoreError, L)>

@@ -76,7 +76,7 @@ fn replay_error(error: ReplayError) -> RecordsError
     }
 }
 
-/// The boot behind the last one.
+/// The boot after the last one.
 fn next_boot(last: Option<u64>) -> Option<u64>
     ensures { result ≡ next_boot last }
 {
@@ -120,7 +120,7 @@ fn stored(replayed: Replayed, alloc: Global) -> Result<KeyStore, RecordsError>
     }
 }
 
-/// What the records of a log leave of a key store, and the boot behind them. Memory: there was none. Unfit:
+/// What the records of a log leave of a key store, and the boot after them. Memory: there was none. Unfit:
 /// they are not the records of a key store. Exhausted: the boots or the commits count 2^63. With an error the
 /// records are gone.
 pub fn rebuilt(records: Vec<LogRecord>, alloc: Global) -> Result<(KeyStore, u64), RecordsError>
@@ -212,7 +212,7 @@ pub(crate) fn ready_for(records: Vec<LogRecord>, alloc: Global) -> Result<Ready,
     }
 }
 
-/// Restarts a log, with the record of a boot behind what is left.
+/// Restarts a log, with the record of a boot after what is left.
 pub(crate) fn restart_log<L: LogStore>(
     log: &mut RecLog<L>,
     keep: usize,

@@ -42,7 +42,7 @@ impl<L: LogStore> KvManager<L> {
     }
 
     /// Trims its log: the last Opened and the records of the branches that are not forgotten stay, and
-    /// behind them the data, keys rising, forced by one write. Gives how many records remain. Its own
+    /// after them the data, keys rising, forced by one write. Gives how many records remain. Its own
     /// records are never refused. Failed, Memory: nothing changed. Device: the log stands as it was or
     /// trimmed, and the manager has failed until a restart.
     pub fn trim(&mut self) -> Result<usize, TrimError>

@@ -234,7 +234,7 @@ kept_filled n t u ws nothing adds = record {
     all : (k : List ℕ) → none_above n (list_at u k) ≡ true
     all k = ap (none_above n) (filled k) ∙ none_above_made n [] ws k refl
 
--- a key is set behind the last commit
+-- a key is set after the last commit
 pub adds_one : (t u : Table) (n : ℕ) (w : Write)
     → Becomes t u w.key (list_at t w.key ++ record { count = n; value = w.value } ∷ []) → Adds t u n (w ∷ [])
 adds_one t u n w one =

@@ -1,4 +1,4 @@
--- What the versions of one key say, when some more stand behind them.
+-- What the versions of one key say, when some more stand after them.
 use Rattle.std.proofs.Common.{◌≡◌, ℕ, zero, suc, ◌+◌, ◌-◌, ◌≤◌, ◌<◌, true, false, Option, List, [], ◌∷◌, ◌++◌, length, slice_index_or, refl, sym, ap, ◌∙◌, arith}
 use Rattle.std.proofs.lemmas.Grind.{common_steps}
 use Rattle.std.proofs.lemmas.Bool.Decides.{nat_tests}
@@ -20,7 +20,7 @@ made_go n [] [] k h = refl
 made_go n [] (w ∷ ws) k h = grind (arith, common_steps, nat_tests, made_go n [] ws k)
 made_go n (v ∷ vs) ws k h = grind (arith, common_steps, nat_tests, made_go n vs ws k)
 
--- where none is above, the last version counts, also with others behind it that are above
+-- where none is above, the last version counts, also with others after it that are above
 pub value_front : (n : ℕ) (b : Option (List ℕ)) (vs : List Version) (ws : List Write) (k : List ℕ) (m : ℕ)
     → m < n
     → value_by m b (vs ++ made n ws k) ≡ value_by m b vs
@@ -30,7 +30,7 @@ value_front n b [] (w ∷ ws) k m below = grind (arith, common_steps, nat_tests,
 value_front n b (v ∷ vs) ws k m below = grind
     (arith, common_steps, nat_tests, value_front n v.value vs ws k m)
 
--- the value behind versions none of which is above is that of the last of those behind them
+-- the value after versions none of which is above is that of the last of those after them
 pub value_behind : (n : ℕ) (b : Option (List ℕ)) (vs us : List Version) → none_above n vs ≡ true
     → value_by n b (vs ++ us) ≡ value_by n (value_by n b vs) us
 unfolding value_by

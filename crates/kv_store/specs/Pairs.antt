@@ -11,7 +11,7 @@ use Rattle.kv_store.specs.Versions.{VersionTable, pair_write, value_at, written}
 abbrev pub found_in : List (List ℕ × List ℕ) → List ℕ → Option (List ℕ)
 found_in ps k = lookup (same_bytes k) ps
 
--- the first key comes behind this one
+-- the first key comes after this one
 abbrev pub is_behind : List ℕ → List (List ℕ × List ℕ) → Bool
 is_behind k [] = true
 is_behind k (p ∷ ps) = key_below k p.0
@@ -36,7 +36,7 @@ pub record ArePairsOf (s : VersionTable) (ps : List (List ℕ × List ℕ)) : Ty
   pub rise : keys_rise ps ≡ true
   pub values : (k : List ℕ) → found_in ps k ≡ value_at s s.count k
 
--- the data are what these pairs set, the last pair of a key counting, behind so many commits, of which none is known
+-- the data are what these pairs set, the last pair of a key counting, after N commits, of which none is known
 pub record AreSet (s : VersionTable) (n : ℕ) (ps : List (List ℕ × List ℕ)) : Type 0 where
   pub base : s.base ≡ n
   pub count : s.count ≡ n

@@ -1,4 +1,4 @@
--- The data of a key store, with what each key was behind each commit since the base.
+-- The data of a key store, with what each key was after each commit since the base.
 use Rattle.std.specs.Prelude.{◌≡◌, ◌≤◌, ◌<◌, ◌+◌, ℕ, Bool, true, false, ◌&&◌, if◌then◌else◌, nat_le, nat_lt, Option, Some, None, List, [], ◌∷◌, ◌++◌, length, filter}
 use Rattle.std.specs.List.{list_any, list_all}
 use Rattle.std.specs.List.Sorted.{IsPartitionPoint}
@@ -19,16 +19,16 @@ unfoldable pub value_by : ℕ → Option (List ℕ) → List Version → Option 
 value_by n before [] = before
 value_by n before (v ∷ vs) = if nat_lt n v.count then before else value_by n v.value vs
 
--- the value of a key behind so many commits
+-- the value of a key after N commits
 abbrev pub value_at : VersionTable → ℕ → List ℕ → Option (List ℕ)
 value_at s n k = value_by n None (list_at s.versions k)
 
--- the value of a key behind these writes: the last of them counts
+-- the value of a key after these writes: the last of them counts
 unfoldable pub written : List Write → List ℕ → Option (List ℕ) → Option (List ℕ)
 written [] k before = before
 written (w ∷ ws) k before = written ws k (if same_key w.key k then w.value else before)
 
--- what is found at a key is what it was behind so many commits, and that is kept
+-- what is found at a key is what it was after N commits, and that is kept
 pub record ReadsAt (s : VersionTable) (n : ℕ) (k : List ℕ) (found : Option (List ℕ)) : Type 0 where
   pub value : found ≡ value_at s n k
   pub since_base : s.base ≤ n
@@ -41,7 +41,7 @@ pub record SameData (old new : VersionTable) : Type 0 where
   pub is_staged : new.is_staged ≡ old.is_staged
   pub values : (n : ℕ) (k : List ℕ) → value_at new n k ≡ value_at old n k
 
--- writes are staged: nothing of the data changes, and behind the next commit each key has what they leave it
+-- writes are staged: nothing of the data changes, and after the next commit each key has what they leave it
 pub record Stages (old new : VersionTable) (ws : List Write) : Type 0 where
   pub base : new.base ≡ old.base
   pub count : new.count ≡ old.count
@@ -56,7 +56,7 @@ pub record Publishes (old new : VersionTable) : Type 0 where
   pub is_staged : new.is_staged ≡ false
   pub values : (n : ℕ) (k : List ℕ) → value_at new n k ≡ value_at old n k
 
--- a commit: each key has what the writes leave it, and what it was behind each commit before
+-- a commit: each key has what the writes leave it, and what it was after each commit before
 pub record Applies (old new : VersionTable) (ws : List Write) : Type 0 where
   pub base : new.base ≡ old.base
   pub count : new.count ≡ old.count + 1
@@ -64,7 +64,7 @@ pub record Applies (old new : VersionTable) (ws : List Write) : Type 0 where
   pub before : (n : ℕ) (k : List ℕ) → n ≤ old.count → value_at new n k ≡ value_at old n k
   pub next : (k : List ℕ) → value_at new new.count k ≡ written ws k (value_at old old.count k)
 
--- a key is set behind the last commit: what it was behind each commit before stays
+-- a key is set after the last commit: what it was after each commit before stays
 pub record Sets (old new : VersionTable) (w : Write) : Type 0 where
   pub base : new.base ≡ old.base
   pub count : new.count ≡ old.count
@@ -140,7 +140,7 @@ pub record IsKept (base count : ℕ) (is_staged : Bool) (t : KeyTable) : Type 0 
   pub settled : is_staged ≡ false → (k : List ℕ) → none_above count (list_at t k) ≡ true
   pub next : (k : List ℕ) → none_above (count + 1) (list_at t k) ≡ true
 
--- so many versions are of commits up to this one, and the others of later ones
+-- N versions are of commits up to this one, and the others of later ones
 abbrev pub IsPlace : ℕ → List Version → ℕ → Type 0
 IsPlace n vs i =
     (i ≤ length vs) × IsPartitionPoint (λ v. is_up_to n v ≡ true) (λ v. is_up_to n v ≡ false) vs i

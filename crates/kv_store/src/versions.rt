@@ -27,7 +27,7 @@ use std::marker::Model;
 use thiserror::Error;
 use tree_model::{Bytes, Write};
 
-/// What was so many commits ago is not kept, or not yet.
+/// What was N commits ago is not kept, or not yet.
 #[derive(Clone, Copy, Debug, PartialEq, Eq, Error)]
 #[error("not kept")]
 pub struct Gone;
@@ -35,7 +35,7 @@ pub struct Gone;
 /// The versions of each key.
 type Keys = IndexMap<Vec<u8>, Vec<Version>>;
 
-/// The data of a key store, with what each key was behind each commit since the base.
+/// The data of a key store, with what each key was after each commit since the base.
 #[derive(Drop)]
 pub struct Versions {
     alloc: Global,
@@ -62,7 +62,7 @@ impl Model for Versions {
 }
 
 impl Versions {
-    /// No keys, behind so many commits. It takes no memory.
+    /// No keys, after N commits. It takes no memory.
     pub fn new(alloc: Global, count: u64) -> Self
         ensures { result ≡ record { base = count; count = count; is_staged = false; versions = [] } }
     {
@@ -75,7 +75,7 @@ impl Versions {
         }
     }
 
-    /// The data that these pairs set, behind so many commits: what was before is not known. Where a key stands
+    /// The data that these pairs set, after N commits: what was before is not known. Where a key stands
     /// twice, its last pair counts.
     pub fn from_pairs(
         alloc: Global,
@@ -103,7 +103,7 @@ impl Versions {
         self.count
     }
 
-    /// Behind how many commits the oldest data are that are kept.
+    /// After how many commits the oldest data are that are kept.
     pub fn base(&self) -> u64
         ensures { result ≡ self.now.base }
     {
@@ -117,7 +117,7 @@ impl Versions {
         self.find(self.count, key)
     }
 
-    /// What a key was behind so many commits. Gone: that is before the base, or so many were not made yet.
+    /// What a key was after N commits. Gone: that is before the base, or N were not made yet.
     pub fn read_at(&self, count: u64, key: &[u8]) -> Result<Option<&[u8]>, Gone>
         ensures ok { IfOk result (λ found. ReadsAt self.now count key.now (option_map (λ v. v.now) found)) }
         ensures err { OnErr result ((count < self.now.base) ⊎ (self.now.count < count)) }
@@ -182,7 +182,7 @@ impl Versions {
         self.is_staged = false;
     }
 
-    /// Sets a key of the base, as a log has it behind a trim: no commit is counted. Memory: nothing changed.
+    /// Sets a key of the base, as a log has it after a trim: no commit is counted. Memory: nothing changed.
     pub fn set(&mut self, write: &Write) -> Result<(), AllocError>
         requires unstaged { self.old.is_staged ≡ false }
         ensures ok { OnOk result (Sets self.old self.new write.now) }
@@ -258,7 +258,7 @@ fn push_each(alloc: Global, keys: &mut Keys, count: u64, writes: &[Write]) -> Re
     Ok(())
 }
 
-/// Drops the versions of commits behind this one, of the keys of these writes.
+/// Drops the versions of commits after this one, of the keys of these writes.
 fn take_back(keys: &mut Keys, count: u64, writes: &[Write])
     ensures { TakesBack (table_of keys.old.entries) (table_of keys.new.entries) count writes.now }
 {
@@ -269,7 +269,7 @@ fn take_back(keys: &mut Keys, count: u64, writes: &[Write])
     }
 }
 
-/// Drops a key's versions of commits behind this one.
+/// Drops a key's versions of commits after this one.
 fn keep_key_up_to(keys: &mut Keys, key: &[u8], count: u64)
     ensures { KeepsUpTo (table_of keys.old.entries) (table_of keys.new.entries) count key.now }
 {

@@ -12,7 +12,7 @@ use xa_codes::Code;
 use xa_heur::Decision;
 use xa_tables::BranchState;
 
-/// What a call makes of a branch: its answer, the state behind it, and the record that it writes.
+/// What a call makes of a branch: its answer, the state after it, and the record that it writes.
 #[derive(Clone, Copy, PartialEq, Eq)]
 pub struct Turn {
     pub code: Code,

@@ -34,7 +34,7 @@ fn wrong<'a>(part: Part, word: &'a str) -> LineFault<'a> {
     }
 }
 
-/// What is wrong with the words of a line behind its first, by its form; and which part it is.
+/// What is wrong with the words of a line after its first, by its form; and which part it is.
 fn fault_by<'a>(form: Form, words: &[&'a str]) -> Option<(LineFault<'a>, Option<Part>)> {
     for (i, part) in form.parts.iter().enumerate() {
         let Some(word) = words.get(i) else {

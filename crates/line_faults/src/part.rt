@@ -6,7 +6,7 @@ use spellings::word::cut;
 use xa_codes::Flags;
 use xa_xid::Xid;
 
-/// What stands at a place of a line behind its first word.
+/// What stands at a place of a line after its first word.
 #[derive(Clone, Copy, Debug, PartialEq, Eq)]
 pub enum Part {
     Txn,
@@ -76,7 +76,7 @@ fn is_case(word: &str) -> bool {
     }
 }
 
-/// Whether a word is 1 to so many visible ASCII characters.
+/// Whether a word is 1 to N visible ASCII characters.
 fn is_visible(word: &str, most: usize) -> bool {
     !word.is_empty() && word.len() <= most && word.bytes().all(|b| b.is_ascii_graphic())
 }
@@ -116,7 +116,7 @@ impl Part {
             Part::Txn =>
                 "a transaction, as a1.1: a (pa) or c (pc), the root's boot, a point, its number",
             Part::Case =>
-                "a case: a transaction, as a1.1, or with a ticket behind it, as a1.1@2.1.1",
+                "a case: a transaction, as a1.1, or with a ticket after it, as a1.1@2.1.1",
             Part::Process | Part::Child =>
                 "the number of a process, below 2^32, without leading zeros",
             Part::Message => "the number of a message, without leading zeros",

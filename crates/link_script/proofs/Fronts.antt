@@ -11,7 +11,7 @@ use Rattle.link_script.specs.Script.{events_at, line_then, with_front}
 use Rattle.link_script.proofs.Asked.{at_line, at_skipped}
 use Rattle.link_script.proofs.Reading.{asked_here}
 
--- the lines behind a line ask for more events, and so do it and they
+-- the lines after a line ask for more events, and so do it and they
 then_more : (n : ℕ) (o : Option Event) (r s : Result (List Event) ℕ) (es fs : List Event)
     → ((more : List Event) → r ≡ Ok more → s ≡ Ok (more ++ fs)) → line_then n o r ≡ Ok es
     → line_then n o s ≡ Ok (es ++ fs)
@@ -21,7 +21,7 @@ then_more n (Some e) (Ok more) s es fs on is =
     let same : e ∷ more ≡ es = cc in
     ap (with_front (e ∷ [])) (on more refl) ∙ ap (λ (xs : List Event). Ok (xs ++ fs)) same
 
--- a line behind these and the one before them
+-- a line after these and the one before them
 behind_one : (read : List ℕ → Option Event) (n : ℕ) (x l : List ℕ) (ls : List (List ℕ)) (es fs : List Event)
     (b : Bool) → is_skipped x ≡ b
     → ((m : ℕ) (gs : List Event) → events_at read m ls ≡ Ok gs → events_at read m (ls ++ l ∷ []) ≡ Ok (gs ++ fs))
@@ -37,7 +37,7 @@ none_asked : (read : List ℕ → Option Event) (n : ℕ) → events_at read n [
 unfolding events_at
 none_asked read n = refl
 
--- a line behind these asks for these events, whatever its number
+-- a line after these asks for these events, whatever its number
 behind_all : (read : List ℕ → Option Event) (l : List ℕ) (fs : List Event)
     → ((m : ℕ) → events_at read m (l ∷ []) ≡ Ok fs) → (ls : List (List ℕ)) (n : ℕ) (es : List Event)
     → events_at read n ls ≡ Ok es → events_at read n (ls ++ l ∷ []) ≡ Ok (es ++ fs)

@@ -209,7 +209,7 @@ fewer_lines text rest line more fronts e cut =
 pub one_longer : (fronts : List (List ℕ)) (line : List ℕ) → length fronts + 1 ≡ length (fronts ++ line ∷ [])
 one_longer fronts line = omega (arith, length-append fronts (line ∷ []))
 
--- what is behind a line feed is text
+-- what is after a line feed is text
 pub text_behind : (rest line more : List ℕ) → IsUtf8 rest → cut_at 10 rest ≡ Some (pair line more)
     → IsUtf8 more
 text_behind rest line more u cut =

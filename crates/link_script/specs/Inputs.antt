@@ -24,7 +24,7 @@ pub record HasTreeText (bytes : List ℕ) (fronts behind : List (List ℕ))
   pub rule : around_rule (pieces bytes) ≡ Some (fronts, behind)
   pub tree_text : IsTreeText (lines_text fronts) tree
 
--- bytes with this tree before the line of three dashes, the number of that line, and the lines behind it
+-- bytes with this tree before the line of three dashes, the number of that line, and the lines after it
 pub record IsFront (bytes : List ℕ) (tree : List TreeEntry) (rule : ℕ)
     (lines : List (List ℕ)) : Type 0 where
   pub fronts : List (List ℕ)
@@ -34,12 +34,12 @@ pub record IsFront (bytes : List ℕ) (tree : List TreeEntry) (rule : ℕ)
   pub rule_is : rule ≡ length fronts + 1
   pub lines_are : lines ≡ lines_of_parts behind
 
--- what the lines behind the rule ask for; the first of them is the second behind the tree text
+-- what the lines after the rule ask for; the first of them is the second after the tree text
 abbrev pub script_events : List (List ℕ) → List (List ℕ) → List TreeEntry → Result (List Event) ℕ
 script_events fronts behind tree =
     events_at (event_at (root_of tree)) (length fronts + 1 + 1) (lines_of_parts behind)
 
--- the lines of a script behind the line of three dashes: the root of its tree, how many lines stand before
+-- the lines of a script after the line of three dashes: the root of its tree, how many lines stand before
 -- them, and what they are
 pub record LinesState : Type 0 where
   pub root : ProcessId
@@ -50,7 +50,7 @@ pub record LinesState : Type 0 where
 abbrev pub asked_by : LinesState → Result (List Event) ℕ
 asked_by s = events_at (event_at s.root) (s.before + 1) s.lines
 
--- so many of them, the first ones, ask for these events
+-- N of them, the first ones, ask for these events
 abbrev pub AsksFirst : LinesState → ℕ → List Event → Type 0
 AsksFirst s count events = asked_by (record s { lines = take count s.lines }) ≡ Ok events
 

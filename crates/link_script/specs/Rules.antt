@@ -15,13 +15,13 @@ is_rule line = same line (codes "---") || same line (codes "---\r")
 abbrev pub last_rule : List ℕ → Option (List (List ℕ) × List (List ℕ))
 last_rule piece = if same piece (codes "---") then Some ([], []) else None
 
--- the pieces before and behind the first line of three dashes, a piece put in front
+-- the pieces before and after the first line of three dashes, a piece put in front
 abbrev pub rule_or : List ℕ → List (List ℕ) → Option (List (List ℕ) × List (List ℕ))
     → Option (List (List ℕ) × List (List ℕ))
 rule_or piece more found = if is_rule piece then Some ([], more)
     else option_map (λ p. (piece ∷ p.0, p.1)) found
 
--- the pieces before the first line of three dashes, and those behind it
+-- the pieces before the first line of three dashes, and those after it
 unfoldable pub around_rule : List (List ℕ) → Option (List (List ℕ) × List (List ℕ))
 around_rule [] = None
 around_rule (piece ∷ []) = last_rule piece

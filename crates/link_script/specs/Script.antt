@@ -8,7 +8,7 @@ abbrev pub with_front : List Event → Result (List Event) ℕ → Result (List 
 with_front es (Ok more) = Ok (es ++ more)
 with_front es (Err n) = Err n
 
--- the line's event and those of the lines behind it, or the line's number
+-- the line's event and those of the lines after it, or the line's number
 abbrev pub line_then : ℕ → Option Event → Result (List Event) ℕ → Result (List Event) ℕ
 line_then n None more = Err n
 line_then n (Some e) more = with_front (e ∷ []) more

@@ -83,7 +83,7 @@ pub record FitsCase (root : ProcessId) (c : Case) : Type 0 where
   pub txn_fits : FitsTxn root c.txn
   pub ticket_fits : FitsOwner c.ticket
 
--- a word has 1 to so many bytes from `!` to `~`
+-- a word has 1 to N bytes from `!` to `~`
 abbrev pub IsWord : ℕ → List ℕ → Type 0
 IsWord most w = is_visible_word most w ≡ true
 

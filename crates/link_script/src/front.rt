@@ -18,11 +18,11 @@ pub struct Front<'a> {
     pub tree: Tree,
     /// The number of that line, counted from the input's first from 1 on.
     pub rule: u64,
-    /// The lines behind it.
+    /// The lines after it.
     pub lines: Vec<&'a str>,
 }
 
-/// Reads the tree's text and cuts the lines behind it. The faults are Utf8, TreeText and Tree, each judged
+/// Reads the tree's text and cuts the lines after it. The faults are Utf8, TreeText and Tree, each judged
 /// over the whole input before the next.
 pub fn read_front<'a>(alloc: Global, bytes: &'a [u8]) -> Result<Front<'a>, ScriptError>
     ensures ok { IfOk result (λ front. IsFront bytes.now front.tree front.rule

@@ -21,7 +21,7 @@ fn is_rule(line: &str) -> bool
     line == "---" || line == "---\r"
 }
 
-/// The text before the first line that is just three dashes, how many lines it has, and the text behind that
+/// The text before the first line that is just three dashes, how many lines it has, and the text after that
 /// line.
 pub fn around(text: &str) -> Option<(&str, u64, &str)>
     ensures { MatchOption result (around_rule (pieces text.now) ≡ None) (λ r.
@@ -46,7 +46,7 @@ pub fn around(text: &str) -> Option<(&str, u64, &str)>
     }
 }
 
-/// The lines of a script behind the line of three dashes.
+/// The lines of a script after the line of three dashes.
 #[derive(Drop)]
 pub struct Lines<'a> {
     /// The root of the script's tree.
@@ -72,7 +72,7 @@ impl<'a> Model for Lines<'a> {
 }
 
 impl<'a> Lines<'a> {
-    /// These lines, behind so many of a script over a tree with this root.
+    /// These lines, after N of a script over a tree with this root.
     pub fn new(root: ProcessId, before: u64, lines: Vec<&'a str>) -> Lines<'a>
         requires { before + length lines.items < 2 ^ 64 }
         ensures root { result.root ≡ root }
@@ -94,7 +94,7 @@ impl<'a> Lines<'a> {
     }
 
     /// The event that the line at this place asks for, from 0; None where it is empty or begins with `#`, and
-    /// where there are not so many. Line, with its number in the script: it is the line of no event.
+    /// where there are not N. Line, with its number in the script: it is the line of no event.
     pub fn event(&self, alloc: Global, place: usize) -> Result<Option<Event>, ScriptError>
         ensures { Asks self.now.root (self.now.before + place + 1)
             (slice_get self.now.lines place) result }

@@ -97,7 +97,7 @@ module _ {V : Type 0} where
               live_at slots c k p apart e is in absurd (cc)
           by_test false is = is
 
-  -- a change at one key moves no case that is neither before nor behind it there
+  -- a change at one key moves no case that is neither before nor after it there
   pub live_elsewhere : (old new : List (Option (Case × V))) (key : ℕ) (slot : Option (Case × V)) (d : Case)
       → AreApart old → AreApart new
       → Updates old new key slot → is_of_case d (entry_at old key) ≡ false → is_of_case d slot ≡ false

@@ -21,7 +21,7 @@ use Rattle.log_grammar.specs.Grammar.{Begins, BytesReadAsText, HasFrame, IsDamag
 
 -- A frame that was cut off.
 
--- the frame is so written, its parts are bytes, and what is behind it is shorter
+-- the frame is so written, its parts are bytes, and what is after it is shorter
 pub record IsFrame (f : LogFormat) (xs : List ℕ) (c : Cut) : Type 0 where
   pub text : xs ≡ frame_text f c.0 c.1 ++ c.2
   pub payload : AreBytes c.1
@@ -196,7 +196,7 @@ damaged_here p s place xs c whole wrong = (
   },
 )
 
--- one frame, and what is read behind it
+-- one frame, and what is read after it
 reads_on : (p : LogForm) (s : SeenLog) (place : ℕ) (xs : List ℕ) (c : Cut) → AreBytes xs
     → first_frame p.format xs ≡ Some c
     → ((t : SeenLog) → Says p t (place + suc (size_bytes p.format) + length c.1) c.2 (read_frames p (place + suc (size_bytes p.format) + length c.1) t 0 c.2))
@@ -261,7 +261,7 @@ steps p s t place xs behind l has follows is =
     ∙ ap (λ o. record_by place s o (λ u. read_frames p (place + suc (size_bytes p.format) + length payload) u 0 behind)) has.reads
     ∙ ap (λ o. seen_by place l o (λ u. read_frames p (place + suc (size_bytes p.format) + length payload) u 0 behind)) follows
 
--- what is read of bytes that begin with sound records is these and what is read behind them
+-- what is read of bytes that begin with sound records is these and what is read after them
 there_reads : (p : LogForm) (s : SeenLog) (place : ℕ) (xs : List ℕ) (ls : List LogRecord) (said : SeenLog)
     (rest : List ℕ)
     → Begins p s xs ls said rest

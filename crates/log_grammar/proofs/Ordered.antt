@@ -44,7 +44,7 @@ ordered_is_read p ls sound follow tail torn = by_order (admitted nothing_seen ls
 
 -- Bytes that are whole frames of records are read from frame to frame, as far as each may follow.
 
--- these bytes are read as their records, from whatever place and behind whatever is seen
+-- these bytes are read as their records, from whatever place and after whatever is seen
 abbrev AreRead : LogForm → List ℕ → Type 0
 AreRead p bs = (at : ℕ) (t : SeenLog) (k : ℕ) → is_whole p k bs ≡ true → is_some (admitted t (records_in p k bs)) ≡ true
     → read_frames p at t k bs ≡ Whole (records_in p k bs) 0

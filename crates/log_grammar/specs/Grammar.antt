@@ -1,4 +1,4 @@
--- The bytes of a log as a relation: which bytes behind a header are which records with a torn tail, and which
+-- The bytes of a log as a relation: which bytes after a header are which records with a torn tail, and which
 -- are damaged at which place.
 use Rattle.std.specs.Prelude.{◌≡◌, ◌<◌, ◌+◌, ◌++◌, ◌⊎◌, ℕ, true, is_some, List, [], ◌∷◌, Option, Some, None, length, take}
 use Rattle.std.specs.List.{AllByRecursion}
@@ -15,12 +15,12 @@ use Rattle.log_rules.specs.sound.Written.{AreBytes}
 use Rattle.rec_log.specs.Sights.{body}
 use Rattle.rec_log.specs.Texts.{is_whole, records_in}
 
--- what has been seen behind more, where it may stand so far
+-- what has been seen after more, where it may stand so far
 abbrev pub and_then : Option SeenLog → (SeenLog → Option SeenLog) → Option SeenLog
 and_then None more = None
 and_then (Some s) more = more s
 
--- what a log has said behind these records too, where each may follow those before it
+-- what a log has said after these records too, where each may follow those before it
 unfoldable pub admitted : SeenLog → List LogRecord → Option SeenLog
 admitted s [] = Some s
 admitted s (l ∷ ls) = and_then (after s l) (λ t. admitted t ls)
@@ -31,14 +31,14 @@ pub record HasFrame (p : LogForm) (l : LogRecord) : Type 0 where
   pub reads : read_record p (kind_byte l.entry) (payload_text p l.parent l.entry) ≡ Some l
 
 -- bytes begin with the frames of these records, each of which may follow those before it, where a log has
--- said this; behind them it has said that, and other bytes stand
+-- said this; after them it has said that, and other bytes stand
 pub record Begins (p : LogForm) (s : SeenLog) (bytes : List ℕ) (ls : List LogRecord) (said : SeenLog)
     (rest : List ℕ) : Type 0 where
   pub text : bytes ≡ records_text p ls ++ rest
   pub order : admitted s ls ≡ Some said
   pub frames : AllByRecursion (HasFrame p) ls
 
--- bytes are the frames of these records and behind them so many bytes that are no whole frame
+-- bytes are the frames of these records and after them N bytes that are no whole frame
 pub record IsText (p : LogForm) (s : SeenLog) (bytes : List ℕ) (ls : List LogRecord) (torn : ℕ) : Type 0 where
   pub said : SeenLog
   pub tail : List ℕ
@@ -51,7 +51,7 @@ abbrev pub IsWrong : LogForm → SeenLog → Cut → Type 0
 IsWrong p said c = (read_record p c.0 c.1 ≡ None)
     ⊎ ((l : LogRecord) × (read_record p c.0 c.1 ≡ Some l) × (after said l ≡ None))
 
--- bytes are damaged so many behind the first: there the first wrong frame begins, and all before it are sound
+-- bytes are damaged N after the first: there the first wrong frame begins, and all before it are sound
 pub record IsDamagedAt (p : LogForm) (s : SeenLog) (bytes : List ℕ) (place : ℕ) : Type 0 where
   pub sound : List LogRecord
   pub said : SeenLog
@@ -62,7 +62,7 @@ pub record IsDamagedAt (p : LogForm) (s : SeenLog) (bytes : List ℕ) (place : �
   pub is_whole : first_frame p.format rest ≡ Some frame
   pub is_wrong : IsWrong p said frame
 
--- the bytes behind a header are read exactly so: what reads as records and a torn tail is a text of these,
+-- the bytes after a header are read exactly so: what reads as records and a torn tail is a text of these,
 -- and every such text reads so; what reads as damaged is damaged first at that place, and all that is damaged
 -- there reads so
 pub record ReadsAsText (p : LogForm) (bytes : List ℕ) : Type 0 where
@@ -83,8 +83,8 @@ BytesReadAsText = (p : LogForm) (bytes : List ℕ) → AreBytes bytes → ReadsA
 abbrev pub MayFollow : List LogRecord → Type 0
 MayFollow ls = is_some (admitted nothing_seen ls) ≡ true
 
--- records that can stand in a log of this sort of process, and that may follow one another, are read as these behind the
--- header, and as damaged nowhere; bytes behind them that are no whole frame are a torn tail
+-- records that can stand in a log of this sort of process, and that may follow one another, are read as these after the
+-- header, and as damaged nowhere; bytes after them that are no whole frame are a torn tail
 abbrev pub OrderedIsRead : Type 0
 OrderedIsRead = (p : LogForm) (ls : List LogRecord) → AllByRecursion (IsSound p.kind) ls → MayFollow ls
     → (tail : List ℕ) → first_frame p.format tail ≡ None

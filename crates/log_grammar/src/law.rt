@@ -2,14 +2,14 @@
 
 ghost use Rattle.log_grammar.specs.Grammar.{BytesReadAsText, OrderedIsRead, OrderedLogIsRead};
 
-/// The bytes behind a log's header read as records and a torn tail exactly where they are the text of these,
+/// The bytes after a log's header read as records and a torn tail exactly where they are the text of these,
 /// and as damaged exactly at the first place where they are.
 pub fn bytes_read_as_text()
     ensures { BytesReadAsText }
 {}
 
-/// Records that can stand in a log, and may follow one another, are read behind its header as these records, and never as
-/// damaged; what is no whole frame behind them is read as a torn tail.
+/// Records that can stand in a log, and may follow one another, are read after its header as these records, and never as
+/// damaged; what is no whole frame after them is read as a torn tail.
 pub fn ordered_records_are_read()
     ensures { OrderedIsRead }
 {}

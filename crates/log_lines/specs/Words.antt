@@ -1,4 +1,4 @@
--- What a record says behind its kind.
+-- What a record says after its kind.
 use Rattle.std.specs.Prelude.{ℕ, List, ◌++◌, codes, Option, Some, None, if◌then◌else◌, []}
 use Rattle.std.specs.List.{flat_map}
 use Rattle.hex.specs.Hex.{encode_lower}
@@ -14,7 +14,7 @@ use Rattle.trace_lines.specs.Trace.{case_word, number_word}
 use Rattle.tree_model.specs.declared.records.Reports.{Reports}
 use Rattle.tree_model.specs.Records.{none_of}
 
--- Words, each behind a space.
+-- Words, each after a space.
 
 -- bytes in lower-case hexadecimal
 abbrev pub bytes_word : List ℕ → List ℕ
@@ -42,7 +42,7 @@ write_words w = left_words w.key w.value
 abbrev pub writes_words : List Write → List ℕ
 writes_words ws = flat_map write_words ws
 
--- a word, and each of the tickets behind a space; nothing where there is none
+-- a word, and each of the tickets after a space; nothing where there is none
 abbrev pub listed_words : List ℕ → List Ticket → List ℕ
 listed_words word ts = if none_of ts then [] else word ++ ticket_words ts
 

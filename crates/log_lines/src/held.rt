@@ -49,7 +49,7 @@ pub fn push_lines(
     push_records(alloc, out, form, behind_header(bytes))
 }
 
-/// The bytes behind a header; none, where there are fewer than one has.
+/// The bytes after a header; none, where there are fewer than one has.
 fn behind_header(bytes: &[u8]) -> &[u8]
     ensures { result.now ≡ drop 5 bytes.now }
 {
@@ -93,7 +93,7 @@ fn push_record(
     push(out, "\n")
 }
 
-/// The lines of the records in the bytes behind a header.
+/// The lines of the records in the bytes after a header.
 fn push_records(
     alloc: Global,
     out: &mut Vec<u8>,

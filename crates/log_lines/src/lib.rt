@@ -3,7 +3,7 @@
 //! The records of a log in lines, as `rstar log` writes them.
 //!
 //! ```text
-//! words   what the line of a record says behind its kind
+//! words   what the line of a record says after its kind
 //! held    what a log holds: its lines, with the places of its records
 //! ```
 #![tactic(auto)]

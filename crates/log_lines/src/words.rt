@@ -41,7 +41,7 @@ fn push_tickets(out: &mut Vec<u8>, tickets: &[Ticket]) -> Result<(), AllocError>
     Ok(())
 }
 
-/// A word, and the tickets behind it; nothing where there are none.
+/// A word, and the tickets after it; nothing where there are none.
 #[tactic(auto, unfolding(tree_model::specs::Records::none_of))]
 pub fn push_listed(out: &mut Vec<u8>, word: &str, tickets: &[Ticket]) -> Result<(), AllocError>
     ensures { OnOk result (out.new.items ≡ out.old.items ++ listed_words word.now tickets.now) }
@@ -88,7 +88,7 @@ fn push_writes(alloc: Global, out: &mut Vec<u8>, writes: &[Write]) -> Result<(),
     Ok(())
 }
 
-/// What a record says behind its kind: its name and what it carries.
+/// What a record says after its kind: its name and what it carries.
 pub fn push_words(alloc: Global, out: &mut Vec<u8>, entry: &Record) -> Result<(), AllocError>
     ensures { OnOk result (out.new.items ≡ out.old.items ++ record_words entry.now) }
 {

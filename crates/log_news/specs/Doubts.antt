@@ -15,7 +15,7 @@ use Rattle.log_news.specs.Sayings.{Saying, saying_of}
 abbrev pub others_in : Case → List Case → List Case
 others_in c cs = filter (λ d. not (same_case c d)) cs
 
--- the cases in doubt behind a record of this one that says so
+-- the cases in doubt after a record of this one that says so
 abbrev pub doubts_by : List Case → Case → Stage → List Case
 doubts_by cs c Open = cs
 doubts_by cs c Doubt = others_in c cs ++ c ∷ []
@@ -28,7 +28,7 @@ abbrev pub doubts_behind : List Case → Saying → List Case
 doubts_behind cs None = cs
 doubts_behind cs (Some s) = doubts_by cs s.0 s.1
 
--- the cases in doubt behind a record of the log
+-- the cases in doubt after a record of the log
 abbrev pub doubts_after : List Case → LogRecord → List Case
 doubts_after cs l = doubts_behind cs (saying_of l.entry)
 

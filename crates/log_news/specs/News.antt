@@ -15,7 +15,7 @@ abbrev pub forgotten : News → News
 forgotten news.Open = news.Unknown
 forgotten n = n
 
--- what is known of a transaction behind a record of a case of it
+-- what is known of a transaction after a record of a case of it
 abbrev pub news_behind : News → Stage → News
 news_behind n Open = news.Open
 news_behind n Doubt = news.Open
@@ -24,12 +24,12 @@ news_behind n (Ended outcome.Committed) = news.Committed
 news_behind n (Ended outcome.Aborted) = news.Aborted
 news_behind n Over = forgotten n
 
--- the same behind what any record says
+-- the same after what any record says
 abbrev pub said_behind : Txn → News → Saying → News
 said_behind x n None = n
 said_behind x n (Some s) = if same_txn s.0.txn x then news_behind n s.1 else n
 
--- what is known of a transaction behind a record of the log
+-- what is known of a transaction after a record of the log
 abbrev pub news_after : Txn → News → LogRecord → News
 news_after x n l = said_behind x n (saying_of l.entry)
 

@@ -33,7 +33,7 @@ fn strike(cases: &mut Vec<Case>, case: Case)
     );
 }
 
-/// The cases in doubt behind a record of the log.
+/// The cases in doubt after a record of the log.
 fn note(cases: &mut Vec<Case>, kept: &LogRecord) -> Result<(), AllocError>
     ensures { OnOk result (cases.new.items ≡ doubts_after cases.old.items kept.now) }
 {

@@ -17,7 +17,7 @@ pub enum News {
     Aborted,
 }
 
-/// The news behind a record of a case of the transaction.
+/// The news after a record of a case of the transaction.
 fn behind(known: News, stage: Stage) -> News
     ensures { result ≡ news_behind known stage }
 {
@@ -32,7 +32,7 @@ fn behind(known: News, stage: Stage) -> News
     }
 }
 
-/// The news behind a record of the log.
+/// The news after a record of the log.
 fn after(known: News, txn: &Txn, kept: &LogRecord) -> News
     ensures { result ≡ news_after txn.now known kept.now }
 {

@@ -69,7 +69,7 @@ pub record IsUncounted (old new : FaultStore) : Type 0 where
   pub plan : fault_plan new ≡ fault_plan old
   pub failed : new.failed ≡ old.failed
 
--- The device failed at a call of this kind, as was planned: these bytes stand, so many of them forced, and none is to
+-- The device failed at a call of this kind, as was planned: these bytes stand, N of them forced, and none is to
 -- fail any more.
 pub record IsBroken (call : StoreCall) (old new : FaultStore) (bytes : List ℕ) (forced : ℕ) : Type 0 where
   pub due : is_next old call ≡ true
@@ -83,7 +83,7 @@ abbrev pub AppendIsBroken : FaultStore → FaultStore → List ℕ → Type 0
 AppendIsBroken old new more =
     IsBroken Append old new (fault_bytes old ++ take old.keep more) (fault_forced old)
 
--- what a force that fails leaves: the forced front moved on by so many bytes, at most to the end
+-- what a force that fails leaves: the forced front moved on by N bytes, at most to the end
 abbrev pub ForceIsBroken : FaultStore → FaultStore → Type 0
 ForceIsBroken old new =
     IsBroken Force old new (fault_bytes old) (min (fault_forced old + old.keep) (length (fault_bytes old)))

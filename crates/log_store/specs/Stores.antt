@@ -12,7 +12,7 @@ pub record SameStore {S : Type 0} (bytes : S → List ℕ) (forced failures : S 
   pub forced_stays : forced new ≡ forced old
   pub failures_stay : failures new ≡ failures old
 
--- memory was refused where there was no room for so many bytes, and nothing changed
+-- memory was refused where there was no room for N bytes, and nothing changed
 pub record MemoryRefuses {S : Type 0} (bytes : S → List ℕ) (forced failures : S → ℕ) (old new : S)
     (room size : ℕ) : Type 0 where
   pub small : room < size
@@ -60,7 +60,7 @@ pub record ReplaceBreaks {S : Type 0} (bytes : S → List ℕ) (forced failures 
       ⊎ ((bytes new ≡ text) × (forced new ≡ length text))
   pub cause : MoreFailures (failures old) (failures new)
 
--- of what is not forced at most so many bytes are left, and the forced front is as it was
+-- of what is not forced at most N bytes are left, and the forced front is as it was
 pub record Crashes {S : Type 0} (bytes : S → List ℕ) (forced failures : S → ℕ) (old new : S)
     (keep : ℕ) : Type 0 where
   pub text : bytes new ≡ take (forced old + keep) (bytes old)

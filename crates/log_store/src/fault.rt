@@ -17,8 +17,8 @@ pub enum StoreCall {
 }
 
 /// A store in memory whose device fails once: at the nth call of one kind. Of what that call was to do the
-/// first `keep` bytes are done: a failed append leaves so many of its bytes, a failed force moves the forced
-/// front by so many, and a failed replace leaves the old bytes where `keep` is 0, and else the new ones.
+/// first `keep` bytes are done: a failed append leaves these of its bytes, a failed force moves the
+/// forced front by `keep`, and a failed replace leaves the old bytes where `keep` is 0, and else the new ones.
 #[derive(Drop)]
 pub struct FaultStore {
     store: MemoryStore,

@@ -37,7 +37,7 @@ impl MemoryStore {
         MemoryStore { bytes, forced }
     }
 
-    /// Forces so many bytes more, at most all that stand. It takes no memory.
+    /// Forces N bytes more, at most all that stand. It takes no memory.
     pub(crate) fn force_more(&mut self, more: usize)
         ensures text { memory_bytes self.new ≡ memory_bytes self.old }
         ensures front { memory_forced self.new ≡ min (memory_forced self.old + more) (length (memory_bytes self.old)) }

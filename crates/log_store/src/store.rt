@@ -51,7 +51,7 @@ pub trait LogStore {
     /// How often the device has failed, counted up to 2^64 - 1.
     ghost failures: { Self → ℕ };
 
-    /// No append and no replace that leaves at most so many bytes is refused for memory.
+    /// No append and no replace that leaves at most N bytes is refused for memory.
     ghost room: { Self → ℕ };
 
     /// All that stands in it.
@@ -66,7 +66,7 @@ pub trait LogStore {
     fn failures(&self) -> u64
         ensures { result ≡ failures self.now };
 
-    /// Makes room for so many bytes more than stand in it. A refusal changes nothing.
+    /// Makes room for N bytes more than stand in it. A refusal changes nothing.
     fn reserve(&mut self, more: usize) -> Result<(), AllocError>
         ensures stays { SameStore bytes forced failures self.old self.new }
         ensures grows { room self.old ≤ room self.new }

@@ -1,4 +1,4 @@
--- The payload of a branch's record is the bytes of its XID and what is behind them.
+-- The payload of a branch's record is the bytes of its XID and what is after them.
 use Rattle.std.proofs.Common.{◌≡◌, ◌++◌, ap, sym, ◌∙◌, append-nil}
 use Rattle.xa_xid.specs.Bytes.{xid_bytes}
 use Rattle.tree_model.specs.declared.records.Branch.{Branch}

@@ -6,7 +6,7 @@ use Rattle.log_text.specs.Parts.{Front, all_of, alone, and_more, front_of, with_
 abbrev pub with_found : {A : Type 0} → List A → Front (List A) → Front (List A)
 with_found found o = option_map (λ p. (found ++ p.0, p.1)) o
 
--- so many are read, and these of them were found
+-- N are read, and these of them were found
 abbrev pub Goes : {A : Type 0} → (List ℕ → Front A) → ℕ → List ℕ → List A → ℕ → List ℕ → Type 0
 Goes at total start found left rest = front_of at total start ≡ with_found found (front_of at left rest)
 

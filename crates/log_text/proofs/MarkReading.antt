@@ -78,7 +78,7 @@ decided (suc n ∷ rest) ts e = names_first (ticket_at rest) (front_of ticket_at
 
 -- Records with a name.
 
--- the mark of a record of this kind under this name, with these bytes behind it
+-- the mark of a record of this kind under this name, with these bytes after it
 abbrev IsMarked : Option ProcessId → Branch → ℕ → List ℕ → LogRecord → Type 0
 IsMarked p b kind rest l = ◌≡◌ {A = Mark} (record { name = Some (name_xid p b); deed = deed_in kind rest }) (mark_of l)
 
@@ -215,7 +215,7 @@ branch_mark p b kind rest r e = by_tests ((kind == 17) || (kind == 20)) (kind ==
     by_tests false false true i j f = bare_mark p b kind rest r f
     by_tests false false false i j f = absurd (none_some r f)
 
--- A record behind a name.
+-- A record after a name.
 
 of_case_mark : (kind : ℕ) (p : Option ProcessId) (b : Branch) (rest : List ℕ) (l : LogRecord)
     → of_case kind p b rest ≡ Some l → IsMarked p b kind rest l

@@ -22,7 +22,7 @@ use Rattle.tree_model.specs.Records.{same_bytes, same_xid}
 use Rattle.log_text.proofs.xids.BranchLaws.{txn_again, ticket_again, txn_is, ticket_is, length-ticket_bytes}
 use Rattle.log_text.specs.Parts.{Front, Name, below_in, case_name, name_by, name_at, name_in, presumption_in, txn_in, xid_at}
 
--- Bytes are numbers below 256, also behind a front.
+-- Bytes are numbers below 256, also after a front.
 
 byte_at : (xs : List ℕ) → All (λ b. b < 256) xs → (k : ℕ) → get_or xs k 0 < 256
 byte_at xs h k = grind (arith, nat_tests, common_steps, h k 0)

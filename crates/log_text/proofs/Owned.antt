@@ -13,7 +13,7 @@ use Rattle.log_text.specs.Forms.{size_bytes, unowned}
 use Rattle.log_text.specs.Frames.{frame_text}
 use Rattle.log_text.specs.Payloads.{boot_in, kind_byte, opened_by, owner_text, payload_text, record_text}
 
--- a boot and an owner behind the head of a frame
+-- a boot and an owner after the head of a frame
 abbrev pub laid : List ℕ → List ℕ → List ℕ
 laid xs ys = 1 ∷ 0 ∷ 0 ∷ 0 ∷ 13 ∷ slice_index_or xs 0 0 ∷ slice_index_or xs 1 0 ∷ slice_index_or xs 2 0
     ∷ slice_index_or xs 3 0 ∷ slice_index_or xs 4 0 ∷ slice_index_or xs 5 0 ∷ slice_index_or xs 6 0

@@ -26,7 +26,7 @@ entry_under Forgot b = record_of.Forgot b
 abbrev pub branch_record : BranchEntry → XidParts → LogRecord
 branch_record e x = record { entry = entry_under e (name_in x).1; parent = (name_in x).0 }
 
--- what the record has behind its name
+-- what the record has after its name
 abbrev pub rest_text : BranchEntry → List ℕ
 rest_text (Prepared ws) = writes_text ws.now
 rest_text (Direct ws) = writes_text ws.now

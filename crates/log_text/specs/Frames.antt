@@ -9,16 +9,16 @@ use Rattle.log_text.specs.Forms.{size_bytes}
 unfoldable pub frame_text : LogFormat → ℕ → List ℕ → List ℕ
 frame_text f kind payload = kind ∷ (big_bytes (size_bytes f) (length payload) ++ payload)
 
--- a frame as it is read, and the bytes behind it
+-- a frame as it is read, and the bytes after it
 abbrev pub Cut : Type 0
 Cut = ℕ × List ℕ × List ℕ
 
--- the payload of so many bytes, and the bytes behind it: none where fewer are left
+-- the payload of N bytes, and the bytes after it: none where fewer are left
 abbrev pub cut_at : ℕ → ℕ → List ℕ → Option Cut
 cut_at kind size rest = if nat_lt (length rest) size then None
     else Some (kind, take size rest, drop size rest)
 
--- what stands before a payload: the kind, and the payload's length; and the bytes behind
+-- what stands before a payload: the kind, and the payload's length; and the bytes after
 abbrev pub Head : Type 0
 Head = ℕ × ℕ × List ℕ
 
@@ -33,7 +33,7 @@ abbrev pub cut_behind : Option Head → Option Cut
 cut_behind None = None
 cut_behind (Some h) = cut_at h.0 h.1 h.2
 
--- the first frame of these bytes and what is behind it: none where fewer bytes stand than its head and
+-- the first frame of these bytes and what is after it: none where fewer bytes stand than its head and
 -- length say
 abbrev pub first_frame : LogFormat → List ℕ → Option Cut
 first_frame f bytes = cut_behind (head_of f bytes)

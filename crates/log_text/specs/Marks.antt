@@ -56,12 +56,12 @@ abbrev pub nameless : ℕ → Option Deed
 nameless kind =
     if kind == 1 then Some deed.Opens else if (kind == 25) || (kind == 26) then Some deed.Nothing else None
 
--- what a decision does behind whose name these bytes stand: it settles where it names no tickets
+-- what a decision does after whose name these bytes stand: it settles where it names no tickets
 abbrev pub decision_in : List ℕ → Deed
 decision_in [] = deed.Owes
 decision_in (count ∷ rest) = if count == 0 then deed.Settles else deed.Owes
 
--- what a record of this kind does that has a name, by the bytes behind it
+-- what a record of this kind does that has a name, by the bytes after it
 abbrev pub deed_in : ℕ → List ℕ → Deed
 deed_in kind rest =
     if (kind == 2) || (kind == 3) then deed.Begins

@@ -1,4 +1,4 @@
--- The parts of a payload, as they are read from its front: each with the bytes behind it.
+-- The parts of a payload, as they are read from its front: each with the bytes after it.
 use Rattle.std.specs.Prelude.{ℕ, zero, suc, ℤ, pos, ◌+◌, ◌*◌, ◌^◌, ◌&&◌, nat_le, nat_lt, ◌==◌, Bool, if◌then◌else◌, is_some, List, [], ◌∷◌, Option, Some, None, length, take, drop, option_map}
 use Rattle.std.specs.Ordering.{int_eq}
 use Rattle.byteorder.specs.Endian.{big_number}
@@ -16,7 +16,7 @@ use Rattle.tree_model.specs.declared.records.Write.{Write}
 use Rattle.tree_model.specs.Branches.{branch_parts}
 use Rattle.tree_model.specs.Records.{same_xid}
 
--- what is read of a payload's front, and the bytes behind it
+-- what is read of a payload's front, and the bytes after it
 abbrev pub Front : Type 0 → Type 0
 Front A = Option (A × List ℕ)
 
@@ -97,18 +97,18 @@ ticket_at bytes = if nat_le 20 (length bytes) && fits_ticket (ticket_in bytes)
 
 -- Keys, values and writes.
 
--- the first so many bytes, where there are as many and their number is within these bounds
+-- the first N bytes, where there are as many and their number is within these bounds
 abbrev pub piece_at : ℕ → ℕ → ℕ → List ℕ → Front (List ℕ)
 piece_at least most size rest =
     if nat_le least size && nat_le size most && nat_le size (length rest)
     then Some (take size rest, drop size rest) else None
 
--- the key at the front, behind its length: 1 to 64 bytes
+-- the key at the front, after its length: 1 to 64 bytes
 abbrev pub key_at : List ℕ → Front (List ℕ)
 key_at [] = None
 key_at (size ∷ rest) = piece_at 1 64 size rest
 
--- the value at the front, behind its length: at most 256 bytes
+-- the value at the front, after its length: at most 256 bytes
 abbrev pub value_at : List ℕ → Front (List ℕ)
 value_at (high ∷ low ∷ rest) = piece_at 0 256 (high * 256 + low) rest
 value_at _ = None
@@ -136,39 +136,39 @@ write_at bytes = write_by (key_at bytes)
 
 -- Lists.
 
--- a part in front of those that were read behind it
+-- a part in front of those that were read after it
 abbrev pub with_first : {A : Type 0} → A → Front (List A) → Front (List A)
 with_first x o = option_map (λ p. (x ∷ p.0, p.1)) o
 
--- so many of a kind, one behind the other, and the bytes behind them
+-- N of a kind, one after the other, and the bytes after them
 abbrev pub and_more : {A : Type 0} → Front A → (List ℕ → Front (List A)) → Front (List A)
 and_more None more = None
 and_more (Some p) more = with_first p.0 (more p.1)
 
--- so many parts, each read at the front of what the last one left, and the bytes behind the last
+-- N parts, each read at the front of what the last one left, and the bytes after the last
 unfoldable pub front_of : {A : Type 0} → (List ℕ → Front A) → ℕ → List ℕ → Front (List A)
 front_of at zero bytes = Some ([], bytes)
 front_of at (suc n) bytes = and_more (at bytes) (front_of at n)
 
--- what was read, where nothing is behind it
+-- what was read, where nothing is after it
 abbrev pub alone : {A : Type 0} → Front A → Option A
 alone None = None
 alone (Some p) = if length p.1 == 0 then Some p.0 else None
 
--- so many parts, and nothing behind the last
+-- N parts, and nothing after the last
 abbrev pub all_of : {A : Type 0} → (List ℕ → Front A) → ℕ → List ℕ → Option (List A)
 all_of at n bytes = alone (front_of at n bytes)
 
--- tickets behind their number, and the bytes behind them
+-- tickets after their number, and the bytes after them
 abbrev pub tickets_at : List ℕ → Front (List Ticket)
 tickets_at [] = None
 tickets_at (count ∷ rest) = front_of ticket_at count rest
 
--- tickets behind their number, and nothing behind them
+-- tickets after their number, and nothing after them
 abbrev pub tickets_of : List ℕ → Option (List Ticket)
 tickets_of bytes = alone (tickets_at bytes)
 
--- what an End reports, where the mixed tickets were read: behind them the unreported ones, and nothing more
+-- what an End reports, where the mixed tickets were read: after them the unreported ones, and nothing more
 abbrev pub reports_by : Front (List Ticket) → Option Reports
 reports_by None = None
 reports_by (Some p) = option_map (λ ts. record { mixed = p.0; unreported = ts }) (tickets_of p.1)
@@ -177,7 +177,7 @@ reports_by (Some p) = option_map (λ ts. record { mixed = p.0; unreported = ts }
 abbrev pub reports_of : List ℕ → Option Reports
 reports_of bytes = reports_by (tickets_at bytes)
 
--- writes behind their number: 1 to 64
+-- writes after their number: 1 to 64
 abbrev pub writes_of : List ℕ → Option (List Write)
 writes_of [] = None
 writes_of (count ∷ rest) = if nat_le 1 count && nat_le count 64 then all_of write_at count rest else None

@@ -54,11 +54,11 @@ tickets_text ts = length ts ∷ flat_map ticket_text ts
 abbrev pub reports_text : Reports → List ℕ
 reports_text r = tickets_text r.mixed ++ tickets_text r.unreported
 
--- a key behind its length
+-- a key after its length
 abbrev pub key_text : List ℕ → List ℕ
 key_text k = length k ∷ k
 
--- a value behind its length in two bytes
+-- a value after its length in two bytes
 unfoldable pub value_text : List ℕ → List ℕ
 value_text v = big_bytes 2 (length v) ++ v
 
@@ -97,7 +97,7 @@ opened_by Second f n = big_bytes 8 n ++ owner_text f
 abbrev pub opened_text : LogForm → ℕ → List ℕ
 opened_text f n = opened_by f.format f n
 
--- a record's payload: what it carries, behind its name where it has one
+-- a record's payload: what it carries, after its name where it has one
 abbrev pub payload_text : LogForm → Option ProcessId → Record → List ℕ
 payload_text f p (Opened n) = opened_text f n
 payload_text f p (Collecting c ts) = name_text p (CaseBranch c) ++ tickets_text ts
@@ -127,7 +127,7 @@ boot_in _ = None
 unfoldable pub record_text : LogForm → LogRecord → List ℕ
 record_text f l = frame_text f.format (kind_byte l.entry) (payload_text f l.parent l.entry)
 
--- records, one behind the other
+-- records, one after the other
 unfoldable pub records_text : LogForm → List LogRecord → List ℕ
 records_text f ls = flat_map (record_text f) ls
 

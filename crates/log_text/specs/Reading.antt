@@ -41,7 +41,7 @@ listing kind c ts =
 abbrev pub alone_record : Option ProcessId → Record → List ℕ → Option LogRecord
 alone_record p r rest = if length rest == 0 then Some (named p r) else None
 
--- a record of a case, with the tickets or the reports that are left behind its name
+-- a record of a case, with the tickets or the reports that are left after its name
 abbrev pub case_record : ℕ → Option ProcessId → Case → List ℕ → Option LogRecord
 case_record kind p c rest =
     if kind == 6 then alone_record p (End c None) rest
@@ -61,7 +61,7 @@ abbrev pub of_name : ℕ → Front Name → Option LogRecord
 of_name kind None = None
 of_name kind (Some n) = of_case kind n.0.0 n.0.1 n.1
 
--- a coordinator's record that is not Opened: its kind, and the payload behind its name
+-- a coordinator's record that is not Opened: its kind, and the payload after its name
 unfoldable pub coordinator_record : ℕ → List ℕ → Option LogRecord
 coordinator_record kind payload = of_name kind (name_at payload)
 
@@ -84,7 +84,7 @@ told b (o ∷ []) = if o == 1 then Some (Told b CommittedOutcome)
     else if o == 0 then Some (Told b AbortedOutcome) else None
 told b _ = None
 
--- a manager's record of a branch, by its kind and what is left behind the name
+-- a manager's record of a branch, by its kind and what is left after the name
 abbrev pub branch_record : ℕ → Branch → List ℕ → Option Record
 branch_record kind b rest =
     if (kind == 17) || (kind == 20) then option_map (writing kind b) (writes_of rest)

@@ -39,7 +39,7 @@ pub fn name_in(xid: &Xid) -> (Option<ProcessId>, Branch)
     }
 }
 
-/// The name at the front of these bytes, and the bytes behind it.
+/// The name at the front of these bytes, and the bytes after it.
 pub fn name_at(bytes: &[u8]) -> Option<((Option<ProcessId>, Branch), &[u8])>
     ensures { option_map (λ p. (p.0, p.1.now)) result ≡ name_at bytes.now }
 {

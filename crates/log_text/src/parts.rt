@@ -11,7 +11,7 @@ use tree_model::{Bytes, ProcessId, Reports, Sequence, Ticket, Tickets, Write, Wr
 /// Numbers of boots and tickets are below this.
 pub const LIMIT: u64 = 1 << 63;
 
-/// The ticket at the front, and the bytes behind it.
+/// The ticket at the front, and the bytes after it.
 #[tactic(auto, unfolding(crate::specs::Parts::ticket_at))]
 fn ticket_at(bytes: &[u8]) -> Option<(Ticket, &[u8])>
     ensures { option_map (λ p. (p.0, p.1.now)) result ≡ ticket_at bytes.now }
@@ -31,7 +31,7 @@ fn ticket_at(bytes: &[u8]) -> Option<(Ticket, &[u8])>
     }
 }
 
-/// So many tickets at the front, and the bytes behind them.
+/// N tickets at the front, and the bytes after them.
 fn tickets_front(count: u8, bytes: &[u8], alloc: Global) -> Result<(Tickets, &[u8]), ReadFault>
     ensures ok { IfOk result (λ p. front_of ticket_at count bytes.now ≡ Some (p.0, p.1.now)) }
     ensures err { IfErr result (λ e. e ≡ ReadFault.Malformed → front_of ticket_at count bytes.now ≡ None) }
@@ -48,7 +48,7 @@ fn tickets_front(count: u8, bytes: &[u8], alloc: Global) -> Result<(Tickets, &[u
     Ok((Sequence::from_vec(tickets), rest))
 }
 
-/// Tickets at the front behind their number, and the bytes behind them.
+/// Tickets at the front after their number, and the bytes after them.
 fn tickets_at(bytes: &[u8], alloc: Global) -> Result<(Tickets, &[u8]), ReadFault>
     ensures ok { IfOk result (λ p. tickets_at bytes.now ≡ Some (p.0, p.1.now)) }
     ensures err { IfErr result (λ e. e ≡ ReadFault.Malformed → tickets_at bytes.now ≡ None) }
@@ -59,7 +59,7 @@ fn tickets_at(bytes: &[u8], alloc: Global) -> Result<(Tickets, &[u8]), ReadFault
     }
 }
 
-/// Tickets behind their number, with nothing behind them.
+/// Tickets after their number, with nothing after them.
 pub fn tickets_of(bytes: &[u8], alloc: Global) -> Result<Tickets, ReadFault>
     ensures ok { IfOk result (λ tickets. tickets_of bytes.now ≡ Some tickets) }
     ensures err { IfErr result (λ e. e ≡ ReadFault.Malformed → tickets_of bytes.now ≡ None) }
@@ -72,7 +72,7 @@ pub fn tickets_of(bytes: &[u8], alloc: Global) -> Result<Tickets, ReadFault>
     }
 }
 
-/// What an End reports: the mixed tickets and the unreported ones, with nothing behind them.
+/// What an End reports: the mixed tickets and the unreported ones, with nothing after them.
 pub fn reports_of(bytes: &[u8], alloc: Global) -> Result<Reports, ReadFault>
     ensures ok { IfOk result (λ reports. reports_of bytes.now ≡ Some reports) }
     ensures err { IfErr result (λ e. e ≡ ReadFault.Malformed → reports_of bytes.now ≡ None) }
@@ -82,7 +82,7 @@ pub fn reports_of(bytes: &[u8], alloc: Global) -> Result<Reports, ReadFault>
     Ok(Reports { mixed, unreported })
 }
 
-/// The first so many bytes, where there are as many, and the bytes behind them.
+/// The first N bytes, where there are as many, and the bytes after them.
 fn piece_at(least: usize, most: usize, size: usize, rest: &[u8]) -> Option<(&[u8], &[u8])>
     ensures { option_map (λ p. (p.0.now, p.1.now)) result ≡ piece_at least most size rest.now }
 {
@@ -93,7 +93,7 @@ fn piece_at(least: usize, most: usize, size: usize, rest: &[u8]) -> Option<(&[u8
     }
 }
 
-/// The key at the front, behind its length, and the bytes behind it.
+/// The key at the front, after its length, and the bytes after it.
 pub fn key_at(bytes: &[u8]) -> Option<(&[u8], &[u8])>
     ensures { option_map (λ p. (p.0.now, p.1.now)) result ≡ key_at bytes.now }
 {
@@ -103,7 +103,7 @@ pub fn key_at(bytes: &[u8]) -> Option<(&[u8], &[u8])>
     }
 }
 
-/// The value at the front, behind its length, and the bytes behind it.
+/// The value at the front, after its length, and the bytes after it.
 pub fn value_at(bytes: &[u8]) -> Option<(&[u8], &[u8])>
     ensures { option_map (λ p. (p.0.now, p.1.now)) result ≡ value_at bytes.now }
 {
@@ -144,7 +144,7 @@ fn left_at<'a>(key: &[u8], bytes: &'a [u8], alloc: Global) -> Result<(Write, &'a
     }
 }
 
-/// The write at the front, and the bytes behind it.
+/// The write at the front, and the bytes after it.
 #[tactic(auto, unfolding(crate::specs::Parts::write_at))]
 fn write_at(bytes: &[u8], alloc: Global) -> Result<(Write, &[u8]), ReadFault>
     ensures ok { IfOk result (λ p. write_at bytes.now ≡ Some (p.0, p.1.now)) }
@@ -156,7 +156,7 @@ fn write_at(bytes: &[u8], alloc: Global) -> Result<(Write, &[u8]), ReadFault>
     left_at(key, rest, alloc)
 }
 
-/// So many writes, with nothing behind them.
+/// N writes, with nothing after them.
 fn writes_in(count: u8, bytes: &[u8], alloc: Global) -> Result<Writes, ReadFault>
     ensures ok { IfOk result (λ writes. all_of write_at count bytes.now ≡ Some writes) }
     ensures err { IfErr result (λ e. e ≡ ReadFault.Malformed → all_of write_at count bytes.now ≡ None) }
@@ -175,7 +175,7 @@ fn writes_in(count: u8, bytes: &[u8], alloc: Global) -> Result<Writes, ReadFault
     }
 }
 
-/// Writes behind their number, with nothing behind them.
+/// Writes after their number, with nothing after them.
 pub fn writes_of(bytes: &[u8], alloc: Global) -> Result<Writes, ReadFault>
     ensures ok { IfOk result (λ writes. writes_of bytes.now ≡ Some writes) }
     ensures err { IfErr result (λ e. e ≡ ReadFault.Malformed → writes_of bytes.now ≡ None) }

@@ -53,7 +53,7 @@ fn below(bytes: &[u8]) -> Option<u64>
     if number < LIMIT { Some(number) } else { None }
 }
 
-/// A record of a case, by its kind and what is left behind its name.
+/// A record of a case, by its kind and what is left after its name.
 fn case_record(
     kind: u8,
     parent: Option<ProcessId>,
@@ -77,7 +77,7 @@ fn case_record(
     Ok(LogRecord { entry, parent })
 }
 
-/// A coordinator's record behind its kind.
+/// A coordinator's record after its kind.
 #[tactic(auto, unfolding(crate::specs::Reading::coordinator_record))]
 fn coordinator_record(kind: u8, payload: &[u8], alloc: Global) -> Result<LogRecord, ReadFault>
     ensures ok { IfOk result (λ r. coordinator_record kind payload.now ≡ Some r) }
@@ -89,7 +89,7 @@ fn coordinator_record(kind: u8, payload: &[u8], alloc: Global) -> Result<LogReco
     }
 }
 
-/// A record of a branch, by its kind and what is left behind its name.
+/// A record of a branch, by its kind and what is left after its name.
 fn branch_record(kind: u8, branch: Branch, rest: &[u8], alloc: Global) -> Result<Record, ReadFault>
     ensures ok { IfOk result (λ r. branch_record kind branch rest.now ≡ Some r) }
     ensures err { IfErr result (λ e. e ≡ ReadFault.Malformed → branch_record kind branch rest.now ≡ None) }
@@ -108,7 +108,7 @@ fn branch_record(kind: u8, branch: Branch, rest: &[u8], alloc: Global) -> Result
     })
 }
 
-/// A manager's Pair: a key and a value, with nothing behind them.
+/// A manager's Pair: a key and a value, with nothing after them.
 fn pair_record(payload: &[u8], alloc: Global) -> Result<LogRecord, ReadFault>
     ensures ok { IfOk result (λ r. pair_by (key_at payload.now) ≡ Some r) }
     ensures err { IfErr result (λ e. e ≡ ReadFault.Malformed → pair_by (key_at payload.now) ≡ None) }
@@ -125,7 +125,7 @@ fn pair_record(payload: &[u8], alloc: Global) -> Result<LogRecord, ReadFault>
     }
 }
 
-/// A manager's record behind its kind.
+/// A manager's record after its kind.
 #[tactic(auto, unfolding(crate::specs::Reading::manager_record))]
 fn manager_record(kind: u8, payload: &[u8], alloc: Global) -> Result<LogRecord, ReadFault>
     ensures ok { IfOk result (λ r. manager_record kind payload.now ≡ Some r) }

@@ -109,11 +109,11 @@ passed_places p place zero xs = refl
 passed_places p place (suc k) [] = refl
 passed_places p place (suc k) (b ∷ bs) = passed_places p place k bs
 
--- where the frame behind one begins
+-- where the frame after one begins
 abbrev pub next : LogForm → ℕ → Cut → ℕ
 next p place c = place + suc (size_bytes p.format) + length c.1
 
--- the record of a frame, and those behind it
+-- the record of a frame, and those after it
 pub step : (p : LogForm) (place : ℕ) (xs : List ℕ) (c : Cut) → first_frame p.format xs ≡ Some c
     → placed_in p place 0 xs ≡ and_placed place (read_record p c.0 c.1) (placed_in p (next p place c) 0 c.2)
 unfolding placed_in
@@ -125,7 +125,7 @@ step p place (b ∷ bs) c e =
     (passed_places p (next p place c) (size_bytes p.format + length c.1) bs
     ∙ ap (placed_in p (next p place c) 0) k.left)
 
--- the bytes of a frame, and those behind it
+-- the bytes of a frame, and those after it
 pub frame_size : (f : LogFormat) (xs : List ℕ) (c : Cut) → first_frame f xs ≡ Some c
     → length xs ≡ suc (size_bytes f) + length c.1 + length c.2
 frame_size f [] c e = let never = sym (no_bytes f) ∙ e in absurd (cc)

@@ -5,7 +5,7 @@ use Rattle.logs_script.specs.declared.line.ProcessLog.{ProcessLog}
 use Rattle.logs_script.specs.Lines.{FitsLog, log_line}
 use Rattle.logs_script.specs.Logs.{each_has_log, logs_of, may_follow}
 
--- behind those of the first list each log of the second is the first of a process of the tree
+-- after those of the first list each log of the second is the first of a process of the tree
 abbrev pub AreFirst : List TreeEntry → List ProcessLog → List ProcessLog → Type 0
 AreFirst es seen [] = ⊤
 AreFirst es seen (l ∷ ls) = FitsLog l × (may_follow es seen l ≡ true) × AreFirst es (seen ++ l ∷ []) ls

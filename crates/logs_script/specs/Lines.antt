@@ -53,7 +53,7 @@ abbrev pub log_parts : List ℕ → Option (List ℕ × List ℕ) → Option Pro
 log_parts rest None = process_at rest >>= λ p. Some (process_log p [])
 log_parts rest (Some q) = process_at q.0 >>= λ p. bytes_at q.1 >>= λ bytes. Some (process_log p bytes)
 
--- the word `log`, and what stands behind it
+-- the word `log`, and what stands after it
 abbrev pub log_words : Option (List ℕ × List ℕ) → Option ProcessLog
 log_words None = None
 log_words (Some p) = if same p.0 (codes "log") then log_parts p.1 (cut_at 32 p.1) else None

@@ -23,17 +23,17 @@ unfoldable pub bytes_of : List ProcessLog → ProcessId → List ℕ
 bytes_of [] p = []
 bytes_of (l ∷ ls) p = if same_process l.process p then l.bytes else bytes_of ls p
 
--- behind these logs this one may stand: it is of a process of the tree, and the process has none yet
+-- after these logs this one may stand: it is of a process of the tree, and the process has none yet
 abbrev pub may_follow : List TreeEntry → List ProcessLog → ProcessLog → Bool
 may_follow es ls l = is_listed es l.process && not (has_log ls l.process)
 
--- what is read behind a line: the line's number, where it is the line of no log that may stand there
+-- what is read after a line: the line's number, where it is the line of no log that may stand there
 abbrev pub line_then : List TreeEntry → List ProcessLog → ℕ → Option ProcessLog
     → (List ProcessLog → Result (List ProcessLog) ℕ) → Result (List ProcessLog) ℕ
 line_then es ls n None more = Err n
 line_then es ls n (Some l) more = if may_follow es ls l then more (ls ++ l ∷ []) else Err n
 
--- these logs and those of the lines behind them, the first of which has this number; or the number of the
+-- these logs and those of the lines after them, the first of which has this number; or the number of the
 -- first line that is the line of no log that may stand there
 unfoldable pub logs_behind : List TreeEntry → List ProcessLog → ℕ → List (List ℕ) → Result (List ProcessLog) ℕ
 logs_behind es ls n [] = Ok ls
@@ -50,12 +50,12 @@ abbrev pub complete : List TreeEntry → ℕ → Result (List ProcessLog) ℕ �
 complete es last (Ok ls) = if each_has_log es ls then Ok ls else Err last
 complete es last (Err n) = Err n
 
--- the logs of the lines behind the line of three dashes, which has this number; or the number of the line
+-- the logs of the lines after the line of three dashes, which has this number; or the number of the line
 -- that is wrong
 unfoldable pub logs_of : List TreeEntry → ℕ → List (List ℕ) → Result (List ProcessLog) ℕ
 logs_of es rule lines = complete es (rule + length lines) (logs_behind es [] (rule + 1) lines)
 
--- the input is the text of this tree and, behind the line of three dashes, the lines of these logs
+-- the input is the text of this tree and, after the line of three dashes, the lines of these logs
 abbrev pub IsLogsText : List ℕ → List TreeEntry → List ProcessLog → Type 0
 IsLogsText input tree logs =
     (rule : ℕ) × (lines : List (List ℕ)) × IsFront input tree rule lines

@@ -16,15 +16,15 @@ pub record Placed : Type 0 where
 abbrev pub placed : ℕ → LogRecord → Placed
 placed place l = record { place = place; read = l }
 
--- What is read goes from frame to frame. Within a frame so many bytes are still passed over, and a frame
+-- What is read goes from frame to frame. Within a frame N bytes are still passed over, and a frame
 -- begins where none are.
 
--- the record that begins there, where there is one, and those behind it
+-- the record that begins there, where there is one, and those after it
 abbrev pub and_placed : ℕ → Option LogRecord → List Placed → List Placed
 and_placed place None more = []
 and_placed place (Some l) more = placed place l ∷ more
 
--- the record of the frame that begins there, where there is one, and those behind it
+-- the record of the frame that begins there, where there is one, and those after it
 abbrev pub placed_by : LogForm → ℕ → Option Cut → (ℕ → ℕ → List Placed) → List Placed
 placed_by p place None more = []
 placed_by p place (Some c) more =
@@ -38,7 +38,7 @@ placed_in p place (suc k) (b ∷ bs) = placed_in p place k bs
 placed_in p place zero (b ∷ bs) =
     placed_by p place (first_frame p.format (b ∷ bs)) (λ at k. placed_in p at k bs)
 
--- the records of a log, behind its header
+-- the records of a log, after its header
 abbrev pub placed_records : LogForm → List ℕ → List Placed
 placed_records p bytes = placed_in p 5 0 (drop 5 bytes)
 

@@ -48,7 +48,7 @@ pub fn each_has_log(entries: &[TreeEntry], logs: &[ProcessLog]) -> bool
     entries.iter().all(|entry| has_log(logs, entry.id))
 }
 
-/// The logs of the lines behind the line of three dashes, whose number is given.
+/// The logs of the lines after the line of three dashes, whose number is given.
 fn logs_behind(
     alloc: Global,
     tree: &Tree,

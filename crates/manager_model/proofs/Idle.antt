@@ -1,4 +1,4 @@
--- A manager at which no thread is at work: whether a branch can begin, and what is known behind a piece of work.
+-- A manager at which no thread is at work: whether a branch can begin, and what is known after a piece of work.
 use Rattle.std.proofs.Common.{◌≡◌, ◌∙◌, ℕ, Bool, true, false, List, Option, None, Result, Ok, Err, refl, sym, ap, subst, arith, length}
 use Rattle.std.specs.Prelude.{◌||◌, is_some, is_ok, nat_eq, nat_le, nat_lt, unwrap_or, if◌then◌else◌}
 use Rattle.std.specs.List.{list_any}
@@ -126,7 +126,7 @@ has_begun old new x false idle made log boot spent rest = (
   record { tables = made.1; log = log; boot = boot; spent = spent; rest = rest },
 )
 
--- Behind a piece of work.
+-- After a piece of work.
 
 -- where a branch was known as it is now, nothing is known otherwise
 pub stays_known : (old new : ManagerSight) (x : Xid) (s : BranchState) → Comes old new x s

@@ -165,7 +165,7 @@ pub record Ends (old new : ManagerData) (x : Xid) : Type 0 where
   pub lets_go : LetsGo old new x
   pub known : Knows old new x false
 
--- the holders of a key behind a call on a branch, which is in this state then: it holds nothing any more once it
+-- the holders of a key after a call on a branch, which is in this state then: it holds nothing any more once it
 -- is ended or decided by an operator
 abbrev pub held_with : BranchState → Xid → List Holder → List Holder
 held_with S0 x hs = without hs x

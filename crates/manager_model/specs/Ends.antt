@@ -49,7 +49,7 @@ outcome_row S5 d = (heur_code d.outcome, S5)
 outcome_row _ d = (code.Ok, S0)
 
 -- what a call answers that finishes a branch in a state, with these writes and this decision, and the state
--- behind it
+-- after it
 abbrev pub row_of : Call → BranchState → List Write → Decision → Code × BranchState
 row_of call.Prepare s ws d = prepare_row ws
 row_of call.Commit s ws d = outcome_row s d
@@ -73,7 +73,7 @@ tells b o None = record { entry = Told b o; is_forced = is_told_forced b o } ∷
 tells b o (Some told) = []
 
 -- what a call writes that finishes a branch in a state, under this name: an outcome is forced unless the
--- presumption covers it, one that comes behind an operator's decision is noted, and nothing is written of a
+-- presumption covers it, one that comes after an operator's decision is noted, and nothing is written of a
 -- branch that wrote nothing or promised nothing
 abbrev pub written_by : Call → BranchState → Branch → List Write → Decision → List Written
 written_by call.Prepare S2 b ws d = unless_empty (Prepared b) ws
@@ -107,7 +107,7 @@ left_with S0 ws = []
 left_with S5 ws = []
 left_with _ ws = ws
 
--- what is known of an operator's decision behind a call: an outcome is noted
+-- what is known of an operator's decision after a call: an outcome is noted
 abbrev pub decided_behind : Call → Decision → Decision
 decided_behind call.Commit d = told_behind CommittedOutcome d
 decided_behind call.Rollback d = told_behind AbortedOutcome d

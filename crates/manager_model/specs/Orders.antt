@@ -11,7 +11,7 @@ use Rattle.tree_model.specs.Records.{boot_of, record_branch}
 use Rattle.tree_model.specs.Standings.{Mark, Unmarked, mark_at}
 use Rattle.manager_model.specs.Restarting.{marked_state}
 
--- a record may stand behind this boot, where its branch is marked so: boots never fall; a branch promises that is
+-- a record may stand after this boot, where its branch is marked so: boots never fall; a branch promises that is
 -- neither prepared nor decided by an operator; he decides one that is prepared; and one that he decided is told an
 -- outcome
 abbrev pub MayStand : ℕ → Mark → Record → Type 0
@@ -27,12 +27,12 @@ abbrev pub mark_before : List LogRecord → Option ProcessId → Option Branch �
 mark_before ls p None = Unmarked
 mark_before ls p (Some b) = mark_at ls (name_xid p b)
 
--- a record may stand behind these
+-- a record may stand after these
 abbrev pub MayFollow : List LogRecord → LogRecord → Type 0
 MayFollow ls l =
     MayStand (boot_of (map (λ k. k.entry) ls)) (mark_before ls l.parent (record_branch l.entry)) l.entry
 
--- each of these records may stand behind those before it
+-- each of these records may stand after those before it
 abbrev pub AreInOrder : List LogRecord → Type 0
 AreInOrder ls = (front : List LogRecord) (l : LogRecord) (rest : List LogRecord) → ls ≡ front ++ l ∷ rest
     → MayFollow front l

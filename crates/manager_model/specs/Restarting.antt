@@ -1,4 +1,4 @@
--- A manager behind a crash: what the records say that are left of its log.
+-- A manager after a crash: what the records say that are left of its log.
 use Rattle.std.specs.Prelude.{◌≡◌, ◌≤◌, ◌+◌, ◌^◌, ℕ, Bool, None, List, [], ◌∷◌, ◌++◌, map}
 use Rattle.xa_tables.specs.declared.states.BranchState.{BranchState}
 use Rattle.xa_tables.specs.declared.states.BranchState.TheVariants.{S0, S3, S5}
@@ -45,7 +45,7 @@ writes_left ls x = marked_writes (mark_at ls x) (writes_of (Foreign x) (data_of 
 abbrev pub is_left : List LogRecord → Xid → Bool
 is_left ls x = is_begun (marked_state (mark_at ls x))
 
--- the boot behind those of these records
+-- the boot after those of these records
 abbrev pub next_boot : List LogRecord → ℕ
 next_boot ls = boot_of (map (λ l. l.entry) ls) + 1
 
@@ -59,7 +59,7 @@ with_boot ls = ls ++ boot_record (next_boot ls) ∷ []
 
 -- Restart.
 
--- a manager restarted, after a crash that kept so many unforced bytes: it is not open, each branch is as the
+-- a manager restarted, after a crash that kept N unforced bytes: it is not open, each branch is as the
 -- records that are left say, with what an operator decided of it, those in doubt hold what they promised, without associations and scans, and its log
 -- is these records and the next boot, all forced
 pub record Restarts (old new : ManagerSight) (keep : ℕ) : Type 0 where
@@ -76,7 +76,7 @@ pub record Restarts (old new : ManagerSight) (keep : ℕ) : Type 0 where
   pub log : new.log ≡ forced_sight old.log.form (with_boot (left_by old.log keep)) old.log.failures
 
 -- the manager is as a restart left some manager, and is not open: its log has the records that were left, and
--- behind them that of its boot
+-- after them that of its boot
 pub record IsRestarted (m : ManagerSight) : Type 0 where
   pub old : ManagerSight
   pub keep : ℕ

@@ -15,7 +15,7 @@ use Rattle.manager_model.specs.declared.errors.TrimError.TheVariants.{Memory, De
 abbrev pub trimmed : LogSight → List LogRecord
 trimmed s = trim_of (records_of s.kept)
 
--- the log was trimmed, all of it forced, and nothing else moved; so many records remain
+-- the log was trimmed, all of it forced, and nothing else moved; N records remain
 pub record Trims (old new : ManagerSight) (remain : ℕ) : Type 0 where
   pub log : new.log ≡ forced_sight old.log.form (trimmed old.log) old.log.failures
   pub counts : remain ≡ length (trimmed old.log)

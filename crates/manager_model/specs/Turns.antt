@@ -62,7 +62,7 @@ prepare_data c n holding v Active =
     if (v.done == n) && not v.spoiled then vote_data c holding else Ends c
 prepare_data c n holding v _ = Rests
 
--- an outcome behind an operator's decision: the first one ends the branch's data again, of which there are none
+-- an outcome after an operator's decision: the first one ends the branch's data again, of which there are none
 abbrev pub told_data : Case → Option Outcome → DataTurn
 told_data c None = Releases c
 told_data c (Some o) = Rests

@@ -15,7 +15,7 @@ pub enum RestartError {
     /// The device failed; the manager has failed until a restart.
     #[error("the device failed")]
     Device,
-    /// The boots are used up: none below 2^63 comes behind the last one; nothing changed.
+    /// The boots are used up: none below 2^63 comes after the last one; nothing changed.
     #[error("the boots are used up")]
     Exhausted,
 }

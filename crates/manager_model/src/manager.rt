@@ -45,7 +45,7 @@ pub trait ResourceManager {
         ensures { result ≡ state_at (sight self.now).tables xid.now };
 
     /// What an operator decided of a branch, and what it was told since; None where no operator decided it,
-    /// and behind forget.
+    /// and after forget.
     fn decision(&self, xid: &Xid) -> Option<Decision>
         ensures { result ≡ decision_at (state_at (sight self.now).tables xid.now)
             ((sight self.now).decided xid.now) };
@@ -140,7 +140,7 @@ pub trait ResourceManager {
         ensures ok { OnOk result (Decides (sight self.old) (sight self.new) xid.now outcome) }
         ensures err { IfErr result (NotDecided (sight self.old) (sight self.new) xid.now outcome) };
 
-    /// A scan of the branches in doubt (C193, xa_recover): the next of them, at most so many. RmFail. Inval:
+    /// A scan of the branches in doubt (C193, xa_recover): the next of them, at most N. RmFail. Inval:
     /// the flags. Proto: the manager is not open. Inval: no scan is open and none begins. RmErr: a limit of
     /// the manager's own. A refusal changes nothing, nor does want of memory.
     fn recover(
@@ -161,8 +161,8 @@ pub trait ResourceManager {
         ensures ok { OnOk result (Works (sight self.old) (sight self.new) thread op.now) }
         ensures err { IfErr result (WorkRefused (sight self.old) (sight self.new) thread op.now) };
 
-    /// The records that a crash would leave which keeps so many bytes behind the forced front, as a list
-    /// made anew.
+    /// The records that a crash would leave which keeps N bytes after the forced front, as a list
+    /// made again.
     fn left(&self, keep: usize) -> Result<Vec<LogRecord>, AllocError>
         ensures { IfOk result (λ records. records.items ≡ left_by (sight self.now).log keep) };
 
@@ -170,7 +170,7 @@ pub trait ResourceManager {
     fn records_are_sound(&self)
         ensures { AllByRecursion (IsSound kind.Manager) (records_of (sight self.now).log.kept) };
 
-    /// Each record of its log may stand behind those before it, also where its device has failed.
+    /// Each record of its log may stand after those before it, also where its device has failed.
     fn records_are_in_order(&self)
         ensures { AreInOrder (records_of (sight self.now).log.kept) };
 
@@ -178,16 +178,16 @@ pub trait ResourceManager {
     fn branches_are_listed_once(&self)
         ensures { AreListedOnce (sight self.now).tables.branches.branches };
 
-    /// Restarts the manager behind a crash that keeps so many of the log's unforced bytes: it stands as the
+    /// Restarts the manager after a crash that keeps N of the log's unforced bytes: it stands as the
     /// records say that are left, and is not open. Its own records are never refused. Memory: nothing changed.
-    /// Exhausted: no boot below 2^63 comes behind the last one; nothing changed. Device: the manager has
+    /// Exhausted: no boot below 2^63 comes after the last one; nothing changed. Device: the manager has
     /// failed until it is restarted.
     fn restart(&mut self, keep: usize) -> Result<(), RestartError>
         ensures ok { OnOk result (Restarts (sight self.old) (sight self.new) keep) }
         ensures err { IfErr result (NotRestarted (sight self.old) (sight self.new) keep) };
 
     /// Trims the log: the last Opened and the records of the branches that are not forgotten stay, and
-    /// behind them the data, keys rising, all of it forced by one write. Gives how many records remain.
+    /// after them the data, keys rising, all of it forced by one write. Gives how many records remain.
     /// Its own records are never refused. Failed, Memory: nothing changed. Device: the log stands as it was or
     /// trimmed, and the manager has failed until a restart.
     fn trim(&mut self) -> Result<usize, TrimError>

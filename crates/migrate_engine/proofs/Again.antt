@@ -20,7 +20,7 @@ use Rattle.logs_script.proofs.Formats.{second_form}
 use Rattle.migrate_engine.specs.Laws.{MigratedStays, SameRecords}
 use Rattle.migrate_engine.specs.Migrations.{MigratesTo, migrated_log, text_by}
 
--- What is read of a log that is sound is read of frames: those behind its header, or none.
+-- What is read of a log that is sound is read of frames: those after its header, or none.
 
 abbrev OfFrames : LogForm → List LogRecord → List ℕ → Type 0
 OfFrames p ls frames = (torn : ℕ) × (read_frames p 5 nothing_seen 0 frames ≡ Whole ls torn)

@@ -96,7 +96,7 @@ refused_text m e = codes "refused " ++ decimal (step_error_number e) ++ refusal_
 
 -- What was done.
 
--- the lines of a reaction of this process, before which so many messages were sent, and `ok`
+-- the lines of a reaction of this process, before which N messages were sent, and `ok`
 unfoldable pub shown_text : ℕ → ℕ → Reaction → List ℕ
 shown_text me sent r = lines_text (reaction_lines me sent r) ++ ok_text
 

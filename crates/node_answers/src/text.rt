@@ -23,7 +23,7 @@ use trace_lines::{
 };
 use tree_model::{Case, ProcessId, Reaction, Txn};
 
-/// Adds the lines of a reaction, before which so many messages were sent.
+/// Adds the lines of a reaction, before which N messages were sent.
 fn push_reaction(
     out: &mut Vec<u8>,
     me: ProcessId,
@@ -41,7 +41,7 @@ fn push_reaction(
     push_kept(out, me.0, &reaction.kept)
 }
 
-/// The lines of a reaction, before which so many messages were sent, and `ok`.
+/// The lines of a reaction, before which N messages were sent, and `ok`.
 #[tactic(auto, unfolding(crate::specs::Texts::shown_text))]
 pub fn shown_text(
     alloc: Global,
@@ -58,7 +58,7 @@ pub fn shown_text(
     Ok(out)
 }
 
-/// The line of a trim behind which so many records remain, and `ok`.
+/// The line of a trim after which N records remain, and `ok`.
 #[tactic(auto, unfolding(crate::specs::Texts::trimmed_text))]
 pub fn trimmed_text(alloc: Global, me: ProcessId, remain: u64) -> Result<Vec<u8>, AllocError>
     ensures { IfOk result (λ text. text.items ≡ trimmed_text me.0 remain) }

@@ -134,7 +134,7 @@ ToldOf old new text (Ok reaction) =
 ToldOf old new text (Err e) =
     (text ≡ refused_text old.manner e) × (new.sent ≡ old.sent) × IsRefusal e
 
--- why what became of an input is not told, behind so many messages that were sent
+-- why what became of an input is not told, after N messages that were sent
 abbrev pub Untold : ℕ → Result Reaction StepError → NodeFailure → Type 0
 Untold sent (Ok reaction) why = IsUnshown sent reaction why
 Untold sent (Err e) why = IsUnrefused e why

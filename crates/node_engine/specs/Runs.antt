@@ -147,7 +147,7 @@ pub record EndsInOrder {L : Type 0} (bytes : L → List ℕ) (forced failures : 
   pub closes : ClosesLog bytes forced failures last.state.core store
   pub writes : Appends last.held held (end_text by)
 
--- how a node stands that ended before its input did, behind its opening
+-- how a node stands that ended before its input did, after its opening
 abbrev pub Stops : Stand → Reaction → Stand → NodeFailure → Type 0
 Stops start opening now Read = Unread start opening now
 Stops start opening now Memory = Unanswered start opening now Memory

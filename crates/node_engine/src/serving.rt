@@ -104,7 +104,7 @@ fn process_of(root: ProcessId, act: &Act) -> ProcessId
     }
 }
 
-/// The answer to what is refused. Behind a failed device, or without memory, there is none.
+/// The answer to what is refused. After a failed device, or without memory, there is none.
 fn refusal(alloc: Global, manner: Manner, error: StepError) -> Result<Vec<u8>, NodeFailure>
     ensures text { IfOk result (λ text. text.items ≡ text_of_refusal manner error) }
     ensures refusal { OnOk result (IsRefusal error) }

@@ -100,7 +100,7 @@ module _ (c : CoreState) (bytes : List ℕ) (h : FindsLog c bytes) where
   abbrev p : LogForm
   p = form_of c.place
 
-  -- how many bytes were found behind those that were forced
+  -- how many bytes were found after those that were forced
   abbrev keep : ℕ
   keep = length bytes - h.forced
 

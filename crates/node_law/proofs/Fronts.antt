@@ -34,8 +34,8 @@ cut_frame f frame n c (Some d) e h g =
     let none : d.2 ++ drop n frame ≡ [] = ap (λ z. z.2) (some_is _ _ both) in
     absurd (omega (arith, nothing_behind d.2 (drop n frame) none, length-drop n frame))
 
--- Whole frames of records, of which so many bytes stand, are read as the records that stand whole among them, and as a torn
--- tail behind these.
+-- Whole frames of records, of which N bytes stand, are read as the records that stand whole among them, and as a torn
+-- tail after these.
 abbrev pub FrontIsRead : LogForm → ℕ → List ℕ → Type 0
 FrontIsRead p n xs = (place : ℕ) (s : SeenLog) → is_whole p 0 xs ≡ true
     → is_some (admitted s (records_in p 0 (take n xs))) ≡ true
@@ -86,7 +86,7 @@ module _ (p : LogForm) (n : ℕ) (xs : List ℕ) (c : Cut) (first : first_frame 
       ∙ take-append-add a.frame c.2 m in
       ap (first_frame p.format) cut ∙ frame_more p.format a.frame (take m c.2) (c.0, c.1, []) a.alone
 
--- one frame, and what is behind it
+-- one frame, and what is after it
 module _ (p : LogForm) (n m : ℕ) (xs : List ℕ) (c : Cut) (first : first_frame p.format xs ≡ Some c)
     (front : first_frame p.format (take n xs) ≡ Some (c.0, c.1, take m c.2)) (more : FrontIsRead p m c.2) where
   seen_on : (l : LogRecord) (o : Option SeenLog) (place next : ℕ) → is_whole p 0 c.2 ≡ true

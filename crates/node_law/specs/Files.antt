@@ -24,7 +24,7 @@ pub record IsLogOf (c : CoreState) (text : List ℕ) (forced : ℕ) : Type 0 whe
   pub within : forced ≤ length text
   pub stands : LogStands c
 
--- A node that ended left its log so in its file: in its store stood these bytes, so many of them forced, which are the log
+-- A node that ended left its log so in its file: in its store stood these bytes, N of them forced, which are the log
 -- that the process keeps; and of the file of this number these blocks are on the disk, which hold the forced bytes.
 pub record LeavesFile (c : CoreState) (text : List ℕ) (forced number : ℕ) (first : List ℕ)
     (others : List (List ℕ)) : Type 0 where
@@ -50,8 +50,8 @@ pub record FindsLog (c : CoreState) (bytes : List ℕ) : Type 0 where
   pub read_told : read_as < 2 ^ 64
   pub held : Holds file read_as bytes
 
--- The bytes are what a process left of its log: its forced records, and of the others those that stand whole within so many
--- bytes more. Behind them may stand a torn tail.
+-- The bytes are what a process left of its log: its forced records, and of the others those that stand whole within N
+-- bytes more. After them may stand a torn tail.
 pub record Keeps (p : LogForm) (c : CoreState) (bytes : List ℕ) (keep : ℕ) : Type 0 where
   pub torn : ℕ
   pub read : read_log p bytes ≡ Whole (left_by c.log keep) torn

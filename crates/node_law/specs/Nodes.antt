@@ -164,7 +164,7 @@ pub record Unanswered (s t : WorldState) : Type 0 where
 -- Starts.
 
 -- A node started over what it found in the file that one before it left, as `start` says. Its restart is entered with so
--- many bytes as were found behind those that were forced.
+-- many bytes as were found after those that were forced.
 pub record Started (s t : WorldState) : Type 0 where
   pub entry : TreeEntry
   pub listed : find (λ e. same_process e.id entry.id) s.tree ≡ Some entry
@@ -278,7 +278,7 @@ CallsItRead OldFormat = ⊥
 CallsItRead e = ⊤
 
 -- Where the state of a tree stands for a run, what the next node finds of a process's log is what that left of it: the
--- forced records, and of the others those that stand whole within the bytes found behind the forced ones.
+-- forced records, and of the others those that stand whole within the bytes found after the forced ones.
 abbrev pub NodesFindTheirLogs : Type 0
 NodesFindTheirLogs = (s : WorldState) (es : List Made) (w : World) → IsTree s.tree → FollowsBehindFaults es w s
     → (q : ProcessId) (c : CoreState) → s.node_at q ≡ Some c → (bytes : List ℕ) (h : FindsLog c bytes)

@@ -58,7 +58,7 @@ pub fn stores_leave_files<F: LogFile>(store: &FileStore<F>)
 
 /// Where the state of a tree stands for a run, what the next node of a process finds in the file that a crash left
 /// is what the process kept of its log: the forced records, and of the others those that stand whole within the bytes
-/// found behind the forced ones.
+/// found after the forced ones.
 pub fn nodes_find_their_logs()
     ensures { NodesFindTheirLogs }
 {}

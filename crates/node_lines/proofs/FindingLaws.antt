@@ -337,14 +337,14 @@ unreported_fit [] f = tt
 unreported_fit (Mixed t ∷ fs) f = unreported_fit fs f.1
 unreported_fit (Unreported t ∷ fs) f = (f.0, unreported_fit fs f.1)
 
--- Behind an outcome.
+-- After an outcome.
 
--- the text behind an outcome, if there is one, with the blank before it
+-- the text after an outcome, if there is one, with the blank before it
 abbrev pub behind_text : Option (List ℕ) → List ℕ
 behind_text None = []
 behind_text (Some text) = 32 ∷ text
 
--- the text of words behind an outcome
+-- the text of words after an outcome
 abbrev pub text_of : List (List ℕ) → Option (List ℕ)
 text_of [] = None
 text_of (w ∷ ws) = Some (w ++ behind ws)

@@ -16,7 +16,7 @@ use link_script::ticket_of;
 use std::alloc::{AllocError, Global};
 use tree_model::{Finding, Findings, Sequence, Ticket};
 
-/// What an acknowledgement found, by the text behind its outcome, if there is one; None where the text tells
+/// What an acknowledgement found, by the text after its outcome, if there is one; None where the text tells
 /// of no findings.
 pub(crate) fn found_in(alloc: Global, text: Option<&str>) -> Result<Option<Findings>, AllocError>
     ensures { IfOk result (λ found. found ≡ found_at (option_map (λ t. t.now) text.entry)) }
@@ -50,7 +50,7 @@ fn words_of(alloc: Global, text: &str) -> Result<Vec<&str>, AllocError>
     text.split(' ').collect(alloc)
 }
 
-/// Whether the unreported tickets stand behind this word.
+/// Whether the unreported tickets stand after this word.
 fn begins_unreported(word: &str) -> bool
     ensures { result ≡ begins_unreported word.now }
 {
@@ -104,7 +104,7 @@ fn tickets_of(alloc: Global, words: &[&str]) -> Result<Option<Vec<Ticket>>, Allo
     Ok(Some(tickets))
 }
 
-/// The mixed tickets, and behind them the unreported ones.
+/// The mixed tickets, and after them the unreported ones.
 fn joined(alloc: Global, mixed: &[Ticket], unreported: &[Ticket]) -> Result<Findings, AllocError>
     ensures { IfOk result (λ found. found
         ≡ map (λ t. Mixed t) mixed.now ++ map (λ t. Unreported t) unreported.now) }

@@ -100,7 +100,7 @@ fn ack_words(root: ProcessId, rest: &str) -> Option<(Case, Outcome, Option<&str>
     Some((case, outcome, text))
 }
 
-/// The first word of a text, and what stands behind it, if anything does.
+/// The first word of a text, and what stands after it, if anything does.
 fn before_blank(text: &str) -> (&str, Option<&str>)
     ensures { (result.0.now, option_map (λ t. t.now) result.1) ≡ first_word text.now }
 {

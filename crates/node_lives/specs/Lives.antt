@@ -17,7 +17,7 @@ use Rattle.core_law.specs.worlds.Runs.{IsOpened}
 use Rattle.core_law.specs.worlds.Ties.{FollowsBehindFaults, GoesOnBehindFaults}
 use Rattle.core_law.specs.worlds.Modelled.{KeepsHeadline}
 
--- the log over a device of which so many failures were counted
+-- the log over a device of which N failures were counted
 abbrev pub counted_log : LogSight → ℕ → LogSight
 counted_log l n = record l { failures = n }
 
@@ -72,7 +72,7 @@ pub data LifeStep (s t : WorldState) : Type 0 where
   trims : (q : ProcessId) → TrimsAt s t q → LifeStep s t
   -- its device fails in that, or its program ends
   trim_breaks : (q : ProcessId) → TrimFails s t q → LifeStep s t
-  -- a program starts over what the last one left of its log, so many bytes behind the forced front
+  -- a program starts over what the last one left of its log, N bytes after the forced front
   begins : (q : ProcessId) (n keep : ℕ) → RestartsAt (counted_at q n s) t q (Some keep) → LifeStep s t
   -- its device fails in that, or it ends
   begin_breaks : (q : ProcessId) (n keep : ℕ) → RestartFails (counted_at q n s) t q (Some keep) → LifeStep s t

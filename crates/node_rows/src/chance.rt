@@ -21,7 +21,7 @@ impl Chance {
         if count == 0 { 0 } else { number % count }
     }
 
-    /// Once in so many times.
+    /// Once in N times.
     pub fn one_in(&mut self, count: usize) -> bool {
         self.below(count) == 0
     }

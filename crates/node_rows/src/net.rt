@@ -128,7 +128,7 @@ impl Net {
     }
 }
 
-/// Whether a line of a message has this word, behind its number and its way.
+/// Whether a line of a message has this word, after its number and its way.
 fn has_word(line: &str, word: &str) -> bool {
     match cut(line, ' ') {
         None => false,

@@ -120,7 +120,7 @@ impl Trial {
         self.note(&text)
     }
 
-    /// A node is put behind the others. False: there is no memory for it, and it is let go.
+    /// A node is put after the others. False: there is no memory for it, and it is released.
     fn seat(&mut self, node: Node) -> bool {
         match self.nodes.push(node) {
             Ok(()) => true,

@@ -33,7 +33,7 @@ use Rattle.tree_nodes.proofs.Appends.{breaks, breaks_keeps, either_logs, loses}
 use Rattle.tree_nodes.proofs.Cases.{viewed}
 use Rattle.tree_nodes.proofs.Worlds.{put}
 
--- as far as boots and ends go, a coordinator's record may stand behind these
+-- as far as boots and ends go, a coordinator's record may stand after these
 abbrev pub Follows : List Record → Record → Type 0
 Follows rs (Opened k) = boot_of rs < k
 Follows rs (EndRecord c r) = has (is_end c) rs ≡ false
@@ -44,7 +44,7 @@ Follows rs (AbortRecord c ts) = Unit {0}
 Follows rs (ClearedRecord c) = is_reported rs c ≡ true
 Follows rs _ = ⊥
 
--- so may each of the list, behind these and those of the list before it
+-- so may each of the list, after these and those of the list before it
 abbrev pub AllFollow : List Record → List Record → Type 0
 AllFollow rs [] = Unit {0}
 AllFollow rs (x ∷ xs) = Follows rs x × AllFollow (rs ++ x ∷ []) xs
@@ -53,7 +53,7 @@ AllFollow rs (x ∷ xs) = Follows rs x × AllFollow (rs ++ x ∷ []) xs
 pub data Begins : List Record → Type 0 where
   opened_first : (k : ℕ) (rs : List Record) → 0 < k → Begins (Opened k ∷ rs)
 
--- a coordinator's log, by its forced front and the records behind it
+-- a coordinator's log, by its forced front and the records after it
 pub record IsWritten (forced unforced : List Record) : Type 0 where
   pub begins : Begins forced
   pub follow : AllFollow [] (forced ++ unforced)

@@ -12,7 +12,7 @@ ghost use Rattle.tree_model.specs.World.{IsRun, Made, World};
 ghost use Rattle.ordered_logs.specs.Orders.{AreOrdered, CanStand, IsReadWhole, NamesFit, appended, log_of};
 
 /// In every run the records of a coordinator's log may follow one another: an Opened of a higher boot, and of each case
-/// Collecting, Prepare, a decision and End in this order, each at most once, and Cleared at most once, behind an End that
+/// Collecting, Prepare, a decision and End in this order, each at most once, and Cleared at most once, after an End that
 /// reports. It asks that the cases are the process's own, and that their numbers fit the bytes of an XID.
 pub fn coordinators_write_in_order()
     ensures { (tree : List TreeEntry) (es : List Made) (w : World) → IsRun tree es w → (q : ProcessId)
@@ -22,7 +22,7 @@ pub fn coordinators_write_in_order()
 {}
 
 /// In every run of every tree the log of a coordinator, as bytes, is never damaged: it reads as its records, and as a torn tail
-/// behind them where bytes stand there that are no whole frame. It asks that each record can stand in such a log.
+/// after them where bytes stand there that are no whole frame. It asks that each record can stand in such a log.
 pub fn coordinators_logs_are_read()
     ensures { (tree : List TreeEntry) (es : List Made) (w : World) → IsTree tree → IsRun tree es w
         → (q : ProcessId) → is_listed tree q ≡ true → IsCoordinator (role_of tree q)

@@ -5,7 +5,7 @@ use Rattle.tree_model.specs.declared.events.Entry.{Entry}
 use Rattle.picture_rows.specs.Whole.{records_in, sent_in}
 use Rattle.picture_rows.specs.Long.{most_step_rows}
 
--- the most rows of a step and of those behind it
+-- the most rows of a step and of those after it
 most_cons : (e : Entry) (es : List Entry)
     → most_step_rows (e ∷ es) ≡ 4 + length e.reaction.written + length e.reaction.messages + most_step_rows es
 unfolding records_in sent_in

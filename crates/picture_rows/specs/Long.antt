@@ -6,15 +6,15 @@ use Rattle.picture_rows.specs.declared.rows.Count.{Count}
 use Rattle.picture_rows.specs.declared.rows.Steps.{Steps}
 use Rattle.picture_rows.specs.Whole.{records_in, sent_in}
 
--- at most so many rows are drawn of these steps: one for each record and each message, and four more a step
+-- at most N rows are drawn of these steps: one for each record and each message, and four more a step
 abbrev pub most_step_rows : List Entry → ℕ
 most_step_rows es = 4 * length es + length (records_in es) + length (sent_in es)
 
--- at most so many rows are drawn of so many events and these steps: two for each event, its own and a ruler's
+-- the most rows that are drawn of N events and these steps: two for each event, its own and a ruler's
 abbrev pub most_rows : ℕ → List Entry → ℕ
 most_rows events es = 1 + 2 * events + most_step_rows es
 
--- a picture of this tree, so many events and these steps may be too long: it may have 2^32 processes or rows
+-- a picture of this tree, N events and these steps may be too long: it may have 2^32 processes or rows
 abbrev pub IsLong : List TreeEntry → ℕ → List Entry → Type 0
 IsLong tree events es = (2 ^ 32 ≤ length tree) ⊎ (2 ^ 32 ≤ most_rows events es)
 

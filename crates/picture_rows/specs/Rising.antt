@@ -2,7 +2,7 @@
 use Rattle.std.specs.Prelude.{◌≡◌, ℕ, ◌<◌, ◌≤◌, Option, None, Some, List, [], ◌∷◌}
 use Rattle.picture_rows.specs.declared.rows.StepRows.{StepRows}
 
--- a step has rows from this one on: the first, the last of its records, and the first one behind it
+-- a step has rows from this one on: the first, the last of its records, and the first one after it
 pub record HasRows (from : ℕ) (r : StepRows) : Type 0 where
   pub first : from ≤ r.first
   pub last : r.first ≤ r.last

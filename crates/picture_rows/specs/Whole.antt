@@ -21,19 +21,19 @@ abbrev pub heard_in : Happening → Option ℕ
 heard_in (Handles (MessageInput n m)) = Some n
 heard_in h = None
 
--- one of so many messages has this number, from 1
+-- one of N messages has this number, from 1
 abbrev pub is_known : ℕ → ℕ → Bool
 is_known count n = not (nat_eq n 0) && nat_le n count
 
--- the number, where one of so many messages has it
+-- the number, where one of N messages has it
 abbrev pub known : ℕ → Option ℕ → Option ℕ
 known count None = None
 known count (Some n) = if is_known count n then Some n else None
 
--- the message, of so many, that a step delivered, if it delivered one
+-- the message, of N, that a step delivered, if it delivered one
 abbrev pub delivery : ℕ → Entry → Option ℕ
 delivery count e = known count (heard_in e.step.happening)
 
--- every delivery of these steps, in order, by the number of its message, of so many
+-- every delivery of these steps, in order, by the number of its message, of N
 unfoldable pub deliveries : ℕ → List Entry → List ℕ
 deliveries count es = flat_map (λ e. option_to_list (delivery count e)) es

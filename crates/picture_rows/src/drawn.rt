@@ -21,7 +21,7 @@ pub struct Arrow {
     pub row: u32,
     /// It was delivered before.
     pub again: bool,
-    /// It left more than so many steps before.
+    /// It left more than N steps before.
     pub far: bool,
 }
 

@@ -34,7 +34,7 @@ fn hear(fates: &mut [Fate], number: u64, step: usize) {
     }
 }
 
-/// So many messages are sent by a step.
+/// N messages are sent by a step.
 fn send(fates: &mut Vec<Fate>, step: usize, count: usize) -> Result<(), AllocError>
     ensures { OnOk result (length fates.new.items ≡ length fates.old.items + count) }
 {

@@ -10,10 +10,10 @@ use crate::standings::Mismatch;
 use std::alloc::Global;
 use tree_model::{Entry, Happening};
 
-/// A ruler follows every so many rows; and an arrow over more steps is drawn as two stubs.
+/// A ruler follows every N rows; and an arrow over more steps is drawn as two stubs.
 pub const LONG: u32 = 24;
 
-/// How many steps were made behind an event, and whether the event was refused.
+/// How many steps were made after an event, and whether the event was refused.
 #[derive(Clone, Copy)]
 pub struct Turn {
     pub steps: usize,
@@ -21,7 +21,7 @@ pub struct Turn {
 }
 
 /// The rows of a step: the first, the last one of its cause, its records and its word to the application, and
-/// the first one behind it. Between the last two stand the messages that get a stub.
+/// the first one after it. Between the last two stand the messages that get a stub.
 #[derive(Clone, Copy, PartialEq, Eq)]
 pub struct StepRows {
     pub first: u32,
@@ -44,7 +44,7 @@ pub struct Rows {
     pub rulers: Vec<u32>,
     /// The row of the refused event.
     pub refused: Option<u32>,
-    /// The row behind all others.
+    /// The row after all others.
     pub end: u32,
 }
 
@@ -57,7 +57,7 @@ struct Count {
 }
 
 impl Count {
-    /// So many rows more. TooLong: there are 2^32 rows.
+    /// N rows more. TooLong: there are 2^32 rows.
     fn take(&mut self, rows: u32) -> Result<u32, PictureError>
         ensures row { OnOk result (self.new.row ≡ self.old.row + rows) }
         ensures answer { IfOk result (λ row. row ≡ self.new.row) }
@@ -70,7 +70,7 @@ impl Count {
         Ok(row)
     }
 
-    /// The first row of what comes next: behind a ruler, where the last one is far. TooLong: there are 2^32
+    /// The first row of what comes next: after a ruler, where the last one is far. TooLong: there are 2^32
     /// rows.
     fn begin(&mut self) -> Result<u32, PictureError>
         ensures later { OnOk result (self.old.row ≤ self.new.row) }
@@ -95,7 +95,7 @@ pub(crate) fn has_stub(fate: &Fate) -> bool {
     }
 }
 
-/// How many of the messages behind so many, of a step, get a stub.
+/// How many of the messages after N, of a step, get a stub.
 fn count_stubs(fates: &[Fate], sent: usize, messages: usize) -> usize
     ensures { result ≤ messages }
 {

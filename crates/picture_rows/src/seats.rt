@@ -22,7 +22,7 @@ pub struct Seat {
     pub parent: Option<u32>,
 }
 
-/// Seats the children of a process, each with those below it behind it, where so many levels are left, but no
+/// Seats the children of a process, each with those below it after it, where N levels are left, but no
 /// more processes than the tree lists. TooLong: it lists 2^32 processes.
 fn sit_below(
     tree: &[TreeEntry],

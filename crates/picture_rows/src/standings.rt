@@ -87,7 +87,7 @@ fn is_in(standing: Standing, band: Band) -> bool {
     }
 }
 
-/// How a case stands behind a record of this kind.
+/// How a case stands after a record of this kind.
 fn standing_behind(kind: RecordKind) -> Standing {
     match kind {
         RecordKind::Prepare | RecordKind::Prepared => Standing::InDoubt,
@@ -230,7 +230,7 @@ impl Past {
         }
     }
 
-    /// The records of a process that a crash takes, if it leaves so many of those that are not forced.
+    /// The records of a process that a crash takes, if it leaves N of those that are not forced.
     fn taken(&mut self, place: u32, kept: u64) -> Result<Vec<Unforced>, AllocError> {
         let mut taken = Vec::new(self.alloc);
         let Some(list) = self.unforced.get_mut(place as usize) else {
@@ -246,7 +246,7 @@ impl Past {
         Ok(taken)
     }
 
-    /// A process crashes, and so many of its records that are not forced are kept.
+    /// A process crashes, and N of its records that are not forced are kept.
     fn crash(&mut self, spot: Spot, kept: u64) -> Result<(), AllocError> {
         let taken = self.taken(spot.place, kept)?;
         let mut lost = Vec::new(self.alloc);

@@ -11,7 +11,7 @@ pub enum Band {
     Operator,
 }
 
-/// A case of a process begins or ends to be so, in this step and so many rows below its first one.
+/// A case of a process begins or ends to be so, in this step and N rows below its first one.
 #[derive(Clone, Copy)]
 pub struct Change {
     pub place: u32,
@@ -21,7 +21,7 @@ pub struct Change {
     pub begins: bool,
 }
 
-/// Rows in which so many cases of a process are so, the last one not among them.
+/// Rows in which N cases of a process are so, the last one not among them.
 #[derive(Clone, Copy)]
 pub struct Stretch {
     pub place: u32,
@@ -102,7 +102,7 @@ impl Bands {
     }
 }
 
-/// The stretches of these processes, in the order in which they end, up to the row behind all others.
+/// The stretches of these processes, in the order in which they end, up to the row after all others.
 pub fn stretches_of(
     alloc: Global,
     seats: &[Seat],

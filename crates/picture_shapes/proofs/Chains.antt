@@ -1,7 +1,7 @@
--- Words added one behind the other.
+-- Words added one after the other.
 use Rattle.std.proofs.Common.{◌≡◌, ◌∙◌, ap, ℕ, Result, Ok, Err, OnOk, List, ◌++◌, append_assoc}
 
--- words behind words
+-- words after words
 more : (o a b x y : List ℕ) → a ≡ o ++ x → b ≡ a ++ y → b ≡ o ++ (x ++ y)
 more o a b x y first then = then ∙ ap (λ z. z ++ y) first ∙ append_assoc o x y
 

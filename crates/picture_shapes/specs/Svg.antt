@@ -40,7 +40,7 @@ tone_word No = codes "no"
 tone_word Ask = codes "ask"
 tone_word Operator = codes "op"
 
--- the class of a look, behind a tone's
+-- the class of a look, after a tone's
 abbrev pub look_word : Look → List ℕ
 look_word Plain = []
 look_word Bold = codes " b"

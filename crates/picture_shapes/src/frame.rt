@@ -21,7 +21,7 @@ const NARROW: usize = 23;
 
 pub const WIDE: usize = 60;
 
-/// For so many characters each column has room.
+/// For N characters each column has room.
 #[derive(Clone, Copy)]
 pub struct Room {
     /// The lines of events, at the left.
@@ -53,7 +53,7 @@ pub struct Frame {
     pub keys: u64,
 }
 
-/// How wide so many characters are: 7.25 for each.
+/// How wide N characters are: 7.25 for each.
 pub fn width_of(characters: usize) -> u64 {
     (characters as u64).saturating_mul(29) / 4
 }

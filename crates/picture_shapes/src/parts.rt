@@ -24,7 +24,7 @@ fn tone_word(tone: Tone) -> &'static str
     }
 }
 
-/// A word, and a tone's class behind it.
+/// A word, and a tone's class after it.
 pub(crate) fn push_tone(out: &mut Vec<u8>, word: &str, tone: Tone) -> Result<(), AllocError>
     ensures { OnOk result (out.new.items ≡ out.old.items ++ (word.now ++ word_of_tone tone)) }
 {

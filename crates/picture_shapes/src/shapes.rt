@@ -45,7 +45,7 @@ pub struct Label {
     /// A number before the words, with its space.
     pub number: Vec<u8>,
     pub body: Vec<u8>,
-    /// Words behind, struck through.
+    /// Words after, struck through.
     pub gone: Vec<u8>,
     /// How wide all of it is.
     pub size: u64,
@@ -117,7 +117,7 @@ pub struct Plate {
     pub body: Vec<u8>,
 }
 
-/// A stretch in which so many cases of a process are in doubt, or decided by an operator.
+/// A stretch in which N cases of a process are in doubt, or decided by an operator.
 #[derive(Clone, Copy)]
 pub struct Patch {
     pub band: Band,
@@ -129,7 +129,7 @@ pub struct Patch {
     pub height: u64,
 }
 
-/// A bar behind the marks of a step.
+/// A bar after the marks of a step.
 #[derive(Clone, Copy)]
 pub struct Bar {
     pub x: u64,

@@ -43,7 +43,7 @@ use picture_rows::Band;
 use std::alloc::AllocError;
 use trace_lines::push;
 
-/// The class of a look, behind a tone's.
+/// The class of a look, after a tone's.
 fn look_word(look: Look) -> &'static str
     ensures { result.now ≡ word_of_look look }
 {

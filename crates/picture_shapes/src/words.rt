@@ -6,7 +6,7 @@ ghost use Rattle.picture_shapes.specs.Words.{escaped, escaped_byte, pair_text, w
 use std::alloc::AllocError;
 use trace_lines::{push, push_number};
 
-/// A word and a number behind it.
+/// A word and a number after it.
 pub fn push_word(out: &mut Vec<u8>, word: &str, number: u64) -> Result<(), AllocError>
     ensures { OnOk result (out.new.items ≡ out.old.items ++ word_text word.now number) }
 {
@@ -14,7 +14,7 @@ pub fn push_word(out: &mut Vec<u8>, word: &str, number: u64) -> Result<(), Alloc
     push_number(out, number)
 }
 
-/// A word, and two numbers behind it with a space between them.
+/// A word, and two numbers after it with a space between them.
 pub fn push_pair(out: &mut Vec<u8>, word: &str, x: u64, y: u64) -> Result<(), AllocError>
     ensures { OnOk result (out.new.items ≡ out.old.items ++ pair_text word.now x y) }
 {

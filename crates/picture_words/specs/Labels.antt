@@ -13,7 +13,7 @@ use Rattle.tree_model.specs.Texts.{case_text, envelope_text, kind_word}
 abbrev pub txn_name : Txn → List ℕ
 txn_name x = case_text (record { txn = x; ticket = None })
 
--- what a record is of, behind a space: a boot, or the transaction of a case
+-- what a record is of, after a space: a boot, or the transaction of a case
 abbrev pub subject_name : Subject → List ℕ
 subject_name (Boot n) = codes " " ++ decimal n
 subject_name (OfCase c) = codes " " ++ txn_name c.txn

@@ -32,7 +32,7 @@ fn push_txn(out: &mut Vec<u8>, txn: Txn) -> Result<(), AllocError>
     push_case(out, &Case { txn, ticket: None })
 }
 
-/// A word, and the transaction of a case behind it.
+/// A word, and the transaction of a case after it.
 fn push_of(out: &mut Vec<u8>, word: &str, case: &Case) -> Result<(), AllocError>
     ensures { OnOk result (out.new.items ≡ out.old.items ++ (word.now ++ txn_name case.now.txn)) }
 {
@@ -114,7 +114,7 @@ pub fn number_label(alloc: Global, number: u64) -> Result<Vec<u8>, AllocError> {
     Ok(out)
 }
 
-/// What stands along the arrow of a message after its number, which has so many characters, with so much room for both.
+/// What stands along the arrow of a message after its number, which has N characters, with so much room for both.
 pub fn message_label(
     alloc: Global,
     number: usize,
@@ -126,7 +126,7 @@ pub fn message_label(
     shortened(out, room.saturating_sub(number))
 }
 
-/// A word, and a case behind it.
+/// A word, and a case after it.
 fn push_case_of(out: &mut Vec<u8>, word: &str, case: &Case) -> Result<(), AllocError>
     ensures { OnOk result (out.new.items ≡ out.old.items ++ (word.now ++ text_of_case case.now)) }
 {
@@ -181,7 +181,7 @@ fn push_envelope(out: &mut Vec<u8>, number: u64, envelope: &Envelope) -> Result<
     push_whole(out, &envelope.message)
 }
 
-/// The message with this number, from 1; none where there are not so many.
+/// The message with this number, from 1; none where there are not N.
 pub fn message_with(messages: &[Envelope], number: u64) -> Option<&Envelope>
     ensures { option_copied result ≡ sent_as messages.now number }
 {
@@ -221,7 +221,7 @@ pub fn record_tone(kind: RecordKind) -> Tone {
     }
 }
 
-/// What a record is of, behind a space.
+/// What a record is of, after a space.
 fn push_subject(out: &mut Vec<u8>, subject: &Subject) -> Result<(), AllocError>
     ensures { OnOk result (out.new.items ≡ out.old.items ++ subject_name subject.now) }
 {

@@ -44,7 +44,7 @@ whole_first : (l : LogRecord) (r : LogReading) (ls : List LogRecord) (torn : ℕ
 whole_first l (Whole ms n) ls torn e = (ms, cc, cc)
 whole_first l (Damaged place) ls torn e = absurd (cc)
 
--- the records of a text, from a place on and behind what was seen
+-- the records of a text, from a place on and after what was seen
 abbrev Again : LogForm → SeenLog → List LogRecord → Type 0
 Again q s ls = (at : ℕ) → read_frames q at s 0 (records_text q ls) ≡ Whole ls 0
 
@@ -157,7 +157,7 @@ module _ (p : LogForm) where
   pub read_records : (xs : List ℕ) → AreIn p xs
   read_records xs = read_records_in (suc (length xs)) xs (omega arith)
 
--- A log that has its header is read from the bytes behind it on.
+-- A log that has its header is read from the bytes after it on.
 
 begins : (f : LogFormat) (xs : List ℕ) → same_bytes (take 5 (header f ++ xs)) (header f) ≡ true
 unfolding same_bytes

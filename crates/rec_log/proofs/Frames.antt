@@ -1,4 +1,4 @@
--- Frames, one behind the other.
+-- Frames, one after the other.
 use Rattle.std.proofs.Common.{◌≡◌, ◌≤◌, ◌<◌, ◌+◌, ◌*◌, ℕ, zero, suc, Bool, true, false, List, [], ◌∷◌, ◌++◌, length, take, drop, Option, Some, None, refl, sym, ap, ◌∙◌, arith, nat_lt, if◌then◌else◌, append-nil, take-append-drop, slice_index}
 use Rattle.std.proofs.Math.Seq.{drop-append_seam, take-append_seam}
 use Rattle.std.proofs.lemmas.Bool.Decides.{nat_tests}
@@ -33,7 +33,7 @@ header_dropped Second xs = refl
 
 -- The first frame.
 
--- what is cut off: the first bytes, and those behind them
+-- what is cut off: the first bytes, and those after them
 pub record Cuts (kind size : ℕ) (rest : List ℕ) (c : Cut) : Type 0 where
   pub fits : size ≤ length rest
   pub is : c ≡ (kind, take size rest, drop size rest)
@@ -84,7 +84,7 @@ pub no_bytes : (f : LogFormat) → first_frame f [] ≡ None
 no_bytes First = refl
 no_bytes Second = refl
 
--- a frame stands behind its first byte: so many bytes are passed over, and what is behind them is what was left
+-- a frame stands after its first byte: N bytes are passed over, and what is after them is what was left
 pub record IsBehind (f : LogFormat) (bs : List ℕ) (c : Cut) : Type 0 where
   pub fits : size_bytes f + length c.1 ≤ length bs
   pub left : drop (size_bytes f + length c.1) bs ≡ c.2
@@ -132,7 +132,7 @@ passed_whole p zero xs h = refl
 passed_whole p (suc k) [] h = absurd (omega arith)
 passed_whole p (suc k) (b ∷ bs) h = passed_whole p k bs (omega arith)
 
--- the records are that of the first frame and those behind it
+-- the records are that of the first frame and those after it
 pub step : (p : LogForm) (xs : List ℕ) (c : Cut) → first_frame p.format xs ≡ Some c
     → records_in p 0 xs ≡ and_records (read_record p c.0 c.1) (records_in p 0 c.2)
 unfolding records_in
@@ -164,7 +164,7 @@ unfolding records_in
 no_frame p [] e = refl
 no_frame p (b ∷ bs) e = ap (λ o. records_by p o (λ n. records_in p n bs)) e
 
--- More bytes behind whole frames.
+-- More bytes after whole frames.
 
 more_if : (o : Option LogRecord) (w : Bool) (xs ys zs : List LogRecord) → whole_if o w ≡ true
     → (w ≡ true → xs ≡ ys ++ zs) → and_records o xs ≡ and_records o ys ++ zs

@@ -83,7 +83,7 @@ known_still p text text' forced forced' known k e f = record {
   whole = ap (λ t. is_whole p 0 (take (known - 5) (body t))) e ∙ k.whole;
 }
 
--- What stands behind it.
+-- What stands after it.
 
 pub split_known : (left : List ℕ) (known : ℕ) → 5 ≤ known
     → body left ≡ take (known - 5) (body left) ++ drop known left
@@ -99,7 +99,7 @@ known_records : (p : LogForm) (left : List ℕ) (known : ℕ) → IsKnown p left
 known_records p left known k = ap (records_in p 0) (split_known left known k.header)
     ∙ more_records p 0 (take (known - 5) (body left)) (drop known left) k.whole
 
--- where the whole frames end behind the known bytes, they end in all
+-- where the whole frames end after the known bytes, they end in all
 pub sound_behind : (p : LogForm) (left : List ℕ) (known size end : ℕ) → IsKnown p left (length left) known
     → Sounds p (drop known left) size → end ≡ known + size → EndsSound p left end
 sound_behind p left known size end k s e =
@@ -129,7 +129,7 @@ sound_behind p left known size end k s e =
       };
     }
 
--- how many records a crash leaves behind the forced ones
+-- how many records a crash leaves after the forced ones
 pub counted : (p : LogForm) (text : List ℕ) (forced known keep failures room : ℕ) (failed : Bool) (s : LogState)
     (behind before : List LogRecord)
     → log_state p text forced failures room failed ≡ s → IsLogText p text forced failed

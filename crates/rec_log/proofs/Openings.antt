@@ -77,7 +77,7 @@ drop_all n [] h = drop_nil n
 drop_all zero (x ∷ xs) h = absurd (omega arith)
 drop_all (suc n) (x ∷ xs) h = drop_all n xs (omega arith)
 
--- a frame and what is behind it
+-- a frame and what is after it
 pub record Frame (f : LogFormat) (xs : List ℕ) (c : Cut) : Type 0 where
   pub frame : List ℕ
   pub split : xs ≡ frame ++ c.2
@@ -94,7 +94,7 @@ cut_alone kind n rest c k =
     ∙ ap (λ t. (kind, take n rest, t)) (drop_all n (take n rest) (omega (arith, long)))
     ∙ ap (λ z. (z.0, z.1, [])) (sym k.is))
 
--- so many bytes are those that are cut off, and the others
+-- N bytes are those that are cut off, and the others
 cut_split : (kind n : ℕ) (rest : List ℕ) (c : Cut) → Cuts kind n rest c → rest ≡ take n rest ++ c.2
 cut_split kind n rest c k = sym (take-append-drop n rest) ∙ ap (λ z. take n rest ++ z.2) (sym k.is)
 

@@ -187,7 +187,7 @@ leaves_text p left text new rs false w e = record {
   is = e ∙ ap (λ t. left ++ t) w.1 ∙ ap (λ t. t ++ records_text p rs) (sym (all_of left));
 }
 
--- the text came behind what is left, and the device failed in its force
+-- the text came after what is left, and the device failed in its force
 pub force_left : {S : Type 0} (bytes : S → List ℕ) (forced failures : S → ℕ) (old mid new : S) (text : List ℕ)
     → Appends bytes forced failures old mid text → ForceBreaks bytes forced failures mid new
     → BreaksLeft bytes forced failures old new false text

@@ -30,7 +30,7 @@ pub read_by : (p : LogForm) (bytes : List ℕ) (short begins : Bool) (e : LogRea
 unfolding read_log
 read_by p bytes short begins e s b f g = rw (s, b, f, g) refl
 
--- behind a header, the frames are read
+-- after a header, the frames are read
 pub read_sound : (p : LogForm) (bytes : List ℕ) → 5 ≤ length bytes
     → same_bytes (take 5 bytes) (header p.format) ≡ true
     → read_log p bytes ≡ read_frames p 5 nothing_seen 0 (drop 5 bytes)

@@ -134,7 +134,7 @@ abbrev AsLong : {A : Type 0} → (List ℕ → Front A) → (A → List ℕ) →
 AsLong {A = A} at text = (bytes : List ℕ) (x : A) (rest : List ℕ) → at bytes ≡ Some (x, rest)
     → length bytes ≡ length (text x) + length rest
 
--- so many, and what is left
+-- N, and what is left
 abbrev AreAsLong : {A : Type 0} → (A → List ℕ) → List ℕ → List A × List ℕ → Type 0
 AreAsLong text bytes p = length bytes ≡ length (flat_map text p.0) + length p.1
 

@@ -26,7 +26,7 @@ use Rattle.rec_log.proofs.Rewriting.{held, held_text, spelled}
 
 -- The first frame of bytes that are whole records.
 
--- a record is read there, and what is behind it is whole
+-- a record is read there, and what is after it is whole
 record IsNext (o : Option LogRecord) (more : Bool) : Type 0 where
   pub first : LogRecord
   pub is : o ≡ Some first
@@ -36,7 +36,7 @@ is_next : (o : Option LogRecord) (more : Bool) → whole_if o more ≡ true → 
 is_next None more e = absurd (cc)
 is_next (Some l) more e = record { first = l; is = refl; rest = e }
 
--- so many bytes in front are the frame
+-- N bytes in front are the frame
 cut_front : (frame back bytes : List ℕ) → bytes ≡ frame ++ back → length bytes - length back ≡ length frame
 cut_front frame back bytes e = omega (arith, ap length e, length-append frame back)
 
@@ -72,7 +72,7 @@ nothing_held p frames e = subst (λ xs. Holds p xs []) (sym e) (no_bytes p)
 
 -- What a trim must know of the records.
 
--- so many records were read: this is the frame of the last Opened of them, and this is what they say of each name
+-- N records were read: this is the frame of the last Opened of them, and this is what they say of each name
 pub record MarksSoFar (p : LogForm) (all : List LogRecord) (i : ℕ) (t : Table) (rest opened : List ℕ) : Type 0 where
   pub whole : is_whole p 0 rest ≡ true
   pub last : List LogRecord
@@ -133,7 +133,7 @@ lives_all p all i t rest opened s e = sym (s.lives ∙ ap (lives_from i t) e)
 
 -- The frames that are kept.
 
--- so many records were read, and of these so many stay, in these frames
+-- M records were read, and of these N stay, in these frames
 pub record KeepsSoFar (p : LogForm) (t : Table) (all : List LogRecord) (i : ℕ) (rest frames : List ℕ)
     (count : ℕ) : Type 0 where
   pub whole : is_whole p 0 rest ≡ true
@@ -259,7 +259,7 @@ opened_counted p ls [] h = ap length (sym (no_records p) ∙ h.read)
 opened_counted p ls (b ∷ bs) h =
     omega (arith, last_few [] ls (omega arith), one_at_least p b bs h.whole, ap length h.read)
 
--- how many records stay, and these behind them
+-- how many records stay, and these after them
 pub trim_counted : (p : LogForm) (ls : List LogRecord) (t : Table) (opened : List ℕ) (rs : List LogRecord)
     (first kept more : ℕ) → Holds p opened (last_opened ls) → t ≡ lives_of ls → first ≡ opened_count opened
     → kept ≡ length (picked t 0 ls) → more ≡ length rs → first + kept + more ≡ length (front_of_trim ls ++ rs)

@@ -13,7 +13,7 @@ use Rattle.rec_log.specs.declared.migrating.MigrateError.{MigrateError}
 use Rattle.rec_log.specs.declared.migrating.MigrateError.TheVariants.{Memory, Device, Damaged as DamagedError}
 
 -- what reads as records and a torn tail by the first format stands in this form: the header and these records'
--- frames, which read as just these records, and behind them nothing
+-- frames, which read as just these records, and after them nothing
 pub record Carries (p : LogForm) (old new : List ℕ) : Type 0 where
   pub records : List LogRecord
   pub torn : ℕ

@@ -24,7 +24,7 @@ abbrev pub after_frame : SeenLog → Option LogRecord → Option SeenLog
 after_frame s None = None
 after_frame s (Some l) = after s l
 
--- the frames in these bytes are sound, but for a torn tail of so many bytes
+-- the frames in these bytes are sound, but for a torn tail of N bytes
 pub record Ends (p : LogForm) (bytes : List ℕ) (torn : ℕ) : Type 0 where
   pub sound : List ℕ
   pub tail : List ℕ
@@ -40,7 +40,7 @@ IsFault p bytes Device = ⊥
 IsFault p bytes OldFormat = ⊥
 IsFault p bytes (DamagedError place) = read_frames p 5 nothing_seen 0 bytes ≡ Damaged place
 
--- the bytes are an empty log without its header; or a header and sound frames, and a torn tail of so many
+-- the bytes are an empty log without its header; or a header and sound frames, and a torn tail of N
 -- bytes
 abbrev pub IsFound : LogForm → List ℕ → Found → Type 0
 IsFound p bytes Empty = (length bytes < 5) × (read_log p bytes ≡ Whole [] 0)
@@ -55,12 +55,12 @@ IsNoLog p bytes Device = ⊥
 IsNoLog p bytes OldFormat = ⊥
 IsNoLog p bytes (DamagedError place) = read_log p bytes ≡ Damaged place
 
--- a log is written anew where it is opened: a torn tail of so many bytes stands behind its frames, or its
+-- a log is written again where it is opened: a torn tail of N bytes stands after its frames, or its
 -- header is not forced whole
 abbrev pub IsWrittenAnew : ℕ → ℕ → Type 0
 IsWrittenAnew torn forced = (0 < torn) ⊎ (forced < 5)
 
--- what is forced of the records of these bytes is forced as it was; or they are written anew, all of them forced
+-- what is forced of the records of these bytes is forced as it was; or they are written again, all of them forced
 abbrev pub StaysForced : LogForm → List ℕ → ℕ → ℕ → LogSight → Type 0
 StaysForced p bytes forced torn s =
     ((s.kept ≡ kept_of p bytes forced) × (s.behind ≡ bytes_behind p bytes forced))
@@ -76,7 +76,7 @@ pub record Opens (p : LogForm) (bytes : List ℕ) (forced failures : ℕ) (log :
   pub failures_stay : log.sight.failures ≡ failures
 
 -- a text of the records that these bytes are, whole, with its header forced: the bytes as they were, or a
--- text that is written anew, all forced
+-- text that is written again, all forced
 pub record Settles (p : LogForm) (bytes : List ℕ) (forced failures : ℕ) (text : List ℕ)
     (forced' failures' : ℕ) : Type 0 where
   pub begins : take 5 text ≡ header p.format

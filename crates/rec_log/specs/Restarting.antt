@@ -12,13 +12,13 @@ pub record LeavesText (p : LogForm) (left : List ℕ) (rs : List LogRecord) (tex
   pub ends : EndsSound p left end
   pub is : text ≡ take end left ++ records_text p rs
 
--- what a restart writes: all that is to stand, in place of a torn tail; or the new records, behind what is
+-- what a restart writes: all that is to stand, in place of a torn tail; or the new records, after what is
 -- left, which is whole
 abbrev pub WritesLeft : LogForm → List ℕ → List LogRecord → Bool → List ℕ → Type 0
 WritesLeft p left rs true text = LeavesText p left rs text
 WritesLeft p left rs false text = EndsSound p left (length left) × (text ≡ records_text p rs)
 
--- the text stands in place of what stood, or behind it, all of it forced
+-- the text stands in place of what stood, or after it, all of it forced
 pub record PutsLeft {S : Type 0} (bytes : S → List ℕ) (forced failures : S → ℕ) (old new : S) (anew : Bool)
     (text : List ℕ) : Type 0 where
   pub text_stands : bytes new ≡ (if anew then text else bytes old ++ text)
@@ -26,7 +26,7 @@ pub record PutsLeft {S : Type 0} (bytes : S → List ℕ) (forced failures : S �
   pub failures_stay : failures new ≡ failures old
 
 -- what stands where the device failed: the old bytes with the old front, or the text, all forced; or a front
--- of the text came behind the old bytes, and the forced front did not shrink
+-- of the text came after the old bytes, and the forced front did not shrink
 abbrev pub StandsLeft : Bool → List ℕ → ℕ → List ℕ → ℕ → List ℕ → Type 0
 StandsLeft true old forced new forced' text =
     ((new ≡ old) × (forced' ≡ forced)) ⊎ ((new ≡ text) × (forced' ≡ length text))

@@ -14,12 +14,12 @@ use Rattle.rec_log.specs.Texts.{records_in, is_whole, whole_size}
 use Rattle.rec_log.specs.declared.log.LogError.{LogError}
 use Rattle.rec_log.specs.declared.log.LogError.TheVariants.{Memory, Device}
 
--- the records that are forced, and those behind them
+-- the records that are forced, and those after them
 pub record Kept : Type 0 where
   pub forced : List LogRecord
   pub unforced : List LogRecord
 
--- what is seen of a log: its form, its records, how many of the forced bytes stand behind the last one that is
+-- what is seen of a log: its form, its records, how many of the forced bytes stand after the last one that is
 -- wholly forced, whether it has failed, and how often its device has
 pub record LogSight : Type 0 where
   pub form : LogForm
@@ -37,26 +37,26 @@ pub record LogState : Type 0 where
 abbrev pub records_of : Kept → List LogRecord
 records_of k = k.forced ++ k.unforced
 
--- the bytes behind the header
+-- the bytes after the header
 abbrev pub body : List ℕ → List ℕ
 body text = drop 5 text
 
--- the bytes of the forced front behind the header
+-- the bytes of the forced front after the header
 abbrev pub front : List ℕ → ℕ → List ℕ
 front text forced = take (forced - 5) (body text)
 
--- the records of a text so many bytes of which are forced
+-- the records of a text N bytes of which are forced
 abbrev pub kept_of : LogForm → List ℕ → ℕ → Kept
 kept_of p text forced = record {
   forced = records_in p 0 (front text forced);
   unforced = drop (length (records_in p 0 (front text forced))) (records_in p 0 (body text));
 }
 
--- how many of the forced bytes stand behind the last record that is wholly forced
+-- how many of the forced bytes stand after the last record that is wholly forced
 abbrev pub bytes_behind : LogForm → List ℕ → ℕ → ℕ
 bytes_behind p text forced = length (front text forced) - whole_size p 0 (front text forced)
 
--- what a contract sees of a log with this text, so many bytes of which are forced
+-- what a contract sees of a log with this text, N bytes of which are forced
 abbrev pub log_state : LogForm → List ℕ → ℕ → ℕ → ℕ → Bool → LogState
 log_state p text forced failures room failed = record {
   sight = record {
@@ -76,7 +76,7 @@ pub record IsLogText (p : LogForm) (text : List ℕ) (forced : ℕ) (failed : Bo
   pub header_forced : 5 ≤ forced
   pub whole : failed ≡ false → is_whole p 0 (body text) ≡ true
 
--- so many bytes at the front are forced, and behind the header among them are whole records
+-- N bytes at the front are forced, and after the header among them are whole records
 pub record IsKnown (p : LogForm) (text : List ℕ) (forced known : ℕ) : Type 0 where
   pub header : 5 ≤ known
   pub within : known ≤ forced
@@ -131,22 +131,22 @@ abbrev pub WrittenIsRead : Type 0
 WrittenIsRead = (p : LogForm) (ls : List LogRecord) → AreRecords p.kind ls
     → (records_in p 0 (records_text p ls) ≡ ls) × (is_whole p 0 (records_text p ls) ≡ true)
 
--- the records at the front that stand whole within so many bytes
+-- the records at the front that stand whole within N bytes
 unfoldable pub whole_within : ℕ → List LogRecord → List LogRecord
 whole_within n [] = []
 whole_within n (l ∷ ls) = if nat_le (record_size l) n then l ∷ whole_within (n - record_size l) ls else []
 
--- what a crash leaves that keeps so many bytes behind the forced front: the forced records, and of the others
+-- what a crash leaves that keeps N bytes after the forced front: the forced records, and of the others
 -- those that stand whole within what is forced of them and these bytes
 abbrev pub left_by : LogSight → ℕ → List LogRecord
 left_by s keep = s.kept.forced ++ whole_within (s.behind + keep) s.kept.unforced
 
--- the log with these records behind its own, not forced
+-- the log with these records after its own, not forced
 abbrev pub longer : LogSight → List LogRecord → LogSight
 longer s ls = record s { kept = record { forced = s.kept.forced; unforced = s.kept.unforced ++ ls } }
 
--- the device failed: of these records a front was appended, and so many more bytes are forced, so a crash
--- leaves what it would leave of the log with that front if it kept so many bytes more
+-- the device failed: of these records a front was appended, and N more bytes are forced, so a crash
+-- leaves what it would leave of the log with that front if it kept N bytes more
 pub record Breaks (old new : LogState) (ls : List LogRecord) : Type 0 where
   pub form : new.sight.form ≡ old.sight.form
   pub appended : ℕ
@@ -158,7 +158,7 @@ pub record Breaks (old new : LogState) (ls : List LogRecord) : Type 0 where
   pub failed : new.sight.failed ≡ true
   pub cause : MoreFailures old.sight.failures new.sight.failures
 
--- the first so many bytes are whole frames of records, and behind them no whole frame of a record begins
+-- the first N bytes are whole frames of records, and after them no whole frame of a record begins
 pub record Sounds (p : LogForm) (bytes : List ℕ) (size : ℕ) : Type 0 where
   pub sound : List ℕ
   pub tail : List ℕ
@@ -173,7 +173,7 @@ pub record EndsSound (p : LogForm) (text : List ℕ) (end : ℕ) : Type 0 where
   pub there : end ≤ length text
   pub sounds : Sounds p (body text) (end - 5)
 
--- a log of what a crash left that kept so many bytes, and of these new records, all of them forced
+-- a log of what a crash left that kept N bytes, and of these new records, all of them forced
 pub record Restarts (old new : LogState) (keep : ℕ) (rs : List LogRecord) : Type 0 where
   pub form : new.sight.form ≡ old.sight.form
   pub forced : new.sight.kept.forced ≡ left_by old.sight keep ++ rs
@@ -182,8 +182,8 @@ pub record Restarts (old new : LogState) (keep : ℕ) (rs : List LogRecord) : Ty
   pub works : new.sight.failed ≡ false
   pub failures : new.sight.failures ≡ old.sight.failures
 
--- the crash took place and the device failed: what it left stands, and behind it a front of the new records;
--- the forced front ends anywhere behind the records that were forced
+-- the crash took place and the device failed: what it left stands, and after it a front of the new records;
+-- the forced front ends anywhere after the records that were forced
 pub record RestartBreaks (old new : LogState) (keep : ℕ) (rs : List LogRecord) : Type 0 where
   pub form : new.sight.form ≡ old.sight.form
   pub appended : ℕ

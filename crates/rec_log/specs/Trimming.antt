@@ -20,7 +20,7 @@ pub record Spells (p : LogForm) (text : List ℕ) (ls : List LogRecord) : Type 0
   pub long : 5 ≤ length text
   pub holds : Holds p (body text) ls
 
--- the bytes begin with a record of this frame and this mark, and these bytes are behind it, whole records too
+-- the bytes begin with a record of this frame and this mark, and these bytes are after it, whole records too
 pub record BeginsWith (p : LogForm) (bytes frame : List ℕ) (m : Mark) (rest : List ℕ) : Type 0 where
   pub first : LogRecord
   pub held : Holds p frame (first ∷ [])
@@ -34,11 +34,11 @@ abbrev pub opened_count : List ℕ → ℕ
 opened_count [] = 0
 opened_count (b ∷ bs) = 1
 
--- the records of a log after a trim: what stays of them, and these behind it
+-- the records of a log after a trim: what stays of them, and these after it
 abbrev pub trim_of : LogState → List LogRecord → List LogRecord
 trim_of s rs = front_of_trim (records_of s.sight.kept) ++ rs
 
--- what stays of the records stands, and these behind it, all of them forced, and so many they are
+-- what stays of the records stands, and these after it, all of them forced, and as many they are
 pub record Trimmed (old new : LogState) (rs : List LogRecord) (count : ℕ) : Type 0 where
   pub log : Rewritten old new (trim_of old rs)
   pub counted : count ≡ length (trim_of old rs)

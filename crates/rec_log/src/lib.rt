@@ -10,7 +10,7 @@
 //! |---|---|---|
 //! | 0 | 4 | `52 4c 4f 47`, "RLOG" |
 //! | 4 | 1 | `02`, the format's number (`01`: the first format) |
-//! | 5 | .. | frames, one behind the other |
+//! | 5 | .. | frames, one after the other |
 //!
 //! | Offset in a frame | Bytes | What |
 //! |---|---|---|

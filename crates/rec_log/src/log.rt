@@ -69,7 +69,7 @@ impl<L: LogStore> Model for RecLog<L> {
         × IsKnown l.form (L.bytes l.store) (L.forced l.store) l.known };
 }
 
-/// The bytes behind the header.
+/// The bytes after the header.
 pub(crate) fn body(bytes: &[u8]) -> &[u8]
     requires { 5 ≤ length bytes.now }
     ensures { result.now ≡ body bytes.now }
@@ -78,7 +78,7 @@ pub(crate) fn body(bytes: &[u8]) -> &[u8]
     body
 }
 
-/// The forced bytes and so many more, where they are there.
+/// The forced bytes and N more, where they are there.
 fn left_by(bytes: &[u8], forced: usize, keep: usize) -> &[u8]
     requires { forced ≤ length bytes.now }
     ensures left { result.now ≡ take (forced + keep) bytes.now }
@@ -91,7 +91,7 @@ fn left_by(bytes: &[u8], forced: usize, keep: usize) -> &[u8]
     }
 }
 
-/// The records at the front of the bytes behind a header.
+/// The records at the front of the bytes after a header.
 pub(crate) fn records_in(
     form: LogForm,
     bytes: &[u8],
@@ -112,7 +112,7 @@ pub(crate) fn records_in(
     Ok(records)
 }
 
-/// The records at the front of what stands behind the known bytes.
+/// The records at the front of what stands after the known bytes.
 pub(crate) fn records_behind(
     form: LogForm,
     left: &[u8],
@@ -207,7 +207,7 @@ fn append_frame<L: LogStore>(store: &mut L, form: LogForm, frame: &Frame) -> Res
 struct Left {
     /// Whether a torn tail is left.
     is_torn: bool,
-    /// Where one is, all that is to stand; else the new frames, which are to stand behind what is left.
+    /// Where one is, all that is to stand; else the new frames, which are to stand after what is left.
     text: Vec<u8>,
 }
 
@@ -234,7 +234,7 @@ fn text_left(
     Ok(Left { is_torn, text })
 }
 
-/// Puts these bytes in place of all that stands, or behind it, and forces all.
+/// Puts these bytes in place of all that stands, or after it, and forces all.
 fn write_left<L: LogStore>(store: &mut L, anew: bool, text: &[u8]) -> Result<(), StoreError>
     ensures ok { OnOk result (PutsLeft L.bytes L.forced L.failures store.old store.new anew text.now) }
     ensures memory { IfErr result (λ e. e ≡ StoreError.Memory
@@ -319,8 +319,8 @@ fn settled_as<L: LogStore + Drop>(
     }
 }
 
-/// How many bytes are known to be whole records and forced, of so many that are whole records and so many that are
-/// forced.
+/// How many bytes are known to be whole records and forced, if the first `size` are whole records and the first `forced`
+/// are forced.
 fn known_of(size: usize, forced: usize) -> usize
     ensures { ((size ≤ forced) × (result ≡ size)) ⊎ (result ≡ 5) }
 {
@@ -373,7 +373,7 @@ impl<L: LogStore> RecLog<L> {
         store
     }
 
-    /// Makes room for so many bytes of frames. A refusal changes nothing.
+    /// Makes room for N bytes of frames. A refusal changes nothing.
     pub fn reserve(&mut self, more: usize) -> Result<(), AllocError>
         ensures stays { self.new.sight ≡ self.old.sight }
         ensures room { OnOk result (more ≤ self.new.room) }
@@ -416,7 +416,7 @@ impl<L: LogStore> RecLog<L> {
         Ok(())
     }
 
-    /// The bytes of the log, its header and its frames, as a list made anew. Behind a failure of the device
+    /// The bytes of the log, its header and its frames, as a list made again. After a failure of the device
     /// a torn frame may stand at the end.
     pub fn text(&self, alloc: Global) -> Result<Vec<u8>, AllocError>
         ensures { IfOk result (λ text. ReadsAs self.now.sight.form text.items
@@ -425,22 +425,22 @@ impl<L: LogStore> RecLog<L> {
         Vec::from_slice(alloc, self.store.bytes())
     }
 
-    /// How many bytes it has. A crash that keeps so many behind the forced front keeps every record.
+    /// How many bytes it has. A crash that keeps N after the forced front keeps every record.
     pub fn size(&self) -> usize
         ensures { left_by self.now.sight result ≡ records_of self.now.sight.kept }
     {
         self.store.bytes().len()
     }
 
-    /// The records that stand, as a list made anew.
+    /// The records that stand, as a list made again.
     pub fn records(&self, alloc: Global) -> Result<Vec<LogRecord>, AllocError>
         ensures { IfOk result (λ records. records.items ≡ records_of self.now.sight.kept) }
     {
         records_in(self.form, body(self.store.bytes()), alloc)
     }
 
-    /// The records that a crash would leave which keeps so many bytes behind the forced front, as a list
-    /// made anew: those that stand whole within the forced bytes and these.
+    /// The records that a crash would leave which keeps N bytes after the forced front, as a list
+    /// made again: those that stand whole within the forced bytes and these.
     pub fn kept(&self, keep: usize, alloc: Global) -> Result<Vec<LogRecord>, AllocError>
         ensures { IfOk result (λ records. records.items ≡ left_by self.now.sight keep) }
     {
@@ -449,7 +449,7 @@ impl<L: LogStore> RecLog<L> {
         records_in(self.form, body(left), alloc)
     }
 
-    /// How many of the records behind the forced ones a crash would leave that keeps so many bytes behind
+    /// How many of the records after the forced ones a crash would leave that keeps N bytes after
     /// the forced front.
     pub fn left_behind(&self, keep: usize, alloc: Global) -> Result<usize, AllocError>
         ensures { IfOk result (λ count. count
@@ -468,10 +468,10 @@ impl<L: LogStore> RecLog<L> {
         are_sound(self.form, body(self.store.bytes()));
     }
 
-    /// After a crash that kept so many bytes behind the forced front: the records of what is left, a torn
-    /// tail gone, and these new ones behind them, all of them forced: by one append and one force, or, where
+    /// After a crash that kept N bytes after the forced front: the records of what is left, a torn
+    /// tail gone, and these new ones after them, all of them forced: by one append and one force, or, where
     /// a torn tail is left, by one `replace`. All memory is taken before the crash. Memory: nothing changed.
-    /// Device: what is left stands, and behind it any first ones of the new records; what was forced is; and
+    /// Device: what is left stands, and after it any first ones of the new records; what was forced is; and
     /// the log has failed.
     pub fn restart(&mut self, keep: usize, new: &[Frame], alloc: Global) -> Result<(), LogError>
         requires { AreRecords self.old.sight.form.kind (map frame_record new.now) }
@@ -541,7 +541,7 @@ impl<L: LogStore> RecLog<L> {
         Ok(())
     }
 
-    /// Puts the records that stay in a trim in place of all that stand, and these behind them, forced by one
+    /// Puts the records that stay in a trim in place of all that stand, and these after them, forced by one
     /// `replace`: the last Opened, the records of the cases and branches that are not forgotten, and these.
     /// Gives how many they are. All memory is taken before. Memory: nothing changed. Device: the log stands
     /// as it was or trimmed, and the log has failed.

@@ -71,7 +71,7 @@ fn take_frame(
     seen.take(record)
 }
 
-/// How many bytes of a torn tail stand behind the sound frames in the bytes behind a header.
+/// How many bytes of a torn tail stand after the sound frames in the bytes after a header.
 fn torn_tail(form: LogForm, bytes: &[u8], alloc: Global) -> Result<usize, OpenError>
     ensures ok { IfOk result (λ torn. Ends form bytes.now torn) }
     ensures err { IfErr result (λ e. IsFault form bytes.now e) }
@@ -95,7 +95,7 @@ fn torn_tail(form: LogForm, bytes: &[u8], alloc: Global) -> Result<usize, OpenEr
 pub enum Found {
     /// No header yet: an empty log.
     Empty,
-    /// A header and sound frames, and a torn tail of so many bytes.
+    /// A header and sound frames, and a torn tail of N bytes.
     Sound(usize),
 }
 

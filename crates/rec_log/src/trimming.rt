@@ -142,7 +142,7 @@ fn opened_count(opened: &[u8]) -> usize
     if opened.is_empty() { 0 } else { 1 }
 }
 
-/// A log of what stays of the records in these bytes, and of these records behind it.
+/// A log of what stays of the records in these bytes, and of these records after it.
 pub(crate) fn trimmed_text(
     form: LogForm,
     bytes: &[u8],

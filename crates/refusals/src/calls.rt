@@ -78,8 +78,8 @@ fn stands(
 }
 
 /// Makes the request at a place with the nth allocation refused. Where one is, the log is as it was, and the
-/// request, made once more, and those behind it are answered as if it had not been; or less room was enough,
-/// and the request and those behind it are answered so. None where it is not so.
+/// request, made once more, and those after it are answered as if it had not been; or less room was enough,
+/// and the request and those after it are answered so. None where it is not so.
 fn call_refused(
     alloc: Global,
     refuser: &mut Refuser,

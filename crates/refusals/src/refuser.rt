@@ -2,11 +2,11 @@
 
 use std::alloc::Global;
 
-/// An allocation of so many bytes and n more asks for the refusal of the nth one behind it; of just so many, for
+/// An allocation of N bytes and n more asks for the refusal of the nth one after it; of just N, for
 /// none. No run of a script asks for as much.
 const REFUSE: usize = 0x5_EED0_0000;
 
-/// An allocation of so many bytes is refused itself, just where one was refused since that was asked for last.
+/// An allocation of N bytes is refused itself, just where one was refused since that was asked for last.
 const WAS_REFUSED: usize = 0x5_EEC0_0000;
 
 /// Who asks for refusals. It keeps the last allocation by which it asked, so that no compiler leaves it out.
@@ -52,7 +52,7 @@ impl Refuser {
         let _ = self.ask(REFUSE.saturating_add(nth));
     }
 
-    /// Whether one was refused since. Nothing is refused behind that.
+    /// Whether one was refused since. Nothing is refused after that.
     pub(crate) fn has_refused(&mut self) -> bool {
         let refused = self.is_there && !self.ask(WAS_REFUSED);
         self.refuse(0);

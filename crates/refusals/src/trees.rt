@@ -72,7 +72,7 @@ fn delivery_at(world: &Opened, place: usize) -> Option<Event> {
     }
 }
 
-/// Delivers in one tree what another has delivered behind the steps of the first.
+/// Delivers in one tree what another has delivered after the steps of the first.
 fn deliver_alike(world: &mut Opened, other: &Opened) -> Option<()> {
     for place in world.made()..other.made() {
         let delivery = delivery_at(other, place)?;
@@ -81,7 +81,7 @@ fn deliver_alike(world: &mut Opened, other: &Opened) -> Option<()> {
     Some(())
 }
 
-/// What is seen of a tree that made so many events, and of the next, a settle, what another tree delivered.
+/// What is seen of a tree that made N events, and of the next, a settle, what another tree delivered.
 fn sight_behind(alloc: Global, script: &Script, made: usize, other: &Opened) -> Option<Sight> {
     let mut world = opened(alloc, &script.tree)?;
     let ran = world.run(script.events.get(..made)?);
@@ -93,7 +93,7 @@ fn sight_behind(alloc: Global, script: &Script, made: usize, other: &Opened) -> 
     sight.ok()
 }
 
-/// Runs on behind the refusal of the event behind so many. Whether the tree stood as one that made just these,
+/// Runs on after the refusal of the event after N. Whether the tree stood as one that made just these,
 /// and in the end stands as one of which nothing was refused.
 fn runs_on(
     alloc: Global,
@@ -111,7 +111,7 @@ fn runs_on(
     Some(is_event && stands && is_alone && sight_of(alloc, world).ok()? == *whole)
 }
 
-/// How many steps so many events make.
+/// How many steps N events make.
 fn has_made(alloc: Global, script: &Script, made: usize) -> Option<usize> {
     let mut world = opened(alloc, &script.tree)?;
     let ran = world.run(script.events.get(..made)?);

@@ -44,7 +44,7 @@ one_more f t n tree logs kept names line w v text after g o = record {
       ∙ ap (λ (b : Bool). w || b) (or-false (waits o.given.answer.word) ∙ o.waiting);
 }
 
--- the names among so many lines, and one line more
+-- the names among N lines, and one line more
 next_line : (ls : List (List ℕ)) (i : ℕ) → i < length ls → filter is_name (take (i + 1) ls)
     ≡ filter is_name (take i ls) ++ filter is_name (get_or ls i [] ∷ [])
 next_line ls i lt = ap (λ (l : List (List ℕ)). filter is_name l) (take_more ls i [] lt)

@@ -118,7 +118,7 @@ impl Report {
         self.status == other.status && self.text == other.text
     }
 
-    /// Adds it, behind the cuts from one to another.
+    /// Adds it, after the cuts from one to another.
     fn push(
         &self,
         alloc: Global,

@@ -141,7 +141,7 @@ const RESTART_EACH: u64 = 100;
 
 const COMMIT_EACH: u64 = 5;
 
-/// One delivery out of so many is of the next message in order of sending, so that the transactions go on; the
+/// One delivery out of as many is of the next message in order of sending, so that the transactions go on; the
 /// others are of any message.
 const IN_ORDER_EACH: u64 = 2;
 
@@ -213,7 +213,7 @@ fn in_doubt(alloc: Global, world: &Running) -> Option<Vec<Case>> {
     Some(doubts)
 }
 
-/// Notes which cases are in doubt behind these records.
+/// Notes which cases are in doubt after these records.
 fn note_doubts(doubts: &mut Vec<Case>, written: &[Logged]) -> Option<()> {
     for logged in written {
         let Subject::Case(case) = logged.subject else {

@@ -46,7 +46,7 @@ enum Program {
     Tree,
     /// A tree script, for the logs that it leaves.
     Logs,
-    /// A tree script, for its trace and the counts behind it.
+    /// A tree script, for its trace and the counts after it.
     Counts,
     /// A tree script, for the picture of its run.
     Picture,

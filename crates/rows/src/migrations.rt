@@ -7,7 +7,7 @@ use rec_log::{MigrateError, RecLog};
 use std::alloc::Global;
 use tree_model::TreeEntry;
 
-/// The bytes of a store behind a migration, and whether the device stopped under it.
+/// The bytes of a store after a migration, and whether the device stopped under it.
 #[derive(Drop)]
 struct Left {
     bytes: Vec<u8>,
@@ -42,7 +42,7 @@ fn left_of(alloc: Global, entry: &TreeEntry, bytes: &[u8], nth: u64, keep: usize
     }
 }
 
-/// Whether a stop with so many bytes done leaves the log as it was or the migrated one, and the next
+/// Whether a stop with N bytes done leaves the log as it was or the migrated one, and the next
 /// migration goes on from there.
 fn goes_on(
     alloc: Global,

@@ -39,7 +39,7 @@ pub(crate) fn every_front_of_a_script(alloc: Global) -> bool {
     true
 }
 
-/// A script with so many event lines.
+/// A script with N event lines.
 fn long_script(alloc: Global, lines: u32) -> Result<Vec<u8>, AllocError> {
     let head = b"[[process]]\nid = 1\nkind = \"coordinator\"\n---\n";
     let mut script = Vec::from_slice(alloc, head)?;

@@ -1,5 +1,5 @@
 //! A device that stops at each of its calls in turn, with each part of the call done: what the run answers, and
-//! that it goes on behind a restart.
+//! that it goes on after a restart.
 
 use crate::scripts::FLAT_PA_COMMIT;
 use link_script::read;
@@ -27,7 +27,7 @@ struct Stop {
 struct Met {
     /// Runs whose device stopped.
     runs: usize,
-    /// Cases that were in doubt behind the restart, and asked.
+    /// Cases that were in doubt after the restart, and asked.
     asked: usize,
     /// Cases that are in doubt in the end, since nothing is decided yet.
     in_doubt: usize,
@@ -40,7 +40,7 @@ struct Met {
 enum Size {
     /// The run ends before the device comes to the call.
     Beyond,
-    /// The call is of the tree's opening, whose logs have so many bytes.
+    /// The call is of the tree's opening, whose logs have N bytes.
     Opening(usize),
     Bytes(usize),
 }
@@ -52,7 +52,7 @@ struct Script {
     events: Vec<Event>,
 }
 
-/// How a run ends behind a restart.
+/// How a run ends after a restart.
 #[derive(Clone, Copy)]
 struct Ending {
     asked: usize,
@@ -130,7 +130,7 @@ pub(crate) fn cases_in_doubt(alloc: Global, report: &Report) -> Result<Vec<Case>
         .collect(alloc)
 }
 
-/// Makes an event, and audits the logs behind it. None where the event is refused, or a transaction has two
+/// Makes an event, and audits the logs after it. None where the event is refused, or a transaction has two
 /// outcomes.
 fn audited_behind(
     alloc: Global,
@@ -201,7 +201,7 @@ fn recovers(
     )
 }
 
-/// How the run ends whose device stops so, where its process restarts with these bytes behind its forced front.
+/// How the run ends whose device stops so, where its process restarts with these bytes after its forced front.
 fn run_on(alloc: Global, script: &Script, stop: Stop, kept: Option<u64>) -> Option<Ending> {
     let mut world = opened(alloc, &script.tree, stop)?.ok()?;
     let ending = recovers(alloc, script, &mut world, stop, kept);
@@ -223,7 +223,7 @@ fn opened_size(alloc: Global, script: &Script, process: ProcessId) -> Option<usi
     Some(text.ok()?.len())
 }
 
-/// The log of a process behind a stop of its device.
+/// The log of a process after a stop of its device.
 #[derive(Clone, Copy)]
 struct LeftBehind {
     stops: bool,
@@ -307,7 +307,7 @@ const NOTHING_MET: Met = Met {
     mismatches: 0,
 };
 
-/// A call that stops with each number of its bytes done; behind each stop a restart that keeps nothing and one
+/// A call that stops with each number of its bytes done; after each stop a restart that keeps nothing and one
 /// that keeps all.
 fn sweep_call(alloc: Global, script: &Script, stop: Stop, bytes: usize) -> Option<Met> {
     let mut met = NOTHING_MET;
@@ -392,8 +392,8 @@ fn sweep(alloc: Global, script: &Script, out: &mut Vec<u8>) -> Option<Met> {
 }
 
 /// Stops each device of a script's tree at each of its calls, with each number of the call's bytes done, and
-/// writes what was met. None where a run does not answer Device at the stop or Failed behind it, does not go on
-/// behind its restart, or has two outcomes.
+/// writes what was met. None where a run does not answer Device at the stop or Failed after it, does not go on
+/// after its restart, or has two outcomes.
 pub(crate) fn run_stops(alloc: Global, input: &[u8], out: &mut Vec<u8>) -> Option<()> {
     let (tree, events) = read(alloc, input).ok()?;
     let met = sweep(alloc, &Script { tree, events }, out)?;
@@ -441,7 +441,7 @@ fn votes_as_promised(world: &World<FaultStore>, promised: bool) -> Result<bool, 
 /// How many bytes a manager forces as it promises: its write, and its promise.
 const PROMISE_BYTES: usize = 62;
 
-/// Whether a manager votes as it promised whose device stops at its promise, with so many of the bytes done.
+/// Whether a manager votes as it promised whose device stops at its promise, with N of the bytes done.
 fn votes_behind_stop(alloc: Global, tree: &Tree, events: &[Event], keep: usize) -> Option<bool> {
     let stop = Stop {
         process: MANAGER,

@@ -53,7 +53,7 @@ fn failing_store(alloc: Global, nth: u64, keep: usize) -> FaultStore {
     FaultStore::new(MemoryStore::new(alloc), StoreCall::Force, nth, keep)
 }
 
-/// Whether a tree does not open over these stores for this error, and hands back stores of so many bytes.
+/// Whether a tree does not open over these stores for this error, and hands back stores of N bytes.
 fn is_refused(alloc: Global, stores: Vec<FaultStore>, why: OpenError, sizes: &[usize]) -> bool {
     match opened(alloc, stores) {
         Some(Err((refusal, stores))) => {
@@ -153,7 +153,7 @@ pub(crate) fn a_world_runs(alloc: Global) -> Option<bool> {
     Some(ran && shown == Ok(true))
 }
 
-/// The root's device fails under its first record behind Opened: the act is refused so, and from then on the
+/// The root's device fails under its first record after Opened: the act is refused so, and from then on the
 /// root has failed.
 pub(crate) fn a_root_fails_with_its_device(alloc: Global) -> Option<bool> {
     let txn = first_txn(Presumption::PresumeCommit);
@@ -180,7 +180,7 @@ fn commits(alloc: Global, world: &mut World<FaultStore>, txn: Txn) -> Result<boo
     Ok(runs(world, &joining(txn)) && world.apply(write).is_ok() && runs(world, &ending))
 }
 
-/// Commits so many transactions, one after another, and answers whether each event was made.
+/// Commits N transactions, one after another, and answers whether each event was made.
 fn commits_each(
     alloc: Global,
     world: &mut World<FaultStore>,
@@ -194,7 +194,7 @@ fn commits_each(
     Ok(true)
 }
 
-/// Behind a thousand transactions that wrote and committed no process has a live case.
+/// After a thousand transactions that wrote and committed no process has a live case.
 pub(crate) fn nothing_is_left_live(alloc: Global) -> Option<bool> {
     let mut world = world_of(alloc, sound_store(alloc))?;
     let ran = commits_each(alloc, &mut world, 1000);

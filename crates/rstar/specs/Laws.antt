@@ -16,7 +16,7 @@ use Rattle.tree_engine.specs.declared.tree.Output.TheVariants.{Logs}
 use Rattle.tree_engine.specs.Trees.{RunsScript}
 
 -- the report tells lines that are true in this world, in as much detail as was asked for, and the audit ends
--- as one does with so many mismatches
+-- as one does with N mismatches
 pub record ReportsTruly (d : Detail) (tree : List TreeEntry) (logs : List ProcessLog) (w : World)
     (ending : Ending) (report : List ℕ) : Type 0 where
   pub lines : List Line

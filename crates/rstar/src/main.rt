@@ -95,7 +95,7 @@ enum Asked<'a> {
 /// What `rstar --version` says after the name: its own version, that of the reaction table, and that of logs.
 const VERSION: &str = "0.1.0, protocol 2, format of logs 2";
 
-/// What `rstar --help` says behind its subcommands.
+/// What `rstar --help` says after its subcommands.
 const EXAMPLES: &str = "\
 Examples:
   rstar tree examples/commit.tree
@@ -330,7 +330,7 @@ fn counts<'a>(alloc: Global) -> Result<Arg<'a>, AllocError> {
     flag(
         alloc,
         "counts",
-        "Writes behind the trace what each process wrote and sent, counted",
+        "Writes after the trace what each process wrote and sent, counted",
     )
     .conflicts_with("logs")
 }

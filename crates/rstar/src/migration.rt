@@ -10,7 +10,7 @@ use rec_log::{MigrateError, RecLog};
 use std::alloc::{AllocError, Global};
 use tree_model::{Tree, TreeEntry};
 
-/// The words behind `rstar migrate --file`: the file of the log, the file of the tree, and the process.
+/// The words after `rstar migrate --file`: the file of the log, the file of the tree, and the process.
 #[derive(Clone, Copy)]
 pub struct FileWords<'a> {
     log: &'a str,
@@ -35,7 +35,7 @@ not written at all.
 Examples: rstar migrate < examples/commit.logs
           rstar migrate --file 1.log tree.toml 1";
 
-/// A word behind `--file`, and what help says of it.
+/// A word after `--file`, and what help says of it.
 fn word<'a>(alloc: Global, name: &'a str, help: &'a str) -> Result<Arg<'a>, AllocError> {
     Arg::new(alloc, name)
         .help(help)
@@ -43,7 +43,7 @@ fn word<'a>(alloc: Global, name: &'a str, help: &'a str) -> Result<Arg<'a>, Allo
         .requires_arg("file")
 }
 
-/// The option `--file`, which wants the tree and the process behind it.
+/// The option `--file`, which wants the tree and the process after it.
 fn file<'a>(alloc: Global) -> Result<Arg<'a>, AllocError> {
     Arg::new(alloc, "file")
         .long("file")
@@ -67,7 +67,7 @@ pub(crate) fn words<'a>(alloc: Global) -> Result<Command<'a>, AllocError> {
     .arg(word(alloc, "ME", "The number of the process")?)
 }
 
-/// The words behind `--file`, if it stands there.
+/// The words after `--file`, if it stands there.
 pub(crate) fn file_of<'a>(matches: &ArgMatches<'a>) -> Option<FileWords<'a>> {
     Some(FileWords {
         log: matches.get_str("file")?,

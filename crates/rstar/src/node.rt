@@ -13,7 +13,7 @@ use std::io::{self, BufReader};
 use tree_model::Reaction;
 use tree_node::ReopenError;
 
-/// The words behind `rstar node`: the file of the tree, the process, the file of its log, and whether that is
+/// The words after `rstar node`: the file of the tree, the process, the file of its log, and whether that is
 /// to be made; whether what is refused is explained, and said by words; and the name of the tree.
 #[derive(Clone, Copy)]
 pub struct NodeWords<'a> {

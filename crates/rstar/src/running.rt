@@ -75,7 +75,7 @@ pub(crate) fn asked(matches: &ArgMatches) -> Run {
     }
 }
 
-/// So many workers, of 1 to 16.
+/// N workers, of 1 to 16.
 fn count(workers: u8) -> usize
     ensures { (0 < result) × (result ≤ 16) }
 {

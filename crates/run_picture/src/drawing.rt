@@ -49,7 +49,7 @@ fn look_of(forced: bool, lost: bool) -> Look {
 }
 
 impl Drawing {
-    /// Words at a place, with nothing before or behind them.
+    /// Words at a place, with nothing before or after them.
     pub(crate) fn say(
         &mut self,
         tone: Tone,
@@ -291,7 +291,7 @@ impl Drawing {
         Ok(())
     }
 
-    /// A bar behind the marks of a step of several rows, and a dot where a step only sends.
+    /// A bar after the marks of a step of several rows, and a dot where a step only sends.
     fn draw_step(&mut self, place: u32, entry: &Entry, rows: StepRows) -> Result<(), AllocError> {
         let (x, first, last) = (
             self.frame.x_of(place),

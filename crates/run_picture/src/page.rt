@@ -139,7 +139,7 @@ fn push_end(out: &mut Vec<u8>, sheet: &Sheet) -> Result<(), AllocError>
     push(out, "</svg>\n")
 }
 
-/// A sheet for a plan, with so much room, and so many entries in its legend. TooLong: it has 2^32 processes.
+/// A sheet for a plan, with so much room, and N entries in its legend. TooLong: it has 2^32 processes.
 fn drawing_of(alloc: Global, plan: &Plan, room: Room, keys: u64) -> Result<Drawing, PictureError>
     ensures err { IfErr result (λ _. 2 ^ 32 ≤ length plan.now.seats.items) }
 {

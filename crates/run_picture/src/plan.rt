@@ -13,7 +13,7 @@ use picture_rows::{
 use std::alloc::Global;
 use tree_model::{Entry, Envelope, Event, StepError, TreeEntry};
 
-/// What is drawn: a tree, the events of its script, how many steps were made behind each of them up to the
+/// What is drawn: a tree, the events of its script, how many steps were made after each of them up to the
 /// refused one, the steps, and why the last of these events was refused, if it was.
 #[derive(Clone, Copy)]
 pub struct Scene<'a> {

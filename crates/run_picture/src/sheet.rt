@@ -31,7 +31,7 @@ pub(crate) struct Draft {
     pub(crate) y: u64,
     pub(crate) to_x: u64,
     pub(crate) to_y: u64,
-    /// The message's number with its space, and the words behind it.
+    /// The message's number with its space, and the words after it.
     pub(crate) number: Vec<u8>,
     pub(crate) label: Vec<u8>,
     pub(crate) tip: Tip,
@@ -49,7 +49,7 @@ fn ahead(x: u64, by: u64, right: bool) -> u64 {
     }
 }
 
-/// So far behind.
+/// So far after.
 fn behind(x: u64, by: u64, right: bool) -> u64 {
     ahead(x, by, !right)
 }

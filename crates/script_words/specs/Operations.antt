@@ -12,7 +12,7 @@ use Rattle.script_words.specs.Steps.{◌>>=◌, same}
 abbrev pub is_visible : ℕ → Bool
 is_visible b = nat_le 33 b && nat_le b 126
 
--- 1 to so many visible bytes
+-- 1 to N visible bytes
 abbrev pub is_visible_word : ℕ → List ℕ → Bool
 is_visible_word most w = not (length w == 0) && nat_le (length w) most && list_all is_visible w
 
@@ -40,7 +40,7 @@ get_at rest = key_at rest >>= λ key. Some (Get key)
 abbrev pub delete_at : List ℕ → Option Op
 delete_at rest = key_at rest >>= λ key. Some (Delete key)
 
--- an operation on data, by its verb and what stands behind it
+-- an operation on data, by its verb and what stands after it
 abbrev pub op_by : List ℕ → List ℕ → Option Op
 op_by verb rest =
     if same verb (codes "put") then put_at rest

@@ -50,7 +50,7 @@ pub fn task_of(words: &str) -> Option<Task<'_>>
     task_by(verb, rest)
 }
 
-/// The operation of a verb and what stands behind it. None: there is no such operation.
+/// The operation of a verb and what stands after it. None: there is no such operation.
 pub fn task_by<'a>(verb: &str, rest: &'a str) -> Option<Task<'a>>
     ensures { option_map op_view result ≡ op_by verb.now rest.now }
 {
@@ -98,7 +98,7 @@ fn value_of(word: &str) -> Option<&str>
     if is_word(word, 256) { Some(word) } else { None }
 }
 
-/// Whether a word is 1 to so many bytes from `!` to `~`.
+/// Whether a word is 1 to N bytes from `!` to `~`.
 fn is_word(word: &str, most: usize) -> bool
     ensures { result ≡ is_visible_word most word.now }
 {

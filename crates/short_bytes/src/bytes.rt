@@ -12,7 +12,7 @@ const PLACES: usize = 14;
 /// Where bytes stand.
 #[derive(Drop)]
 enum Store {
-    /// So many of these, from the first on.
+    /// N of these, from the first on.
     Short(u8, [u8; 14]),
     /// All of them, apart.
     Long(Box<Vec<u8>>),

@@ -293,7 +293,7 @@ as_many ps xs l w =
     ∙ length-append (map (entry_in ps) xs) (last_entries ps l)
     ∙ ap (λ n. n + length (last_entries ps l)) (length-map xs (entry_in ps))
 
--- behind the steps comes the last, if there is one
+-- after the steps comes the last, if there is one
 pub as_many_placed : (ps : Parts) (xs : List PlacedStep) (l : Option LastStep) → IsWhole ps xs l → l ≡ None
     → length (entries_of ps xs l) ≡ length xs
 as_many_placed ps xs None w is = omega (arith, as_many ps xs None w)
@@ -330,7 +330,7 @@ last_at : (xs : List PlacedStep) (ps : Parts) (o : Option Entry)
 last_at [] ps o = refl
 last_at (y ∷ xs) ps o = last_at xs ps o
 
--- that of the last step stands behind them
+-- that of the last step stands after them
 pub last_entry_found : (ps : Parts) (xs : List PlacedStep) (l : Option LastStep) (y : LastStep) (k : ℕ)
     → IsWhole ps xs l → l ≡ Some y → k ≡ length xs → last_entry ps y ≡ slice_get (entries_of ps xs l) k
 last_entry_found ps xs None y k w is at = absurd (cc)
@@ -340,7 +340,7 @@ last_entry_found ps xs (Some l) y k w is at =
     (last_at xs ps (last_entry ps l))
     ∙ ap (λ es. slice_get es (length xs)) (sym (entries_are ps xs (Some l) w)))
 
--- behind that there is none
+-- after that there is none
 pub entry_past : (ps : Parts) (xs : List PlacedStep) (l : Option LastStep) (k : ℕ) → IsWhole ps xs l
     → l ≡ None → length xs ≤ k → slice_get (entries_of ps xs l) k ≡ None
 entry_past ps xs l k w is past =

@@ -1,7 +1,7 @@
 -- Parts of a list.
 use Rattle.std.specs.Prelude.{ℕ, zero, suc, Option, Some, None, List, [], ◌∷◌, option_map}
 
--- so many values at the front, if there are as many
+-- N values at the front, if there are as many
 abbrev pub front_in : {A : Type 0} → List A → ℕ → Option (List A)
 front_in xs zero = Some []
 front_in [] (suc n) = None

@@ -153,7 +153,7 @@ abbrev pub IsSent : List Envelope → Happening → Type 0
 IsSent sent (Handles (MessageInput k m)) = option_map (λ l. l.message) (sent_as sent k) ≡ Some m
 IsSent sent _ = Unit {0}
 
--- the cause of what happened at this process, where there are so many acts
+-- the cause of what happened at this process, where there are N acts
 abbrev pub cause_by : ℕ → ProcessId → Happening → Cause
 cause_by n q (Handles (ActInput a)) = ActCause q n
 cause_by n q (Handles (MessageInput k m)) = MessageCause q k
@@ -170,7 +170,7 @@ abbrev pub is_bare : Option Txn → Option Told → Option ℕ → Bool
 is_bare None None None = true
 is_bare _ _ _ = false
 
--- the number of what few reactions have, where there are so many of them
+-- the number of what few reactions have, where there are N of them
 abbrev pub aside_by : ℕ → Aside → ℕ
 aside_by n a = if is_bare a.begun a.told a.kept then 0 else suc n
 

@@ -42,7 +42,7 @@ impl Parts {
         }
     }
 
-    /// The message with this number, from 1; None for 0, and behind the last.
+    /// The message with this number, from 1; None for 0, and after the last.
     pub(crate) fn message(&self, number: u64) -> Option<&Envelope>
         ensures { option_copied result ≡ sent_as self.now.sent.items number }
     {
@@ -53,7 +53,7 @@ impl Parts {
         }
     }
 
-    /// What happened, of a step with this cause, made anew; None, where what it names is not there.
+    /// What happened, of a step with this cause, made again; None, where what it names is not there.
     fn happening(&self, alloc: Global, cause: Cause) -> Result<Option<Happening>, AllocError>
         ensures { IfOk result (λ found. found ≡ happening_in (parts_of self.now) cause) }
     {
@@ -74,7 +74,7 @@ impl Parts {
         })
     }
 
-    /// What few reactions have, by its number, from 1; nothing of it for 0, and None behind the last.
+    /// What few reactions have, by its number, from 1; nothing of it for 0, and None after the last.
     fn aside(&self, number: usize) -> Option<Aside>
         ensures { result ≡ aside_in self.now.asides.items number }
     {
@@ -123,7 +123,7 @@ impl Parts {
         })
     }
 
-    /// The journal's entry of a step with this cause, which shows this, made anew; None, where either is not
+    /// The journal's entry of a step with this cause, which shows this, made again; None, where either is not
     /// there.
     pub(crate) fn entry(
         &self,

@@ -33,7 +33,7 @@ fn starts_at(steps: &[ShortStep], place: usize) -> Ends
     steps[place - 1].ends
 }
 
-/// The step at this place, from 0; None, where so many are not kept.
+/// The step at this place, from 0; None, where N are not kept.
 pub(crate) fn step_at(steps: &[ShortStep], place: usize) -> Option<PlacedStep>
     ensures { result ≡ slice_get (placed_steps steps.now) place }
 {

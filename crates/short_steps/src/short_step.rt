@@ -7,14 +7,14 @@ ghost use Rattle.short_steps.specs.Steps.{act_by, aside_by, asides_by, cause_by,
 use tree_model::{Act, Envelopes, Happening, Input, Logged, ProcessId, Sequence, Told, Txn};
 
 /// Which process made a step, and why: what happened, where an act and a message are named and not held. The
-/// process lies in the padding behind the tag, so it takes no room of its own.
+/// process lies in the padding after the tag, so it takes no room of its own.
 #[derive(Clone, Copy)]
 pub enum Cause {
     /// The act at this place of the journal's acts, from 0.
     Act { process: ProcessId, place: usize },
     /// The message with this number, from 1.
     Message { process: ProcessId, number: u64 },
-    /// A restart that kept so many records behind the forced front.
+    /// A restart that kept N records after the forced front.
     Restart { process: ProcessId, kept: u64 },
     /// A trim of the log.
     Trim { process: ProcessId },

@@ -17,7 +17,7 @@ use std::alloc::{AllocError, Global};
 use std::marker::Model;
 use tree_model::{Entry, Envelope, Happening, Input, ProcessId, Reaction};
 
-/// Steps that were made, each with its reaction. Their parts stand in lists, one step's behind another's, and
+/// Steps that were made, each with its reaction. Their parts stand in lists, one step's after another's, and
 /// each step has where its own end. One that handled a message has the number of it.
 ///
 /// How many records and messages a step has is not known before it is made, and it is entered without a
@@ -72,7 +72,7 @@ impl ShortSteps {
         self.parts.sent.len()
     }
 
-    /// All messages that were sent, in order, as a list made anew.
+    /// All messages that were sent, in order, as a list made again.
     pub fn sent(&self) -> Result<Vec<Envelope>, AllocError>
         ensures { IfOk result (λ sent. sent.items ≡ self.now.sent ++ self.now.waiting) }
     {
@@ -84,14 +84,14 @@ impl ShortSteps {
         Ok(sent)
     }
 
-    /// The message with this number, from 1; None for 0, and behind those that are placed.
+    /// The message with this number, from 1; None for 0, and after those that are placed.
     pub fn message(&self, number: u64) -> Option<&Envelope>
         ensures { option_copied result ≡ sent_as self.now.sent number }
     {
         self.parts.message(number)
     }
 
-    /// What the step at this place shows, from 0, lent; None, where so many were not made.
+    /// What the step at this place shows, from 0, lent; None, where N were not made.
     pub fn shown(&self, place: usize) -> Option<Shown<'_>>
         ensures { option_map shown_part result ≡ option_map entry_part (slice_get self.now.entries place) }
     {
@@ -110,7 +110,7 @@ impl ShortSteps {
         }
     }
 
-    /// The entry of the step at this place, from 0, made anew; None, where so many were not made.
+    /// The entry of the step at this place, from 0, made again; None, where N were not made.
     pub fn entry(&self, place: usize) -> Result<Option<Entry>, AllocError>
         ensures { IfOk result (λ found. found ≡ slice_get self.now.entries place) }
     {
@@ -132,7 +132,7 @@ impl ShortSteps {
         }
     }
 
-    /// The entries of all steps, in order, as a list made anew.
+    /// The entries of all steps, in order, as a list made again.
     pub fn entries(&self) -> Result<Vec<Entry>, AllocError>
         ensures { IfOk result (λ entries. entries.items ≡ self.now.entries) }
     {

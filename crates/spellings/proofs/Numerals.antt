@@ -151,7 +151,7 @@ decimal_first n rest lt e =
     let no : list_all is_ascii_digit (45 ∷ rest) ≡ true = rw e at digits in
     cc
 
--- a word behind a minus sign is the number below the negative one
+-- a word after a minus sign is the number below the negative one
 pub negative_only : (w digits : List ℕ) → w ≡ 45 ∷ digits → (z : ℤ) → FitsSigned w32 z
     → w ≡ signed_decimal z → (n : ℕ) × (n < 2 ^ 31) × (digits ≡ decimal (suc n))
 negative_only w digits e (pos n) fits is = absurd

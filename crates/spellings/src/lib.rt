@@ -5,7 +5,7 @@
 //! ```text
 //! numeral        numbers in decimal
 //! hexadecimal    bytes in hexadecimal
-//! word           the two parts of a text, before and behind a character
+//! word           the two parts of a text, before and after a character
 //! ```
 #![tactic(auto)]
 

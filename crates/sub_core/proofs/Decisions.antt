@@ -1,4 +1,4 @@
--- What comes of an operator's decision, of the outcome behind it, and of its end.
+-- What comes of an operator's decision, of the outcome after it, and of its end.
 use Rattle.std.proofs.Common.{◌≡◌, ◌∙◌, ℕ, Bool, true, false, Option, Some, None, List, [], ◌∷◌, refl, sym, ap, subst, if◌then◌else◌}
 use Rattle.std.specs.Prelude.{option_map}
 use Rattle.xa_tables.specs.declared.call.Call.TheVariants as call
@@ -72,7 +72,7 @@ decision_shown : (s : SubState) (c : Case) (o : Outcome)
 decision_shown s c Committed = refl
 decision_shown s c Aborted = refl
 
--- what an operator decided of the case behind the decision
+-- what an operator decided of the case after the decision
 decided_now : (c : Case) (o : Outcome) (k : Option Outcome) (d : Decision) → d ≡ decided_as o
     → Some d.outcome ≡ decided_by (ActInput (Decide c o)) c k
 decided_now c o k d is = ap (λ (e : Decision). Some e.outcome) is
@@ -130,7 +130,7 @@ module _ (s : SubState) (key : ℕ) (c : Case) (x : Xid) (o : Outcome) (tied : I
       (prepared_decide (leaf_in (core_of s) s.parent c) o) e
       (decision_is s c x o named) (decision_of s c o) h)
 
--- An outcome behind it.
+-- An outcome after it.
 
 -- the decision of a case is read back from its record
 read_back : (c : Case) (k : Option Outcome) → case_decision (decision_records c k) c ≡ k

@@ -51,7 +51,7 @@ notes_at old new key stage c b at r =
     subst (λ (p : Case × Branch). NotesAt old new p.0 (record { xid = p.1.xid; stage = stage })) is
     (record { branches = r.branches; tickets = r.tickets })
 
--- the view behind a work
+-- the view after a work
 abbrev view_after : ℕ → ℕ → Bool → ManagerView
 view_after i n does =
     let v : ManagerView = record { standing = ActiveStanding; done = n; spoiled = false; told = None } in

@@ -129,7 +129,7 @@ module _ (s : SubState) (c : Case) (x : Xid) (named : IsNamed s.parent c x) (giv
   not_turned m st ws call row e at writes is of h =
       not_done m (written_for s.manager x call) row e (written_is st ws call row.written at writes is) of h
 
--- the tie behind a piece of work that was not done
+-- the tie after a piece of work that was not done
 pub none_tied : (s : SubState) (m : ManagerSight) (ls : List LogRecord) (e : StepError)
     → IsTied s → AllByRecursion (IsReached (place_of s) s.manager.boot) ls → NotDone s.manager m ls e
     → IsTied (behind s s.table m)
@@ -140,7 +140,7 @@ none_tied s m ls Device tied each h =
 none_tied s m ls Exhausted tied each h = same_tied s m tied h.0
 none_tied s m ls _ tied each h = absurd h
 
--- the tie behind a call that was not made
+-- the tie after a call that was not made
 pub not_tied : (s : SubState) (m : ManagerSight) (c : Case) (b : Branch) (call : Call) (e : StepError) → IsTied s
     → branch_in s.table c ≡ Some b → NotFinished s.manager m b.xid call e
     → IsTied (behind s s.table m)
@@ -148,7 +148,7 @@ not_tied s m c b call e tied at h =
     none_tied s m (logged_under b.xid (written_for s.manager b.xid call)) e tied
     (call_reached s c b.xid call (tied.named c b at) (tied.given_before c b at)) h
 
--- the tie behind a decision that was not made
+-- the tie after a decision that was not made
 pub undecided_tied : (s : SubState) (m : ManagerSight) (c : Case) (b : Branch) (o : Outcome) (e : StepError)
     → IsTied s → branch_in s.table c ≡ Some b → NotDecided s.manager m b.xid o e
     → IsTied (behind s s.table m)

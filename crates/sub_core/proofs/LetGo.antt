@@ -1,4 +1,4 @@
--- What a call that ends a branch leaves of the data, or one that comes behind an operator's decision.
+-- What a call that ends a branch leaves of the data, or one that comes after an operator's decision.
 use Rattle.std.proofs.Common.{◌≡◌, ◌∙◌, Bool, List, [], refl, sym, ap, subst}
 use Rattle.xa_tables.specs.declared.call.Call.{Call}
 use Rattle.xa_tables.specs.declared.states.BranchState.{BranchState}

@@ -97,7 +97,7 @@ module _ (s : SubState) (key : ℕ) (c : Case) (b : Branch) (message : Message) 
       (s.manager.writes b.xid) call row e
       (tied.stands c b at.live) refl ends.written ends.of h)
 
--- the tie behind a branch that ended
+-- the tie after a branch that ended
 pub ended_tied : (s : SubState) (key : ℕ) (c : Case) (b : Branch) (call : Call) (t : BranchTable)
     (m : ManagerSight) → IsTied s → IsAt s.table key c b
     → Retires s.table t key nothing → Finishes s.manager m b.xid call → IsTied (behind s t m)

@@ -1,4 +1,4 @@
--- A subordinate behind a restart.
+-- A subordinate after a restart.
 use Rattle.std.proofs.lemmas.Grind.{fold-append}
 use Rattle.std.proofs.Common.{◌≡◌, ◌≤◌, ◌∙◌, ◌+◌, ◌^◌, ◌∷◌, ◌++◌, [], ℕ, true, false, List, map, Option, Some, None, refl, sym, ap, subst, arith}
 use Rattle.xa_codes.specs.declared.code.Code.{Code}
@@ -95,7 +95,7 @@ module _ (s : SubState) (keep : ℕ) (r : Rebuilt) (mid m : ManagerSight)
   abbrev rs : List Record
   rs = own_records (leaf_place s.me s.parent s.tree) (left_by s.manager.log keep)
 
-  -- the subordinate behind it
+  -- the subordinate after it
   abbrev pub reopened : SubState
   reopened = record {
     me = s.me;
@@ -290,7 +290,7 @@ broken s m keep fails = (
 
 -- Boots that are used up.
 
--- no boot comes behind the manager's last one
+-- no boot comes after the manager's last one
 pub boots_used : (s : SubState) (m : ManagerSight) (keep : ℕ) → SameManager s.manager m
     → 2 ^ 63 ≤ next_boot (left_by s.manager.log keep)
     → NotRestarted (core_of s) keep (core_of (behind s s.table m)) error.Exhausted

@@ -55,7 +55,7 @@ apart_xids p c d x y a b apart true e =
     absurd (let f : same_case c d ≡ true = ap (same_case c) (sym is)
     ∙ same_case-itself c in let g : true ≡ false = sym f ∙ apart in cc)
 
--- what is kept of a branch behind a move fits its state at the manager, and what an operator decided of it
+-- what is kept of a branch after a move fits its state at the manager, and what an operator decided of it
 abbrev pub Fits : Option Branch → Branch → BranchState → Decision → Type 0
 Fits None b st d = Unit {0}
 Fits (Some w) b st d = (w.xid ≡ b.xid) × (stage_state w.stage ≡ st) × AgreesWith w.stage d

@@ -1,4 +1,4 @@
--- What records say that a branch was told, behind an operator's decision.
+-- What records say that a branch was told, after an operator's decision.
 use Rattle.std.proofs.Common.{◌≡◌, ◌∙◌, Bool, true, false, cond, Option, Some, None, List, [], ◌∷◌, fold, refl, ap, subst}
 use Rattle.tree_model.specs.declared.names.Case.{Case}
 use Rattle.tree_model.specs.declared.names.Outcome.{Outcome}

@@ -1,4 +1,4 @@
--- A subordinate behind a trim of its manager's log.
+-- A subordinate after a trim of its manager's log.
 use Rattle.std.proofs.Common.{◌≡◌, ◌∙◌, inl, inr, ◌+◌, ◌++◌, ◌∷◌, [], ℕ, Bool, true, false, if◌then◌else◌, List, Option, Some, map, fold, length, refl, sym, ap, subst}
 use Rattle.std.proofs.lemmas.Grind.{fold-append}
 use Rattle.std.specs.List.{AllByRecursion}

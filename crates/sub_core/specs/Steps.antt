@@ -58,7 +58,7 @@ pub record Acts (old new : SubState) (a : Act) (reaction : Reaction) : Type 0 wh
 abbrev pub NotActed : SubState → SubState → Act → StepError → Type 0
 NotActed old new a e = NotTurned old new (turn_at old a) e
 
--- a manager restarted behind a crash that kept so many unforced bytes, and was opened
+-- a manager restarted after a crash that kept N unforced bytes, and was opened
 pub record Reopens (old new : ManagerSight) (keep : ℕ) : Type 0 where
   pub mid : ManagerSight
   pub restarts : Restarts old mid keep
@@ -77,11 +77,11 @@ pub record PromisesLeft (left : List LogRecord) (m : ManagerSight) : Type 0 wher
   pub held : HoldWrites (writes_left left) m.holders
   pub known : (x : Xid) → (manager_data m).known x ≡ is_left left x
 
--- so it is behind a restart, by the records that were left
+-- so it is after a restart, by the records that were left
 abbrev pub LeavesPromises : SubState → ℕ → SubState → Type 0
 LeavesPromises old keep new = PromisesLeft (left_by old.manager.log keep) new.manager
 
--- why no restart was made ready where these records are left: boots are used up where none below 2^63 comes behind
+-- why no restart was made ready where these records are left: boots are used up where none below 2^63 comes after
 -- the last one
 abbrev pub NotReady : Place → List LogRecord → StepError → Type 0
 NotReady place ls steps.Memory = ⊤

@@ -169,7 +169,7 @@ pub record HasReached (place : Place) (m : ManagerSight) : Type 0 where
   pub promises : AllByRecursion (IsReached place m.boot) (records_of m.log.kept)
 
 -- the manager's log is this process's, it is idle, and each live branch stands there as the subordinate keeps
--- it, under its case's XID, with what it was told behind an operator's decision; and the log has reached the boots of
+-- it, under its case's XID, with what it was told after an operator's decision; and the log has reached the boots of
 -- the tickets by which cases of its own promise
 pub record IsTied (s : SubState) : Type 0 where
   pub own : s.manager.log.form ≡ log_form s.me Manager

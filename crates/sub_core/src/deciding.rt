@@ -1,4 +1,4 @@
-//! An operator's decision of a case in doubt, the outcome that comes behind it, and its end.
+//! An operator's decision of a case in doubt, the outcome that comes after it, and its end.
 
 ghost use Rattle.std.specs.Prelude.{◌≡◌, ℕ, false, None, Some, Option, IfErr, IfOk, option_map};
 ghost use Rattle.tree_model.specs.Names.{same_outcome};

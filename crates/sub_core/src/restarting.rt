@@ -45,7 +45,7 @@ fn opened(boot: u64, alloc: Global) -> Result<Sequence<Logged>, AllocError>
     Ok(written)
 }
 
-/// The manager restarts behind a crash that keeps so many of the log's unforced bytes, and is opened.
+/// The manager restarts after a crash that keeps N of the log's unforced bytes, and is opened.
 fn reopen<M: ResourceManager>(manager: &mut M, keep: usize) -> Result<(), RestartError>
     ensures ok { OnOk result (Reopens (M.sight manager.old) (M.sight manager.new) keep) }
     ensures err { IfErr result (NotReopened (M.sight manager.old) (M.sight manager.new) keep) }
@@ -57,7 +57,7 @@ fn reopen<M: ResourceManager>(manager: &mut M, keep: usize) -> Result<(), Restar
 
 impl<M: ResourceManager> Subordinate<M> {
     /// What the records leave that a crash would leave, which it wrote itself. Exhausted: no boot below 2^63 comes
-    /// behind the last one.
+    /// after the last one.
     fn rebuilt(&self, keep: usize) -> Result<Rebuilt, StepError>
         ensures ok { IfOk result (Rebuilds (leaf_place self.now.me self.now.parent self.now.tree) self.now.parent
             (left_by (M.sight self.now.manager).log keep)) }
@@ -75,7 +75,7 @@ impl<M: ResourceManager> Subordinate<M> {
         }
     }
 
-    /// What the records leave that a crash would leave, and the record of the boot behind it, as a reaction
+    /// What the records leave that a crash would leave, and the record of the boot after it, as a reaction
     /// shows it. The error is that of `rebuilt`.
     fn ready(&self, keep: usize) -> Result<(Rebuilt, Sequence<Logged>), StepError>
         ensures ok { IfOk result (λ ready. Rebuilds
@@ -91,10 +91,10 @@ impl<M: ResourceManager> Subordinate<M> {
         Ok((rebuilt, written))
     }
 
-    /// Restarts behind a crash that keeps so many of the log's unforced bytes: each case in doubt asks for
+    /// Restarts after a crash that keeps N of the log's unforced bytes: each case in doubt asks for
     /// its outcome, and so does one that an operator decided and that was not told. All memory is taken
     /// before the crash. Its own records are never refused. Memory: nothing changed. Exhausted: no boot below 2^63
-    /// comes behind the last one; nothing changed. Device: it has failed until it is restarted.
+    /// comes after the last one; nothing changed. Device: it has failed until it is restarted.
     pub fn restart(&mut self, keep: usize) -> Result<Reaction, StepError>
         ensures ok { IfOk result (Restarts (state M.sight self.old) keep (state M.sight self.new)) }
         ensures writes { OnOk result (LeavesPromises (seen M.sight self.old) keep (seen M.sight self.new)) }
@@ -126,7 +126,7 @@ impl<M: ResourceManager> Subordinate<M> {
         }
     }
 
-    /// Trims its log: the last Opened and the records of the cases that are not forgotten stay, and behind
+    /// Trims its log: the last Opened and the records of the cases that are not forgotten stay, and after
     /// them the manager's data, forced by one write. Gives how many records remain. Failed, Memory: nothing
     /// changed. Device: the log stands as it was or trimmed, and it has failed until it is restarted.
     pub fn trim(&mut self) -> Result<u64, StepError>
@@ -171,7 +171,7 @@ fn rebuilt_before<M: ResourceManager>(
     rebuild(me, parent, tree, &records, alloc)
 }
 
-/// The same, and the record of the boot behind them, as a reaction shows it.
+/// The same, and the record of the boot after them, as a reaction shows it.
 fn ready_before<M: ResourceManager>(
     alloc: Global,
     me: ProcessId,

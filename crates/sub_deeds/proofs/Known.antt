@@ -1,4 +1,4 @@
--- Which branches a manager knows behind a piece of work.
+-- Which branches a manager knows after a piece of work.
 use Rattle.std.proofs.Common.{◌≡◌, List, ap}
 use Rattle.xa_tables.specs.declared.states.BranchState.{BranchState}
 use Rattle.xa_xid.specs.declared.xid.Xid.{Xid}

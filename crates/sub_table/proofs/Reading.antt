@@ -57,13 +57,13 @@ case_is place q (CaseBranch d) = by_test (is_own place q d)
     by_test true = refl
     by_test false = refl
 
--- behind this mark an operator decided
+-- after this mark an operator decided
 abbrev pub IsDecidedMark : Mark → Type 0
 IsDecidedMark Decided = Unit {0}
 IsDecidedMark (ToldOf o) = Unit {0}
 IsDecidedMark _ = ⊥
 
--- an outcome that is told comes behind an operator's decision
+-- an outcome that is told comes after an operator's decision
 abbrev pub MayFollow : Mark → Mark → Type 0
 MayFollow (ToldOf o) m = IsDecidedMark m
 MayFollow _ m = Unit {0}

@@ -91,7 +91,7 @@ recalls_if : (t u : Bool) → t ≡ u → (m n : Mark) (o k : Option Outcome) (d
 recalls_if true u is m n o k d e h g = subst (λ w. Recalls m (cond w o k) d) is h
 recalls_if false u is m n o k d e h g = subst (λ w. Recalls n (cond w o k) e) is g
 
--- a record that says nothing of a decision leaves a mark behind which nothing is known of it
+-- a record that says nothing of a decision leaves a mark after which nothing is known of it
 recalls_quiet : (t : Bool) (m n : Mark) (o : Option Outcome) (d : Decision) → Recalls m o d → Recalls n o d
     → Recalls (cond t m n) o d
 recalls_quiet true m n o d h g = h

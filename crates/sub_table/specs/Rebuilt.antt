@@ -105,7 +105,7 @@ ReachesBy place boot q _ = ⊤
 abbrev pub IsReached : Place → ℕ → LogRecord → Type 0
 IsReached place boot l = ReachesBy place boot l.parent (saying_of l.entry)
 
--- records that a subordinate can have written: each can stand in a manager's log, and behind those before it; and its
+-- records that a subordinate can have written: each can stand in a manager's log, and after those before it; and its
 -- own cases promised by tickets of boots that the log has reached
 pub record AreFit (place : Place) (ls : List LogRecord) : Type 0 where
   pub sound : AllByRecursion (IsSound Manager) ls
@@ -238,7 +238,7 @@ abbrev pub DecidesWhere : Cases → Option Outcome → Option Case → Type 0
 DecidesWhere s told None = ⊤
 DecidesWhere s told (Some c) = CanDecide s told c
 
--- what a record under this parent says can come behind these cases
+-- what a record under this parent says can come after these cases
 abbrev pub CanComeBy : Place → Cases → Option ProcessId → Saying → Type 0
 CanComeBy place s q (PromisesOf b) = NameReads q b × PromisesWhere s (own_case place q b)
 CanComeBy place s q (EndsOf b) = NameReads q b
@@ -246,7 +246,7 @@ CanComeBy place s q (Decides b told) = NameReads q b × DecidesWhere s told (own
 CanComeBy place s q Coordinates = ⊥
 CanComeBy place s q _ = ⊤
 
--- a record can come behind these cases
+-- a record can come after these cases
 abbrev pub CanCome : Place → Cases → LogRecord → Type 0
 CanCome place s l = CanComeBy place s l.parent (saying_of l.entry)
 
@@ -295,7 +295,7 @@ IsRefusal Fits errors.Unfit = Fits → ⊥
 IsRefusal Fits errors.Exhausted = ⊥
 
 -- why nothing was rebuilt: the records are none that a subordinate can have written; or boots are used up, where
--- none below 2^63 comes behind the last one
+-- none below 2^63 comes after the last one
 abbrev pub NotRebuilt : Place → List LogRecord → RebuildError → Type 0
 NotRebuilt place ls errors.Exhausted = 2 ^ 63 ≤ boot_of (own_records place ls) + 1
 NotRebuilt place ls e = IsRefusal (AreFit place ls) e

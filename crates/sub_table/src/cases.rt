@@ -23,7 +23,7 @@ pub(crate) struct Cases {
 }
 
 /// Whether an operator can decide a branch at this stage, or it can be told this outcome: it promised, and it is
-/// told what comes behind his decision alone.
+/// told what comes after his decision alone.
 fn can_be_told(stage: Stage, told: Option<Outcome>) -> bool
     ensures { result ≡ fits_told told stage }
 {

@@ -20,7 +20,7 @@ pub enum RebuildError {
     /// The records are those of no log that a subordinate wrote.
     #[error("the records are those of no subordinate")]
     Unfit,
-    /// No boot below 2^63 comes behind the last one.
+    /// No boot below 2^63 comes after the last one.
     #[error("numbers are used up")]
     Exhausted,
 }

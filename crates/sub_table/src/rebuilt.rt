@@ -80,7 +80,7 @@ fn inquiries(
 }
 
 /// What these records leave. Unfit: no subordinate can have written them, as with a ticket of a boot that they have
-/// not reached. Exhausted: no boot below 2^63 comes behind the last one.
+/// not reached. Exhausted: no boot below 2^63 comes after the last one.
 pub fn rebuild(
     me: ProcessId,
     parent: ProcessId,

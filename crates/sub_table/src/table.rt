@@ -140,7 +140,7 @@ impl Branches {
         Ok(())
     }
 
-    /// An Active branch goes on: so many works are done, and one was refused or not. It takes no memory.
+    /// An Active branch goes on: N works are done, and one was refused or not. It takes no memory.
     pub fn note(&mut self, key: usize, given_for: Case, done: u64, spoiled: bool)
         requires { (b : AnyBranch) × (value_at self.old.branches key ≡ Some b)
             × IsGivenFor given_for b.stage }

@@ -1,5 +1,5 @@
 //! A log whose device fails once: what stands then, and that a restart goes on. And a log that is written
-//! anew.
+//! again.
 
 ghost use Rattle.std.specs.Prelude.{◌≡◌, IfOk};
 ghost use Rattle.tree_model.specs.declared.names.Kind.TheVariants.{Coordinator};
@@ -77,7 +77,7 @@ fn restarts(log: &mut RecLog<FaultStore>, alloc: Global) -> Result<bool, Fail>
     Ok(log.restart(0, &frames, alloc) == Ok(()))
 }
 
-/// A restart whose force fails leaves its record behind the others, not forced, and the log has failed: the
+/// A restart whose force fails leaves its record after the others, not forced, and the log has failed: the
 /// next crash takes it, and the next restart writes it again.
 #[test]
 fn a_failed_restart_goes_on_at_the_next(rt: HostRuntime) -> Result<(), Fail> {
@@ -105,7 +105,7 @@ fn a_failed_open_hands_the_store_back(rt: HostRuntime) -> Result<(), Fail> {
     Ok(())
 }
 
-/// Writes a log anew, without records.
+/// Writes a log again, without records.
 fn emptied(log: &mut RecLog<MemoryStore>, alloc: Global) -> bool {
     !log.failed() && log.rewrite(&[], alloc) == Ok(())
 }

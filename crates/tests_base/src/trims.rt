@@ -1,4 +1,4 @@
-//! Trims behind an opening, behind a restart, and behind a crash that loses an End: a case whose End is lost
+//! Trims after an opening, after a restart, and after a crash that loses an End: a case whose End is lost
 //! is live again, and its records stay.
 
 ghost use Rattle.std.specs.Prelude.{◌≡◌, IfOk};
@@ -82,7 +82,7 @@ fn trimmed(log: &mut RecLog<MemoryStore>, alloc: Global) -> Option<usize>
     log.trim(&[], alloc).ok()
 }
 
-/// Opened and Commit stay, and behind an End the Opened alone.
+/// Opened and Commit stay, and after an End the Opened alone.
 #[test]
 fn a_trim_behind_an_opening(rt: HostRuntime) -> Result<(), Fail> {
     let alloc = rt.alloc();
@@ -103,7 +103,7 @@ fn a_trim_behind_an_opening_without_a_torn_tail(rt: HostRuntime) -> Result<(), F
     Ok(())
 }
 
-/// The last Opened and the Commit stay; behind a forced End, which the next crash leaves, the Opened alone.
+/// The last Opened and the Commit stay; after a forced End, which the next crash leaves, the Opened alone.
 #[test]
 fn a_trim_behind_a_restart(rt: HostRuntime) -> Result<(), Fail> {
     let alloc = rt.alloc();

@@ -8,11 +8,11 @@ use Rattle.tree_model.specs.declared.events.Entry.{Entry}
 use Rattle.tree_model.specs.Texts.{case_text, reaction_lines, mixed_word, unreported_word}
 use Rattle.tree_model.specs.declared.messages.Finding.{Finding}
 
--- a number, behind a space
+-- a number, after a space
 abbrev pub number_word : ℕ → List ℕ
 number_word n = codes " " ++ decimal n
 
--- the name of a case, behind a space
+-- the name of a case, after a space
 abbrev pub case_word : Case → List ℕ
 case_word c = codes " " ++ case_text c
 
@@ -20,11 +20,11 @@ case_word c = codes " " ++ case_text c
 unfoldable pub way_text : ℕ → Envelope → List ℕ
 way_text n e = decimal n ++ codes " " ++ decimal e.from.0 ++ codes "->" ++ decimal e.to.0 ++ codes " "
 
--- the tickets that findings report as mixed, each behind a space
+-- the tickets that findings report as mixed, each after a space
 abbrev pub mixed_words : List Finding → List ℕ
 mixed_words fs = flat_map mixed_word fs
 
--- the tickets that they report as unreported, each behind a space
+-- the tickets that they report as unreported, each after a space
 abbrev pub unreported_words : List Finding → List ℕ
 unreported_words fs = flat_map unreported_word fs
 
@@ -36,11 +36,11 @@ line_text line = line ++ 10 ∷ []
 abbrev pub lines_text : List (List ℕ) → List ℕ
 lines_text lines = flat_map line_text lines
 
--- the text of an entry before which so many messages were sent
+-- the text of an entry before which N messages were sent
 unfoldable pub entry_text : ℕ → Entry → List ℕ
 entry_text sent e = lines_text (reaction_lines e.step.process.0 sent e.reaction)
 
--- the text of these entries, before which so many messages were sent
+-- the text of these entries, before which N messages were sent
 abbrev pub entries_text : ℕ → List Entry → List ℕ
 entries_text sent [] = []
 entries_text sent (e ∷ es) = entry_text sent e ++ entries_text (sent + length e.reaction.messages) es

@@ -112,7 +112,7 @@ fn push_op(out: &mut Vec<u8>, op: &Op) -> Result<(), AllocError>
     }
 }
 
-/// A word, and bytes behind it.
+/// A word, and bytes after it.
 fn push_bytes(out: &mut Vec<u8>, word: &str, bytes: &Bytes) -> Result<(), AllocError>
     ensures { OnOk result (out.new.items ≡ out.old.items ++ (word.now ++ bytes.now)) }
 {
@@ -181,7 +181,7 @@ fn push_head(
     out.extend_from_slice(&line[begin..])
 }
 
-/// A ticket that is reported as mixed, behind a space; nothing of another.
+/// A ticket that is reported as mixed, after a space; nothing of another.
 fn push_if_mixed(out: &mut Vec<u8>, finding: &Finding) -> Result<(), AllocError>
     ensures { OnOk result (out.new.items ≡ out.old.items ++ mixed_word finding.now) }
 {
@@ -194,7 +194,7 @@ fn push_if_mixed(out: &mut Vec<u8>, finding: &Finding) -> Result<(), AllocError>
     }
 }
 
-/// A ticket that is reported as unreported, behind a space; nothing of another.
+/// A ticket that is reported as unreported, after a space; nothing of another.
 fn push_if_unreported(out: &mut Vec<u8>, finding: &Finding) -> Result<(), AllocError>
     ensures { OnOk result (out.new.items ≡ out.old.items ++ unreported_word finding.now) }
 {
@@ -207,7 +207,7 @@ fn push_if_unreported(out: &mut Vec<u8>, finding: &Finding) -> Result<(), AllocE
     }
 }
 
-/// The tickets that are reported as mixed, each behind a space.
+/// The tickets that are reported as mixed, each after a space.
 fn push_mixed(out: &mut Vec<u8>, findings: &[Finding]) -> Result<(), AllocError>
     ensures { OnOk result (out.new.items ≡ out.old.items ++ mixed_words findings.now) }
 {
@@ -217,7 +217,7 @@ fn push_mixed(out: &mut Vec<u8>, findings: &[Finding]) -> Result<(), AllocError>
     Ok(())
 }
 
-/// The tickets that are reported as unreported, each behind a space.
+/// The tickets that are reported as unreported, each after a space.
 fn push_unreported(out: &mut Vec<u8>, findings: &[Finding]) -> Result<(), AllocError>
     ensures { OnOk result (out.new.items ≡ out.old.items ++ unreported_words findings.now) }
 {
@@ -425,7 +425,7 @@ pub fn push_conclusion(out: &mut Vec<u8>, told: &Option<Told>) -> Result<(), All
     }
 }
 
-/// The lines of messages before which so many were sent.
+/// The lines of messages before which N were sent.
 pub fn push_messages(out: &mut Vec<u8>, sent: u64, messages: &[Envelope]) -> Result<(), AllocError>
     requires { sent + length messages.now < 2 ^ 64 }
     ensures { OnOk result (out.new.items ≡ out.old.items ++ lines_text (envelope_lines sent messages.now)) }

@@ -1,4 +1,4 @@
--- What the parents say, one behind another.
+-- What the parents say, one after another.
 use Rattle.std.proofs.Common.{◌≡◌, ◌∙◌, ◌-◌, ◌<◌, ◌+◌, ◌||◌, ◌&&◌, ℕ, zero, suc, Bool, true, false, if◌then◌else◌, is_none, is_some, not, Option, Some, None, List, [], ◌∷◌, ◌++◌, length, take, get_or, find, OnOk, Result, Ok, Err, refl, sym, ap, subst, arith}
 use Rattle.std.proofs.lemmas.List.{take_more}
 use Rattle.std.specs.List.{list_all, list_any}
@@ -70,7 +70,7 @@ pub parent_is : (tree : List TreeEntry) (q : ProcessId) (e : TreeEntry)
 unfolding parent_of
 parent_is tree q e found = ap entry_parent found
 
--- what a process says behind its parent is true
+-- what a process says after its parent is true
 says_here : (tree : List TreeEntry) → IsTree tree → (ts : TreeTables) (logs : Logs) → AreNotes tree logs ts
     → (q : ProcessId) → is_listed tree q ≡ true → (o : Option ProcessId) → parent_of tree q ≡ o
     → (above : Option Outcomes) → IsAbove tree logs o above → (t : LogNotes) → lookup (same_id q) ts ≡ Some t

@@ -170,7 +170,7 @@ same_is p q h = is_one p q (sym (process_equality p q) ∙ h)
 pub same_self : (p : ProcessId) → same_id p p ≡ true
 same_self p = process_equality p p ∙ itself p
 
--- what is found of a process behind an entry that is put there
+-- what is found of a process after an entry that is put there
 pub lookup_inserted : {A : Type 0} (ts : List (ProcessId × A)) (p q : ProcessId) (v : A)
     → lookup (same_id q) (insert_entry same_id ts p v)
     ≡ (if same_id q p then Some v else lookup (same_id q) ts)

@@ -32,7 +32,7 @@ module _ (tree : List TreeEntry) (t : IsTree tree) (logs kept : Logs)
       ap (λ r. is_listed tree (parent_in r u.child)) role
       ∙ parent_listed tree t q (parent_in (role_by e.kind e.parent) u.child) e found.1 up
 
-  -- each case of a listed process has the same outcome within so many steps
+  -- each case of a listed process has the same outcome within N steps
   abbrev SameWithin : ℕ → Type 0
   SameWithin k = (q : ProcessId) (c : Case) → is_listed tree q ≡ true → is_case_at tree q c ≡ true
       → outcome_within k tree logs c ≡ outcome_within k tree kept c

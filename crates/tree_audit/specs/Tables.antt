@@ -102,13 +102,13 @@ AllTrue tree logs said = (p : ProcessId) (s : Outcomes) → lookup (same_id p) s
 abbrev pub StillSaid : TreeOutcomes → TreeOutcomes → Type 0
 StillSaid old new = (p : ProcessId) → has_said old p ≡ true → has_said new p ≡ true
 
--- behind what processes said, this one says what it does by its notes, if it has any
+-- after what processes said, this one says what it does by its notes, if it has any
 abbrev pub Adds : Option Outcomes → Option LogNotes → ProcessId → TreeOutcomes → TreeOutcomes → Type 0
 Adds above None q old new = new ≡ old
 Adds above (Some n) q old new =
     (s : Outcomes) × AreSaid above n.table s × (new ≡ insert_entry same_id old q s)
 
--- a listed process has now said what it does, where a climb from it ends within so many steps; and all of
+-- a listed process has now said what it does, where a climb from it ends within N steps; and all of
 -- that is true
 pub record Says (tree : List TreeEntry) (ts : TreeTables) (q : ProcessId) (steps : ℕ)
     (old new : TreeOutcomes) : Type 0 where

@@ -19,7 +19,7 @@ use tree_model::{ProcessId, Tree, TreeEntry};
 /// What is noted of each process's cases.
 pub type TreeNotes = IndexMap<ProcessId, Notes>;
 
-/// What the frames behind a header say of the process's cases, up to the first that is no record.
+/// What the frames after a header say of the process's cases, up to the first that is no record.
 fn noted(
     alloc: Global,
     form: LogForm,

@@ -1,4 +1,4 @@
-//! What each parent says of its children's cases, from the root down: each process once, behind its own
+//! What each parent says of its children's cases, from the root down: each process once, after its own
 //! parent.
 
 ghost use Rattle.std.specs.Prelude.{◌≡◌, IfOk, OnOk};
@@ -26,7 +26,7 @@ pub(crate) fn above(said: &TreeSayings, parent: Option<ProcessId>) -> Option<&Sa
     }
 }
 
-/// What a process with this parent says, behind what its parent did.
+/// What a process with this parent says, after what its parent did.
 fn add(
     alloc: Global,
     notes: &TreeNotes,
@@ -48,7 +48,7 @@ fn add(
     }
 }
 
-/// What the process says, behind what its parent does, within so many steps up; nothing is done twice.
+/// What the process says, after what its parent does, within N steps up; nothing is done twice.
 fn say(
     alloc: Global,
     tree: &Tree,

@@ -13,7 +13,7 @@ use Rattle.tree_model.specs.Trees.{IsTree, lists_twice, times_listed}
 use Rattle.tree_cut.proofs.Cuts.{self}
 use Rattle.tree_ties.specs.Rule.{AreApart}
 
--- none of these processes is listed behind its own place
+-- none of these processes is listed after its own place
 abbrev pub Apart : List TreeEntry → Type 0
 Apart [] = Unit {0}
 Apart (e ∷ es) = (is_listed es e.id ≡ false) × Apart es

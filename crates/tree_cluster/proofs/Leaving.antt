@@ -233,7 +233,7 @@ leave_more tree xs [] (k ∷ ls) e l h one = absurd h
 leave_more tree xs (d ∷ es) [] e l h one = absurd h
 leave_more tree xs (d ∷ es) (k ∷ ls) e l h one = (h.0, leave_more tree xs es ls e l h.1 one)
 
--- the log of the process at this place, behind those before it
+-- the log of the process at this place, after those before it
 pub leave_at : (tree : List TreeEntry) (xs : List Entry) (es : List TreeEntry) (ls more : List (List LogRecord)) (i : ℕ)
     (e : TreeEntry) (l : List LogRecord) → i < length es → e ≡ get_or es i e → more ≡ ls ++ l ∷ []
     → LeavesLog tree xs e.id l → LeaveLogs tree xs (take i es) ls → LeaveLogs tree xs (take (i + 1) es) more

@@ -52,7 +52,7 @@ longer_first old [] q p h some still i d lt = absurd (omega (arith, some))
 longer_first old (x ∷ mid) q p h some still zero d lt = longer_still (get_or old 0 d) x p (h 0 d lt) still
 longer_first old (x ∷ mid) q p h some still (suc i) d lt = h (suc i) d lt
 
--- so many new passes
+-- N new passes
 pub passes_more : (n : ℕ) → new_passes (n + 1) ≡ new_passes n ++ new_pass n ∷ []
 passes_more n = ap new_passes (add-one n)
 

@@ -151,7 +151,7 @@ names_next tree i e old new lt is pushed so =
     rw (take_more tree i e lt, ← is, map-append (λ (x : TreeEntry). x.id) (take i tree) (e ∷ []))
     (pushed ∙ ap (λ l. l ++ e.id ∷ []) so)
 
--- the journal's seat has so many seats given
+-- the journal's seat has N seats given
 pub opened_is : (table : TableId) (tree : List TreeEntry) (opened given : ℕ) (journal : Seat Entry View)
     → KeepsSeats table tree opened given journal → journal.me.0.journal.opened ≡ opened
 opened_is table tree opened given journal k = ap (λ m. m.0.journal.opened) k.keeps
@@ -170,7 +170,7 @@ pub any_words : (table : TableId) (tree : List TreeEntry) (id : TableId) (names 
 any_words table tree id names place t lt =
     let many : table.words ≡ length tree = t.words in (omega (arith, many, lt), omega (arith, many, lt))
 
--- so many passes were given as the journal's seat says
+-- N passes were given as the journal's seat says
 pub regiven : (table : TableId) (tree : List TreeEntry) (opened given : ℕ) (seat : Seat Entry View)
     → KeepsSeats table tree opened given seat → KeepsSeats table tree opened seat.me.0.journal.given seat
 regiven table tree opened given seat k = record {

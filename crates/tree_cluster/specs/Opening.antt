@@ -28,7 +28,7 @@ pub record IsTableOf (table : TableId) (tree : List TreeEntry) (id : TableId) (n
   pub names_are : names ≡ names_of tree
   pub words : table.words ≡ length tree
 
--- the journal's seat, where so many processes have a seat, and so many passes were given; nothing is entered
+-- the journal's seat, where M processes have a seat, and N passes were given; nothing is entered
 pub record KeepsSeats (table : TableId) (tree : List TreeEntry) (opened given : ℕ)
     (seat : Seat Entry View) : Type 0 where
   pub here : seat.table_id ≡ table

@@ -21,7 +21,7 @@ pub record IsLonger (old new : PassState) : Type 0 where
 abbrev pub new_pass : ℕ → PassState
 new_pass caller = record { caller = caller; pairs = [] }
 
--- so many of them; their callers' numbers begin at 0
+-- N of them; their callers' numbers begin at 0
 abbrev pub new_passes : ℕ → List PassState
 new_passes zero = []
 new_passes (suc n) = new_passes n ++ new_pass n ∷ []

@@ -83,7 +83,7 @@ fn number_of<R: Wait>(rt: &R, place: usize) -> usize
 }
 
 impl<N: Seats> Cluster<N> {
-    /// A tree that has opened, and a pass for each of so many callers, whose numbers begin at 0. The table has
+    /// A tree that has opened, and a pass for each of N callers, whose numbers begin at 0. The table has
     /// the names of the tree's processes, in the order of the tree. Memory is the only refusal that comes.
     pub fn new(
         alloc: Global,
@@ -169,7 +169,7 @@ impl<N: Seats> Cluster<N> {
     /// answered from 1, and the transaction that was begun, if one was.
     ///
     /// Stranger: a settle, or a message that the journal has not. JournalFull: the journal has 1,000,000 entries
-    /// or more. Step: the process refused it, or there is none of its name. Memory: a growth was refused. Behind
+    /// or more. Step: the process refused it, or there is none of its name. Memory: a growth was refused. After
     /// a refusal the pass is as before.
     pub fn post<R: Wait, G: Gate>(
         &self,

@@ -126,7 +126,7 @@ pub(crate) fn open_all<N: Seats>(
     }
 }
 
-/// A pass for each of so many callers, whose numbers begin at 0.
+/// A pass for each of N callers, whose numbers begin at 0.
 pub(crate) fn give_passes<N: Seats>(
     alloc: Global,
     ties: &Ties,

@@ -164,7 +164,7 @@ opened_alone tree q _ t e (stays_alone xs s _ d _ run stays holds) none =
     }
 opened_alone tree q _ t e (steps_alone xs x _ _ _ _ run step) none = absurd (nil_snoc xs x none)
 
--- what it was before its last step, and behind it
+-- what it was before its last step, and after it
 pub record LastAlone (tree : List TreeEntry) (q : ProcessId) (xs : List Entry) (x : Entry) (u : CoreState)
     (f : ManagerData) : Type 0 where
   pub core : CoreState
@@ -320,7 +320,7 @@ module _ (tree : List TreeEntry) (xs : List Entry) (x : Entry) (core : ProcessId
   abbrev mid : WorldState
   mid = again.end
 
-  -- the tree behind the step, where the process keeps this
+  -- the tree after the step, where the process keeps this
   abbrev with_node : CoreState → ManagerData → List Bool → Happening → Reaction → WorldState
   with_node c h marked what r = record {
     tree = mid.tree;

@@ -38,14 +38,14 @@ abbrev pub IsMine : ProcessId → ProcessId → Happening → Type 0
 IsMine root q (Handles (ActInput a)) = process_of_act root a ≡ q
 IsMine root q _ = ⊤
 
--- a process restarts, and keeps so many bytes behind its forced front, which hold as many records as are shown; a
+-- a process restarts, and keeps N bytes after its forced front, which hold as many records as are shown; a
 -- manager's data are what these records promise
 pub record RestartsAlone (s t : CoreState) (e : ManagerData) (keep shown : ℕ) (r : Reaction) : Type 0 where
   pub restarts : Restarts s keep t r
   pub holdings : RestartsData s.place.role (left_by s.log keep) e
   pub kept : shown ≡ records_kept s keep
 
--- the log of a process that is up is trimmed, so many records remain, and a manager's data stay
+-- the log of a process that is up is trimmed, N records remain, and a manager's data stay
 pub record TrimsAlone (s t : CoreState) (d e : ManagerData) (remain : ℕ) : Type 0 where
   pub works : s.log.failed ≡ false
   pub sound : IsSoundLog s
@@ -53,7 +53,7 @@ pub record TrimsAlone (s t : CoreState) (d e : ManagerData) (remain : ℕ) : Typ
   pub holdings : TrimsData s.place.role d e
 
 -- What a process makes of what happens, from this state and these data to those, and what it shows; a restart keeps
--- so many bytes behind the forced front.
+-- N bytes after the forced front.
 abbrev pub MakesAlone : CoreState → CoreState → ManagerData → ManagerData → ℕ → Happening → Reaction → Type 0
 MakesAlone s t d e keep (Handles i) r = HandlesInput s t d e i r
 MakesAlone s t d e keep (Restart k) r = RestartsAlone s t e keep k r
@@ -88,7 +88,7 @@ AskForAll [] (e ∷ es) = ⊥
 AskForAll (x ∷ xs) [] = ⊥
 AskForAll (x ∷ xs) (e ∷ es) = AsksFor e x.step.happening × AskForAll xs es
 
--- The events were made, one after another. Before each of them and behind the last nothing is otherwise, as it is where
+-- The events were made, one after another. Before each of them and after the last nothing is otherwise, as it is where
 -- an event is refused.
 abbrev pub LeadsOn : WorldState → List Event → WorldState → Type 0
 LeadsOn old [] new = Same old new

@@ -30,14 +30,14 @@ pub data IsNodeRun (place : Place) : List Made → Node → Type 0 where
 abbrev pub FindsMessage : List Envelope → ProcessId → Happening → Type 0
 FindsMessage net q h = IsNew net 0 q h
 
--- an entry may come behind this net: its process is listed, what it delivers was sent to it, and no device
+-- an entry may come after this net: its process is listed, what it delivers was sent to it, and no device
 -- failed in it
 pub record IsGiven (tree : List TreeEntry) (net : List Envelope) (x : Entry) : Type 0 where
   pub listed : is_listed tree x.step.process ≡ true
   pub finds : FindsMessage net x.step.process x.step.happening
   pub unfailed : x.step.fault ≡ None
 
--- each entry may come behind those before it
+-- each entry may come after those before it
 pub data AreGiven (tree : List TreeEntry) : List Entry → Type 0 where
   none_given : AreGiven tree []
   one_more : (xs : List Entry) (x : Entry)
@@ -69,7 +69,7 @@ abbrev pub CutsAreRuns : Type 0
 CutsAreRuns = (tree : List TreeEntry) (xs : List Entry) (left : ProcessId → Node) → IsCut tree xs left
     → IsOneRun tree xs left
 
--- What a process made behind these entries of its own: one entry more.
+-- What a process made after these entries of its own: one entry more.
 pub record MakesOne (tree : List TreeEntry) (q : ProcessId) (own : List Entry) (x : Entry)
     (n' : Node) : Type 0 where
   pub moves : List Made
@@ -88,7 +88,7 @@ pub record LeavesOne (q : ProcessId) (n' : Node) (old new : ProcessId → Node) 
   pub own : new q ≡ n'
   pub others : (r : ProcessId) → same_process q r ≡ false → new r ≡ old r
 
--- What a process made behind its entries in the journal may be entered there, whatever the others have
+-- What a process made after its entries in the journal may be entered there, whatever the others have
 -- entered meanwhile: the journal is cut as before.
 abbrev pub CutsGrow : Type 0
 CutsGrow = (tree : List TreeEntry) (xs : List Entry) (old : ProcessId → Node) (q : ProcessId) (x : Entry)

@@ -32,7 +32,7 @@ pub record OwnRun (tree : List TreeEntry) (q : ProcessId) (own : List Entry) (s 
   pub place : s.place ≡ place_of tree q
   pub stands : Stands (world.at q) s
 
--- Behind these entries of its own the process made one more, and stands for what that leaves.
+-- After these entries of its own the process made one more, and stands for what that leaves.
 pub record OwnMakes (tree : List TreeEntry) (q : ProcessId) (own : List Entry) (new : CoreState)
     (x : Entry) : Type 0 where
   pub node : Node

@@ -10,7 +10,7 @@ pub fn cuts_are_runs()
     ensures { CutsAreRuns }
 {}
 
-/// What a process made behind its own entries may be entered, whatever others have entered meanwhile.
+/// What a process made after its own entries may be entered, whatever others have entered meanwhile.
 pub fn cuts_grow()
     ensures { CutsGrow }
 {}
@@ -25,7 +25,7 @@ pub fn opens_own()
     ensures { OpensOwn }
 {}
 
-/// What a process makes of an input under its own lock is a step behind its own entries.
+/// What a process makes of an input under its own lock is a step after its own entries.
 pub fn inputs_are_made()
     ensures { InputsAreMade }
 {}

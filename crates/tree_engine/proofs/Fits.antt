@@ -118,7 +118,7 @@ row_fits f rows now i d within is h =
     rw is (subst (λ (r : ProcessCounts). Fit (f r).counts) (sym (next_row f rows i d within))
     (fits_at f rows i d within h))
 
--- the counts behind a step more do not fit
+-- the counts after a step more do not fit
 pub not_counted : (made : Result (Unit {0}) Failure) (view items old : List ProcessCounts) (e : Entry)
     → items ≡ view → old ≡ items
     → IfErr made (λ why. (why ≡ Exhausted) × (AllFit (map (row_behind e) old) → ⊥))

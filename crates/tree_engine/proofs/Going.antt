@@ -1,4 +1,4 @@
--- Events behind events.
+-- Events after events.
 use Rattle.std.proofs.Common.{◌≡◌, ◌≢◌, ◌∙◌, ap, sym, subst, ℕ, zero, suc, ◌+◌, ◌<◌, ◌^◌, true, false, is_some, Some, None, List, [], ◌∷◌, ◌++◌, length, take, drop, inl, inr, ◌≤◌, refl, arith, length-append, append_assoc}
 use Rattle.std.specs.Prelude.{slice_get}
 use Rattle.std.proofs.Math.Seq.{take-append-add}
@@ -40,7 +40,7 @@ got_behind (x ∷ xs) ys n =
     let at : length (x ∷ xs) + n ≡ suc (length xs + n) = omega arith in
     rw at (got_behind xs ys n)
 
--- the events behind a refused one change nothing
+-- the events after a refused one change nothing
 until_stays : (s e : WorldState) (xs ys : List Event) (n : ℕ) (r : StepError) → LeadsUntil s xs n r e
     → LeadsUntil s (xs ++ ys) n r e
 until_stays s e xs ys n r h = record {
@@ -77,7 +77,7 @@ one_stopped now new e r stops =
 pub begins : (s : WorldState) → ComesTo s [] None 0 s
 begins s = record { leads = refl; number = λ none. refl; itself = tt; numbered = tt }
 
--- where an event was refused, none behind it is made
+-- where an event was refused, none after it is made
 pub none_more : (s now : WorldState) (given events : List Event) (refusal : Refusal)
     (n : ℕ) → is_some refusal ≡ true
     → ComesTo s given refusal n now → ComesTo s (given ++ events) refusal n now
@@ -140,7 +140,7 @@ one_unnumbered s now given None n event is h past =
     let size : length (given ++ event ∷ []) ≡ length given + 1 = length-append given (event ∷ []) in
     inr (refl, omega (arith, same, size, past))
 
--- what cannot be made cannot be made with events behind it
+-- what cannot be made cannot be made with events after it
 pub cannot_longer : (s : WorldState) (xs ys : List Event) (why : Failure) → CannotMake s xs why
     → CannotMake s (xs ++ ys) why
 cannot_longer s xs ys why (inl h) = inl (record {

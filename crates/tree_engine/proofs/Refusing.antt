@@ -216,7 +216,7 @@ module _ (past : Earlier) (tree : List TreeEntry) (is_tree : IsTree tree) where
       let why = not_trimmed past es w s f t q e itself h in
       stays_so s t (Trim q) e es w is f why.0 why.1
 
-  -- the same behind other events
+  -- the same after other events
   pub until_since : (s t : WorldState) (events : List Event) (n : ℕ) (e : StepError) (es : List Made) (w : World)
       → s.tree ≡ tree → ForItself e → FollowsSince past es w s → (h : LeadsUntil s events n e t)
       → StoppedSince past tree es w t h.event e

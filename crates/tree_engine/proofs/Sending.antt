@@ -34,7 +34,7 @@ within_all (e ∷ es) (suc k) =
     let rest = within_all es k in
     omega (arith, some, all, rest)
 
--- how many were sent behind one step more
+-- how many were sent after one step more
 pub sent_behind : (es : List Entry) (k before next : ℕ) (old new : List ℕ) (o : Option Entry)
     → slice_get es k ≡ o → AddsStep o old new before (Some next) → before ≡ message_count (take k es)
     → next ≡ message_count (take (k + 1) es)

@@ -85,7 +85,7 @@ written_back new items n size is =
     ap (λ rest. take n (new ++ rest)) (drop_all (length new) items le)
     ∙ ap (take n) (append-nil new) ∙ take_all n new all
 
--- the counts behind a step more
+-- the counts after a step more
 pub counted : (made : Result (Unit {0}) Failure)
     (view items old new : List ProcessCounts) (n : ℕ) (e : Entry)
     → items ≡ view → old ≡ items → length old ≡ n → OnOk made (new ≡ map (row_behind e) old)

@@ -10,7 +10,7 @@ use Rattle.short_steps.specs.Shown.{entry_part, shown_part}
 use Rattle.short_steps.specs.declared.shown.Shown.{Shown}
 use Rattle.tree_engine.specs.Trees.{AddsStep, part_text}
 
--- the step at a place and those behind it
+-- the step at a place and those after it
 pub dropped_at : (es : List Entry) (k : ℕ) (e : Entry) → slice_get es k ≡ Some e
     → drop k es ≡ e ∷ drop (k + 1) es
 dropped_at [] k e is = absurd (cc)
@@ -19,7 +19,7 @@ dropped_at (f ∷ es) (suc k) e is =
     let at : suc k + 1 ≡ suc (k + 1) = omega arith in
     rw at (dropped_at es k e is)
 
--- none is behind the last
+-- none is after the last
 pub dropped_past : (es : List Entry) (k : ℕ) → slice_get es k ≡ None → drop k es ≡ []
 dropped_past [] zero is = refl
 dropped_past [] (suc k) is = refl
@@ -48,7 +48,7 @@ taken_past [] (suc k) is = refl
 taken_past (f ∷ es) zero is = absurd (cc)
 taken_past (f ∷ es) (suc k) is = ap (λ xs. f ∷ xs) (taken_past es k is)
 
--- the text behind one step more
+-- the text after one step more
 pub step_added : (es : List Entry) (k sent next : ℕ) (old new all : List ℕ)
     (o : Option Entry) → slice_get es k ≡ o
     → AddsStep o old new sent (Some next) → old ++ entries_text sent (drop k es) ≡ all
@@ -67,7 +67,7 @@ none_added es k sent old new all (Some e) is adds so = absurd adds
 none_added es k sent old new all None is adds so =
     adds ∙ sym (append-nil old) ∙ ap (λ xs. old ++ entries_text sent xs) (sym (dropped_past es k is)) ∙ so
 
--- the text behind the last step
+-- the text after the last step
 pub all_added : (es : List Entry) (k sent : ℕ) (old all : List ℕ) → length es ≤ k
     → old ++ entries_text sent (drop k es) ≡ all
     → old ≡ all

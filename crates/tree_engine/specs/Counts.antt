@@ -114,7 +114,7 @@ together a b = record {
 unfoldable pub total_of : List ProcessCounts → Counts
 total_of rows = fold (λ sum r. together sum r.counts) (counts_of [] []) rows
 
--- a process's counts behind a step, which counts where it is the process's own
+-- a process's counts after a step, which counts where it is the process's own
 abbrev pub row_behind : Entry → ProcessCounts → ProcessCounts
 row_behind e row =
     if same_process e.step.process row.process

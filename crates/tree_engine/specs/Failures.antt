@@ -55,7 +55,7 @@ pub record ScriptBreaksOff (input : List ℕ) (why : Failure) : Type 0 where
 abbrev pub message_count : List Entry → ℕ
 message_count es = length (flat_map (λ e. e.reaction.messages) es)
 
--- behind so many messages those of this step, if there is one, come to 2^64 or more
+-- after N messages those of this step, if there is one, come to 2^64 or more
 abbrev pub PassesLast : ℕ → Option Entry → Type 0
 PassesLast sent None = ⊥
 PassesLast sent (Some e) = 2 ^ 64 ≤ sent + length e.reaction.messages

@@ -6,7 +6,7 @@ use Rattle.tree_engine.specs.declared.tree.Output.TheVariants.{Counts, Trace}
 use Rattle.reopen_script.specs.Laws.{BeginsWithNone}
 use Rattle.tree_engine.specs.Reports.{IsTreeReport}
 
--- what is written is the trace, or the trace with the counts behind it
+-- what is written is the trace, or the trace with the counts after it
 abbrev pub IsTrace : Output → Type 0
 IsTrace Trace = ⊤
 IsTrace Counts = ⊤

@@ -26,14 +26,14 @@ use Rattle.tree_engine.specs.Trees.{IsNumbered, ending}
 abbrev pub IsOwn : StepError → Type 0
 IsOwn e = (e ≢ steps.Memory) × (e ≢ steps.Device) × (e ≢ steps.Exhausted)
 
--- a run cannot go on behind this refusal of a step, for the same reason
+-- a run cannot go on after this refusal of a step, for the same reason
 abbrev pub IsFailure : StepError → Failure → Type 0
 IsFailure steps.Memory why = why ≡ failure.Memory
 IsFailure steps.Device why = why ≡ failure.Device
 IsFailure steps.Exhausted why = why ≡ failure.Exhausted
 IsFailure e why = ⊥
 
--- so many given events led from one state to another, up to the refused one, if one was
+-- N given events led from one state to another, up to the refused one, if one was
 pub record ComesTo (start : WorldState) (given : List Event) (refusal : Refusal) (count : ℕ)
     (now : WorldState) : Type 0 where
   pub leads : LeadsTo start given refusal now

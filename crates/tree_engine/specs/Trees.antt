@@ -50,11 +50,11 @@ abbrev pub trace_by : Bool → WorldState → List ℕ
 trace_by false w = trace_of w
 trace_by true w = entries_text 0 w.entries
 
--- the lines of a process's reaction before which so many messages were sent
+-- the lines of a process's reaction before which N messages were sent
 abbrev pub part_text : ℕ → ProcessId × Reaction → List ℕ
 part_text sent p = lines_text (reaction_lines p.0.0 sent p.1)
 
--- the lines of a step, if there is one, were added behind so many messages, and then so many are sent
+-- the lines of a step, if there is one, were added after M messages, and then N are sent
 abbrev pub AddsStep : Option Entry → List ℕ → List ℕ → ℕ → Option ℕ → Type 0
 AddsStep None old new sent None = new ≡ old
 AddsStep (Some e) old new sent (Some next) =
@@ -90,7 +90,7 @@ abbrev pub ending : Refusal → Status
 ending None = Ended
 ending (Some refused) = Stopped
 
--- the counts of all processes behind a trace: what each wrote and sent in the steps of the run, and the sums
+-- the counts of all processes after a trace: what each wrote and sent in the steps of the run, and the sums
 abbrev pub counts_text : WorldState → List ℕ
 counts_text w = rows_text (rows_of w.tree w.entries) ++ total_text (total_of (rows_of w.tree w.entries))
 

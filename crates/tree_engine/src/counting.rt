@@ -19,7 +19,7 @@ use tree_world::World;
 /// Lets go of a step.
 fn discard(_entry: Entry) {}
 
-/// The counts of all steps that were made, each of which is made anew once. Exhausted: a sum is 2^64 or more.
+/// The counts of all steps that were made, each of which is made again once. Exhausted: a sum is 2^64 or more.
 fn counted(alloc: Global, world: &World<MemoryStore>) -> Result<RunCounts, Failure>
     ensures counts { IfOk result (λ counts. counts
         ≡ rows_of (state world.now).tree (state world.now).entries) }
@@ -38,7 +38,7 @@ fn counted(alloc: Global, world: &World<MemoryStore>) -> Result<RunCounts, Failu
     Ok(counts)
 }
 
-/// The trace of what the tree has come to, how its run ended, and the counts behind it. Exhausted: a sum is
+/// The trace of what the tree has come to, how its run ended, and the counts after it. Exhausted: a sum is
 /// 2^64 or more.
 pub(crate) fn counted_trace(
     alloc: Global,

@@ -20,7 +20,7 @@ use std::alloc::{AllocError, Global};
 use tree_model::{Entry, Event, StepError};
 use tree_world::World;
 
-/// The steps that were made, each made anew.
+/// The steps that were made, each made again.
 #[tactic(auto, using(crate::proofs::Traces::taken_at))]
 fn entries_of(alloc: Global, world: &World<MemoryStore>) -> Result<Vec<Entry>, AllocError>
     ensures { IfOk result (λ entries. entries.items ≡ (state world.now).entries) }
@@ -35,7 +35,7 @@ fn entries_of(alloc: Global, world: &World<MemoryStore>) -> Result<Vec<Entry>, A
     Ok(entries)
 }
 
-/// Makes these events, one after another, and answers how many steps were made behind each, up to the refused
+/// Makes these events, one after another, and answers how many steps were made after each, up to the refused
 /// one.
 fn make_turns(alloc: Global, run: &mut Run, events: &[Event]) -> Result<Vec<Turn>, Failure>
     ensures goes_on { OnOk result ((start : WorldState) (given : List AnyEvent)

@@ -28,7 +28,7 @@ fn is_at(entry: &Entry, process: ProcessId) -> bool
 }
 
 impl ProcessCounts {
-    /// The same behind a step more. Exhausted: a sum is 2^64 or more.
+    /// The same after a step more. Exhausted: a sum is 2^64 or more.
     fn behind(self, entry: &Entry) -> Result<ProcessCounts, Failure>
         ensures ok { IfOk result (λ row. row ≡ row_behind entry.now self) }
         ensures err { IfErr result (λ e. (e ≡ Failure.Exhausted)
@@ -62,7 +62,7 @@ impl Model for RunCounts {
     ghost view = { λ c. c.rows.items };
 }
 
-/// The rows behind a step more. Exhausted: a sum is 2^64 or more.
+/// The rows after a step more. Exhausted: a sum is 2^64 or more.
 fn add_entry(rows: &mut [ProcessCounts], entry: &Entry) -> Result<(), Failure>
     ensures ok { OnOk result (rows.new ≡ map (row_behind entry.now) rows.old) }
     ensures err { IfErr result (λ e. (e ≡ Failure.Exhausted)

@@ -51,7 +51,7 @@ fn stores_of(
     Ok(stores)
 }
 
-/// A tree that runs, how many events were made, and which was refused, if one was: then none behind it is
+/// A tree that runs, how many events were made, and which was refused, if one was: then none after it is
 /// made.
 pub struct Run {
     pub(crate) world: World<MemoryStore>,
@@ -136,7 +136,7 @@ impl Run {
         self.refusal
     }
 
-    /// Makes this event behind those that it was given, unless one of them was refused. Memory, Device,
+    /// Makes this event after those that it was given, unless one of them was refused. Memory, Device,
     /// Exhausted: the tree stops at it for that, or it is the 2^64th.
     pub fn make(&mut self, event: Event) -> Result<(), Failure>
         ensures goes_on { OnOk result ((start : WorldState) (given : List AnyEvent)

@@ -10,7 +10,7 @@ use report_io::Failure;
 use std::alloc::AllocError;
 use trace_lines::{push, push_number};
 
-/// A word and a number behind it.
+/// A word and a number after it.
 #[tactic(auto, unfolding(crate::specs::Texts::count_text))]
 fn push_count(out: &mut Vec<u8>, word: &str, count: u64) -> Result<(), AllocError>
     ensures { OnOk result (out.new.items ≡ out.old.items ++ count_text word.now count) }
@@ -99,7 +99,7 @@ fn push_total(out: &mut Vec<u8>, total: &Counts) -> Result<(), AllocError>
 
 /// Adds a line for each process, how many records it wrote, how many of them forced, and how many messages
 /// it sent, in all and of each kind that it sent, and a line of the sums. Exhausted: a sum is 2^64 or more.
-/// Behind an error a beginning of the lines may stand.
+/// After an error a beginning of the lines may stand.
 pub fn push_counts(out: &mut Vec<u8>, counts: &RunCounts) -> Result<(), Failure>
     ensures ok { OnOk result (out.new.items ≡ out.old.items
         ++ (rows_text counts.now ++ total_text (total_of counts.now))) }

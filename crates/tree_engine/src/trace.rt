@@ -90,7 +90,7 @@ fn opening_line(alloc: Global, process: u64) -> Result<String, AllocError>
     Ok(line)
 }
 
-/// The lines of a step, behind so many messages. How many were sent with its own. Exhausted: 2^64 or more.
+/// The lines of a step, after N messages. How many were sent with its own. Exhausted: 2^64 or more.
 #[tactic(auto, unfolding(trace_lines::specs::Trace::entry_text))]
 fn push_step(out: &mut Vec<u8>, sent: u64, step: &Shown) -> Result<u64, Failure>
     ensures sent { IfOk result (λ next. next ≡ sent + length step.now.messages.now) }
@@ -110,8 +110,8 @@ fn push_step(out: &mut Vec<u8>, sent: u64, step: &Shown) -> Result<u64, Failure>
     Ok(next)
 }
 
-/// Adds the lines of the step at a place, before which so many messages were sent, and tells how many are sent with its own.
-/// None: so many steps were not made, and nothing is added. Exhausted: 2^64 messages or more were sent.
+/// Adds the lines of the step at a place, before which N messages were sent, and tells how many are sent with its own.
+/// None: there is no such step, and nothing is added. Exhausted: 2^64 messages or more were sent.
 pub fn push_place(
     out: &mut Vec<u8>,
     world: &World<MemoryStore>,

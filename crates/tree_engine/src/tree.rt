@@ -36,7 +36,7 @@ pub enum Output {
     Trace,
     /// Where every event was made, the tree and the logs that its processes keep; else the trace.
     Logs,
-    /// Its trace, and behind it a line for each process with how many records it wrote and messages it sent,
+    /// Its trace, and after it a line for each process with how many records it wrote and messages it sent,
     /// and one with the sums.
     Counts,
     /// A picture of it, as one SVG file.
@@ -51,7 +51,7 @@ enum LineOutput {
     Counts,
 }
 
-/// Reads a tree script, makes its events, and writes the trace, with the counts behind it where they are
+/// Reads a tree script, makes its events, and writes the trace, with the counts after it where they are
 /// asked for, or the logs, or a picture; or one line that says why the script is refused. A refused event
 /// ends the trace by its number and why it was refused.
 ///

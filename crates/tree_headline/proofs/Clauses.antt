@@ -29,7 +29,7 @@ use Rattle.tree_headline.proofs.Ends.{Tells, common, ends, follows_second, issue
 use Rattle.tree_headline.proofs.FirstVotes.{first_consents}
 use Rattle.tree_headline.proofs.Parts.{accepts, part_joined, standing_world}
 
--- The records behind an end.
+-- The records after an end.
 
 prepare_record : (d : Case) (r : Record) → is_prepare d r ≡ true → is_record_of d r ≡ true
 prepare_record d r e = grind arith

@@ -34,7 +34,7 @@ reading_so tree w o part c t =
     (child_half (place_of tree t.child) (w.at t.child) (child_case c.txn t))
     (wire c t w.net)
 
--- of the root's case the outcome behind the step, of another the one before it
+-- of the root's case the outcome after the step, of another the one before it
 abbrev pub outcome_by : Option Ticket → Bool → Bool → Bool
 outcome_by None new old = new
 outcome_by (Some u) new old = old
@@ -89,7 +89,7 @@ module _ (tree : List TreeEntry) (is_tree : IsTree tree) (w : World) (h : WorldH
   abbrev pub stepped : World
   stepped = record { at = at; net = w.net ++ ls }
 
-  -- the reading behind the process's own half of the step
+  -- the reading after the process's own half of the step
   abbrev pub half_reading : Case → Ticket → Reading
   half_reading c t =
       reading_so tree stepped (outcome_by c.ticket (is_commit_outcome stepped c.txn)

@@ -1,4 +1,4 @@
--- The outcome behind a step: where the root commits, each case that takes part has consented.
+-- The outcome after a step: where the root commits, each case that takes part has consented.
 use Rattle.std.proofs.Common.{◌≡◌, ◌∙◌, ◌⊎◌, inl, inr, true, false, Option, Some, None, List, ◌++◌, refl, sym, subst}
 use Rattle.tree_model.specs.declared.names.Case.{Case}
 use Rattle.tree_model.specs.declared.names.ProcessId.{ProcessId}
@@ -169,7 +169,7 @@ module _ (tree : List TreeEntry) (is_tree : IsTree tree) (w : World) (h : WorldH
       (pair_reading tree later_world c t)
       (two_stages c t pair free) (outcome_moves c t pair free)
 
-  -- Behind the step the world's invariant holds, and what was true of a pair for ever still is.
+  -- After the step the world's invariant holds, and what was true of a pair for ever still is.
   pub world_holds : WorldHolds tree later_world
   world_holds =
       let t = then tree is_tree w h q at ls s in

@@ -1,4 +1,4 @@
--- Who takes part behind a step.
+-- Who takes part after a step.
 use Rattle.std.proofs.Common.{◌≡◌, ◌∙◌, inl, inr, Bool, true, false, Option, Some, None, List, ◌++◌, refl, sym, ap, subst}
 use Rattle.tree_model.specs.declared.names.Case.{Case}
 use Rattle.tree_model.specs.declared.names.ProcessId.{ProcessId}
@@ -100,7 +100,7 @@ module _ (tree : List TreeEntry) (is_tree : IsTree tree) (w : World) (h : WorldH
       → Follows (InvariantOf c.txn.presumption) (pair_reading tree w c t) (halfway c t)
   halves c t pair free = half_moves tree is_tree w h q at ls s.others s.keeps c t pair free
 
-  -- A case that takes part and accepts a ticket anew: its transaction was undecided.
+  -- A case that takes part and accepts a ticket again: its transaction was undecided.
   module _ (c : Case) (t : Ticket) (accepted : has_accepted (at (process_of c)) c t ≡ true)
       (fresh : has_accepted (w.at (process_of c)) c t ≡ false) (part : takes_part tree w c ≡ true) where
     d : Case
@@ -167,7 +167,7 @@ module _ (tree : List TreeEntry) (is_tree : IsTree tree) (w : World) (h : WorldH
             (λ f. let y = sym e ∙ s.commits_still c.txn f in cc)
         by_ticket (Some u) e = e
 
-  -- So is the transaction of each case that takes part anew.
+  -- So is the transaction of each case that takes part again.
   new_part : (x : Txn) (t : Ticket) → TakesPart later_world x t → takes_part tree w (child_case x t) ≡ false
       → is_commit_outcome w x ≡ false
   new_part x _ (at_root t a) e =
@@ -186,7 +186,7 @@ module _ (tree : List TreeEntry) (is_tree : IsTree tree) (w : World) (h : WorldH
           (λ k. let y = sym e ∙ tells tree w now is_tree x t (below u t (told tree w now is_tree x u f) k)
           in cc)) f
 
-  -- the reading behind both stages
+  -- the reading after both stages
   abbrev pub parted : Case → Ticket → Reading
   parted c t = reading_so tree later_world
       (outcome_by c.ticket (is_commit_outcome later_world c.txn) (is_commit_outcome w c.txn))

@@ -34,7 +34,7 @@ pub fn agreement()
     ensures { (tree : List TreeEntry) (w : World) → IsTree tree → WorldHolds tree w → Agreement tree w }
 {}
 
-/// Where the world's invariant holds behind a run, the first vote heard of each participant of a committed
+/// Where the world's invariant holds after a run, the first vote heard of each participant of a committed
 /// transaction is YES or READ, and each manager's YES was sent with its promise in the forced front.
 pub fn commit_rule()
     ensures { (tree : List TreeEntry) (es : List Made) (w : World) → IsTree tree
@@ -48,7 +48,7 @@ pub fn opened_world_holds()
 {}
 
 /// Where the steps of each process keep what `ProcessLaws` says, a step of a run keeps the world's
-/// invariant, and what was true of each pair for ever; so the world's invariant holds behind every run.
+/// invariant, and what was true of each pair for ever; so the world's invariant holds after every run.
 pub fn steps_keep_the_world()
     ensures step { (tree : List TreeEntry) → IsTree tree → ProcessLaws tree → (es : List Made) (w : World)
         → IsRun tree es w → WorldHolds tree w → (m : Move) (e : Effect) (later : World)

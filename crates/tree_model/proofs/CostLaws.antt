@@ -460,7 +460,7 @@ module _ (me : ProcessId) (own : Case) (a : List Ticket) (works promised named o
             ∙ (walk.1 ∙ decides_as PresumeCommit e w refl walk.0 c),
       )
 
-  -- the acknowledgements behind the decision
+  -- the acknowledgements after the decision
   paid : (q : Presumption) → own.txn.presumption ≡ q → (votes acks : List Ticket) → IsOrderOf votes a
       → IsOrderOf acks a
       → fold (hears_ack root) (fold (hears_yes root) (asks root begins) votes) (acknowledging q acks)

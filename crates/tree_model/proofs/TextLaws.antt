@@ -84,7 +84,7 @@ tickets_told t u h k e =
     (decimal_injective t.boot u.boot h.1.boot_fits k.1.boot_fits second.0)
     (decimal_injective t.number u.number h.1.number_fits k.1.number_fits second.1)
 
--- Transactions and cases: the text behind the letter.
+-- Transactions and cases: the text after the letter.
 
 letter_code : Presumption → ℕ
 letter_code PresumeAbort = 97

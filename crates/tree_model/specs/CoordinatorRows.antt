@@ -185,7 +185,7 @@ pub data Reason : Type 0 where
   ByAct : Reason
   ByAbort : Version → Reason
 
--- behind ABORT: by the first version it is acknowledged at once, by the second where nobody owes an acknowledgement
+-- after ABORT: by the first version it is acknowledged at once, by the second where nobody owes an acknowledgement
 abbrev pub abort_answered : Seat → Version → List Ticket → List Envelope
 abort_answered s First us = acknowledges_abort s s.own.txn.presumption
 abort_answered s Second us = if none_of us then acknowledges_abort s s.own.txn.presumption else []
@@ -379,7 +379,7 @@ aborting_prepare s v = sends (up s (No s.own)) v
 unfoldable pub other_tickets : Ticket → List Ticket → List Ticket
 other_tickets t ts = filter (λ u. not (same_ticket t u)) ts
 
--- by the second version a decision is acknowledged behind the last acknowledgement of it, with what was found below
+-- by the second version a decision is acknowledged after the last acknowledgement of it, with what was found below
 abbrev pub acknowledges_at_last : Version → Seat → Outcome → List Finding → List Envelope
 acknowledges_at_last First s o fs = []
 acknowledges_at_last Second s o fs = up s (Ack s.own o (in_order fs))
@@ -391,7 +391,7 @@ end_reports Second (Some p) fs = None
 end_reports Second None [] = None
 end_reports Second None (f ∷ fs) = Some (reports_of (f ∷ fs))
 
--- the End behind the last acknowledgement: it is unforced, but a report is forced
+-- the End after the last acknowledgement: it is unforced, but a report is forced
 abbrev pub ends_with : Version → Seat → List Finding → List Written
 ends_with ver s fs =
     let reports = end_reports ver s.parent fs in

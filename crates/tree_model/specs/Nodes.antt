@@ -104,7 +104,7 @@ pub record Heard : Type 0 where
 
 -- A process.
 
--- The forced front of its log and the records behind it; what it has handled since its last restart; whether
+-- The forced front of its log and the records after it; what it has handled since its last restart; whether
 -- its device failed; and histories that only grow, the newest first: the life list, which has every record
 -- once as it was appended; every record that was ever in the forced front; the transactions begun; the
 -- tickets that each case accepted; the first vote of each; what was told; and the transactions that a restart
@@ -229,7 +229,7 @@ after n h e =
       told = told_first e.told n.told;
     }
 
--- A process whose device failed: so many of the records were appended, and so many of those behind the forced
+-- A process whose device failed: M of the records were appended, and N of those after the forced
 -- front came into it. Nothing is sent or told.
 abbrev pub fails_with : Node → List Record → ℕ → ℕ → Node
 fails_with n new appended forced =

@@ -198,7 +198,7 @@ YesIsForced tree (e ∷ es) =
     × YesIsForced tree es
 
 -- commit is decided only where the first vote heard of every participant was yes or read-only, and a manager
--- says yes behind its forced promise
+-- says yes after its forced promise
 pub record CommitRule (tree : List TreeEntry) (es : List Made) (w : World) : Type 0 where
   pub all_consented : (x : Txn) (t : Ticket) (c : Case) → is_commit_outcome w x ≡ true → TakesPart w x t
       → IsAcceptor w x t c
@@ -218,13 +218,13 @@ pub record Mismatch (w : World) (c : Case) (o : Outcome) : Type 0 where
   pub decided : has (is_decided c o) (w.at (process_of c)).durable ≡ true
   pub differs : o ≢ outcome_of w c.txn
 
--- a record that passes the first test stands in the list, the oldest first, with none behind it that passes
+-- a record that passes the first test stands in the list, the oldest first, with none after it that passes
 -- the second
 unfoldable pub has_last : (Record → Bool) → (Record → Bool) → List Record → Bool
 has_last q r [] = false
 has_last q r (x ∷ xs) = (q x && not (has r xs)) || has_last q r xs
 
--- the decision stands in the forced front, and no Forgot of its case is kept behind it
+-- the decision stands in the forced front, and no Forgot of its case is kept after it
 pub record DecisionStands (n : Node) (c : Case) (o : Outcome) : Type 0 where
   pub is_forced : has (is_decided c o) n.forced ≡ true
   pub not_forgotten : has_last (is_decided c o) (is_forgot c) (kept n) ≡ true

@@ -151,7 +151,7 @@ sent_as net (suc k) = slice_get net k
 abbrev pub is_in : List ℕ → ℕ → Bool
 is_in ks k = list_any (λ j. j == k) ks
 
--- the least number from k on, among so many, that was not delivered
+-- the least number from k on, among N, that was not delivered
 abbrev pub least_open : List ℕ → ℕ → ℕ → Option ℕ
 least_open delivered k zero = None
 least_open delivered k (suc more) = if is_in delivered k then least_open delivered (k + 1) more else Some k
@@ -165,7 +165,7 @@ settle_next again tree p (Some k) = then_again (delivers tree p k (sent_as p.wor
     then_again (Goes q) = again q
     then_again (Stops e q) = Stops e q
 
--- delivers the least numbered message not delivered yet, at most so many times
+-- delivers the least numbered message not delivered yet, at most N times
 abbrev pub settles : ℕ → List TreeEntry → Player → Played
 settles zero tree p = Goes p
 settles (suc fuel) tree p = settle_next (settles fuel tree) tree p

@@ -113,7 +113,7 @@ is_decided c CommittedOutcome _ = false
 is_decided c AbortedOutcome (HeurRollback b) = is_branch c b
 is_decided c AbortedOutcome _ = false
 
--- what an operator decided of the case behind one more record: the last decision behind its last promise counts
+-- what an operator decided of the case after one more record: the last decision after its last promise counts
 abbrev pub decision_after : Case → Option Outcome → Record → Option Outcome
 decision_after c d (Prepared b ws) = if is_branch c b then None else d
 decision_after c d (HeurCommit b) = if is_branch c b then Some CommittedOutcome else d
@@ -124,7 +124,7 @@ decision_after c d _ = d
 unfoldable pub decision_of : List Record → Case → Option Outcome
 decision_of rs c = fold (decision_after c) None rs
 
--- the report of the case stands behind one more record: an End with reports sets it up, and Cleared undoes it
+-- the report of the case stands after one more record: an End with reports sets it up, and Cleared undoes it
 abbrev pub reported_after : Case → Bool → Record → Bool
 reported_after c b (End d rep) = if same_case d c then is_some rep else b
 reported_after c b (Cleared d) = if same_case d c then false else b
@@ -177,7 +177,7 @@ promised_by c rs = flat_map (promised_in c) rs
 unfoldable pub owing_by : Case → List Record → List Ticket
 owing_by c rs = flat_map (owing_in c) rs
 
--- the boot behind one more record: an Opened sets it
+-- the boot after one more record: an Opened sets it
 abbrev pub boot_after : ℕ → Record → ℕ
 boot_after b (Opened n) = n
 boot_after b _ = b
@@ -259,7 +259,7 @@ unreported_of [] = []
 unreported_of (Mixed t ∷ fs) = unreported_of fs
 unreported_of (Unreported t ∷ fs) = t ∷ unreported_of fs
 
--- these findings in the order of an acknowledgement's text: the mixed tickets, and the unreported ones behind them
+-- these findings in the order of an acknowledgement's text: the mixed tickets, and the unreported ones after them
 abbrev pub in_order : List Finding → List Finding
 in_order fs = map (λ t. Mixed t) (mixed_of fs) ++ map (λ t. Unreported t) (unreported_of fs)
 

@@ -34,11 +34,11 @@ recorded_branch rs c = marked_branch fresh_memory (mark_of (CaseBranch c) rs)
 
 -- Restart.
 
--- the log that a crash leaves: the forced front, and so many of the records behind it
+-- the log that a crash leaves: the forced front, and N of the records after it
 abbrev pub left_of : Node → ℕ → List Record
 left_of n k = n.forced ++ take k n.unforced
 
--- a case that was collecting votes behind a record is aborted, and all that it names owe an acknowledgement
+-- a case that was collecting votes after a record is aborted, and all that it names owe an acknowledgement
 abbrev pub restart_abort : Case → CoordinatorView → Standing → List Record
 restart_abort c v Collecting = AbortRecord c v.named ∷ []
 restart_abort c v _ = []
@@ -93,7 +93,7 @@ resumes (AtLeaf p) me rs = flat_map (manager_resumes me p rs) (cases_in rs)
 abbrev pub forced_all : List Record → List Written
 forced_all rs = map (λ r. record { entry = r; is_forced = true }) rs
 
--- what a restart does where so many unforced records are left
+-- what a restart does where N unforced records are left
 abbrev pub restart_effect : Place → Node → ℕ → Effect
 restart_effect place n k =
     let left = left_of n k in
@@ -169,12 +169,12 @@ abbrev pub case_stays : List Record → Option Case → Bool
 case_stays rs None = false
 case_stays rs (Some c) = is_known (recorded_view rs c).standing || is_reported rs c
 
--- a manager's record stays if its branch is not forgotten and was not prepared again behind it
+-- a manager's record stays if its branch is not forgotten and was not prepared again after it
 abbrev pub branch_stays : List Record → List Record → Option Branch → Bool
 branch_stays rs behind None = false
 branch_stays rs behind (Some b) = is_open (mark_of b rs) && not (has (prepares_branch b) behind)
 
--- a record stays in the log, with these behind it: by its branch at a manager, else by its case
+-- a record stays in the log, with these after it: by its branch at a manager, else by its case
 abbrev pub stays : Role → List Record → List Record → Record → Bool
 stays (AtLeaf p) rs behind r = branch_stays rs behind (record_branch r)
 stays _ rs behind r = case_stays rs (record_case r)
@@ -195,7 +195,7 @@ data_records _ rs = []
 unfoldable pub trimmed : Role → List Record → List Record
 trimmed role rs = (Opened (boot_of rs) ∷ staying role rs rs) ++ data_records role rs
 
--- what a trim does: nothing is sent or told, and so many records remain
+-- what a trim does: nothing is sent or told, and N records remain
 abbrev pub trim_effect : Place → Node → Effect
 trim_effect place n =
     record {

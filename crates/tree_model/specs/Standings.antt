@@ -58,7 +58,7 @@ abbrev pub unless_none : Bool → Standing → Standing
 unless_none true s = Unknown
 unless_none false s = s
 
--- with no record of the case: under Presumed Commit votes are collected behind a record only
+-- with no record of the case: under Presumed Commit votes are collected after a record only
 abbrev pub phase_standing : Presumption → Phase → Standing
 phase_standing p Open = Active
 phase_standing PresumeAbort Asked = Collecting

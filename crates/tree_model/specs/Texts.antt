@@ -73,12 +73,12 @@ abbrev pub is_unreported : Finding → Bool
 is_unreported (Mixed t) = false
 is_unreported (Unreported t) = true
 
--- the ticket of a finding that says that it is mixed, behind a space; nothing of another
+-- the ticket of a finding that says that it is mixed, after a space; nothing of another
 abbrev pub mixed_word : Finding → List ℕ
 mixed_word (Mixed t) = codes " " ++ ticket_text t
 mixed_word (Unreported t) = []
 
--- the ticket of one that says that it is unreported, behind a space
+-- the ticket of one that says that it is unreported, after a space
 abbrev pub unreported_word : Finding → List ℕ
 unreported_word (Mixed t) = []
 unreported_word (Unreported t) = codes " " ++ ticket_text t
@@ -175,7 +175,7 @@ abbrev pub told_lines : Option Told → List (List ℕ)
 told_lines None = []
 told_lines (Some t) = told_text t ∷ []
 
--- messages are numbered over the whole run: so many were sent before these
+-- messages are numbered over the whole run: N were sent before these
 abbrev pub envelope_lines : ℕ → List Envelope → List (List ℕ)
 envelope_lines n [] = []
 envelope_lines n (e ∷ es) = envelope_text (n + 1) e ∷ envelope_lines (n + 1) es
@@ -185,7 +185,7 @@ abbrev pub kept_lines : ℕ → Option ℕ → List (List ℕ)
 kept_lines p None = []
 kept_lines p (Some n) = (codes "trim " ++ decimal p ++ codes " " ++ decimal n) ∷ []
 
--- the lines of a reaction of a process before which so many messages were sent
+-- the lines of a reaction of a process before which N messages were sent
 abbrev pub reaction_lines : ℕ → ℕ → Reaction → List (List ℕ)
 reaction_lines p sent r =
     begun_lines r.begun ++ logged_lines p r.written ++ told_lines r.told ++ envelope_lines sent r.messages

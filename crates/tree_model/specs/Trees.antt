@@ -58,7 +58,7 @@ levels_above climb None = Some 1
 levels_above climb (Some p) = one_more (climb p)
 
 -- the level of a process, the root's being 1: how many processes a climb to the parents meets, if it ends
--- within so many steps
+-- within N steps
 abbrev pub level_within : ℕ → List TreeEntry → ProcessId → Option ℕ
 level_within zero es q = None
 level_within (suc k) es q = levels_above (level_within k es) (parent_of es q)

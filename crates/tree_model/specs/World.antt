@@ -57,7 +57,7 @@ abbrev pub passes_over : Node → Option Fault → Stepped
 passes_over n None = Makes no_effect n
 passes_over n (Some f) = Makes no_effect (record n { failed = true })
 
--- a restart, with so many unforced records left; a device's failure breaks it off
+-- a restart, with N unforced records left; a device's failure breaks it off
 abbrev pub restart_makes : Place → Node → ℕ → Option Fault → Stepped
 restart_makes place n k None = Makes (restart_effect place n k) (restarted place n k)
 restart_makes place n k (Some f) = Makes (fault_effect (restart_effect place n k) f.appended)
@@ -152,7 +152,7 @@ pub data Continues (tree : List TreeEntry) (start : World) : List Made → World
 
 -- Runs that are opened again.
 
--- a message that was sent since so many were, for the process, under this number among those: the first has 1
+-- a message that was sent since N were, for the process, under this number among those: the first has 1
 pub record IsNumbered (net : List Envelope) (before : ℕ) (q : ProcessId) (number : ℕ)
     (message : Message) : Type 0 where
   pub sender : ProcessId
@@ -160,7 +160,7 @@ pub record IsNumbered (net : List Envelope) (before : ℕ) (q : ProcessId) (numb
   pub stands : slice_get net (before + (number - 1)) ≡ Some
       (record { from = sender; to = q; message = message })
 
--- the number of a message that is delivered, among those that were sent since so many were
+-- the number of a message that is delivered, among those that were sent since N were
 abbrev pub InputIsNew : List Envelope → ℕ → ProcessId → Input → Type 0
 InputIsNew net before q (ActInput a) = ⊤
 InputIsNew net before q (MessageInput number message) = IsNumbered net before q number message
@@ -174,7 +174,7 @@ IsNew net before q _ = ⊤
 abbrev pub IsDown : List TreeEntry → World → Type 0
 IsDown tree w = (q : ProcessId) → is_listed tree q ≡ true → (w.at q).failed ≡ true
 
--- The moves made, the newest first, lead from the opened tree to the world; since the tree was opened last, and so many
+-- The moves made, the newest first, lead from the opened tree to the world; since the tree was opened last, and N
 -- messages had been sent, each was made by this version, and each message that was delivered was sent since. A tree of which
 -- every process is down may be opened again, by the second version: then each process goes on from its log.
 pub data IsRunBy (tree : List TreeEntry) : Version → ℕ → List Made → World → Type 0 where

@@ -62,7 +62,7 @@ pub enum Event {
     Deliver(u64),
     /// Delivers the least numbered message that was not delivered yet, again and again, at most 10,000 times.
     Settle,
-    /// Restarts a process, which keeps so many bytes behind its forced front, or all of them.
+    /// Restarts a process, which keeps N bytes after its forced front, or all of them.
     Restart(ProcessId, Option<u64>),
     Trim(ProcessId),
 }
@@ -86,13 +86,13 @@ impl Event {
 #[derive(Drop)]
 pub enum Happening {
     Input(Input),
-    /// So many records behind the forced front are kept.
+    /// N records after the forced front are kept.
     Restart(u64),
     Trim,
 }
 
 /// What a device's failure left of an event: how many of its records were appended, and how many of the
-/// records behind the old forced front are in the new one.
+/// records after the old forced front are in the new one.
 #[derive(Clone, Copy, PartialEq, Eq)]
 pub struct Fault {
     pub appended: u64,

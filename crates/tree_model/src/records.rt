@@ -105,7 +105,7 @@ pub enum Record {
     Told(Branch, Outcome),
     /// The heuristic decision may be forgotten.
     Forgot(Branch),
-    /// The data are empty, and so many commits were made.
+    /// The data are empty, and N commits were made.
     Base(u64),
     /// The key has this value.
     Pair(Bytes, Bytes),

@@ -232,7 +232,7 @@ fn parent_of(entries: &[TreeEntry], id: ProcessId) -> Option<ProcessId>
     }
 }
 
-/// The level of a process, if a climb to the parents ends within so many steps.
+/// The level of a process, if a climb to the parents ends within N steps.
 fn level(entries: &[TreeEntry], id: ProcessId, steps: usize) -> Option<usize>
     ensures climbs { result ≡ level_within steps entries.now id }
     ensures within { IfSome result (λ n. n ≤ steps) }

@@ -1,4 +1,4 @@
--- The records behind the forced front, as the last of a log.
+-- The records after the forced front, as the last of a log.
 use Rattle.std.proofs.Common.{◌≡◌, ◌∙◌, ap, sym, subst, ℕ, ◌+◌, ◌-◌, ◌≤◌, All, List, [], ◌∷◌, ◌++◌, length, drop, arith, length-append}
 use Rattle.std.specs.List.{AllByRecursion}
 use Rattle.std.proofs.Math.Seq.{drop-append_seam}
@@ -17,12 +17,12 @@ fits_by k [] [] sound = tt
 fits_by k [] (y ∷ ys) sound = (sound_fits k y sound.0, fits_by k [] ys sound.1)
 fits_by k (x ∷ xs) ys sound = fits_by k xs ys sound.1
 
--- where so many bytes keep every record, all of the unforced ones are within them
+-- where N bytes keep every record, all of the unforced ones are within them
 pub all_within : (s : LogSight) (n : ℕ) → left_by s n ≡ records_of s.kept
     → length (whole_within (s.behind + n) s.kept.unforced) ≡ length s.kept.unforced
 all_within s n all = ap (λ (xs : List LogRecord). length xs) (append_cancel_left s.kept.forced _ _ all)
 
--- the last so many records of a log are the unforced ones
+-- the last N records of a log are the unforced ones
 pub behind_forced : (s : LogSight) (all : List LogRecord) (n : ℕ) → all ≡ records_of s.kept
     → n ≡ length s.kept.unforced
     → drop (length all - n) all ≡ s.kept.unforced

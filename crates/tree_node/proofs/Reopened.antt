@@ -231,7 +231,7 @@ log_handed_back bytes forced failures k old new (logs.Damaged place) h =
     inl (same_store bytes forced failures old new h.0)
 log_handed_back bytes forced failures k old new logs.OldFormat h = inl (same_store bytes forced failures old new h.0)
 
--- a log that opened stands in the store, with these records behind its own
+-- a log that opened stands in the store, with these records after its own
 holds_on : {S : Type 0} (bytes : S → List ℕ) (forced failures : S → ℕ) (k : LogForm) (old new : S) (opened : LogState)
     (kept : Kept) (more : List LogRecord) → Opens k (bytes old) (forced old) (failures old) opened
     → kept_of k (bytes new) (forced new) ≡ kept → records_of kept ≡ records_of opened.sight.kept ++ more

@@ -62,7 +62,7 @@ ReopensAs tree e bytes forced failures s values reaction =
 
 -- Refusals.
 
--- the bytes are the log of records that leave no manager, or behind which no number comes
+-- the bytes are the log of records that leave no manager, or after which no number comes
 pub record LeavesNoManager (p : LogForm) (bytes : List ℕ) (forced failures : ℕ) : Type 0 where
   pub log : LogState
   pub opens : Opens p bytes forced failures log

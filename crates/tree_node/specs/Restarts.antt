@@ -10,7 +10,7 @@ use Rattle.core_law.specs.worlds.Worlds.{CannotReopenAt, HasFailed, KeepsBytes, 
 use Rattle.manager_model.specs.Data.{ManagerData, Rests}
 use Rattle.rec_log.specs.Sights.{left_by}
 
--- the process restarts, and keeps so many of its unforced records
+-- the process restarts, and keeps N of its unforced records
 pub record RestartsNode (before behind : CoreState) (after : ManagerData) (bytes : Option ℕ) (made : ℕ × Reaction) : Type 0 where
   pub keep : ℕ
   pub keeps : KeepsBytes before bytes keep
@@ -32,7 +32,7 @@ NoRestart before behind old new bytes Exhausted =
     SameCore before behind × Rests old new × CannotReopenAt (Some before) bytes
 NoRestart before behind old new bytes e = ⊥
 
--- the log of the process, which is up, is trimmed, and so many records remain
+-- the log of the process, which is up, is trimmed, and N records remain
 pub record TrimsNode (before behind : CoreState) (old new : ManagerData) (remain : ℕ) : Type 0 where
   pub works : before.log.failed ≡ false
   pub sound : IsSoundLog before

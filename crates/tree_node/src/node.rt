@@ -61,7 +61,7 @@ impl<L: LogStore> Node<L> {
         }
     }
 
-    /// The records of its log, as a list made anew.
+    /// The records of its log, as a list made again.
     pub fn records(&self) -> Result<Vec<LogRecord>, AllocError>
         ensures { IfOk result (λ records. records.items ≡ records_of (core_of self.now).log.kept) }
     {
@@ -71,7 +71,7 @@ impl<L: LogStore> Node<L> {
         }
     }
 
-    /// The bytes of its log, as a list made anew.
+    /// The bytes of its log, as a list made again.
     pub fn log_text(&self) -> Result<Vec<u8>, AllocError>
         ensures { IfOk result (λ text. SpellsLog (core_of self.now) text.items) }
     {

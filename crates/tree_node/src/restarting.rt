@@ -22,7 +22,7 @@ use sub_core::Subordinate;
 use tree_model::{Reaction, StepError};
 
 impl<L: LogStore> Node<L> {
-    /// Restarts the process behind a crash that keeps so many of the bytes behind the forced front: it
+    /// Restarts the process after a crash that keeps N of the bytes after the forced front: it
     /// stands as the records that are left say. All memory is taken before the crash. Memory: nothing
     /// changed. Device: the device failed under the restart, and the process answers Failed until it is
     /// restarted again.
@@ -40,7 +40,7 @@ impl<L: LogStore> Node<L> {
     }
 
     /// Trims the log of the process: the last Opened stays, and the records of the cases that are not
-    /// forgotten or of which something is reported, and behind them a manager's data. Gives how many records
+    /// forgotten or of which something is reported, and after them a manager's data. Gives how many records
     /// remain. Failed, Memory: nothing changed. Device: the old log stands or the new one, and the process
     /// answers Failed until its restart.
     pub fn trim(&mut self) -> Result<u64, StepError>
@@ -56,7 +56,7 @@ impl<L: LogStore> Node<L> {
         }
     }
 
-    /// How many bytes its log has. A crash that keeps so many behind the forced front keeps every record.
+    /// How many bytes its log has. A crash that keeps N after the forced front keeps every record.
     pub fn log_size(&self) -> usize
         ensures { left_by (core_of self.now).log result ≡ records_of (core_of self.now).log.kept }
     {
@@ -66,7 +66,7 @@ impl<L: LogStore> Node<L> {
         }
     }
 
-    /// How many of its unforced records a crash would leave that keeps so many bytes behind the forced front.
+    /// How many of its unforced records a crash would leave that keeps N bytes after the forced front.
     pub fn left_behind(&self, keep: usize) -> Result<usize, AllocError>
         ensures { IfOk result (λ count. count ≡ records_kept (core_of self.now) keep) }
     {
@@ -104,7 +104,7 @@ impl<L: LogStore> Node<L> {
         self.records_follow();
     }
 
-    /// So many bytes behind the forced front are kept; all, where no number is given.
+    /// N bytes after the forced front are kept; all, where no number is given.
     fn kept_of(&self, bytes: Option<u64>) -> usize
         ensures { KeepsBytes (core_of self.now) bytes result }
     {

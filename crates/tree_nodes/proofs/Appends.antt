@@ -32,7 +32,7 @@ writes l new = record {
   durable = l.durable;
 }
 
--- or so many were, and so much of what stood behind the forced front came into it
+-- or N were, and so much of what stood after the forced front came into it
 abbrev pub breaks : Logs → List Record → ℕ → ℕ → Logs
 breaks l new a f =
     let left = take a new in
@@ -46,7 +46,7 @@ breaks l new a f =
       durable = take f behind ++ l.durable;
     }
 
--- a crash leaves so many of the records behind the forced front
+-- a crash leaves N of the records after the forced front
 abbrev pub loses : Logs → ℕ → Logs
 loses l k = record {
   forced = l.forced;
@@ -130,7 +130,7 @@ nested_writes l new h = record {
   forced_is_old = h.forced_is_old;
 }
 
--- what stands behind a fault
+-- what stands after a fault
 pub breaks_keeps : (l : Logs) (new : List Record) (a f : ℕ)
     → standing (breaks l new a f) ≡ standing l ++ take a new
 breaks_keeps l new a f =

@@ -214,7 +214,7 @@ reopens_boot AtRoot rs = others_boot (boot_of rs + 1) _ (all_none is_opened (λ 
 reopens_boot (Below p) rs = others_boot (boot_of rs + 1) _
     (all_none is_opened (λ c ts. refl) rs (cases_in rs))
 
--- the boot behind a restart is the next
+-- the boot after a restart is the next
 pub reopened_boot : (role : Role) (rs : List Record) → boot_of (rs ++ reopens role rs) ≡ boot_of rs + 1
 reopened_boot role rs = boot_append rs (reopens role rs) ∙ reopens_boot role rs
 

@@ -292,7 +292,7 @@ module _ (me p : ProcessId) (tree : List TreeEntry) (net : List Envelope) (n : N
       → has q (reopens (Below p) (left_of n j)) ≡ true → A
   none_reopened q j e f = not_both q (has q (reopens (Below p) (left_of n j))) f e
 
-  -- what a restart leaves of its histories, where it appended so many
+  -- what a restart leaves of its histories, where it appended N
   reopens_so : (ls : List Envelope) (j a : ℕ) (x : Node)
       → x.life ≡ reverse (take a (reopens (Below p) (left_of n j))) ++ n.life → x.heard ≡ [] → x.accepted
       ≡ n.accepted

@@ -30,7 +30,7 @@ pub record Undecided (rs : List Record) (c : Case) : Type 0 where
   pub no_commit : has (is_commit c) rs ≡ false
   pub no_abort : has (is_abort c) rs ≡ false
 
--- the record may stand behind these
+-- the record may stand after these
 abbrev pub Fits : List Record → Record → Type 0
 Fits rs (Collecting c ts) =
     (c.txn.presumption ≡ PresumeCommit)
@@ -40,7 +40,7 @@ Fits rs (Commit c ts) = CommitNames c.txn.presumption ts × Undecided rs c
 Fits rs (Abort c ts) = AbortNames c.txn.presumption ts × Undecided rs c
 Fits rs _ = Unit {0}
 
--- so may each of the list, behind these and those of the list before it
+-- so may each of the list, after these and those of the list before it
 abbrev pub AllFit : List Record → List Record → Type 0
 AllFit rs [] = Unit {0}
 AllFit rs (x ∷ xs) = Fits rs x × AllFit (rs ++ x ∷ []) xs
@@ -67,7 +67,7 @@ fit_both rs (x ∷ xs) ys f g = (
 at_end : (q : Record → Bool) (rs : List Record) (x : Record) → q x ≡ true → has q (rs ++ x ∷ []) ≡ true
 at_end q rs x e = in_second q rs (x ∷ []) (has-cons q x [] ∙ left (q x) (has q []) e)
 
--- A record that does not fit behind another never stands behind it.
+-- A record that does not fit after another never stands after it.
 
 module _ (q r : Record → Bool)
     (bars : (rs : List Record) (x : Record) → Fits rs x → q x ≡ true → has r rs ≡ false)
@@ -147,7 +147,7 @@ module _ (c : Case) where
   abort_bars_commit rs (Abort d ts) f e = of_it (λ k. has (is_commit k) rs ≡ false) d e f.1.no_commit
   abort_bars_commit rs x f e = absurd (cc)
 
-  -- nor behind one of its own kind
+  -- nor after one of its own kind
 
   pub collecting_is_once : (rs : List Record) (x : Record) → Fits rs x → is_collecting c x ≡ true
       → has (is_collecting c) rs ≡ false
@@ -339,7 +339,7 @@ module _ (c : Case) where
       by_first y (inl now) g k = by_record y now g
       by_first y (inr rest) g k = k rest
 
-  -- votes are collected behind a record under Presumed Commit alone
+  -- votes are collected after a record under Presumed Commit alone
   pub collects_by_commit : (rs : List Record) → AllFit [] rs → has (is_collecting c) rs ≡ true
       → c.txn.presumption ≡ PresumeCommit
   collects_by_commit rs f = collects_in [] rs f

@@ -1,4 +1,4 @@
--- Who is remembered behind an input at a coordinator, or was heard to vote, or is named by a record, was
+-- Who is remembered after an input at a coordinator, or was heard to vote, or is named by a record, was
 -- accepted.
 use Rattle.std.proofs.Common.{◌≡◌, ◌∙◌, ◌&&◌, ◌||◌, ◌⊎◌, inl, inr, ℕ, Bool, true, false, not, Option, Some, None, List, [], ◌∷◌, ◌++◌, refl, sym, ap, subst, arith, if◌then◌else◌}
 use Rattle.std.proofs.lemmas.List.Folds.{list_any-append}

@@ -1,4 +1,4 @@
--- What lasts of the cases of a coordinator; and what stands of a case behind records of others.
+-- What lasts of the cases of a coordinator; and what stands of a case after records of others.
 use Rattle.std.proofs.Common.{◌≡◌, ◌∙◌, ◌||◌, ℕ, Bool, true, false, Option, Some, None, List, [], ◌∷◌, ◌++◌, refl, sym, ap, arith, append_assoc}
 use Rattle.std.specs.Prelude.{fold}
 use Rattle.std.specs.List.{flat_map}
@@ -54,7 +54,7 @@ remembers_so : (me : ProcessId) (parent : Option ProcessId) (boot : ℕ) (c : Ca
 remembers_so me None boot c m h = refl
 remembers_so me (Some p) boot c m h = refl
 
--- what is remembered behind an input, where the boot stays
+-- what is remembered after an input, where the boot stays
 pub memory_behind : (me : ProcessId) (parent : Option ProcessId) (tree : List TreeEntry) (n : Node)
     (h : Heard)
     (k : Node) (c : Case) → k.heard ≡ n.heard ++ h ∷ [] → boot_of (kept k) ≡ boot_of (kept n)
@@ -118,7 +118,7 @@ owing-append c (x ∷ xs) ys =
     ap (λ ts. owing_in c x ++ ts) (owing-append c xs ys)
     ∙ sym (append_assoc (owing_in c x) (flat_map (owing_in c) xs) _)
 
--- a case stands as before behind records of others
+-- a case stands as before after records of others
 pub stands_as_before : (c : Case) (rs new : List Record) (ph : Phase) → has (is_record_of c) new ≡ false
     → standing_at (rs ++ new) c ph ≡ standing_at rs c ph
 stands_as_before c rs new ph e =

@@ -105,7 +105,7 @@ counts_next m t w Open e f = absurd (cc)
 counts_next m t w Idle e f = absurd (cc)
 counts_next m t w Over e f = absurd (cc)
 
--- What is remembered behind each input, at the root and below it.
+-- What is remembered after each input, at the root and below it.
 
 module _ (me : ProcessId) (boot : ℕ) (c : Case) (m : Memory) where
   abbrev After : Option ProcessId → Input → Memory
@@ -166,7 +166,7 @@ module _ (me : ProcessId) (parent : Option ProcessId) (tree : List TreeEntry) (n
   abbrev m : Memory
   m = memory_of (coordinator_place me parent tree) n c
 
-  -- what is remembered of the case behind the input
+  -- what is remembered of the case after the input
   abbrev pub then_remembers : Memory
   then_remembers =
       remembers_at parent me (boot_of (kept n)) c (memory_of (coordinator_place me parent tree) n c) h.input

@@ -1,4 +1,4 @@
--- The votes that a coordinator remembers of a live case behind an input are those that it has heard in it.
+-- The votes that a coordinator remembers of a live case after an input are those that it has heard in it.
 use Rattle.std.proofs.Common.{◌≡◌, ◌≢◌, ◌∙◌, ◌&&◌, ◌||◌, inl, inr, ℕ, Bool, true, false, not, Option, Some, None, List, [], ◌∷◌, ◌++◌, refl, sym, ap, subst, arith, if◌then◌else◌}
 use Rattle.std.proofs.lemmas.List.Folds.{list_any-append}
 use Rattle.tree_model.specs.declared.names.Case.{Case}

@@ -1,4 +1,4 @@
--- A ticket's number is given once, before and behind restarts: at each process, over every run.
+-- A ticket's number is given once, before and after restarts: at each process, over every run.
 use Rattle.std.proofs.Common.{◌≡◌, ◌∙◌, ◌≤◌, ◌<◌, ◌⊎◌, inl, inr, ◌+◌, ℕ, zero, suc, Bool, true, false, Option, Some, None, List, [], ◌++◌, refl, sym, ap, subst, arith}
 use Rattle.std.proofs.Math.Nat.{le_trans, le_refl}
 use Rattle.std.proofs.lemmas.List.{append-nil}

@@ -28,7 +28,7 @@ unfolding same_branch
 same_is d (CaseBranch c) = refl
 same_is d (Foreign x) = refl
 
--- the mark behind a list, from the mark before it
+-- the mark after a list, from the mark before it
 abbrev pub mark_behind : Case → Mark → List Record → Mark
 mark_behind d m rs = fold (mark_after (CaseBranch d)) m rs
 
@@ -61,7 +61,7 @@ other_leaves d m (Cleared c) e = refl
 other_leaves d m (Base n) e = refl
 other_leaves d m (Pair k v) e = refl
 
--- Fronts, and one list behind another.
+-- Fronts, and one list after another.
 
 step : (d : Case) (m : Mark) (r : Record) (rs : List Record)
     → in_order_from d m (r ∷ rs) ≡

@@ -194,7 +194,7 @@ pair_of tree w h x t g =
           (h.pairs g.of t pair (is_free w.net w.net g.of t (λ d e. e) h.joined_once g.joined)),
     )
 
--- A cascaded coordinator that committed behind its promise: the outcome is commit.
+-- A cascaded coordinator that committed after its promise: the outcome is commit.
 
 follows_has : (q r : Record → Bool) (xs : List Record) → follows q r xs ≡ true → has q xs ≡ true
 unfolding has

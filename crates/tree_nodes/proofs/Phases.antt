@@ -92,7 +92,7 @@ open_ends rs c h =
     not_so : Unknown ≡ Collecting → ⊥
     not_so e = cc
 
--- votes are asked for behind no record
+-- votes are asked for after no record
 pub open_asks : (rs : List Record) (c : Case) → c.txn.presumption ≡ PresumeAbort → Together rs c Open
     → Together rs c Asked
 open_asks rs c p h =
@@ -144,7 +144,7 @@ not_found q rs r e = one_more q rs r ∙ first (has q rs) (q r) e
     first a b e = grind arith
 
 module _ (rs : List Record) (c : Case) where
-  -- votes are asked for behind a record
+  -- votes are asked for after a record
   pub open_collects : (ts : List Ticket) → Together rs c Open
       → Together (rs ++ CollectingRecord c ts ∷ []) c Asked
   open_collects ts h =

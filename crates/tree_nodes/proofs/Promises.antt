@@ -1,4 +1,4 @@
--- Who says YES: a manager behind its forced promise, or a coordinator for its own case.
+-- Who says YES: a manager after its forced promise, or a coordinator for its own case.
 use Rattle.std.proofs.Common.{◌≡◌, ◌∙◌, ◌||◌, inl, inr, ℕ, Bool, true, false, Option, Some, None, List, [], ◌∷◌, ◌++◌, refl, sym, ap, subst, if◌then◌else◌}
 use Rattle.std.specs.Prelude.{not}
 use Rattle.std.specs.List.{flat_map}

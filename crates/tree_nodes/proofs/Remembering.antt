@@ -32,7 +32,7 @@ role_below (Some p) = Below p
 abbrev pub coordinator_place : ProcessId → Option ProcessId → List TreeEntry → Place
 coordinator_place me parent tree = record { me = me; role = role_below parent; tree = tree }
 
--- what it remembers of the case behind an input
+-- what it remembers of the case after an input
 abbrev pub remembers_at : Option ProcessId → ProcessId → ℕ → Case → Memory → Input → Memory
 remembers_at None me boot c m i = root_remembers me boot c m i
 remembers_at (Some p) me boot c m i = cascaded_remembers me boot c m i

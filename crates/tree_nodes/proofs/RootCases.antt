@@ -15,7 +15,7 @@ use Rattle.tree_model.specs.Outcomes.{has_accepted}
 use Rattle.tree_pairs.specs.readings.ReadingOf.{is_told_of_txn}
 use Rattle.tree_nodes.specs.WorldHolds.{IsGivenOut, is_record_of}
 
--- the case is the root's, and its number was given out, where so many were begun in this boot
+-- the case is the root's, and its number was given out, where N were begun in this boot
 pub record IsRoots (me : ProcessId) (boot count : ℕ) (c : Case) : Type 0 where
   pub no_ticket : c.ticket ≡ None
   pub own : c.txn.root ≡ me

@@ -85,7 +85,7 @@ module _ (c : Case) where
   is_recorded : (r : Record) → is_collecting c r ≡ true → is_record_of c r ≡ true
   is_recorded r e = grind arith
 
-  -- with Idle memory a case collects behind its record only
+  -- with Idle memory a case collects after its record only
   idle_collects : (p : Presumption) (E C A P K N : Bool)
       → standing_by E C A P K N (phase_standing p Idle) ≡ Collecting → K ≡ true
   idle_collects p E C A P true N e = refl

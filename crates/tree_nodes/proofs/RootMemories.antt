@@ -23,7 +23,7 @@ use Rattle.tree_model.specs.Nodes.{Place, Role, AtRoot, Node, Heard, kept}
 use Rattle.tree_model.specs.Memory.{Memory, Phase, Idle, Open, Asked, Over, fresh_memory, memory_of, remembers, root_remembers, hears_child, opens_case, next_txn, asks_votes, closes, accepts_ticket, has_child, sends_work, ticket_of_child, takes_vote, is_counted, with_vote, takes_ack, of_child, of_ticket, first_found}
 use Rattle.tree_model.specs.declared.messages.Finding.{Finding}
 
--- the case is of a transaction begun in this boot, and one of so many
+-- the case is of a transaction begun in this boot, and one of N
 pub record IsBegun (me : ProcessId) (boot count : ℕ) (c : Case) : Type 0 where
   pub no_ticket : c.ticket ≡ None
   pub own : c.txn.root ≡ me
@@ -189,7 +189,7 @@ same_memory me tree n k c e b =
     ap (λ hs. fold (remembers me AtRoot (boot_of (kept k)) c) fresh_memory hs) e
     ∙ ap (λ (j : ℕ). fold (remembers me AtRoot j c) fresh_memory n.heard) b
 
--- what is remembered behind an input, where the boot stays
+-- what is remembered after an input, where the boot stays
 pub memory_heard : (me : ProcessId) (tree : List TreeEntry) (n : Node) (h : Heard) (k : Node) (c : Case)
     → k.heard ≡ n.heard ++ h ∷ [] → boot_of (kept k) ≡ boot_of (kept n)
     → memory_of (root_place me tree) k c

@@ -146,7 +146,7 @@ module _ (me : ProcessId) (tree : List TreeEntry) (n : Node) (nested : Nested (l
         now c = (remembers_at None me (boot_of (kept n)) c
             (memory_of (coordinator_place me None tree) n c) h.input).phase
 
-        -- a case that was ended is not live behind it
+        -- a case that was ended is not live after it
 
         stays_closed : (c : Case) → IsEnded n c → IsLive (now c) → ⊥
         stays_closed c d = by_move (moves None me (boot_of (kept n)) c (m c) h.input)

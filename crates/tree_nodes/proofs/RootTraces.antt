@@ -237,7 +237,7 @@ module _ (me : ProcessId) (tree : List TreeEntry) (n : Node) (nested : Nested (l
         | inr next ↦ begins_open me boot (root_case x) (memory_of place n (root_case x)) h.input next
       ]
 
-      -- a node behind the input
+      -- a node after the input
       pub heard_holds : (k : Node) → k.heard ≡ n.heard ++ h ∷ [] → boot_of (kept k) ≡ boot_of (kept n)
           → k.begun ≡ now
           → ((x : Txn) → list_any (is_told_of_txn x) n.told ≡ true

@@ -1,4 +1,4 @@
--- Presumed Abort collects votes behind no record, at any coordinator.
+-- Presumed Abort collects votes after no record, at any coordinator.
 use Rattle.std.proofs.Common.{◌≡◌, ◌∙◌, inl, inr, Bool, true, false, Option, List, refl, ap}
 use Rattle.tree_model.specs.declared.names.Case.{Case}
 use Rattle.tree_model.specs.declared.names.ProcessId.{ProcessId}

@@ -86,7 +86,7 @@ module _ (q : Record → Bool) where
 pub case_is : (c d : Case) → same_case c d ≡ true → c ≡ d
 case_is c d e = elim (same_case_tells c d) [ inl t ↦ t.1 | inr f ↦ absurd (let g = f.0 in cc) ]
 
--- a record that passes the first test stands with none behind it that passes the second, or there is one
+-- a record that passes the first test stands with none after it that passes the second, or there is one
 -- that does
 now_or : (a b c l : Bool) → (a || b) ≡ true → c ≡ false → (b ≡ true → l ≡ true) → ((a && not c) || l) ≡ true
 now_or true b c l e f g = rw f refl

@@ -1,4 +1,4 @@
--- The numbers of a process's tickets, before and behind its restarts.
+-- The numbers of a process's tickets, before and after its restarts.
 use Rattle.std.specs.Prelude.{◌≡◌, ◌≤◌, true, false, Some, List}
 use Rattle.tree_model.specs.declared.names.Case.{Case}
 use Rattle.tree_model.specs.declared.names.Ticket.{Ticket}

@@ -51,12 +51,12 @@ abbrev pub part_by : (Case → Bool) → List TreeEntry → World → Txn → Op
 part_by up tree w x None = true
 part_by up tree w x (Some u) = accepted_by up (w.at (parent_in (role_of tree u.child) u.child)) x u
 
--- the case takes part, by a climb of so many levels
+-- the case takes part, by a climb of N levels
 abbrev pub part_within : ℕ → List TreeEntry → World → Case → Bool
 part_within zero tree w c = is_root_ticket c.ticket
 part_within (suc k) tree w c = part_by (part_within k tree w) tree w c.txn c.ticket
 
--- the case takes part: so many levels as the tree lists processes are enough
+-- the case takes part: as many levels as the tree lists processes are enough
 unfoldable pub takes_part : List TreeEntry → World → Case → Bool
 takes_part tree w c = part_within (length tree) tree w c
 
@@ -158,7 +158,7 @@ pub record Issues (place : Place) (net : List Envelope) (n : Node) : Type 0 wher
 
 -- A coordinator.
 
--- a record that passes the first test stands behind one that passes the second; the list has the oldest
+-- a record that passes the first test stands after one that passes the second; the list has the oldest
 -- first
 abbrev pub stands_behind : (Record → Bool) → (Record → Bool) → List Record → Bool
 stands_behind q r [] = false

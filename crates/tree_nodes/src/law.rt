@@ -72,7 +72,7 @@ pub fn cases_stand_in_order()
 {}
 
 /// Where the world's invariant holds, a case that JOINED gave is of a pair of the tree, which has the pair's
-/// invariant; so a cascaded coordinator that committed behind its promise did so by the outcome.
+/// invariant; so a cascaded coordinator that committed after its promise did so by the outcome.
 pub fn given_cases_have_pairs()
     ensures pair { (tree : List TreeEntry) (w : World) → WorldHolds tree w → (x : Txn) (t : Ticket)
         → sent (gives_case (child_case x t)) w.net ≡ true
@@ -84,7 +84,7 @@ pub fn given_cases_have_pairs()
 {}
 
 /// In every run of every tree a process gives each ticket number once, a cascaded coordinator too, also
-/// behind a restart; and each ticket that is active was told of by JOINED.
+/// after a restart; and each ticket that is active was told of by JOINED.
 pub fn numbers_are_given_once()
     ensures { (tree : List TreeEntry) (es : List Made) (w : World) → IsRun tree es w → (q : ProcessId)
         → IsIssuer (role_of tree q) → Numbers (place_of tree q) w.net (w.at q) }

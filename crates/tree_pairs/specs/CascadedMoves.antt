@@ -57,7 +57,7 @@ pub record MayReadUp (r : Reading) : Type 0 where
 abbrev pub reads_up : Reading → Reading
 reads_up r = record r { phase = Closed; read_up = true }
 
--- Presumed Commit: End is written behind Collecting.
+-- Presumed Commit: End is written after Collecting.
 abbrev pub reads_up_collected : Reading → Reading
 reads_up_collected r = record r { phase = Closed; read_up = true; end_kept = true }
 

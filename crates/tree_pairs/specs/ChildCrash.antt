@@ -14,7 +14,7 @@ pub record ChildFront : Type 0 where
   pub forgot : Bool
 
 -- A front of the kept list that holds the forced front: nothing of it was lost, nothing is new, and no record
--- stands behind a lost one.
+-- stands after a lost one.
 pub record IsChildFront (front : ChildFront) (r : Reading) : Type 0 where
   pub holds_prepared : r.prepared_forced ≡ true → front.prepared ≡ true
   pub holds_learnt_commit : r.learnt_commit_forced ≡ true → front.learnt_commit ≡ true
@@ -48,22 +48,22 @@ child_fails r = record r {
   child_refused = r.ticket_open || r.child_refused;
 }
 
--- It failed behind the promise, which was written and perhaps not forced; nothing was sent.
+-- It failed after the promise, which was written and perhaps not forced; nothing was sent.
 pub record MayFailToPromise (r : Reading) : Type 0 where
   pub asked : r.sent_prepare ≡ true
   pub is_open : r.ticket_open ≡ true
 
--- the device failed behind Prepared or Prepare: the promise is appended, and no YES goes out
+-- the device failed after Prepared or Prepare: the promise is appended, and no YES goes out
 abbrev pub fails_to_promise : Reading → Reading
 fails_to_promise r = record r { child_failed = true; ticket_open = false; prepared_kept = true }
 
--- It failed behind the record of the outcome.
+-- It failed after the record of the outcome.
 pub record MayFailToLearnCommit (r : Reading) : Type 0 where
   pub up : r.child_failed ≡ false
   pub told : r.sent_commit ≡ true
   pub in_doubt : IsInDoubt r
 
--- the device failed behind the record of the commit
+-- the device failed after the record of the commit
 abbrev pub fails_to_commit : Reading → Reading
 fails_to_commit r = record r {
   child_failed = true;
@@ -77,18 +77,18 @@ pub record MayFailToLearnAbort (r : Reading) : Type 0 where
   pub told : r.sent_abort ≡ true
   pub in_doubt : IsInDoubt r
 
--- the device failed behind the record of the abort
+-- the device failed after the record of the abort
 abbrev pub fails_to_roll_back : Reading → Reading
 fails_to_roll_back r = record r { child_failed = true; child_refused = true; learnt_abort_kept = true }
 
--- It failed behind an operator's decision, or behind the operator's Forgot.
+-- It failed after an operator's decision, or after the operator's Forgot.
 pub record MayFailToDecideAlone (r : Reading) : Type 0 where
   pub manager : r.child_is_manager ≡ true
   pub up : r.child_failed ≡ false
   pub in_doubt : IsInDoubt r
   pub undecided : r.heuristic_kept ≡ false
 
--- the device failed behind the operator's decision
+-- the device failed after the operator's decision
 abbrev pub fails_to_decide_alone : Bool → Reading → Reading
 fails_to_decide_alone commit r = record r {
   child_failed = true;
@@ -102,7 +102,7 @@ pub record MayFailToForget (r : Reading) : Type 0 where
   pub up : r.child_failed ≡ false
   pub heuristic : IsHeuristic r
 
--- the device failed behind Forgot
+-- the device failed after Forgot
 abbrev pub fails_to_forget : Reading → Reading
 fails_to_forget r = record r { child_failed = true; forgot_kept = true }
 

@@ -46,7 +46,7 @@ pub record ChildRowsUnderCommit : Type 0 where
   pub acknowledges_settled : Keeps PresumedCommit child.MayAcknowledge child.acknowledges
   pub asks : Keeps PresumedCommit child.MayAsk child.asks
 
--- An operator's decision and the Forgot behind it keep the invariant, also where the device fails, under
+-- An operator's decision and the Forgot after it keep the invariant, also where the device fails, under
 -- Presumed Abort.
 pub record HeuristicRowsUnderAbort : Type 0 where
   pub decides_alone : (commit : Bool)
@@ -56,7 +56,7 @@ pub record HeuristicRowsUnderAbort : Type 0 where
       → Keeps PresumedAbort child_crash.MayFailToDecideAlone (child_crash.fails_to_decide_alone commit)
   pub fails_to_forget : Keeps PresumedAbort child_crash.MayFailToForget child_crash.fails_to_forget
 
--- An operator's decision and the Forgot behind it keep the invariant, also where the device fails, under
+-- An operator's decision and the Forgot after it keep the invariant, also where the device fails, under
 -- Presumed Commit.
 pub record HeuristicRowsUnderCommit : Type 0 where
   pub decides_alone : (commit : Bool)

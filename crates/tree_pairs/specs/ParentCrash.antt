@@ -12,7 +12,7 @@ pub record ParentFront : Type 0 where
   pub end : Bool
 
 -- A front of the kept list that holds the forced front: nothing of it was lost, nothing is new, and no record
--- stands behind a lost one. (A forced Abort or End may be lost here too: nothing rests on them.)
+-- stands after a lost one. (A forced Abort or End may be lost here too: nothing rests on them.)
 pub record IsParentFront (front : ParentFront) (r : Reading) : Type 0 where
   pub holds_collecting : r.collecting_forced ≡ true → front.collecting ≡ true
   pub holds_own_prepare : r.own_prepare_forced ≡ true → front.own_prepare ≡ true
@@ -40,11 +40,11 @@ pub record MayFailParent (r : Reading) : Type 0 where
 abbrev pub parent_fails : Reading → Reading
 parent_fails r = record r { failed = true; phase = Closed; refused = is_live r.phase || r.refused }
 
--- Presumed Commit: it failed behind Collecting; no PREPARE went out.
+-- Presumed Commit: it failed after Collecting; no PREPARE went out.
 pub record MayFailToCollect (r : Reading) : Type 0 where
   pub active : r.phase ≡ Active
 
--- the device failed behind Collecting: no PREPARE goes out
+-- the device failed after Collecting: no PREPARE goes out
 abbrev pub fails_to_collect : Reading → Reading
 fails_to_collect r = record r {
   failed = true;
@@ -54,7 +54,7 @@ fails_to_collect r = record r {
   collects = r.accepted;
 }
 
--- It failed behind the Abort of a case that waits for votes.
+-- It failed after the Abort of a case that waits for votes.
 abbrev pub fails_to_abort : Reading → Reading
 fails_to_abort r = record r { failed = true; phase = Closed; refused = true; abort_kept = true }
 
@@ -68,7 +68,7 @@ fails_to_abort_naming r = record r {
   owed = is_told_to_abort r;
 }
 
--- the device failed behind the Abort for the first NO
+-- the device failed after the Abort for the first NO
 abbrev pub fails_to_hear_no : Reading → Reading
 fails_to_hear_no r = record r {
   failed = true;
@@ -82,17 +82,17 @@ fails_to_hear_no r = record r {
 abbrev pub fails_at_no : Reading → Reading
 fails_at_no r = record r { failed = true; phase = Closed; first_no = true; refused = true }
 
--- Presumed Commit: it failed behind the End of a case whose children all voted READ; nothing was told or
+-- Presumed Commit: it failed after the End of a case whose children all voted READ; nothing was told or
 -- sent.
 pub record MayFailToEndReadOnly (r : Reading) : Type 0 where
   pub waiting : r.phase ≡ Collecting
   pub all_read : r.accepted ≡ true → r.first_read ≡ true
 
--- the device failed behind the End of a read-only case
+-- the device failed after the End of a read-only case
 abbrev pub fails_to_end_read_only : Reading → Reading
 fails_to_end_read_only r = record r { failed = true; phase = Closed; refused = true; end_kept = true }
 
--- It failed behind the root's Commit; nothing was sent or told, and the Commit may be lost.
+-- It failed after the root's Commit; nothing was sent or told, and the Commit may be lost.
 abbrev pub fails_to_decide_naming : Reading → Reading
 fails_to_decide_naming r = record r {
   failed = true;
@@ -101,11 +101,11 @@ fails_to_decide_naming r = record r {
   owed = r.accepted && r.first_yes;
 }
 
--- the device failed behind the root's Commit: nothing is told
+-- the device failed after the root's Commit: nothing is told
 abbrev pub fails_to_decide : Reading → Reading
 fails_to_decide r = record r { failed = true; phase = Closed; commit_kept = true }
 
--- It failed behind a cascaded case's Prepare; no YES was sent.
+-- It failed after a cascaded case's Prepare; no YES was sent.
 abbrev pub fails_to_promise_up : Reading → Reading
 fails_to_promise_up r = record r {
   failed = true;
@@ -114,23 +114,23 @@ fails_to_promise_up r = record r {
   names = r.accepted && r.first_yes;
 }
 
--- It failed behind a cascaded case's Commit or Abort.
+-- It failed after a cascaded case's Commit or Abort.
 abbrev pub fails_to_pass_commit_naming : Reading → Reading
 fails_to_pass_commit_naming r = record r { failed = true; commit_kept = true; owed = r.names }
 
--- the device failed behind the Commit of a promised case
+-- the device failed after the Commit of a promised case
 abbrev pub fails_to_pass_commit : Reading → Reading
 fails_to_pass_commit r = record r { failed = true; commit_kept = true }
 
--- the device failed behind the Abort of a promised case, which names nobody
+-- the device failed after the Abort of a promised case, which names nobody
 abbrev pub fails_to_pass_abort : Reading → Reading
 fails_to_pass_abort r = record r { failed = true; refused = true; abort_kept = true }
 
--- the device failed behind the Abort of a promised case, which names those that it promised for
+-- the device failed after the Abort of a promised case, which names those that it promised for
 abbrev pub fails_to_pass_abort_naming : Reading → Reading
 fails_to_pass_abort_naming r = record r { failed = true; refused = true; abort_kept = true; owed = r.names }
 
--- It failed behind the End.
+-- It failed after the End.
 abbrev pub fails_to_end : Reading → Reading
 fails_to_end r = record r { failed = true; end_kept = true }
 
@@ -169,7 +169,7 @@ parent_loses front r = record r {
   owed = (front.commit || front.abort) && r.owed;
 }
 
--- Presumed Commit: a Collecting with nothing behind it is undecided. The restart writes its Abort, naming all
+-- Presumed Commit: a Collecting with nothing after it is undecided. The restart writes its Abort, naming all
 -- that it names; if that fails too, the Abort stands unforced.
 abbrev pub is_undecided : Reading → Bool
 is_undecided r = r.collecting_kept && not r.own_prepare_kept && not r.commit_kept && not r.abort_kept &&
@@ -180,7 +180,7 @@ pub record MayAbortAtRestart (r : Reading) : Type 0 where
   pub failed : r.failed ≡ true
   pub undecided : is_undecided r ≡ true
 
--- the device failed again behind the Abort that the restart appended
+-- the device failed again after the Abort that the restart appended
 abbrev pub fails_to_abort_at_restart : Reading → Reading
 fails_to_abort_at_restart r = record r { abort_kept = true; owed = r.collects }
 

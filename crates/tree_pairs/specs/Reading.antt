@@ -36,7 +36,7 @@ pub record Reading : Type 0 where
   pub phase : Phase
   -- Memory has the ticket among the case's accepted children.
   pub accepted : Bool
-  -- An ACK of the ticket was heard behind the decision, since the last restart.
+  -- An ACK of the ticket was heard after the decision, since the last restart.
   pub acked : Bool
   -- What happened at the parent, ever.
   -- The case accepted the ticket.
@@ -88,7 +88,7 @@ pub record Reading : Type 0 where
   -- Committed, or a coordinator's Commit, or Told of a commit.
   pub learnt_commit_kept : Bool
   pub learnt_commit_forced : Bool
-  -- RolledBack, or a coordinator's Abort behind its Prepare, or Told of an abort.
+  -- RolledBack, or a coordinator's Abort after its Prepare, or Told of an abort.
   pub learnt_abort_kept : Bool
   pub learnt_abort_forced : Bool
   -- HeurCommit or HeurRollback, and which of the two.

@@ -33,7 +33,7 @@ pub record MayEndReadOnly (r : Reading) : Type 0 where
 abbrev pub ends_read_only : Reading → Reading
 ends_read_only r = record r { phase = Closed; refused = true }
 
--- Presumed Commit: End is written behind Collecting.
+-- Presumed Commit: End is written after Collecting.
 abbrev pub ends_read_only_collected : Reading → Reading
 ends_read_only_collected r = record r { phase = Closed; refused = true; end_kept = true }
 

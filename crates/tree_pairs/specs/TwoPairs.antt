@@ -59,7 +59,7 @@ pub record OneStep : Type 0 where
   pub reads_empty : Together (λ a b. Unit {0}) child.votes_read cascaded.reads_empty
   -- All its children voted READ: READ.
   pub reads : Together (λ a b. Unit {0}) child.votes_read cascaded.reads_up
-  -- The same, with End behind Collecting.
+  -- The same, with End after Collecting.
   pub reads_collected : Together (λ a b. Unit {0}) child.votes_read cascaded.reads_up_collected
   -- A child voted NO: NO.
   pub hears_no : Together (λ a b. parent.MayHearNo b) child.votes_no parent.hears_no
@@ -102,19 +102,19 @@ pub record OneStep : Type 0 where
   pub trims : Together (λ a b. Unit {0}) child.trims_child parent.trims_parent
   -- A fault writes nothing of the case.
   pub fails : Together (λ a b. Unit {0}) child_crash.child_fails parent_crash.parent_fails
-  -- A fault behind Collecting.
+  -- A fault after Collecting.
   pub fails_to_collect : Together (λ a b. parent_crash.MayFailToCollect b) child_crash.child_fails
       parent_crash.fails_to_collect
-  -- A fault behind the Abort of a case that waits for votes.
+  -- A fault after the Abort of a case that waits for votes.
   pub fails_to_abort : Together (λ a b. parent.MayAbort b) child_crash.child_fails
       parent_crash.fails_to_abort
-  -- A fault behind the promise.
+  -- A fault after the promise.
   pub fails_to_promise : Together (λ a b. cascaded.MayPromise b) child_crash.fails_to_promise
       parent_crash.fails_to_promise_up
-  -- A fault behind the Commit that obeys.
+  -- A fault after the Commit that obeys.
   pub fails_to_pass_commit : Together (λ a b. cascaded.MayPassCommit b) child_crash.fails_to_commit
       parent_crash.fails_to_pass_commit
-  -- A fault behind the Abort that obeys.
+  -- A fault after the Abort that obeys.
   pub fails_to_pass_abort : Together (λ a b. cascaded.MayPassAbort b) child_crash.fails_to_roll_back
       parent_crash.fails_to_pass_abort
   -- A restart forces what is left and answers.

@@ -19,7 +19,7 @@ Breaks Inv May wrong r = Inv r × May r × (Inv (wrong r) → ⊥)
 abbrev pub forgets_after_first_ack : Reading → Reading
 forgets_after_first_ack r = ends r
 
--- PREPARE goes out behind a Collecting that is not forced.
+-- PREPARE goes out after a Collecting that is not forced.
 abbrev pub prepare_before_collecting : Reading → Reading
 prepare_before_collecting r = record r {
   phase = Collecting;
@@ -40,7 +40,7 @@ reads_over_a_yes r = reads_up r
 abbrev pub obeys_contradicting_commit : Reading → Reading
 obeys_contradicting_commit r = passes_commit r
 
--- It has an Abort behind its Prepare, and a late presumption from above says COMMIT.
+-- It has an Abort after its Prepare, and a late presumption from above says COMMIT.
 pub record HasAborted (r : Reading) : Type 0 where
   pub cascaded : r.parent_is_root ≡ false
   pub up : r.failed ≡ false

@@ -14,7 +14,7 @@ pub fn child_rows()
     ensures presumed_commit { ChildRowsUnderCommit }
 {}
 
-/// An operator's decision and the Forgot behind it keep the invariant, also where the device fails.
+/// An operator's decision and the Forgot after it keep the invariant, also where the device fails.
 pub fn heuristic_rows()
     ensures presumed_abort { HeuristicRowsUnderAbort }
     ensures presumed_commit { HeuristicRowsUnderCommit }

@@ -45,7 +45,7 @@ trimmed_same parent rs =
 abbrev pub Grows : List Record → List Record → Type 0
 Grows xs ys = (q : Record → Bool) → has q xs ≡ true → has q ys ≡ true
 
--- the node behind a step: by an input's records, or at rest, or restarted, or trimmed
+-- the node after a step: by an input's records, or at rest, or restarted, or trimmed
 pub data Became (me : ProcessId) (parent : Option ProcessId) (tree : List TreeEntry) (n k : Node) : Type 0 where
   by_turn : (h : Heard) (g : Effect) (new : List Record) → n.failed ≡ false
       → CoordinatorTurn (coordinator_place me parent tree) parent n h g

@@ -1,4 +1,4 @@
--- Behind a cascaded coordinator's acknowledgement that is clear, each ticket that its case ever named has acknowledged.
+-- After a cascaded coordinator's acknowledgement that is clear, each ticket that its case ever named has acknowledged.
 use Rattle.std.proofs.Common.{◌≡◌, ◌∙◌, ◌||◌, ◌⊎◌, inl, inr, ℕ, Bool, true, false, Some, List, [], ◌∷◌, ◌++◌, refl, sym, ap, subst, arith}
 use Rattle.std.specs.Prelude.{reverse}
 use Rattle.tree_model.specs.declared.names.Case.{Case}

@@ -79,7 +79,7 @@ pub decision_stands : (c : Case) (b : Outcome) (rs : List Record) → decision_o
 unfolding decision_of
 decision_stands c b rs e = elim (decisions_stand c b None rs e) [ inl none ↦ absurd (cc) | inr is ↦ is ]
 
--- Behind records in order a decided branch has a decision.
+-- After records in order a decided branch has a decision.
 
 abbrev pub is_decided_mark : Mark → Bool
 is_decided_mark Decided = true

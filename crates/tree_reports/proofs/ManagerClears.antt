@@ -1,4 +1,4 @@
--- Behind a manager's acknowledgement that does not report its ticket, no operator ever decides against the outcome.
+-- After a manager's acknowledgement that does not report its ticket, no operator ever decides against the outcome.
 use Rattle.std.proofs.Common.{◌≡◌, ◌∙◌, inl, inr, List, [], ◌∷◌, sym, subst}
 use Rattle.tree_model.specs.declared.names.Case.{Case}
 use Rattle.tree_model.specs.declared.names.Outcome.{Outcome}

@@ -1,4 +1,4 @@
--- Behind the last acknowledgement that is owed, each ticket that a kept decision names has acknowledged it.
+-- After the last acknowledgement that is owed, each ticket that a kept decision names has acknowledged it.
 use Rattle.std.proofs.Common.{◌≡◌, ◌∙◌, ◌&&◌, inl, inr, Bool, true, false, Option, List, [], refl, sym, ap, subst, arith}
 use Rattle.std.specs.Prelude.{not}
 use Rattle.tree_model.specs.declared.names.Case.{Case}

@@ -275,7 +275,7 @@ module _ (tree : List TreeEntry) (is_tree : IsTree tree) (es : List Made) (w : W
         let given = all_coordinated tree es w plain q None top in
         live_undecided q None tree n (premises tree es w plain q None top given) given lasting.unaborted up c (inr at)
 
-    -- And behind the last acknowledgement.
+    -- And after the last acknowledgement.
 
     ended_by : n.failed ≡ false → (o : Outcome) (s : Standing) → Decided o s → (coordinator_view here n c).standing ≡ s
         → has_ended n c o ≡ true

@@ -111,7 +111,7 @@ module _ (tree : List TreeEntry) (es : List Made) (w : World) (run : IsRun tree 
     step = step_of (place_of tree q) (w.at q) m e (makes_at tree w m e w' made).node
         (makes_at tree w m e w' made).made
 
-    -- what holds of the process behind the step, and of each other before it, holds of all
+    -- what holds of the process after the step, and of each other before it, holds of all
     pub by_process : (P : ProcessId → Node → Type 0) → P q (makes_at tree w m e w' made).node
         → ((r : ProcessId) → P r (w.at r)) → (r : ProcessId)
         → P r (put_at q (makes_at tree w m e w' made).node w.at r)

@@ -20,7 +20,7 @@ use Rattle.tree_reports.proofs.Found.{among_at, among_second}
 use Rattle.tree_reports.proofs.Naming.{never}
 use Rattle.tree_reports.proofs.SinceOpened.{since_step}
 
--- these messages were sent behind so many others
+-- these messages were sent after N others
 pub record Behind (net : List Envelope) (before : ℕ) (ls : List Envelope) : Type 0 where
   pub earlier : List Envelope
   pub whole : net ≡ earlier ++ ls

@@ -77,7 +77,7 @@ pub record Covers (ls : List Envelope) (n : Node) (x : Txn) (t : Ticket) (o : Ou
   pub collecting_is_decided : has (is_collecting (child_case x t)) (kept n) ≡ true
       → has (is_decision (child_case x t)) n.forced ≡ true
 
--- Each process that is up has heard these messages alone. Behind an acknowledgement that does not report its own ticket,
+-- Each process that is up has heard these messages alone. After an acknowledgement that does not report its own ticket,
 -- a manager has no decision against the outcome, and a coordinator has acknowledgements of all that it ever named.
 pub record SinceOpened (tree : List TreeEntry) (ls : List Envelope) (w : World) : Type 0 where
   pub heard : (q : ProcessId) → (w.at q).failed ≡ false → AllHeardAmong ls (w.at q).heard

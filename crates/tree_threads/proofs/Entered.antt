@@ -77,7 +77,7 @@ entering tree me v own x c new name o is_own step is listed made has =
           (enters_own tree xs x me new grown.0 made.node grown.1 grown.2.own made.place made.stands);
     }
 
--- the entries of the process behind the entry are its own
+-- the entries of the process after the entry are its own
 pub own_behind : (me : ProcessId) (v : View) (own : List Entry) (x : Entry) (c : ℕ) → v.process.name ≡ Some me
     → IsOffered v → v.process.own ≡ own ++ x ∷ [] → IsAt me x
     → v.process.own ≡ own_of v.process.name (entries_in (v.journal.all ++ (c, x) ∷ []))

@@ -1,4 +1,4 @@
--- What a process makes under its own lock is a step behind its own entries.
+-- What a process makes under its own lock is a step after its own entries.
 use Rattle.std.proofs.Common.{◌≡◌, ◌∙◌, ap, sym, subst, refl, ℕ, true, None, List}
 use Rattle.tree_model.specs.declared.names.ProcessId.{ProcessId}
 use Rattle.tree_model.specs.declared.events.Entry.{Entry}

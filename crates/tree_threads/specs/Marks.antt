@@ -23,8 +23,8 @@ pub record Delivers (net : List Envelope) (me : ProcessId) (number : ℕ) (h : H
   pub receiver : envelope.to ≡ me
   pub happens : h ≡ Handles (MessageInput number envelope.message)
 
--- What happens by an event at a process that keeps this, where these messages were sent; a restart keeps so many
--- bytes behind the forced front, and shows how many records that keeps.
+-- What happens by an event at a process that keeps this, where these messages were sent; a restart keeps N
+-- bytes after the forced front, and shows how many records that keeps.
 abbrev pub Happens : List Envelope → ProcessId → CoreState → Event → Happening → ℕ → Type 0
 Happens net me s (ActOf a) h keep = h ≡ Handles (ActInput a)
 Happens net me s (Deliver k) h keep = Delivers net me k h
@@ -50,7 +50,7 @@ IsStrange net me Settle = ⊤
 IsStrange net me (Restart p bytes) = p ≢ me
 IsStrange net me (Trim p) = p ≢ me
 
--- Why a step was not marked: the event is none of the process's; or it is one, and the journal, of so many entries,
+-- Why a step was not marked: the event is none of the process's; or it is one, and the journal, of N entries,
 -- is full. Want of memory may come at any time.
 abbrev pub NotMarked : List Envelope → ℕ → ProcessId → Event → PostError → Type 0
 NotMarked net entries me event Stranger = IsStrange net me event

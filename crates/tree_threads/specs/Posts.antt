@@ -30,7 +30,7 @@ post_error_number JournalFull = 2
 post_error_number (Step e) = 3
 post_error_number Memory = 4
 
--- What happens is what this event asks of a process that keeps this: a restart keeps so many bytes behind the forced
+-- What happens is what this event asks of a process that keeps this: a restart keeps N bytes after the forced
 -- front as it names.
 abbrev pub AsksAt : CoreState → Event → Happening → Type 0
 AsksAt s (Restart p bytes) h = (keep : ℕ) × KeepsBytes s bytes keep × (h ≡ restart_of s keep)

@@ -22,11 +22,11 @@ use tree_ties::ties::meet;
 /// How busy the workers are. No contract speaks of it.
 #[derive(Clone, Copy, PartialEq, Eq)]
 pub(crate) struct Turns {
-    /// So many messages are claimed.
+    /// N messages are claimed.
     claims: usize,
-    /// So many workers wait for a message.
+    /// N workers wait for a message.
     sleepers: usize,
-    /// So many of them were called since one last woke.
+    /// N of them were called since one last woke.
     called: usize,
 }
 
@@ -41,7 +41,7 @@ impl Turns {
     }
 }
 
-/// A worker is woken for so many messages that are open at processes to which nobody delivers.
+/// A worker is woken for N messages that are open at processes to which nobody delivers.
 const MESSAGES_A_WORKER: usize = 8;
 
 /// A message that somebody delivers now: its number, its receiver, and whether there is more to do than those

@@ -65,7 +65,7 @@ fn handle(node: &mut Node<MemoryStore>, input: InputRef<'_>) -> Result<Reaction,
     handled
 }
 
-/// A process restarts, and keeps so many bytes behind its forced front, which are so many records.
+/// A process restarts, and keeps `keep` bytes after its forced front, which are `kept` records.
 fn restart(node: &mut Node<MemoryStore>, kept: u64, keep: usize) -> Result<Reaction, StepError>
     requires { kept ≡ records_kept (core_of node.old) keep }
     ensures ok { IfOk result (RestartsAlone (core_of node.old) (core_of node.new) (data_of node.new) keep kept) }
@@ -127,7 +127,7 @@ fn make_it(
 }
 
 /// Makes the marked step under the process's lock alone, whatever the others do meanwhile, as the process's data answer
-/// it. The step's entry is one behind the process's own. A refusal, which is never Device, leaves the process and its
+/// it. The step's entry is one after the process's own. A refusal, which is never Device, leaves the process and its
 /// data as they were, and takes the mark away.
 pub fn make_step<N: Seats>(
     alloc: Global,

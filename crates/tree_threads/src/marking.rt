@@ -24,7 +24,7 @@ use tree_ties::ties::want;
 /// The most entries that a journal has when a step is marked.
 pub const MOST_ENTRIES: usize = 1_000_000;
 
-/// What a process wants to do, as an entry that shows nothing yet; how many bytes behind its forced front it
+/// What a process wants to do, as an entry that shows nothing yet; how many bytes after its forced front it
 /// keeps, where that is a restart; and room for the entry that comes of it.
 #[derive(Drop)]
 pub struct Marked {
@@ -41,7 +41,7 @@ pub fn is_same(a: ProcessId, b: ProcessId) -> bool
     a.0 == b.0
 }
 
-/// So many bytes behind the forced front are kept as a restart names; all, where it names none.
+/// N bytes after the forced front are kept as a restart names; all, where it names none.
 fn kept_of(node: &Node<MemoryStore>, bytes: Option<u64>) -> usize
     ensures { KeepsBytes (core_of node.now) bytes result }
 {
@@ -132,7 +132,7 @@ fn asked<N: Seats>(
 ///
 /// Stranger: the event is a settle, delivers a message that was not sent to this process, or is another's
 /// restart or trim. JournalFull: else, and the journal has 1,000,000 entries or more. Memory: a growth was
-/// refused. Behind a refusal the process and the journal are as before.
+/// refused. After a refusal the process and the journal are as before.
 pub fn mark<N: Seats>(
     alloc: Global,
     ties: &Ties,

@@ -30,7 +30,7 @@ Makes s v found w = w ≡ (made_of v.0 s.said, v.1)
 abbrev pub Drops : Telling
 Drops s v found w = w ≡ (with_process v.0 (cleared v.0.process), v.1)
 
--- the process offers: its entries are the journal's and one of the wanted step, which may come behind them
+-- the process offers: its entries are the journal's and one of the wanted step, which may come after them
 pub record IsOffered (v : View) : Type 0 where
   pub entry : Entry
   pub own : v.process.own ≡ own_of v.process.name (entries_in v.journal.all) ++ entry ∷ []

@@ -10,7 +10,7 @@ use Rattle.tree_ties.specs.declared.views.ProcessView.{ProcessView}
 use Rattle.tree_ties.specs.declared.views.View.{View}
 use Rattle.tree_ties.specs.Views.{AllIn, Rise, entries_in, idle_at, own_of}
 
--- what is wanted may come behind this net: a message that it delivers stands there, under its number
+-- what is wanted may come after this net: a message that it delivers stands there, under its number
 abbrev pub IsWanted : Option Entry → List Envelope → Type 0
 IsWanted None net = ⊤
 IsWanted (Some x) net = FindsMessage net x.step.process x.step.happening

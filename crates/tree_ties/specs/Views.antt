@@ -135,6 +135,6 @@ last_pair n [] = []
 last_pair n (x ∷ []) = (n, x.1) ∷ []
 last_pair n (x ∷ y ∷ ys) = last_pair (suc n) (y ∷ ys)
 
--- the pass has the last entry's pair behind its own
+-- the pass has the last entry's pair after its own
 abbrev pub noted : View → View
 noted v = record v { pass = record v.pass { pairs = v.pass.pairs ++ last_pair 0 v.journal.all } }

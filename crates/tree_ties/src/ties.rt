@@ -98,7 +98,7 @@ pub fn drop_want(ties: &Ties, seat: &mut Place, word: usize)
 }
 
 /// The process offers what it made: its entries are the journal's of it, and one of the wanted step, which
-/// may come behind them all.
+/// may come after them all.
 pub fn offer(ties: &Ties, seat: &mut Place, journal: &mut Place, word: usize)
     requires here { SitTogether ties.now.shared.table_id journal.old.table_id seat.old.table_id }
     requires journal { KeepsJournal journal.old.me }

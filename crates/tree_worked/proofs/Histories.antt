@@ -11,7 +11,7 @@ use Rattle.tree_pairs.proofs.turns.Steps.{step_of}
 use Rattle.tree_nodes.proofs.Tests.{has-append}
 use Rattle.tree_worked.specs.Histories.{was_forced}
 
--- it passes behind the step just where it passes in the forced front behind it, or passed before
+-- it passes after the step just where it passes in the forced front after it, or passed before
 abbrev Adds : (Record → Bool) → Node → Node → Type 0
 Adds q n k = has q k.durable ≡ (has q k.forced || has q n.durable)
 
@@ -23,7 +23,7 @@ module _ (q : Record → Bool) (n : Node) (within : has q n.forced ≡ true → 
       by_test true b f = f refl
       by_test false b f = refl
 
-  -- the whole log is forced, with these behind it
+  -- the whole log is forced, with these after it
   all_forced : (old new durable : List Record)
       → has q (new ++ (old ++ durable)) ≡ (has q (old ++ new) || has q durable)
   all_forced old new durable =

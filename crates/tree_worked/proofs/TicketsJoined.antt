@@ -119,7 +119,7 @@ module _ (me : ProcessId) (parent : Option ProcessId) (tree : List TreeEntry) (n
     abbrev place : Place
     place = coordinator_place me parent tree
 
-    -- the ticket is accepted behind the move just where it was before, or the move accepts it
+    -- the ticket is accepted after the move just where it was before, or the move accepts it
     record Adds (k : Node) : Type 0 where
       old_or_now : took c t k.accepted ≡ true
           → (took c t n.accepted ≡ true) ⊎ AcceptsTicket (coordinator_place me parent tree) n m c t

@@ -40,7 +40,7 @@ no_restart (Below p) n h x f = refl
 no_restart (AtLeaf p) n h x f = refl
 
 module _ (x : Txn) (place : Place) (n : Node) (m : Move) where
-  -- it is found behind the move just where this was a restart that found it, or it was found before
+  -- it is found after the move just where this was a restart that found it, or it was found before
   abbrev Adds : Node → Type 0
   Adds k = has_txn x k.found_undecided
       ≡ (finds_undecided place.role n m.step.happening x || has_txn x n.found_undecided)

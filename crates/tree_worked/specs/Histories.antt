@@ -23,7 +23,7 @@ use Rattle.tree_pairs.specs.turns.LeafTurns.{Hears}
 use Rattle.tree_pairs.specs.turns.CoordinatorTurns.{HearsChild}
 use Rattle.tree_pairs.specs.turns.Steps.{heard_in}
 
--- a record that passes the test stood in the forced front of the process, as it opened or behind one of its moves, the
+-- a record that passes the test stood in the forced front of the process, as it opened or after one of its moves, the
 -- newest first
 unfoldable pub was_forced : Place → (Record → Bool) → List Made → Bool
 was_forced place q [] = has q opened_node.forced

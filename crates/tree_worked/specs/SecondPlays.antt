@@ -41,7 +41,7 @@ abbrev pub second_settle_next : (Player → Played) → List TreeEntry → Playe
 second_settle_next again tree p None = Goes p
 second_settle_next again tree p (Some k) = then_again again (second_delivers tree p k (sent_as p.world.net k))
 
--- delivers the least numbered message not delivered yet, at most so many times
+-- delivers the least numbered message not delivered yet, at most N times
 abbrev pub second_settles : ℕ → List TreeEntry → Player → Played
 second_settles zero tree p = Goes p
 second_settles (suc fuel) tree p = second_settle_next (second_settles fuel tree) tree p

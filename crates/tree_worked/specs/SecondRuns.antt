@@ -8,7 +8,7 @@ use Rattle.tree_model.specs.Names.{root_case, child_case}
 use Rattle.tree_model.specs.Plays.{Acts, Delivers, Settles, Restarts}
 use Rattle.tree_model.specs.Rows.{process, txn, ticket, tree_a, tree_b, tree_c, WorkedRun}
 
--- a coordinator below the root acknowledges COMMIT behind its child's acknowledgement
+-- a coordinator below the root acknowledges COMMIT after its child's acknowledgement
 abbrev pub acknowledged_from_below_pa : WorkedRun
 acknowledged_from_below_pa =
     record {

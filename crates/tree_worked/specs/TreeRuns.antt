@@ -7,8 +7,8 @@ use Rattle.tree_model.specs.Names.{root_case, child_case}
 use Rattle.tree_model.specs.Plays.{Acts, Delivers, Settles, Restarts}
 use Rattle.tree_model.specs.Rows.{process, txn, ticket, tree_b, tree_c, WorkedRun}
 
--- the application gives up behind the promise of a cascaded coordinator, which asks meanwhile: a COMMIT
--- presumed for its question comes behind the ABORT, and is not obeyed
+-- the application gives up after the promise of a cascaded coordinator, which asks meanwhile: a COMMIT
+-- presumed for its question comes after the ABORT, and is not obeyed
 abbrev pub cascaded_abort_after_prepare_pc : WorkedRun
 cascaded_abort_after_prepare_pc =
     record {

@@ -1,4 +1,4 @@
--- The processes of a tree from a place on: what the one at the place adds to those behind it.
+-- The processes of a tree from a place on: what the one at the place adds to those after it.
 use Rattle.std.proofs.Common.{Bor, ◌≡◌, ap, subst, refl, false, ℕ, ◌+◌, ◌<◌, ◌≤◌, Some, List, [], ◌∷◌, ◌++◌, IsSomeAnd, option_map, length, get_or, drop, reverse}
 use Rattle.std.specs.Map.{lookup}
 use Rattle.std.specs.Slice.{IsItemAt}
@@ -28,7 +28,7 @@ pub found_at : (tree : List TreeEntry) (i : ℕ) (x : Bor TreeEntry) → IsItemA
     → (i < length tree) × (x.now ≡ get_or tree i x.now)
 found_at tree i x h = (h.3.0, h.1)
 
--- behind the last process none is open
+-- after the last process none is open
 pub none_from : {L : Type 0} (tree : List TreeEntry) (i : ℕ) (entries : List (ProcessId × Node L))
     → length tree ≤ i → entries ≡ [] → AreOpened tree (drop i tree) (kept_at entries)
 none_from tree i entries past empty = rw (drop_all i tree past, empty) (none tree _ (λ q. refl) (λ q. refl))
@@ -57,7 +57,7 @@ module _ {L : Type 0} (bytes : L → List ℕ) (forced failures : L → ℕ) (tr
       rw (drop_at tree i e lt is, taken, put)
       (handed_back_here bytes forced failures e (drop (i + 1) tree) behind s l why h)
 
-  -- one behind it did not
+  -- one after it did not
   pub refused_from : (items behind : List L) (s : L) (why : OpenError) → IsTree tree → items ≡ behind ++ s ∷ []
       → NotOpened bytes failures (drop (i + 1) tree) (reverse behind) why
       → NotOpened bytes failures (drop i tree) (reverse items) why
@@ -76,7 +76,7 @@ module _ {L : Type 0} (bytes : L → List ℕ) (forced failures : L → ℕ) (tr
       (handed_back_behind bytes forced failures e (drop (i + 1) tree) behind left s l why
       (holds_first bytes forced failures tree e (core_of n) l opened holds) h)
 
--- the process at the place is open beside those behind it
+-- the process at the place is open beside those after it
 pub opened_from : {L : Type 0} (tree : List TreeEntry) (i : ℕ) (e : TreeEntry) (old new : List (ProcessId × Node L))
     (n : Node L) → IsTree tree → i < length tree → e ≡ get_or tree i e → OpenedAs tree e (core_of n)
     → Rests no_data (data_of n) → lookup (processes.ghosts.eq e.id) new ≡ Some n

@@ -62,7 +62,7 @@ own_kind tree i e t lt is = by_kind e.kind e.parent refl refl
         ap (λ (o : Option ProcessId). is_none o && is_manager_kind Manager) (sym parent)
         ∙ ap (λ (k : Kind). is_none e.parent && is_manager_kind k) (sym kind) ∙ none_wrong in cc)
 
--- One process and those behind it.
+-- One process and those after it.
 
 pub listed_first : (e : TreeEntry) (es : List TreeEntry) → is_listed (e ∷ es) e.id ≡ true
 unfolding is_listed
@@ -108,7 +108,7 @@ module _ {L : Type 0} (bytes : L → List ℕ) (failures : L → ℕ) (tree : Li
   not_readied_first (DamagedError p place) h =
       ap (λ o. fault_or e.id o (faults_from bytes tree es ss)) h.1 ∙ ap (λ q. Some (q, place)) (sym h.0)
 
-  -- and why one behind it was not
+  -- and why one after it was not
   not_readied_later : (why : ReopenError) → ((q : ProcessId) → is_listed es q ≡ true → same_process e.id q ≡ false)
       → fault_of tree e (bytes s) ≡ None → AreNotReadied bytes failures tree es ss why
       → AreNotReadied bytes failures tree (e ∷ es) (s ∷ ss) why
@@ -151,7 +151,7 @@ module _ {L : Type 0} (bytes : L → List ℕ) (forced failures : L → ℕ) (tr
       rw (drop_at tree i e lt is, taken, put, from_end behind s, from_end behind l)
       (h, all_returned bytes forced failures (drop (i + 1) tree) (reverse behind) why)
 
-  -- it was made ready, and those behind it too
+  -- it was made ready, and those after it too
   pub readied_from : (items behind left all : List L) (s l : L) → items ≡ behind ++ s ∷ [] → all ≡ left ++ l ∷ []
       → IsReadied bytes failures tree e s l
       → AreReadied bytes failures tree (drop (i + 1) tree) (reverse behind) (reverse left)
@@ -159,7 +159,7 @@ module _ {L : Type 0} (bytes : L → List ℕ) (forced failures : L → ℕ) (tr
   readied_from items behind left all s l taken put h hs =
       rw (drop_at tree i e lt is, taken, put, from_end behind s, from_end left l) (h, hs)
 
-  -- it was, and one behind it was not
+  -- it was, and one after it was not
   pub not_readied_from : (items behind : List L) (s l : L) (why : ReopenError) → IsTree tree → items ≡ behind ++ s ∷ []
       → IsReadied bytes failures tree e s l
       → AreNotReadied bytes failures tree (drop (i + 1) tree) (reverse behind) why

@@ -284,7 +284,7 @@ module _ {L : Type 0} (bytes : L → List ℕ) (forced failures : L → ℕ) (tr
       → AreGivenBack bytes forced failures (drop i tree) (reverse old) (reverse new) why
   no_store_given old new why empty left = rw (drop_at tree i e lt is, empty, left) refl
 
-  -- the store at the place is ready, and so are those behind it
+  -- the store at the place is ready, and so are those after it
   ready_parts : (items behind : List L) (s : L) → items ≡ behind ++ s ∷ []
       → AreReady bytes (drop i tree) (reverse items)
       → AreReady bytes (e ∷ drop (i + 1) tree) (s ∷ reverse behind)
@@ -318,7 +318,7 @@ module _ {L : Type 0} (bytes : L → List ℕ) (forced failures : L → ℕ) (tr
       rw (drop_at tree i e lt is, taken, put, from_end behind s, from_end behind l)
       (h, all_given bytes forced failures tree (drop (i + 1) tree) (reverse behind) why r)
 
-  -- it restarted, and so did those behind it
+  -- it restarted, and so did those after it
   pub restarted_from : (items behind : List L) (s : L) (n : Node L) (old new : List (ProcessId × Node L))
       (j k l : JournalState) → IsTree tree → items ≡ behind ++ s ∷ []
       → RestartsIn bytes forced failures tree e s (core_of n) (data_of n) j k
@@ -350,7 +350,7 @@ module _ {L : Type 0} (bytes : L → List ℕ) (forced failures : L → ℕ) (tr
           (restarts_over tree e (bytes s) (forced s) (failures s) (core_of n) (data_of n) here.reaction
           (place_at tree i e t lt is) here.reopens)
 
-  -- it restarted, and one behind it did not
+  -- it restarted, and one after it did not
   pub not_restarted_from : (items behind : List L) (s : L) (why : ReopenError) → IsTree tree → items ≡ behind ++ s ∷ []
       → AreNotRestarted bytes failures tree (drop (i + 1) tree) (reverse behind) why
       → AreNotRestarted bytes failures tree (drop i tree) (reverse items) why

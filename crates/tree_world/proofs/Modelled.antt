@@ -1,4 +1,4 @@
--- A tree that stands for a run behind faults stands for one that goes on, however a call on it ends.
+-- A tree that stands for a run after faults stands for one that goes on, however a call on it ends.
 use Rattle.std.proofs.Common.{◌≡◌, refl, sym, subst, ℕ, Bool, true, false, List, [], ◌++◌, Result, Ok, Err, OnOk, IfErr}
 use Rattle.tree_model.specs.declared.events.Event.{Event}
 use Rattle.tree_model.specs.declared.events.StepError.{StepError}

@@ -55,7 +55,7 @@ none tree ns empty bare = record {
     no_some : (o : Option CoreState) (s : CoreState) → o ≡ None → o ≡ Some s → ⊥
     no_some o s e f = absurd (cc)
 
--- the entries from a place on begin with the one that stands there, and behind it come those from the next place on
+-- the entries from a place on begin with the one that stands there, and after it come those from the next place on
 drop_behind : (es : List TreeEntry) (i j : ℕ) (e : TreeEntry) → j ≡ suc i → i < length es → e ≡ get_or es i e
     → drop i es ≡ e ∷ drop j es
 drop_behind [] i j e next lt is = absurd (omega (arith, lt))

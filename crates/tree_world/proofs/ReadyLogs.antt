@@ -100,7 +100,7 @@ settled_reads : (p : LogForm) (old text : List ℕ) (forced failures forced' fai
 settled_reads p old text forced failures forced' failures' h =
     ordered_log_is_read p text h.begins h.whole (log_follows p old (records_in p 0 (drop 5 text)) h.torn h.read)
 
--- a log with its header reads as the records behind that
+-- a log with its header reads as the records after that
 pub read_behind : (p : LogForm) (bytes : List ℕ) (ls : List LogRecord) (torn : ℕ) → take 5 bytes ≡ header p.format
     → read_log p bytes ≡ Whole ls torn → records_in p 0 (drop 5 bytes) ≡ ls
 read_behind p bytes ls torn begins read =

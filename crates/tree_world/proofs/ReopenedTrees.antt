@@ -164,7 +164,7 @@ module _ {L : Type 0} (bytes : L → List ℕ) (forced failures : L → ℕ) (tr
         subst (λ ls. AreReturned bytes forced failures tree stores ls why) (sym turn)
         (first (λ es ss. AreReturned bytes forced failures es ss (reverse news) why) h)
 
-    -- the same behind the restarts
+    -- the same after the restarts
     module _ (news : List L)
         (ready : AreReadied bytes failures tree (drop 0 tree) (reverse turned) (reverse news)) where
       pub ready_first : AreReady bytes (drop 0 tree) (reverse news)

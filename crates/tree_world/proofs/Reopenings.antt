@@ -99,7 +99,7 @@ module _ {L : Type 0} (bytes : L → List ℕ) (tree : List TreeEntry) (e : Tree
   opening_here : opening e.id ≡ r
   opening_here = ap (λ (b : Bool). if b then r else h.opening e.id) (itself e.id)
 
-  -- the processes behind show what they showed
+  -- the processes after show what they showed
   same_sent : (xs : List TreeEntry) → ((q : ProcessId) → is_listed xs q ≡ true → same_process e.id q ≡ false)
       → flat_map (λ x. (h.opening x.id).messages) xs ≡ flat_map (λ x. (opening x.id).messages) xs
   unfolding is_listed

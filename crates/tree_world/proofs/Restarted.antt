@@ -259,7 +259,7 @@ no_trim_of_tree old new q Exhausted h stays = absurd h
 
 -- The whole state, from the processes and the journals around a step.
 
--- a step's entry behind a journal that kept all
+-- a step's entry after a journal that kept all
 entered : (tree : List TreeEntry) (ns ms : NodesSight)
     (j k l : JournalState) (q : ProcessId)
     (happening : Happening) (reaction : Reaction) → Keeps j k → l.net ≡ k.net ++ reaction.messages

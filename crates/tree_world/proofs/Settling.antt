@@ -7,7 +7,7 @@ use Rattle.tree_model.specs.declared.events.StepError.TheVariants.{Memory}
 use Rattle.core_law.specs.worlds.Worlds.{Delivers, NoneDelivered, Same, Settles, SettleStops, Stops, WorldState, least_open, settles_by}
 use Rattle.tree_world.proofs.Handling.{same_as_before}
 
--- one delivery more, behind so many
+-- one delivery more, after N
 more_by : (n : ℕ) (first now mid : WorldState) (k : ℕ) (o : Option ℕ)
     → ((w : WorldState) → Settles n w now → Settles (suc n) w mid)
     → least_open 1 first.delivered ≡ o → settles_by first now (λ w. Settles n w now) o

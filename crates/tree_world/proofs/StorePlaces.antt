@@ -58,7 +58,7 @@ new_at tree i e t lt is =
     (count_by_more_yes test tree i e lt (ap test (sym is) ∙ itself e.id))
     (sum_by-take-le (λ y. cond (test y) 1 0) tree (i + 1)))
 
--- a process that is listed behind a place of a tree is not the one that is listed there
+-- a process that is listed after a place of a tree is not the one that is listed there
 pub not_again : (tree : List TreeEntry) (i : ℕ) (e : TreeEntry) (q : ProcessId) → IsTree tree → i < length tree
     → e ≡ get_or tree i e → is_listed (drop (i + 1) tree) q ≡ true → same_process e.id q ≡ false
 unfolding is_listed lists_twice times_listed
@@ -116,7 +116,7 @@ refused_here bytes failures e es s ss why h = record {
       (ap (λ b. if b then Some s else store_of es ss e.id) (sym (itself e.id))) h;
 }
 
--- a process behind it did not open
+-- a process after it did not open
 pub refused_behind : {L : Type 0} (bytes : L → List ℕ) (failures : L → ℕ) (e : TreeEntry) (es : List TreeEntry)
     (s : L) (ss : List L) (why : OpenError)
     → ((q : ProcessId) → is_listed es q ≡ true → same_process e.id q ≡ false)

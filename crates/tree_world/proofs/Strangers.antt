@@ -9,7 +9,7 @@ use Rattle.log_rules.specs.order.Logs.{read_as, read_log}
 use Rattle.logs_script.specs.Places.{Placed, placed, placed_in}
 use Rattle.tree_world.specs.OwnNames.{damage_in, fault_of, first_stranger, is_at_home, place_or, sound_to, stranger_of, stranger_or}
 
--- behind the last record there is none
+-- after the last record there is none
 pub none_strange : (home : ℕ → LogRecord → Bool) (boot : ℕ) (xs : List Placed) (all : Option ℕ) → xs ≡ []
     → first_stranger home boot xs ≡ all → None ≡ all
 unfolding first_stranger

@@ -22,7 +22,7 @@ pub record AreOpened (tree listed : List TreeEntry) (ns : NodesSight) : Type 0 w
 
 -- Refusals.
 
--- the store of a process: the one at the place of the process among these entries, if there are so many
+-- the store of a process: the one at the place of the process among these entries, if there are N
 abbrev pub store_of : {L : Type 0} → List TreeEntry → List L → ProcessId → Option L
 store_of [] stores q = None
 store_of (e ∷ es) [] q = None
@@ -41,7 +41,7 @@ HoldsFirst bytes forced e store =
     kept_of (form_by e) (bytes store) (forced store) ≡ record { forced = first_opened ∷ []; unforced = [] }
 
 -- the stores that are handed back where a tree does not open, in the order of its processes: each process before
--- one had opened, that one had not, and those behind it are as they were
+-- one had opened, that one had not, and those after it are as they were
 abbrev pub AreHandedBack : {L : Type 0} → (L → List ℕ) → (L → ℕ) → (L → ℕ) → List TreeEntry → List L → List L
     → OpenError → Type 0
 AreHandedBack bytes forced failures (e ∷ es) (s ∷ ss) (l ∷ ls) why =

@@ -26,7 +26,7 @@ abbrev pub meets_by : (ProcessId → Bool) → ProcessId → Option ProcessId �
 meets_by climb top None = false
 meets_by climb top (Some p) = same_process p top || climb p
 
--- a climb to the parents, of so many steps at most, meets the process
+-- a climb to the parents, of N steps at most, meets the process
 abbrev pub climbs_to : ℕ → List TreeEntry → ProcessId → ProcessId → Bool
 climbs_to zero tree top q = false
 climbs_to (suc k) tree top q = meets_by (climbs_to k tree top) top (parent_of tree q)

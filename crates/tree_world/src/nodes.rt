@@ -39,7 +39,7 @@ impl<L: LogStore> Nodes<L> {
         node.handle(input)
     }
 
-    /// A process restarts, and keeps so many bytes after its forced front; all of them, where no number is
+    /// A process restarts, and keeps N bytes after its forced front; all of them, where no number is
     /// given. Gives how many of its unforced records were kept. NoSuch: there is no such process.
     pub(crate) fn restart(
         &mut self,

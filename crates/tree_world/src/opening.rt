@@ -116,7 +116,7 @@ fn open_from<L: LogStore + Drop>(
     }
 }
 
-/// So many stores in memory, without bytes.
+/// N stores in memory, without bytes.
 fn memory_stores(alloc: Global, count: usize) -> Result<Vec<MemoryStore>, AllocError>
     ensures count { IfOk result (λ stores. length stores.items ≡ count) }
     ensures empty { IfOk result (λ stores. All (λ store. memory_bytes store ≡ []) stores.items) }

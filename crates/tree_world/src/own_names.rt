@@ -31,7 +31,7 @@ use tree_model::{Case, Kind, LogRecord, ProcessId, Record, Reports, Ticket, Tree
 /// Boots and counts in the logs of a tree that is opened again are below this.
 const TOP: u64 = 1 << 62;
 
-/// Whether a climb to the parents from a process, of so many steps at most, meets the first one.
+/// Whether a climb to the parents from a process, of N steps at most, meets the first one.
 #[tactic(auto, unfolding(tree_model::specs::Names::same_process))]
 fn climbs_to(tree: &Tree, top: ProcessId, process: ProcessId, steps: usize) -> bool
     ensures { result ≡ climbs_in steps tree.now top process }

@@ -17,7 +17,7 @@ use tree_model::{
 };
 use world_journal::Journal;
 
-/// At most so many messages are delivered by one settle.
+/// At most N messages are delivered by one settle.
 const SETTLE_LIMIT: u32 = 10_000;
 
 /// What a tree that runs keeps: its processes, each with its log in a store, and the journal of their steps.
@@ -186,7 +186,7 @@ impl<L: LogStore> RunningTree<L> {
         Ok(())
     }
 
-    /// Restarts a process, which keeps so many bytes after its forced front; all of them, where no number
+    /// Restarts a process, which keeps N bytes after its forced front; all of them, where no number
     /// is given.
     fn restart(&mut self, process: ProcessId, bytes: Option<u64>) -> Result<(), StepError>
         ensures ok { OnOk result (Applies (running_state self.old)

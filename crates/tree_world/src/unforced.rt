@@ -31,7 +31,7 @@ impl<L: LogStore> Nodes<L> {
 
 impl<L: LogStore> World<L> {
     /// How many bytes each record of a process's log takes that is not forced, in order; none, where there
-    /// is no such process. A crash keeps the first so many of them that stand whole within the bytes that it
+    /// is no such process. A crash keeps the first N of them that stand whole within the bytes that it
     /// keeps.
     pub fn unforced_sizes(&self, process: ProcessId) -> Result<Vec<u64>, AllocError>
         ensures { IfOk result (λ sizes. sizes.items

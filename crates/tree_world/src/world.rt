@@ -56,21 +56,21 @@ impl<L: LogStore> World<L> {
         self.running.journal.len()
     }
 
-    /// The step at this place, from 0, with its reaction, made anew; None, where so many were not made.
+    /// The step at this place, from 0, with its reaction, made again; None, where N were not made.
     pub fn entry(&self, place: usize) -> Result<Option<Entry>, AllocError>
         ensures { IfOk result (λ found. found ≡ slice_get (state self.now).entries place) }
     {
         self.running.journal.entry(place)
     }
 
-    /// Every step that was made, with its reaction, as a list made anew.
+    /// Every step that was made, with its reaction, as a list made again.
     pub fn trace(&self) -> Result<Vec<Entry>, AllocError>
         ensures { IfOk result (λ trace. trace.items ≡ (state self.now).entries) }
     {
         self.running.journal.entries()
     }
 
-    /// What the step at this place shows, from 0, as the journal has it; None, where so many were not made.
+    /// What the step at this place shows, from 0, as the journal has it; None, where N were not made.
     pub fn shown(&self, place: usize) -> Option<Shown<'_>>
         ensures { option_map shown_part result
             ≡ option_map entry_part (slice_get (state self.now).entries place) }
@@ -85,7 +85,7 @@ impl<L: LogStore> World<L> {
         &self.running.tree
     }
 
-    /// Every message that was ever sent, as a list made anew; the first has number 1.
+    /// Every message that was ever sent, as a list made again; the first has number 1.
     pub fn sent(&self) -> Result<Vec<Envelope>, AllocError>
         ensures { IfOk result (λ sent. sent.items ≡ (state self.now).net) }
     {
@@ -106,7 +106,7 @@ impl<L: LogStore> World<L> {
         self.running.nodes.live(process)
     }
 
-    /// The bytes of a process's log, as a list made anew; none, where there is no such process.
+    /// The bytes of a process's log, as a list made again; none, where there is no such process.
     pub fn log_text(&self, process: ProcessId) -> Result<Vec<u8>, AllocError>
         ensures { IfOk result (λ text. SpellsLogBy ((state self.now).node_at process) text.items) }
     {

@@ -11,7 +11,7 @@ all_undelivered : (ls : List Envelope) → undelivered ls ≡ replicate (length 
 all_undelivered [] = refl
 all_undelivered (l ∷ ls) = ap (λ (bs : List Bool). false ∷ bs) (all_undelivered ls)
 
--- where each message has its own mark, those of further ones come behind
+-- where each message has its own mark, those of further ones come after
 marked_behind : (sent waiting more : List Envelope) (bs : List Bool) → length bs ≤ length sent
     → length bs ≡ length (sent ++ waiting)
     → bs ++ unmarked (sent ++ more) bs ≡ (bs ++ unmarked (sent ++ waiting) bs) ++ undelivered more

@@ -12,7 +12,7 @@ tail_set : (b : Bool) (bs : List Bool) (p : ℕ) → take (suc p) (b ∷ bs) ≡
     → take p bs ≡ replicate p true
 tail_set b bs p h = cc
 
--- an open mark behind set ones is the first open one
+-- an open mark after set ones is the first open one
 pub opens : (k : ℕ) (bs : List Bool) (p : ℕ) → p < length bs
     → take p bs ≡ replicate p true → get_or bs p false ≡ false
     → least_open k bs ≡ Some (p + k)

@@ -17,7 +17,7 @@ use tree_model::{Act, Entry, Envelope, Happening, Input, ProcessId, Reaction, St
 
 /// Every step that was made, and every message that was sent in one, with the mark whether it was delivered.
 ///
-/// A step is entered without a growth, so that memory cannot run out behind it: room for one is made before.
+/// A step is entered without a growth, so that memory cannot run out after it: room for one is made before.
 #[derive(Drop)]
 pub struct Journal {
     steps: ShortSteps,
@@ -62,28 +62,28 @@ impl Journal {
         self.steps.len()
     }
 
-    /// The step at this place, from 0, with its reaction, made anew; None, where so many were not made.
+    /// The step at this place, from 0, with its reaction, made again; None, where N were not made.
     pub fn entry(&self, place: usize) -> Result<Option<Entry>, AllocError>
         ensures { IfOk result (λ found. found ≡ slice_get self.now.entries place) }
     {
         self.steps.entry(place)
     }
 
-    /// Every step, with its reaction, as a list made anew.
+    /// Every step, with its reaction, as a list made again.
     pub fn entries(&self) -> Result<Vec<Entry>, AllocError>
         ensures { IfOk result (λ entries. entries.items ≡ self.now.entries) }
     {
         self.steps.entries()
     }
 
-    /// What the step at this place shows, from 0, lent; None, where so many were not made.
+    /// What the step at this place shows, from 0, lent; None, where N were not made.
     pub fn shown(&self, place: usize) -> Option<Shown<'_>>
         ensures { option_map shown_part result ≡ option_map entry_part (slice_get self.now.entries place) }
     {
         self.steps.shown(place)
     }
 
-    /// The messages, as a list made anew.
+    /// The messages, as a list made again.
     pub fn sent(&self) -> Result<Vec<Envelope>, AllocError>
         ensures { IfOk result (λ sent. sent.items ≡ self.now.net) }
     {
@@ -201,7 +201,7 @@ impl Journal {
     }
 }
 
-/// The place of the message with this number, among so many.
+/// The place of the message with this number, among N.
 fn place_of(number: u64, sent: usize) -> Option<usize>
     ensures found { IfSome result (λ place. (place < sent) × (number ≡ place + 1)) }
     ensures none { IfNone result ((number ≡ 0) ⊎ (sent < number)) }

@@ -43,7 +43,7 @@ impl Marks {
         self.marks.len()
     }
 
-    /// So many messages more, none of which was delivered. A refusal for memory changes nothing.
+    /// N messages more, none of which was delivered. A refusal for memory changes nothing.
     pub(crate) fn extend(&mut self, more: usize) -> Result<(), AllocError>
         ensures ok { OnOk result (self.new ≡ self.old ++ replicate more false) }
         ensures err { OnErr result (self.new ≡ self.old) }

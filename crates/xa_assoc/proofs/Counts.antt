@@ -1,4 +1,4 @@
--- What the counts are behind a seat that is taken or given up, and what they tell.
+-- What the counts are after a seat that is taken or given up, and what they tell.
 use Rattle.std.proofs.Common.{◌≡◌, ◌+◌, ◌-◌, ◌≤◌, ◌<◌, ℕ, Bool, true, false, cond, not, ◌||◌, List, [], ◌∷◌, ◌++◌, Option, None, Some, refl, sym, ap, subst, ◌∙◌, arith, length}
 use Rattle.std.specs.Prelude.{get_or, nat_eq, nat_lt, position}
 use Rattle.std.specs.List.{count_by, list_any, position_or_len, swap_remove}
@@ -63,7 +63,7 @@ counted_one p seats s h counts = let rest = count_removed p seats s h in let one
 pub number_is : (a b : ℕ) → nat_eq a b ≡ true → a ≡ b
 number_is a b h = grind (arith, nat_tests)
 
--- Counts behind a seat that is taken or given up: that of its own key goes up or down by one, and no other
+-- Counts after a seat that is taken or given up: that of its own key goes up or down by one, and no other
 -- does.
 module _ {K : Type 0} (eq : K → K → Bool) (of : Seat → K) (is : (a b : K) → eq a b ≡ true → a ≡ b) where
   pub counted_more : (seats after : List Seat) (old new : List (K × ℕ)) (s : Seat)

@@ -93,7 +93,7 @@ works_as verb.Recover flags c h =
     (one_call (flags == start_scan + end_scan) call.RecoverWhole c None r false refl
     (last c verb.Recover flags false)))) h
 
--- legal flags, and the checks behind them
+-- legal flags, and the checks after them
 pub answered : (wanted : Wanted) (old new : States) (v : Verb) (t : ℕ) (x : Xid) (flags : ℕ) (c : Call)
     (answer : Code) → legal v flags ≡ Ok c
     → Checked wanted old new c t x answer → Answers wanted old new v t x flags answer

@@ -21,7 +21,7 @@ placed_left : (bs : List (Xid × BranchState)) (x : Xid) (d : Bool) → is_known
 placed_left bs x true h = placed_last bs x S5 (λ e. absurd cc) h
 placed_left bs x false h = placed_last bs x S3 (λ e. absurd cc) h
 
--- the next branch in doubt goes behind those before it
+-- the next branch in doubt goes after those before it
 pub next_placed : (front : List (Xid × Bool)) (e : Xid × Bool) → is_known (states_left front) e.0 ≡ false
     → placed (states_left front) e.0 (state_left e.1) ≡ states_left (front ++ e ∷ [])
 next_placed front e h = placed_left (states_left front) e.0 e.1 h

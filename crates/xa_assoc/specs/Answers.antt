@@ -113,7 +113,7 @@ abbrev pub BeginsIdle : States → States → Xid → Bool → Type 0
 BeginsIdle old new x true = (begin_answer old.branches.branches x ≡ code.Ok) × Takes old new x S2
 BeginsIdle old new x false = (begin_answer old.branches.branches x ≡ code.Ok → ⊥) × Same old new
 
--- the row that a manager takes for each call that finishes a branch: what it answers, and the state behind it
+-- the row that a manager takes for each call that finishes a branch: what it answers, and the state after it
 abbrev pub Wanted : Type 0
 Wanted = Call → Code × BranchState
 

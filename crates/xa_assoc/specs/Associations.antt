@@ -132,7 +132,7 @@ pub record Recounts (old new : AssocList) (x : Xid) (n : ℕ) : Type 0 where
 abbrev pub Row : Type 0
 Row = AssocState × Code × AssocState
 
--- a row of the table of associations: the state, the answer, and the state behind it
+-- a row of the table of associations: the state, the answer, and the state after it
 abbrev pub row : AssocState → Code → AssocState → Result Row Code
 row from answer to = Ok (from, answer, to)
 

@@ -30,7 +30,7 @@ IsAt false _ = ⊥
 abbrev pub resumed : Bool → BranchState
 resumed lost = if lost then S4 else S1
 
--- the state of a branch behind an end: active while another thread is active in it, and lost where its work
+-- the state of a branch after an end: active while another thread is active in it, and lost where its work
 -- failed
 abbrev pub left_by : Bool → Bool → BranchState
 left_by lost active = if lost then S4 else if active then S1 else S2

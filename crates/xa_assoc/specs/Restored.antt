@@ -1,4 +1,4 @@
--- The tables behind a restart.
+-- The tables after a restart.
 use Rattle.std.specs.Prelude.{◌≡◌, Bool, false, ◌||◌, List, [], ◌∷◌, Option, Some, None, length, map, nat_lt, if◌then◌else◌}
 use Rattle.std.specs.List.{list_any}
 use Rattle.xa_codes.specs.declared.code.Code.{Code}

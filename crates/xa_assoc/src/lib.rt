@@ -14,7 +14,7 @@
 //! ready, finish      a prepare, commit, rollback or forget in two steps, the manager's log between them
 //! decided            an operator's decision, S3 to S5
 //! recover            a scan of the branches in doubt
-//! restored           the tables behind a restart
+//! restored           the tables after a restart
 //! ```
 #![tactic(auto)]
 

@@ -43,7 +43,7 @@ impl States {
         }
     }
 
-    /// The tables behind a restart: a manager that is not open, without associations and scans, and these
+    /// The tables after a restart: a manager that is not open, without associations and scans, and these
     /// branches in doubt, in this order: prepared (in S3), or where the second is true decided by an operator
     /// (in S5). RmErr: they are more than 1,024. DupId: one of them stands there twice.
     pub fn restored(alloc: Global, left: &[(Xid, bool)]) -> Result<Result<Self, Code>, AllocError>
@@ -224,7 +224,7 @@ impl States {
         self.branches.find(xid)
     }
 
-    /// The known branch that stands at a place comes to the state behind the row that it takes. Where no
+    /// The known branch that stands at a place comes to the state after the row that it takes. Where no
     /// branch stands nothing changes. It takes no memory.
     pub fn finish(&mut self, place: usize, to: BranchState)
         ensures taken { (x : AnyXid) → StandsAt self.old.branches.branches x place
@@ -245,7 +245,7 @@ impl States {
         self.branches.decided(xid)
     }
 
-    /// A scan of the branches in doubt: the next of them, at most so many. Inval: the flags. Proto: the
+    /// A scan of the branches in doubt: the next of them, at most N. Inval: the flags. Proto: the
     /// manager is not open. Inval: no scan is open and none begins. RmErr: one begins, and 256 threads have
     /// one. A refusal changes nothing, nor does want of memory.
     pub fn recover(
@@ -441,7 +441,7 @@ impl States {
         held.active || held.suspended || held.migrated
     }
 
-    /// The state of a branch behind an end: active while another thread is active in it.
+    /// The state of a branch after an end: active while another thread is active in it.
     fn left(&self, xid: &Xid, lost: bool) -> BranchState
         ensures { result ≡ left_state self.now xid.now lost }
     {

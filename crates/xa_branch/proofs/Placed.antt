@@ -77,7 +77,7 @@ goes_last [] x s h = refl
 goes_last (e ∷ bs) x s h = last_by (same x e.0) e bs (insert_entry same bs x s) x s
     (lookup (same x) bs) h (goes_last bs x s)
 
--- a branch that is not known goes behind all others
+-- a branch that is not known goes after all others
 pub placed_last : (bs : List (Xid × BranchState)) (x : Xid) (s : BranchState) → s ≢ S0 → is_known bs x ≡ false
     → placed bs x s ≡ bs ++ (x, s) ∷ []
 placed_last bs x S0 n h = absurd (n refl)

@@ -28,7 +28,7 @@ is_known bs x = is_some (lookup (same x) bs)
 abbrev pub state_in : List (Xid × BranchState) → Xid → BranchState
 state_in bs x = unwrap_or (lookup (same x) bs) S0
 
--- the branches behind a move of one to a state: in S0 it is no longer known, a new one goes last
+-- the branches after a move of one to a state: in S0 it is no longer known, a new one goes last
 abbrev pub placed : List (Xid × BranchState) → Xid → BranchState → List (Xid × BranchState)
 placed bs x S0 = remove_entry (same x) bs
 placed bs x s = insert_entry same bs x s

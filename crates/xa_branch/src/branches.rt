@@ -81,7 +81,7 @@ impl Branches {
         let _ = self.states.len();
     }
 
-    /// Makes room for so many more branches.
+    /// Makes room for N more branches.
     pub fn reserve(&mut self, more: usize) -> Result<(), AllocError>
         ensures stays { Stays self.old self.new }
         ensures room { OnOk result (more ≤ self.new.room) }
@@ -211,9 +211,9 @@ impl Branches {
         }
     }
 
-    /// Gives a thread the next of the branches in S3 and S5, at most so many, in order of beginning.
+    /// Gives a thread the next of the branches in S3 and S5, at most N, in order of beginning.
     /// TMSTARTRSCAN begins a scan over them as they are now, in place of one that is open; TMENDRSCAN closes
-    /// it behind the call. Inval: no scan is open and none begins. RmErr: a scan begins, 256 threads have
+    /// it after the call. Inval: no scan is open and none begins. RmErr: a scan begins, 256 threads have
     /// one and this thread has none. A refusal changes nothing.
     pub fn scan(
         &mut self,

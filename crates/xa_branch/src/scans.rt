@@ -69,7 +69,7 @@ impl Scans {
         }
     }
 
-    /// Gives a thread the first of these, at most so many, and leaves it a scan of the others, or none where
+    /// Gives a thread the first of these, at most N, and leaves it a scan of the others, or none where
     /// the scan ends.
     pub fn give(
         &mut self,

@@ -17,7 +17,7 @@ use Rattle.manager_model.specs.declared.errors.TrimError.TheVariants as trim_err
 use Rattle.xa_engine.specs.declared.answer.Answer.{Answer}
 use Rattle.xa_engine.specs.declared.answer.Answer.TheVariants.{Code, Given, Found, Done, Refused, Booted, NotBooted, Trimmed, NotTrimmed, NotDecided}
 
--- a branch behind a space
+-- a branch after a space
 abbrev pub branch_text : Xid → List ℕ
 branch_text x = 32 ∷ xid_text x
 

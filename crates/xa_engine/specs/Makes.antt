@@ -90,7 +90,7 @@ Works old new t (Get k) = IsRead old new t k
 Works old new t (Put k v) = IsWritten old new t k (Some v)
 Works old new t (Delete k) = IsWritten old new t k None
 
--- how many of the unforced bytes a restart keeps: the first so many, or all, which are fewer than 2^64
+-- how many of the unforced bytes a restart keeps: the first N, or all, which are fewer than 2^64
 abbrev pub kept_bytes : Option ℕ → ℕ
 kept_bytes None = 2 ^ 64 - 1
 kept_bytes (Some n) = n
@@ -103,7 +103,7 @@ Boots old new keep (answer.NotBooted e) =
     (e ≡ restart_error.Memory → ⊥) × NotRestarted old new (kept_bytes keep) e
 Boots old new keep _ = ⊥
 
--- a trim, of which so many records remain, or why there is none; either leaves the key store as it was
+-- a trim, of which N records remain, or why there is none; either leaves the key store as it was
 abbrev pub Trims : KvSight → KvSight → Answer → Type 0
 Trims old new (answer.Trimmed n) = TrimsLog (sight_of old) (sight_of new) n × (new.store ≡ old.store)
 Trims old new (answer.NotTrimmed e) =

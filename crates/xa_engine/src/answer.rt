@@ -28,7 +28,7 @@ pub enum Answer {
     Booted(u64),
     /// The manager did not restart.
     NotBooted(RestartError),
-    /// The log was trimmed, and so many records remain.
+    /// The log was trimmed, and N records remain.
     Trimmed(u64),
     /// The log was not trimmed.
     NotTrimmed(TrimError),

@@ -124,7 +124,7 @@ fn delete(manager: &mut Manager, thread: u32, key: &[u8]) -> Result<Answer, Allo
     }
 }
 
-/// A restart that keeps so many of the unforced bytes of the log, or all of them.
+/// A restart that keeps N of the unforced bytes of the log, or all of them.
 fn restart(manager: &mut Manager, keep: Option<u64>) -> Result<Answer, AllocError>
     ensures { IfOk result (λ answer. Boots manager.old manager.new keep answer) }
 {

@@ -16,7 +16,7 @@ use Rattle.tree_model.specs.LogNames.{by_xid}
 use Rattle.xa_heur.specs.declared.decision.Decision.{Decision}
 use Rattle.xa_xid.specs.declared.xid.Xid.{Xid}
 
--- the answer to an outcome behind a decision
+-- the answer to an outcome after a decision
 abbrev pub heur_code : Outcome → Code
 heur_code Committed = HeurCom
 heur_code Aborted = HeurRb
@@ -30,11 +30,11 @@ abbrev pub first_told : Outcome → Option Outcome → Option Outcome
 first_told o None = Some o
 first_told o (Some told) = Some told
 
--- a decision behind an outcome that comes
+-- a decision after an outcome that comes
 abbrev pub told_behind : Outcome → Decision → Decision
 told_behind o d = record { outcome = d.outcome; told = first_told o d.told }
 
--- what is known of a branch behind one more record, of which this was known: nothing behind its promise and
+-- what is known of a branch after one more record, of which this was known: nothing after its promise and
 -- once it is forgotten; records of others leave it
 abbrev pub decision_after : Branch → Decision → Record → Decision
 decision_after b d (Prepared a ws) = if same_branch a b then decided_as Aborted else d

@@ -24,7 +24,7 @@ impl Decision {
         }
     }
 
-    /// The same behind an outcome that comes: the first one counts.
+    /// The same after an outcome that comes: the first one counts.
     pub fn told_behind(self, outcome: Outcome) -> Self
         ensures { result ≡ told_behind outcome self }
     {

@@ -204,7 +204,7 @@ same_reached old new s ok = record {
   states = subst (λ (bs : List (Xid × BranchState)). AllHere bs) (sym s.branches.branches) ok.states;
 }
 
--- and so is one behind a restart
+-- and so is one after a restart
 pub restored_reached : (left : List (Xid × Bool)) (m : States) → Restored left m → IsReached m
 restored_reached left m h = record {
   closed = λ e. h.associations;

@@ -83,7 +83,7 @@ OwnStep t x s (Branch v u y flags answer) k =
 OwnStep t x s (Restart left) k = k ≡ T0
 OwnStep t x s _ k = k ≡ s
 
--- a row of the table of associations, by how many are suspended for migration before and behind it
+-- a row of the table of associations, by how many are suspended for migration before and after it
 pub record MigrationRow (n : ℕ) (c : Call) (a : Code) (k : ℕ) : Type 0 where
   pub from : AssocState
   pub to : AssocState

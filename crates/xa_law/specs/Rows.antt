@@ -14,7 +14,7 @@ use Rattle.kv_turns.specs.Turns.{turn_of}
 use Rattle.kv_core.specs.Stores.{KeySight}
 use Rattle.kv_core.specs.Ends.{IsOff}
 
--- the row of a turn: what it answers, and the state behind it
+-- the row of a turn: what it answers, and the state after it
 abbrev pub row_of : Turn → Code × BranchState
 row_of turn = (turn.code, turn.to)
 

@@ -1,5 +1,5 @@
 -- The tables of the interface (this profile's own, drawn after C193, chapter 6): for each state and call
--- every answer and the state behind it. A pair without a row has none.
+-- every answer and the state after it. A pair without a row has none.
 use Rattle.std.specs.Prelude.{Bool, true, false, List, [], ◌∷◌}
 use Rattle.xa_codes.specs.declared.code.Code.{Code}
 use Rattle.xa_codes.specs.declared.code.Code.TheVariants as code
@@ -12,7 +12,7 @@ use Rattle.xa_tables.specs.declared.states.AssocState.TheVariants.{T0, T1, T2, M
 use Rattle.xa_tables.specs.declared.states.BranchState.{BranchState}
 use Rattle.xa_tables.specs.declared.states.BranchState.TheVariants.{S0, S1, S2, S3, S4, S5}
 
--- one answer, and the state behind it
+-- one answer, and the state after it
 abbrev pub one : {S : Type 0} → Code → S → List (Code × S)
 one answer to = (answer, to) ∷ []
 
@@ -42,7 +42,7 @@ assoc_rows T1 call.EndFail = one code.RbRollback T0
 assoc_rows T2 call.EndFail = one code.RbRollback T0
 assoc_rows _ _ = []
 
--- a branch behind an end: active while another thread is active in it, else idle
+-- a branch after an end: active while another thread is active in it, else idle
 abbrev pub left : List (Code × BranchState)
 left = (code.Ok, S1) ∷ (code.Ok, S2) ∷ []
 

@@ -11,7 +11,7 @@
 //!                               S3 --an operator's decision--> S5 --forget--> S0
 //! ```
 //!
-//! A table gives for a state and a call every answer with the state behind it. Which of them applies, the
+//! A table gives for a state and a call every answer with the state after it. Which of them applies, the
 //! branch, the other associations and the manager decide. A pair that is not listed has no row.
 #![tactic(auto)]
 

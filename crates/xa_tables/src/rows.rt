@@ -49,7 +49,7 @@ pub fn next_assoc(from: AssocState, call: Call) -> &'static [(Code, AssocState)]
     }
 }
 
-/// The rows of a branch. Of the two states behind an end, S1 applies while another thread is active in the
+/// The rows of a branch. Of the two states after an end, S1 applies while another thread is active in the
 /// branch.
 pub fn next_branch(from: BranchState, call: Call) -> &'static [(Code, BranchState)]
     ensures { result.now ≡ branch_rows from call }

@@ -41,7 +41,7 @@ format_back z fits = ap (cast_signed w32)
 
 -- ---- from XIDs to bytes
 
--- the faults of a header and of the bytes behind it
+-- the faults of a header and of the bytes after it
 abbrev rest_fault : ℕ → ℕ → List ℕ → ℤ → Option XidError
 rest_fault gtrid bqual rest format = option_or (xid_fault format gtrid bqual)
     (cond (ltb (length rest) (gtrid + bqual)) (Some Truncated) None)

@@ -34,7 +34,7 @@ front_parts (a ∷ b ∷ c ∷ d ∷ gtrid ∷ bqual ∷ rest) =
     }
 front_parts _ = null_xid
 
--- why these bytes are no XID: no XID begins them, or there is more behind it
+-- why these bytes are no XID: no XID begins them, or there is more after it
 abbrev pub bytes_fault : List ℕ → Option XidError
 bytes_fault bytes =
     option_or (front_fault bytes)

@@ -14,7 +14,7 @@ mixed digest number = (bit_xor (rotate_left w64 digest 29) number * 0x9e37_79b9_
 abbrev pub mixed_bytes : ℕ → List ℕ → ℕ
 mixed_bytes digest bytes = mixed digest (from_le_bytes w64 bytes)
 
--- the bytes of a part, eight at a time, with zeros behind the last ones
+-- the bytes of a part, eight at a time, with zeros after the last ones
 unfoldable pub eights : List ℕ → List (List ℕ)
 eights part = take (div_ceil (length part) 8) (first_chunks 8 8 (filled part))
 

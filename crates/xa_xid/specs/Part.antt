@@ -3,11 +3,11 @@ use Rattle.std.specs.Prelude.{◌≡◌, ℕ, ◌≤◌, ◌-◌, List, ◌++◌
 use Rattle.std.proofs.Common.{ap, sym, ◌∙◌, arith, length-take}
 use Rattle.xa_xid.specs.declared.part.Part.TheInside.{Inside}
 
--- a part, and zeros behind it up to 64 bytes
+-- a part, and zeros after it up to 64 bytes
 abbrev pub filled : List ℕ → List ℕ
 filled part = part ++ replicate (64 - length part) 0
 
--- an array whose first bytes are a part, with zeros behind it
+-- an array whose first bytes are a part, with zeros after it
 pub record IsPart (len : ℕ) (bytes : List ℕ) : Type 0 where
   pub fits : len ≤ 64
   pub size : length bytes ≡ 64

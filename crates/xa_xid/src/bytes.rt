@@ -27,7 +27,7 @@ impl Xid {
     ///
     /// Refused are, in this order, fewer than six bytes (Truncated), a negative format unless it is -1 with
     /// both lengths 0 (BadFormat), a gtrid that is not 1 to 64 bytes long (GtridLength), a bqual longer than
-    /// 64 bytes (BqualLength), too few bytes for both (Truncated), and bytes behind them (Trailing). No
+    /// 64 bytes (BqualLength), too few bytes for both (Truncated), and bytes after them (Trailing). No
     /// memory is taken.
     pub fn from_bytes(bytes: &[u8]) -> Result<Xid, XidError>
         ensures ok { IfOk result (λ xid. IsXid xid × (bytes.now ≡ xid_bytes xid)) }
@@ -44,7 +44,7 @@ impl Xid {
 
     /// The XID that begins these bytes, and how many of them it takes.
     ///
-    /// Refused as by [`Xid::from_bytes`], but never for bytes behind it. No memory is taken.
+    /// Refused as by [`Xid::from_bytes`], but never for bytes after it. No memory is taken.
     pub fn front(bytes: &[u8]) -> Result<(Xid, usize), XidError>
         ensures ok { IfOk result (λ (xid, size). IsXid xid × (size ≡ length (xid_bytes xid))
             × (bytes.now ≡ xid_bytes xid ++ drop size bytes.now)) }

@@ -20,8 +20,8 @@ pub enum XidError {
     /// The bytes end before the XID does.
     #[error("the bytes of an XID are cut short")]
     Truncated,
-    /// There are bytes behind the XID.
-    #[error("there are bytes behind an XID")]
+    /// There are bytes after the XID.
+    #[error("there are bytes after an XID")]
     Trailing,
     /// The text is not a format, a colon, a hexadecimal gtrid, a colon and a hexadecimal bqual.
     #[error("the text of an XID is not spelled as one")]

@@ -65,7 +65,7 @@ impl Part {
     }
 }
 
-/// Whether the first so many eights of two arrays are equal.
+/// Whether the first N eights of two arrays are equal.
 fn are_equal(a: &[u8; 64], b: &[u8; 64], count: usize) -> bool
     requires { count ≤ 8 }
     ensures yes { result ≡ true → take (count * 8) a.now ≡ take (count * 8) b.now }

@@ -30,7 +30,7 @@ use Rattle.manager_model.specs.Turns.{Begins as BeginsBranch, abort_data, act_da
 abbrev pub shows_force : List Logged → Bool
 shows_force ls = list_any (λ (l : Logged). l.forced) ls
 
--- how many bytes of the unforced records are forced behind a step that shows this
+-- how many bytes of the unforced records are forced after a step that shows this
 abbrev pub behind_by : ℕ → Reaction → ℕ
 behind_by n r = if shows_force r.written then 0 else n
 
@@ -78,7 +78,7 @@ turned_behind c new i (Handles d row) e m is =
     ap (λ (l : LogSight). l.behind) m.log ∙ log_shown c row.written e (written_is _ e row.written refl is)
 turned_behind c new i (Says ls) e m is = same_log c new.log e (written_is _ e [] refl is) m.log
 
--- what a step shows says how much of the log is forced behind it
+-- what a step shows says how much of the log is forced after it
 pub step_behind : (c new : CoreState) (a : DataAnswer) (i : Input) (r : Reaction) → Makes c new a i r
     → new.log.behind ≡ behind_by c.log.behind r
 step_behind c new a i r m =

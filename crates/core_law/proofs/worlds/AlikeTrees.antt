@@ -161,7 +161,7 @@ module _ (s t : WorldState) (alike : AlikeTrees s t) (q : ProcessId) (c d : Core
   left_alike n = ap (λ (ls : List LogRecord). ls ++ whole_within (d.log.behind + n) d.log.kept.unforced) forced_alike
       ∙ ap (λ (ls : List LogRecord). c.log.kept.forced ++ ls) (whole_alike n)
 
-  -- where all records are left, so many were kept as were not forced
+  -- where all records are left, N were kept as were not forced
   all_kept : (e : CoreState) (n : ℕ) → left_by e.log n ≡ records_of e.log.kept
       → records_kept e n ≡ length e.log.kept.unforced
   all_kept e n all =

@@ -21,7 +21,7 @@ use Rattle.core_law.proofs.worlds.Restarts.{restart_goes_on, trim_goes_on}
 use Rattle.core_law.proofs.worlds.Steps.{HidesFaults, InputsAsTheModel, ShowsMoves, sent_stands, step_goes_on}
 use Rattle.core_law.proofs.worlds.Unchanged.{same_by}
 
--- Later moves behind later moves.
+-- Later moves after later moves.
 
 continues_on : (tree : List TreeEntry) (w0 w1 : World) (first : List Made) → Continues tree w0 first w1
     → (second : List Made) (w2 : World) → Continues tree w1 second w2 → Continues tree w0 (second ++ first) w2

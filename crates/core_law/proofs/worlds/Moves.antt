@@ -1,4 +1,4 @@
--- What a process does with an input behind a run is a move of the model's world.
+-- What a process does with an input after a run is a move of the model's world.
 use Rattle.std.proofs.Common.{◌≡◌, ◌∙◌, Bool, true, false, if◌then◌else◌, Option, None, Some, List, refl, sym, subst}
 use Rattle.tree_model.specs.declared.names.ProcessId.{ProcessId}
 use Rattle.tree_model.specs.declared.events.Fault.{Fault}

@@ -168,7 +168,7 @@ none_refused s t c d (Some n) e f alike one two h k = delivery_refused s t alike
 open_alike : (s t : WorldState) → AlikeTrees s t → least_open 1 t.delivered ≡ least_open 1 s.delivered
 open_alike s t alike = ap (least_open 1) alike.delivered
 
--- so many deliveries were made, and the next was not
+-- N deliveries were made, and the next was not
 abbrev StopsIn : ℕ → WorldState → WorldState → StepError → Type 0
 StopsIn n t t' e = (before : WorldState) × Settles n t before × NoneDelivered before t' e (least_open 1 before.delivered)
 
@@ -284,7 +284,7 @@ event_refused s t c d (Trim q) e f alike one two h k =
 
 -- Lists of events.
 
--- so many events were made, one after another, and the next was not
+-- N events were made, one after another, and the next was not
 abbrev Until : WorldState → List Event → ℕ → StepError → WorldState → Type 0
 Until s [] n e t = ⊥
 Until s (x ∷ xs) zero e t = Stops s x e t

@@ -1,4 +1,4 @@
--- A restart and a trim of a process behind a run are moves of the model's world.
+-- A restart and a trim of a process after a run are moves of the model's world.
 use Rattle.std.proofs.Common.{◌≡◌, ◌∙◌, ℕ, Bool, true, false, if◌then◌else◌, Option, None, Some, List, refl, sym, subst}
 use Rattle.tree_model.specs.declared.names.ProcessId.{ProcessId}
 use Rattle.tree_model.specs.declared.events.Fault.{Fault}

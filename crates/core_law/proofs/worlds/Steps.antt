@@ -44,7 +44,7 @@ InputsAsTheModel tree = (es : List Made) (w : World) (q : ProcessId) (old new : 
     → old.place ≡ place_of tree q → Stands (w.at q) old
     → Makes old new a i reaction → MadeSo tree w q a i new reaction
 
--- The world behind a move.
+-- The world after a move.
 
 -- a move in which a device fails so, or none does
 abbrev pub move_with : ProcessId → Happening → Option Fault → DataAnswer → Move
@@ -80,7 +80,7 @@ put_there q p n at h = rw h refl
 
 -- A journal of a run's moves.
 
--- a move in which no device fails is shown behind those before it
+-- a move in which no device fails is shown after those before it
 abbrev pub ShowsMoves : (List Made → List Entry) → Type 0
 ShowsMoves journal = (es : List Made) (q : ProcessId) (h : Happening) (a : DataAnswer) (e : Effect)
     → journal (made_with q h None a e ∷ es) ≡ journal es ++ step_entry q h (reaction_of e) ∷ []
@@ -156,7 +156,7 @@ listed_at es w s q c f stood = sym (f.listed q) ∙ ap is_some stood
 abbrev pub in_full : WorldState → List Made → WorldState
 in_full s es = record s { entries = journal_of es }
 
--- Behind a move of the model's world the run goes on by it, and the state came to one that stands for that.
+-- After a move of the model's world the run goes on by it, and the state came to one that stands for that.
 pub record MovesBy (journal : List Made → List Entry) (es : List Made) (w : World) (s s' : WorldState)
     (m : Move) : Type 0 where
   pub effect : Effect
@@ -188,7 +188,7 @@ module _ (journal : List Made → List Entry) (es : List Made) (w : World) (s s'
     (f : FollowsBy journal es w s)
     (q : ProcessId) (h : Happening) (a : DataAnswer) (before behind : CoreState) (happens : Happens w.net q h)
     (moves : MovesNode s s' q before behind) where
-  -- a move of the model's world behind which the process stands as it was left: the run goes on by it
+  -- a move of the model's world after which the process stands as it was left: the run goes on by it
   pub move_follows : (fault : Option Fault) (e : Effect) (n : Node)
       → world_makes s.tree w (move_with q h fault a) ≡ Some (e, world_after w q n e)
       → s'.net ≡ w.net ++ e.messages → journal (made_with q h fault a e ∷ es) ≡ s'.entries

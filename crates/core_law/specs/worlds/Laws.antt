@@ -26,7 +26,7 @@ RunsFit = (tree : List TreeEntry) (es : List Made) (w : World) → IsRun tree es
     → (w.at q).failed ≡ false → NodeFits (role_of tree q) (place_of tree q) (w.at q)
 
 -- The process's move is one of the model's world, which then has the process as the move leaves it, and the
--- net with what the move sent behind it; the move shows the same, and the process stands for what is left of
+-- net with what the move sent after it; the move shows the same, and the process stands for what is left of
 -- the model's.
 pub record MovesWorld (tree : List TreeEntry) (w : World) (q : ProcessId) (new : CoreState) (m : Move)
     (reaction : Reaction) : Type 0 where
@@ -37,7 +37,7 @@ pub record MovesWorld (tree : List TreeEntry) (w : World) (q : ProcessId) (new :
   pub shown : reaction ≡ reaction_of effect
   pub stands : Stands left new
 
--- behind any run, what a listed process makes of an input is a move of the model's world
+-- after any run, what a listed process makes of an input is a move of the model's world
 abbrev pub InputsMoveRuns : Type 0
 InputsMoveRuns = (tree : List TreeEntry) (es : List Made) (w : World) → IsRun tree es w
     → (q : ProcessId) → is_listed tree q ≡ true
@@ -45,7 +45,7 @@ InputsMoveRuns = (tree : List TreeEntry) (es : List Made) (w : World) → IsRun 
     → old.place ≡ place_of tree q → Stands (w.at q) old → Makes old new a i reaction
     → MovesWorld tree w q new (input_move q i None a) reaction
 
--- behind any run, what a process refuses is no move of the model's world, and the process still stands for
+-- after any run, what a process refuses is no move of the model's world, and the process still stands for
 -- the model's
 abbrev pub RefusalsMoveNothing : Type 0
 RefusalsMoveNothing = (tree : List TreeEntry) (es : List Made) (w : World) → IsRun tree es w
@@ -64,7 +64,7 @@ pub record BreaksWorld (tree : List TreeEntry) (w : World) (q : ProcessId) (new 
       ≡ Some (effect, record { at = put_at q left w.at; net = w.net ++ effect.messages })
   pub stands : Stands left new
 
--- behind any run, a device's failure in an input of a listed process is a move of the model's world with a
+-- after any run, a device's failure in an input of a listed process is a move of the model's world with a
 -- fault in it
 abbrev pub FaultsMoveRuns : Type 0
 FaultsMoveRuns = (tree : List TreeEntry) (es : List Made) (w : World) → IsRun tree es w
@@ -101,7 +101,7 @@ pub record BreaksOffWorld (tree : List TreeEntry) (w : World) (q : ProcessId) (n
       ≡ Some (effect, record { at = put_at q left w.at; net = w.net ++ effect.messages })
   pub stands : Stands left new
 
--- behind any run of a tree, a restart of a listed process is a move of the model's world
+-- after any run of a tree, a restart of a listed process is a move of the model's world
 abbrev pub RestartsMoveRuns : Type 0
 RestartsMoveRuns = (tree : List TreeEntry) (es : List Made) (w : World) → IsTree tree → IsRun tree es w
     → (q : ProcessId) → is_listed tree q ≡ true → (old new : CoreState) (keep : ℕ) (reaction : Reaction)
@@ -115,7 +115,7 @@ RestartFaultsMoveRuns = (tree : List TreeEntry) (es : List Made) (w : World) →
     → old.place ≡ place_of tree q → Stands (w.at q) old → NotRestarted old keep new Device
     → BreaksOffWorld tree w q new (restart_of old keep)
 
--- behind any run of a tree, a trim of a listed process that is up, and whose records can stand in a log, is
+-- after any run of a tree, a trim of a listed process that is up, and whose records can stand in a log, is
 -- a move of the model's world
 abbrev pub TrimsMoveRuns : Type 0
 TrimsMoveRuns = (tree : List TreeEntry) (es : List Made) (w : World) → IsTree tree → IsRun tree es w

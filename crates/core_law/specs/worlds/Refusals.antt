@@ -56,7 +56,7 @@ RefusesEvent tree w delivered (Restart q bytes) e = (k : ℕ)
     → model_refusal tree w (quiet_move q (Restarting k) None) ≡ Some e
 RefusesEvent tree w delivered (Trim q) e = model_refusal tree w (quiet_move q Trimming None) ≡ Some e
 
--- the event behind those that were made is one that the model refuses so, where these messages were delivered
+-- the event after those that were made is one that the model refuses so, where these messages were delivered
 pub record RefusesNext (tree : List TreeEntry) (w : World) (delivered : List Bool) (events : List Event)
     (made : ℕ) (e : StepError) : Type 0 where
   pub event : Event

@@ -15,7 +15,7 @@ abbrev pub Leads : WorldState → List Event → WorldState → Type 0
 Leads old [] new = new ≡ old
 Leads old (e ∷ es) new = (mid : WorldState) × Applies old e mid × Leads mid es new
 
--- so many events were made, and the next was not, for this error
+-- N events were made, and the next was not, for this error
 pub record LeadsUntil (old : WorldState) (events : List Event) (n : ℕ) (e : StepError)
     (new : WorldState) : Type 0 where
   pub event : Event

@@ -99,12 +99,12 @@ pub record Steps (old new : WorldState) (q : ProcessId) (input : Input) (marked 
   pub handles : HandlesInput before behind (old.data_at q) (new.data_at q) input reaction
   pub enters : Enters old new q (Handles input) reaction marked
 
--- so many bytes behind the forced front are kept as a restart names; all of its records, where it names none
+-- N bytes after the forced front are kept as a restart names; all of its records, where it names none
 abbrev pub KeepsBytes : CoreState → Option ℕ → ℕ → Type 0
 KeepsBytes s (Some bytes) keep = keep ≡ bytes
 KeepsBytes s None keep = left_by s.log keep ≡ records_of s.log.kept
 
--- behind a restart where these records are left, each branch of a manager that is in doubt has written and holds
+-- after a restart where these records are left, each branch of a manager that is in doubt has written and holds
 -- what it promised, and nothing else is written or held; those in doubt and those that an operator decided are known
 pub record HoldsPromises (left : List LogRecord) (behind : ManagerData) : Type 0 where
   pub writes : (x : Xid) → behind.writes x ≡ writes_left left x
@@ -170,7 +170,7 @@ abbrev pub settles_by : WorldState → WorldState → (WorldState → Type 0) �
 settles_by old new again None = new ≡ old
 settles_by old new again (Some k) = (mid : WorldState) × Delivers old mid k × again mid
 
--- so many times at most the least numbered message that was not delivered is
+-- N times at most the least numbered message that was not delivered is
 abbrev pub Settles : ℕ → WorldState → WorldState → Type 0
 Settles zero old new = new ≡ old
 Settles (suc n) old new = settles_by old new (λ mid. Settles n mid new) (least_open 1 old.delivered)

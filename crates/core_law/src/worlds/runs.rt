@@ -8,20 +8,20 @@ pub fn runs_fit()
     ensures { RunsFit }
 {}
 
-/// Behind every run of every tree, what a listed process makes of an input, where it stands for the model's
+/// After every run of every tree, what a listed process makes of an input, where it stands for the model's
 /// process there, is a move of the model's world: it shows the same, and the process stands for what the move
 /// leaves. So the run goes on by it, where a message that it hears was sent to it.
 pub fn inputs_move_runs()
     ensures { InputsMoveRuns }
 {}
 
-/// Behind every run of every tree, what a process refuses is no move of the model's world, and it still
+/// After every run of every tree, what a process refuses is no move of the model's world, and it still
 /// stands for the model's process there.
 pub fn refusals_move_nothing()
     ensures { RefusalsMoveNothing }
 {}
 
-/// Behind every run of every tree, a device's failure in an input of a listed process is a move of the
+/// After every run of every tree, a device's failure in an input of a listed process is a move of the
 /// model's world with a fault in it, and the process stands for what that leaves; where the model passes the
 /// input over, if no record was written or forced.
 pub fn faults_move_runs()
@@ -37,7 +37,7 @@ pub fn runs_keep_their_records()
     ensures open { RunsKeepOpen }
 {}
 
-/// Behind every run of every tree, a restart of a listed process, where it stands for the model's process
+/// After every run of every tree, a restart of a listed process, where it stands for the model's process
 /// there, is a move of the model's world: it shows the same, and the process stands for what the move
 /// leaves. So the run goes on.
 pub fn restarts_move_runs()
@@ -50,7 +50,7 @@ pub fn restart_faults_move_runs()
     ensures { RestartFaultsMoveRuns }
 {}
 
-/// Behind every run of every tree, a trim of a listed process that is up, where it stands for the model's
+/// After every run of every tree, a trim of a listed process that is up, where it stands for the model's
 /// process there and the records of its log can stand in one, is a move of the model's world: as many
 /// records remain, and the process stands for what the move leaves.
 pub fn trims_move_runs()

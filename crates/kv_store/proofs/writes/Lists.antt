@@ -22,7 +22,7 @@ found_is_named (w ∷ ws) k = by_test (same_bytes w.key k) (found_is_named ws k)
     by_test true h = refl
     by_test false h = h
 
--- the write in its place, and behind the others
+-- the write in its place, and after the others
 pub put_there : (ws : List Write) (k : List ℕ) (v : Option (List ℕ))
     → position_or_len (is_of k) ws < length ws
     → slice_set ws (position_or_len (is_of k) ws) (record { key = k; value = v }) ≡ with_write ws k v

@@ -37,7 +37,7 @@ put_others [] x y v apart = grind (arith, same_flips x y apart)
 put_others (e ∷ es) x y v apart =
     grind (arith, put_others es x y v apart, same_is x e.0, same_flips x y apart)
 
--- a list stands behind an insertion where its branch stood, or behind all others
+-- a list stands after an insertion where its branch stood, or after all others
 put_place : (es : Lists) (x : Xid) (v : Vec Write)
     → position (same x) (keys_of (insert_entry same es x v)) ≡ Some (position_or_len (same x) (keys_of es))
 put_place [] x v = grind (arith, common_steps, same_itself x)

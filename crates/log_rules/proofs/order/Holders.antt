@@ -1,4 +1,4 @@
--- For which branch a key is listed, behind each change; and that this finds the open branch that promised it.
+-- For which branch a key is listed, after each change; and that this finds the open branch that promised it.
 use Rattle.std.proofs.Common.{◌≡◌, ℕ, Bool, true, false, cond, not, ◌&&◌, ◌||◌, if◌then◌else◌, None, Some, Option, List, [], ◌∷◌, map, subst, refl, sym, ap, ◌∙◌, arith, rules, inl, inr, ◌⊎◌, length}
 use Rattle.std.specs.Global.{Vec}
 use Rattle.std.specs.List.{AllByRecursion, IsDistinct}
@@ -83,7 +83,7 @@ free_key ps (w ∷ ws) k free named =
     by_test true e false none h named behind = subst (λ j. key_open ps j ≡ false) (bytes_same w.key k e) none
     by_test false e false none h named behind = behind h named
 
--- where keys of no open branch are listed anew, those of the open ones stay
+-- where keys of no open branch are listed again, those of the open ones stay
 relisted : (old new : List (Vec ℕ × Xid)) (es : List (Xid × Promise)) (ws : List Write)
     → ((k : List ℕ) → names_key ws k ≡ true → key_open (map (λ e. e.1) es) k ≡ false)
     → ((k : List ℕ) → names_key ws k ≡ false → holder_of new k ≡ holder_of old k)

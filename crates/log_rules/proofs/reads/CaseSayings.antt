@@ -261,7 +261,7 @@ module _ (place : Place) (p : Option ProcessId) (c : Case) (coordinates : IsCoor
       ∙ ap (λ b. behind s ((t && ends entry) || has (is_end c) rs) final ((t && owes entry) || has (owed c) rs) ((t
       && decides entry) || has (decided c) rs) b) (more (started c) (starts entry) says.starting))
     where
-      -- the report behind the record and the rest
+      -- the report after the record and the rest
       final : Bool
       final = fold (reported_after c) (if t then reports_next (is_reporting s) entry else is_reporting s) rs
 

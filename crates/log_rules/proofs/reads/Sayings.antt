@@ -20,7 +20,7 @@ abbrev pub is_reporting : Said → Bool
 is_reporting Reported = true
 is_reporting _ = false
 
--- what is said behind records of which one ended the case, the last to tell reports it, one names somebody who owes,
+-- what is said after records of which one ended the case, the last to tell reports it, one names somebody who owes,
 -- one decided it, one began it
 abbrev pub behind : Said → Bool → Bool → Bool → Bool → Bool → Said
 behind Over e q o d b = over q
@@ -51,7 +51,7 @@ starts (Collecting c ts) = true
 starts (Prepare c ts) = true
 starts _ = false
 
--- the report stands behind a record of the case
+-- the report stands after a record of the case
 abbrev pub reports_next : Bool → Record → Bool
 reports_next b (End c rep) = is_some rep
 reports_next b (Cleared c) = false

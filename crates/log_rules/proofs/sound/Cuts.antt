@@ -13,7 +13,7 @@ use Rattle.log_text.specs.Payloads.{key_text, left_text, reports_text, ticket_te
 use Rattle.log_rules.specs.sound.Written.{AreBytes}
 pub use Rattle.log_text.proofs.NumberBytes.{bytes_behind, first_bytes, number_again, number_bytes, tail_bytes}
 
--- What stands behind a test that passed.
+-- What stands after a test that passed.
 
 pub both : (a b : Bool) → (a && b) ≡ true → (a ≡ true) × (b ≡ true)
 both true true h = (refl, refl)
@@ -98,13 +98,13 @@ ticket_cut xs p h e =
 
 -- Lists.
 
--- so many parts were written at the front, and bytes are left
+-- N parts were written at the front, and bytes are left
 pub record AreCut {A : Type 0} (text : A → List ℕ) (n : ℕ) (xs : List ℕ) (p : List A × List ℕ) : Type 0 where
   pub written : xs ≡ flat_map text p.0 ++ p.1
   pub counted : n ≡ length p.0
   pub bytes : AreBytes p.1
 
--- the first was cut, and what is read behind it
+-- the first was cut, and what is read after it
 rest_cut : {A : Type 0} (text : A → List ℕ) (xs : List ℕ) (a : A × List ℕ) (n : ℕ) (p : List A × List ℕ)
     (o : Front (List A))
     → IsCut text xs a → with_first a.0 o ≡ Some p
@@ -241,7 +241,7 @@ value_cut (high ∷ low ∷ rest) p h e =
       bytes = subst AreBytes (sym cut.1.1) (bytes_behind size rest after);
     }
 
--- a value that is put is cut behind its byte 1
+-- a value that is put is cut after its byte 1
 put_cut : (key rest : List ℕ) (o : Front (List ℕ)) (p : Write × List ℕ) → value_at rest ≡ o → AreBytes rest
     → put_of key o ≡ Some p
     → (1 ∷ rest ≡ left_text p.0.value ++ p.1) × ((p.0.key ≡ key) × AreBytes p.1)

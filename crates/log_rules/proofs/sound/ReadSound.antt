@@ -130,7 +130,7 @@ ticket_sound xs p h e =
 
 -- Lists.
 
--- the first is sound, and what is read behind it
+-- the first is sound, and what is read after it
 rest_sound : {A : Type 0} (Good : A → Type 0) (a : A × List ℕ) (n : ℕ) (p : List A × List ℕ)
     (o : Front (List A)) → Good a.0
     → ((q : List A × List ℕ) → o ≡ Some q → (length q.0 ≡ n) × AllByRecursion Good q.0)
@@ -152,7 +152,7 @@ first_sound at Good n p None good more f = absurd (none_some p f)
 first_sound at Good n p (Some a) good more f =
     rest_sound Good a n p (front_of at n a.1) (good a refl) (λ q g. more a q refl g) f
 
--- what is read is sound, and so is all that is read one behind the other
+-- what is read is sound, and so is all that is read one after the other
 front_sound : {A : Type 0} (at : List ℕ → Front A) (Good : A → Type 0)
     → ((xs : List ℕ) (p : A × List ℕ) → AreBytes xs → at xs ≡ Some p → Good p.0)
     → ((xs : List ℕ) (p : A × List ℕ) → AreBytes xs → at xs ≡ Some p → AreBytes p.1)

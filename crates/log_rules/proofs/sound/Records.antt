@@ -36,7 +36,7 @@ below_back n h =
     limit : (n : ℕ) → n < 2 ^ 63 → nat_lt n (2 ^ 63) ≡ true
     limit n h = grind (arith, nat_tests)
 
--- what is behind the name of a case
+-- what is after the name of a case
 case_back : (kind : ℕ) (p : Option ProcessId) (b : Branch) (rest payload : List ℕ) → IsSoundName p b
     → payload ≡ name_text p b ++ rest
     → coordinator_record kind payload ≡ of_name kind (Some ((p, b), rest))

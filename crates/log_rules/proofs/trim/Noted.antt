@@ -50,7 +50,7 @@ inserted x y v (e ∷ t) = inserted_by x y v e t (insert_entry same t y v) (same
 
 -- What is known of one name.
 
--- what is noted of a name behind one more record
+-- what is noted of a name after one more record
 abbrev pub life_behind : Xid → ℕ → Life → LogRecord → Life
 life_behind x i life l = if is_of x l then life_after i life l.entry else life
 
@@ -67,7 +67,7 @@ noted_name x i t r (Some y) =
     ap (λ o. unwrap_or o no_life) (inserted x y (life_after i (life_in t y) r) t)
     ∙ noted_at x y i t r (same x y) refl
 
--- what is known of a name behind these records
+-- what is known of a name after these records
 unfoldable pub life_from : Xid → ℕ → Life → List LogRecord → Life
 life_from x i life [] = life
 life_from x i life (l ∷ ls) = life_from x (suc i) (life_behind x i life l) ls

@@ -10,7 +10,7 @@ use Rattle.log_text.specs.Frames.{Cut, first_frame}
 use Rattle.log_text.specs.Reading.{read_record}
 use Rattle.log_rules.specs.order.Orders.{SeenLog, after, nothing_seen}
 
--- what bytes are: records and a torn tail of so many bytes, or damaged at the first byte of a frame (0 for
+-- what bytes are: records and a torn tail of N bytes, or damaged at the first byte of a frame (0 for
 -- the header)
 pub data LogReading : Type 0 where
   Whole : List LogRecord → ℕ → LogReading
@@ -21,9 +21,9 @@ abbrev pub with_first : LogRecord → LogReading → LogReading
 with_first l (Whole ls torn) = Whole (l ∷ ls) torn
 with_first l (Damaged place) = Damaged place
 
--- What is read goes from frame to frame; within a frame so many bytes are still passed over.
+-- What is read goes from frame to frame; within a frame N bytes are still passed over.
 
--- the record and what is read behind it, where it may stand there; else its frame is damaged
+-- the record and what is read after it, where it may stand there; else its frame is damaged
 abbrev pub seen_by : ℕ → LogRecord → Option SeenLog → (SeenLog → LogReading) → LogReading
 seen_by place l None more = Damaged place
 seen_by place l (Some s) more = with_first l (more s)
@@ -40,7 +40,7 @@ frame_by p place s size (Some c) more =
     record_by place s (read_record p c.0 c.1)
     (λ t. more (place + suc (size_bytes p.format) + length c.1) t (size_bytes p.format + length c.1))
 
--- what these bytes of a log are, from this place on and behind these records
+-- what these bytes of a log are, from this place on and after these records
 unfoldable pub read_frames : LogForm → ℕ → SeenLog → ℕ → List ℕ → LogReading
 read_frames p place s k [] = Whole [] 0
 read_frames p place s (suc k) (b ∷ bs) = read_frames p place s k bs

@@ -35,7 +35,7 @@ abbrev pub same : Xid → Xid → Bool
 same = names.ghosts.eq
 
 -- Coordinators. The records of a case come in the order Collecting, Prepare, Commit or Abort, End, each at
--- most once: their ranks rise. Behind an End that reports what was found, and behind nothing else, comes
+-- most once: their ranks rise. After an End that reports what was found, and after nothing else, comes
 -- Cleared, once.
 
 -- how far a case has come: the rank of its last record, 0 where it has none
@@ -63,7 +63,7 @@ abbrev pub waits : Mark → Bool
 waits Decided = true
 waits _ = false
 
--- Managers. A branch is open behind its Prepared; decided behind an operator's record, and told behind Told.
+-- Managers. A branch is open after its Prepared; decided after an operator's record, and told after Told.
 
 -- there is a branch, and it is open
 abbrev pub is_open : Option Promise → Bool
@@ -177,13 +177,13 @@ told s x =
 abbrev pub forgot : SeenLog → Xid → Option SeenLog
 forgot s x = if is_heuristic (found s x) then Some (without_promise s x) else None
 
--- a pair stands behind its Base or a pair of a lower key
+-- a pair stands after its Base or a pair of a lower key
 abbrev pub rises : Data → List ℕ → Bool
 rises Other k = false
 rises Base k = true
 rises (Pair j) k = key_below j k
 
--- a Pair of this key, where it stands behind its Base or a Pair of a lower key
+-- a Pair of this key, where it stands after its Base or a Pair of a lower key
 abbrev pub paired : SeenLog → List ℕ → Option SeenLog
 paired s k = if rises s.before k then Some (with_data s (Pair k)) else None
 
@@ -205,7 +205,7 @@ opened s n =
     })
     else None
 
--- what has been seen behind a record, by its kind; none where it may not follow
+-- what has been seen after a record, by its kind; none where it may not follow
 abbrev pub followed : SeenLog → Option ProcessId → Record → Option SeenLog
 followed s p (Opened n) = opened s n
 followed s p (Collecting c ts) = ranked s (name_xid p (CaseBranch c)) 0 0 1
@@ -232,7 +232,7 @@ IsPlain (Prepared b ws) = ⊥
 IsPlain (PairRecord k v) = ⊥
 IsPlain _ = ⊤
 
--- what has been seen behind one record more: none where it may not follow, and at first none but behind an
+-- what has been seen after one record more: none where it may not follow, and at first none but after an
 -- Opened
 unfoldable pub after : SeenLog → LogRecord → Option SeenLog
 after s l = if is_some s.boot || is_opened l.entry then followed s l.parent l.entry else None

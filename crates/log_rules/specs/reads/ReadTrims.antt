@@ -19,7 +19,7 @@ CoordinatorsReadTrims = (place : Place) (ls : List LogRecord) → IsCoordinator 
     → list_any (λ l. is_opened l.entry) ls ≡ true
     → own_records place (front_of_trim ls) ≡ trimmed place.role (own_records place ls)
 
--- a manager reads of what a trim keeps of its log, with its data behind it, just what the model's trim leaves
+-- a manager reads of what a trim keeps of its log, with its data after it, just what the model's trim leaves
 -- of what it read before
 abbrev pub ManagersReadTrims : Type 0
 ManagersReadTrims = (place : Place) (s : ProcessId) (ls : List LogRecord) → place.role ≡ AtLeaf s

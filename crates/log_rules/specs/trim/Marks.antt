@@ -15,7 +15,7 @@ abbrev pub promises : Deed → Bool
 promises deed.Prepares = true
 promises _ = false
 
--- behind a decision that says this: the case is over where it ended, what was found of it stays reported, and
+-- after a decision that says this: the case is over where it ended, what was found of it stays reported, and
 -- who owes an acknowledgement owes it still
 abbrev pub decided_by : Said → Said → Said
 decided_by said.Over s = said.Over
@@ -23,7 +23,7 @@ decided_by said.Owes s = said.Owes
 decided_by said.Reported s = said.Reported
 decided_by _ s = s
 
--- what is said behind one more record of the name
+-- what is said after one more record of the name
 abbrev pub said_by : Said → Deed → Said
 said_by s deed.Begins = begins s
 said_by s deed.Settles = decided_by s said.Settled
@@ -36,18 +36,18 @@ said_by s deed.Ends = said.Over
 said_by s deed.Opens = s
 said_by s deed.Nothing = s
 
--- what the table says of a name behind one more record of it, before which so many stand
+-- what the table says of a name after one more record of it, before which N stand
 abbrev pub life_by : ℕ → Life → Deed → Life
 life_by i life d = record {
   said = said_by life.said d;
   since = if promises d then i else life.since;
 }
 
--- the table behind one more record of this name, where it has one
+-- the table after one more record of this name, where it has one
 abbrev pub marked_by : ℕ → Table → Deed → Option Xid → Table
 marked_by i t d None = t
 marked_by i t d (Some x) = insert_entry same t x (life_by i (life_in t x) d)
 
--- the table behind the record of this mark, before which so many stand
+-- the table after the record of this mark, before which N stand
 abbrev pub marked : ℕ → Table → Mark → Table
 marked i t m = marked_by i t m.deed m.name

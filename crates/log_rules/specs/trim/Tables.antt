@@ -20,12 +20,12 @@ same = names.ghosts.eq
 
 -- What the records of a name say of it.
 
--- behind Collecting or Prepare the case waits, unless it was decided
+-- after Collecting or Prepare the case waits, unless it was decided
 abbrev pub begins : Said → Said
 begins Nothing = Waits
 begins s = s
 
--- behind a decision the case is over where it ended, and what was found of it stays reported; else somebody owes
+-- after a decision the case is over where it ended, and what was found of it stays reported; else somebody owes
 -- an acknowledgement where a decision names somebody
 abbrev pub decides : Said → List Ticket → Said
 decides Over ts = Over
@@ -33,12 +33,12 @@ decides Owes ts = Owes
 decides Reported ts = Reported
 decides s ts = if none_of ts then Settled else Owes
 
--- behind Cleared nothing is reported any more
+-- after Cleared nothing is reported any more
 abbrev pub clears : Said → Said
 clears Reported = Over
 clears s = s
 
--- what is said behind one more record of the name
+-- what is said after one more record of the name
 abbrev pub said_after : Said → Record → Said
 said_after s (Collecting c ts) = begins s
 said_after s (Prepare c ts) = begins s
@@ -84,23 +84,23 @@ no_life = record { said = Nothing; since = 0 }
 abbrev pub life_in : Table → Xid → Life
 life_in t x = unwrap_or (lookup (same x) t) no_life
 
--- what it says behind one more record of the name, before which so many stand
+-- what it says after one more record of the name, before which N stand
 abbrev pub life_after : ℕ → Life → Record → Life
 life_after i life r = record {
   said = said_after life.said r;
   since = if is_prepared r then i else life.since;
 }
 
--- the table behind one more record of this name, where it has one
+-- the table after one more record of this name, where it has one
 abbrev pub noted_by : ℕ → Table → Record → Option Xid → Table
 noted_by i t r None = t
 noted_by i t r (Some x) = insert_entry same t x (life_after i (life_in t x) r)
 
--- the table behind one more record, before which so many stand
+-- the table after one more record, before which N stand
 abbrev pub noted : ℕ → Table → LogRecord → Table
 noted i t l = noted_by i t l.entry (log_name l)
 
--- the table behind these records, before which so many stand
+-- the table after these records, before which N stand
 unfoldable pub lives_from : ℕ → Table → List LogRecord → Table
 lives_from i t [] = t
 lives_from i t (l ∷ ls) = lives_from (suc i) (noted i t l) ls
@@ -109,17 +109,17 @@ lives_from i t (l ∷ ls) = lives_from (suc i) (noted i t l) ls
 abbrev pub lives_of : List LogRecord → Table
 lives_of ls = lives_from 0 [] ls
 
--- a record of this name stays before which so many stand, where it has a name: it is live, and was not
--- prepared again behind it
+-- a record of this name stays before which N stand, where it has a name: it is live, and was not
+-- prepared again after it
 abbrev pub keeps_by : Table → ℕ → Option Xid → Bool
 keeps_by t i None = false
 keeps_by t i (Some x) = is_live (life_in t x).said && nat_le (life_in t x).since i
 
--- a record stays before which so many stand: its name is live, and was not prepared again behind it
+-- a record stays before which N stand: its name is live, and was not prepared again after it
 abbrev pub keeps : Table → ℕ → LogRecord → Bool
 keeps t i l = keeps_by t i (log_name l)
 
--- the records that stay, of some before which so many stand
+-- the records that stay, of some before which N stand
 unfoldable pub picked : Table → ℕ → List LogRecord → List LogRecord
 picked t i [] = []
 picked t i (l ∷ ls) = if keeps t i l then l ∷ picked t (suc i) ls else picked t (suc i) ls

@@ -20,7 +20,7 @@ is_name x (Some y) = same x y
 abbrev pub is_of : Xid → LogRecord → Bool
 is_of x l = is_name x (log_name l)
 
--- what is said of a name behind one more record of the log
+-- what is said of a name after one more record of the log
 abbrev pub said_behind : Xid → Said → LogRecord → Said
 said_behind x s l = if is_of x l then said_after s l.entry else s
 
@@ -32,13 +32,13 @@ said_of x ls = fold (said_behind x) Nothing ls
 abbrev pub prepares : Xid → LogRecord → Bool
 prepares x l = is_of x l && is_prepared l.entry
 
--- a record of this name stays, where it has a name: it is live, and none of the records behind promises
+-- a record of this name stays, where it has a name: it is live, and none of the records after promises
 -- again for it
 abbrev pub stays_by : List LogRecord → List LogRecord → Option Xid → Bool
 stays_by ls behind None = false
 stays_by ls behind (Some x) = is_live (said_of x ls) && not (list_any (prepares x) behind)
 
--- a record of a log stays, with these behind it: its name is live, and was not prepared again behind it
+-- a record of a log stays, with these after it: its name is live, and was not prepared again after it
 abbrev pub stays : List LogRecord → List LogRecord → LogRecord → Bool
 stays ls behind l = stays_by ls behind (log_name l)
 
@@ -47,7 +47,7 @@ unfoldable pub staying : List LogRecord → List LogRecord → List LogRecord
 staying ls [] = []
 staying ls (l ∷ behind) = if stays ls behind l then l ∷ staying ls behind else staying ls behind
 
--- the last Opened behind one more record
+-- the last Opened after one more record
 abbrev pub opened_after : List LogRecord → LogRecord → List LogRecord
 opened_after o l = if is_opened l.entry then l ∷ [] else o
 
@@ -59,7 +59,7 @@ last_opened ls = fold opened_after [] ls
 unfoldable pub front_of_trim : List LogRecord → List LogRecord
 front_of_trim ls = last_opened ls ++ staying ls ls
 
--- the log that a trim leaves of a manager's: what stays of its records, and its data behind them as a base and
+-- the log that a trim leaves of a manager's: what stays of its records, and its data after them as a base and
 -- its pairs, keys rising
 abbrev pub trim_of : List LogRecord → List LogRecord
 trim_of ls = front_of_trim ls ++ map unnamed (base_records (data_of ls))

@@ -46,7 +46,7 @@ pub enum Mark {
     Open,
     /// An operator decided it.
     Decided,
-    /// It was told the outcome behind an operator's decision.
+    /// It was told the outcome after an operator's decision.
     Told,
 }
 
@@ -57,7 +57,7 @@ pub struct Promise {
     writes: Writes,
 }
 
-/// What the last record says of the data behind a Base.
+/// What the last record says of the data after a Base.
 #[derive(Drop)]
 pub enum Data {
     /// Nothing.
@@ -444,7 +444,7 @@ impl Seen {
     }
 
     /// Takes the next record of the log. Malformed comes exactly where it may not follow the records so far.
-    /// Behind an error nothing more is known.
+    /// After an error nothing more is known.
     #[tactic(auto, unfolding(crate::specs::order::Orders::after))]
     pub fn take(&mut self, next: LogRecord) -> Result<(), ReadFault>
         ensures ok { OnOk result (after self.old next ≡ Some self.new) }

@@ -8,7 +8,7 @@ pub fn coordinators_read_trims()
     ensures { CoordinatorsReadTrims }
 {}
 
-/// A manager reads of what a trim keeps of its log, with its data behind it, just what the model's trim
+/// A manager reads of what a trim keeps of its log, with its data after it, just what the model's trim
 /// leaves of what it read before.
 pub fn managers_read_trims()
     ensures { ManagersReadTrims }

@@ -50,7 +50,7 @@ impl Model for Lives {
 }
 
 impl Said {
-    /// What is said behind a decision, which owes an acknowledgement or settles it.
+    /// What is said after a decision, which owes an acknowledgement or settles it.
     fn decided(self, decided: Said) -> Said
         ensures { result ≡ decided_by self decided }
     {
@@ -62,7 +62,7 @@ impl Said {
         }
     }
 
-    /// What is said behind one more record of the name.
+    /// What is said after one more record of the name.
     fn after(self, deed: Deed) -> Said
         ensures { result ≡ said_by self deed }
     {
@@ -93,7 +93,7 @@ impl Said {
 }
 
 impl Life {
-    /// What is noted behind one more record of the name, before which so many stand.
+    /// What is noted after one more record of the name, before which N stand.
     fn after(self, place: usize, deed: Deed) -> Life
         ensures { result ≡ life_by place self deed }
     {
@@ -130,7 +130,7 @@ impl Lives {
         }
     }
 
-    /// Notes the record of this mark, before which so many stand.
+    /// Notes the record of this mark, before which N stand.
     pub fn note(&mut self, place: usize, mark: &Mark) -> Result<(), AllocError>
         ensures { OnOk result (self.new ≡ marked place self.old mark.now) }
     {
@@ -142,7 +142,7 @@ impl Lives {
         Ok(())
     }
 
-    /// Whether the record stays that stands behind so many others.
+    /// Whether the record stays that stands after N others.
     pub fn keeps(&self, place: usize, mark: &Mark) -> bool
         ensures { result ≡ keeps_by self.now place mark.now.name }
     {

@@ -12,7 +12,7 @@ use Rattle.tree_model.specs.declared.names.Ticket.{Ticket}
 use Rattle.tree_model.specs.declared.names.Txn.{Txn}
 use Rattle.tree_model.specs.Branches.{txn_bytes, ticket_bytes, below_bytes, FitsTxn, FitsTicket}
 
--- the first of two parts of a name is read from the whole, and the second behind it
+-- the first of two parts of a name is read from the whole, and the second after it
 behind : (n k : ℕ) (a b : List ℕ) → length a ≡ n → drop (n + k) (a ++ b) ≡ drop k b
 behind n k a b h = rw (← h) (drop-append-add a b k)
 
@@ -79,7 +79,7 @@ pub length-ticket_bytes : (b : ProcessId × Ticket) → length (ticket_bytes b) 
 unfolding ticket_bytes
 length-ticket_bytes b = refl
 
--- a number that stands behind the front of a name
+-- a number that stands after the front of a name
 pub number_behind : (n k v : ℕ) (bytes name : List ℕ) → bytes ≡ name → big_number n (drop k bytes) ≡ v
     → big_number n (take (length name - k) (drop k name)) ≡ v
 number_behind n k v bytes name e h =

@@ -103,7 +103,7 @@ record SameFront (es fs : List TreeEntry) (m n : ℕ) (ls ks : List (List ℕ)) 
   rules : m ≡ n
   lines : ls ≡ ks
 
--- bytes have one tree text, and the same stands before and behind it
+-- bytes have one tree text, and the same stands before and after it
 pub text_is_one : (bytes : List ℕ) (fronts behind fronts' behind' : List (List ℕ)) (es fs : List TreeEntry)
     → HasTreeText bytes fronts behind es
     → HasTreeText bytes fronts' behind' fs → (fronts ≡ fronts') × (behind ≡ behind') × (es ≡ fs)
@@ -129,7 +129,7 @@ front_is_one input es fs m n ls ks a b =
       lines = a.lines_are ∙ ap lines_of_parts behind ∙ sym b.lines_are;
     }
 
--- what is read behind two fronts of one input
+-- what is read after two fronts of one input
 read_alike : (es fs : List TreeEntry) (m n : ℕ) (ls ks : List (List ℕ)) → SameFront es fs m n ls ks
     → logs_of es m ls ≡ logs_of fs n ks
 read_alike es fs m n ls ks same = rw (same.trees, same.rules, same.lines) refl

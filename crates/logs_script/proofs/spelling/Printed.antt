@@ -92,7 +92,7 @@ ascii (c ∷ cs) h (suc i) = ascii cs h.1 i
 pub text_is_utf8 : (lines : List (List ℕ)) → ArePrintedLines lines → IsUtf8 (lines_text lines)
 text_is_utf8 lines h = IsUtf8-from_ascii (lines_text lines) (ascii (lines_text lines) (text_ascii lines h))
 
--- It is cut into these lines, and an empty piece behind them.
+-- It is cut into these lines, and an empty piece after them.
 
 abbrev pub ended : List (List ℕ) → List (List ℕ)
 ended lines = lines ++ [] ∷ []
@@ -119,7 +119,7 @@ some_behind : (fronts : List (List ℕ)) (p : List ℕ) (rest : List (List ℕ))
 some_behind [] p rest = omega arith
 some_behind (f ∷ fronts) p rest = omega arith
 
--- the first line of three dashes stands behind the lines that are none
+-- the first line of three dashes stands after the lines that are none
 pub rule_found : (fronts behind : List (List ℕ)) → AllByRecursion (λ line. is_rule line ≡ false) fronts
     → around_rule (fronts ++ codes "---" ∷ ended behind) ≡ Some (fronts, ended behind)
 rule_found [] behind h = around_more (codes "---") (ended behind) (some_behind behind [] [])

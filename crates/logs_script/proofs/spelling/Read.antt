@@ -74,7 +74,7 @@ first_more es seen (m ∷ ls) l (here, first, more) fits may = (
       (subst (λ (x : List ProcessLog). may_follow es x l ≡ true) (sym (append_assoc seen (m ∷ []) ls)) may),
 )
 
--- what is read of lines, behind logs that are each the first of a process
+-- what is read of lines, after logs that are each the first of a process
 abbrev FirstOf : List TreeEntry → Result (List ProcessLog) ℕ → List ProcessLog → Type 0
 FirstOf es read ls = read ≡ Ok ls → AreFirst es [] ls
 

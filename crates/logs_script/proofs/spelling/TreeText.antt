@@ -168,7 +168,7 @@ tree_printed [] = tt
 tree_printed (e ∷ es) = printed_append (expressions_of e) (expressions es) (process_printed e)
     (tree_printed es)
 
--- What a document holds behind them.
+-- What a document holds after them.
 
 abbrev with_parent : Option ProcessId → Nodes
 with_parent None = no_nodes
@@ -191,7 +191,7 @@ abbrev tables_of : List TreeEntry → Items
 tables_of [] = no_items
 tables_of (e ∷ es) = item (table_of e) (tables_of es)
 
--- in the table of a process, behind those that are complete
+-- in the table of a process, after those that are complete
 abbrev inside : Items → Nodes → Document
 inside done last = (node (codes "process") (open_array done last) no_nodes, codes "process" ∷ [])
 
@@ -225,7 +225,7 @@ process_next done last p kind None (Some info) = refl
 process_next done last p kind (Some q) None = refl
 process_next done last p kind (Some q) (Some info) = refl
 
--- these processes stand behind those that are complete
+-- these processes stand after those that are complete
 abbrev Behind : Items → Nodes → List TreeEntry → Type 0
 Behind done last es = (doc : Document) × (run (inside done last) (expressions es) ≡ Some doc)
     × (close doc.0 ≡ member (codes "process")

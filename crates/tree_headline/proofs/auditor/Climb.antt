@@ -40,7 +40,7 @@ module _ (tree : List TreeEntry) (w : World) (h : WorldHolds tree w) (up : AllUp
   abbrev logs : Logs
   logs = logs_of_world w
 
-  -- by a climb of so many levels each case that promised, and that no operator forgot, gets the outcome
+  -- by a climb of N levels each case that promised, and that no operator forgot, gets the outcome
   abbrev Says : ℕ → Type 0
   Says k = (x : Txn) (t : Ticket) → is_listed tree t.child ≡ true → IsIssuer (role_of tree t.child)
       → has (is_promise (child_case x t)) (kept (w.at t.child)) ≡ true

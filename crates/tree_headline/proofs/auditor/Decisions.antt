@@ -1,4 +1,4 @@
--- An operator decides a branch once, and nothing of the branch stands behind a Forgot.
+-- An operator decides a branch once, and nothing of the branch stands after a Forgot.
 use Rattle.std.proofs.Common.{◌≡◌, ◌∙◌, ◌||◌, inl, inr, Bool, true, false, not, List, [], ◌∷◌, ◌++◌, refl, sym, arith, if◌then◌else◌}
 use Rattle.tree_model.specs.declared.names.Case.{Case}
 use Rattle.tree_model.specs.declared.names.Outcome.{Outcome}
@@ -16,7 +16,7 @@ use Rattle.tree_nodes.proofs.Orders.{same_is}
 use Rattle.tree_nodes.proofs.Tests.{both, either, has-append, left, neither, not_both, right, second_false}
 use Rattle.tree_nodes.proofs.Worlds.{has_other}
 
--- behind an operator's decision, or the end of the branch
+-- after an operator's decision, or the end of the branch
 abbrev pub IsPast : Mark → Type 0
 IsPast Decided = Unit {0}
 IsPast (ToldOf o) = Unit {0}
@@ -54,7 +54,7 @@ rolls_back_not Finished b k = refl
 rolls_back_not Unmarked b k = absurd k
 rolls_back_not Promised b k = absurd k
 
--- the record may stand behind those with this mark
+-- the record may stand after those with this mark
 abbrev Fits : Case → Mark → Record → Type 0
 Fits d m r = (not (is_branch_record d r) || may_follow m r) ≡ true
 
@@ -148,7 +148,7 @@ last_is q r (x ∷ xs) e = elim (either _ _ e) [
   | inr rest ↦ right (q x) (has q xs) (last_is q r xs rest)
 ]
 
--- where a decision has no Forgot behind it, there is none before it either
+-- where a decision has no Forgot after it, there is none before it either
 pub never_forgotten : (d : Case) (o : Outcome) (m : Mark) (rs : List Record) → in_order_from d m rs ≡ true
     → has_last (is_decided d o) (is_forgot d) rs ≡ true → has (is_forgot d) rs ≡ false
 unfolding in_order_from has has_last

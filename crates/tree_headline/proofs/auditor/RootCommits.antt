@@ -69,7 +69,7 @@ module _ (place : Place) (n : Node) (h : Heard) (d : Case) where
 
 -- Steps.
 
--- behind the forced front there is no Commit
+-- after the forced front there is no Commit
 abbrev pub CommitsForced : Logs → Type 0
 CommitsForced l = l.failed ≡ false → (c : Case) → has (is_commit c) l.unforced ≡ false
 

@@ -25,7 +25,7 @@ pub record NetHolds (tree : List TreeEntry) (net : List Envelope) : Type 0 where
   pub go : AllGo tree net
   pub about_given : AboutGiven net
 
--- messages that go where they belong, behind others that do
+-- messages that go where they belong, after others that do
 go_both : (tree : List TreeEntry) (xs ys : List Envelope) → AllGo tree xs → AllGo tree ys
     → AllGo tree (xs ++ ys)
 go_both tree [] ys f g = g

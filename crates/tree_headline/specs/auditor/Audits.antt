@@ -92,7 +92,7 @@ abbrev pub decided_or : Option Outcome → Outcome → Outcome
 decided_or (Some o) _ = o
 decided_or None o = o
 
--- the outcome of a case by a climb of so many levels
+-- the outcome of a case by a climb of N levels
 abbrev pub outcome_within : ℕ → List TreeEntry → Logs → Case → Outcome
 outcome_within zero tree logs c = presumed c.txn.presumption
 outcome_within (suc k) tree logs c =

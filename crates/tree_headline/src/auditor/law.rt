@@ -6,7 +6,7 @@ ghost use Rattle.tree_model.specs.World.{IsRun, Made, World};
 ghost use Rattle.tree_model.specs.declared.trees.TreeEntry.{TreeEntry};
 ghost use Rattle.tree_nodes.specs.WorldHolds.{WorldHolds};
 
-/// Where the world's invariant holds behind a run, and no process of the tree is failed, the audit of the
+/// Where the world's invariant holds after a run, and no process of the tree is failed, the audit of the
 /// kept lists gives each line's case the outcome of its transaction, and the mismatches that it shows are
 /// just those that stand.
 pub fn audits_are_true()

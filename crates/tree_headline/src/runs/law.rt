@@ -26,7 +26,7 @@ pub fn headline_of_reopened_trees()
         → IsRunBy tree v before es w → Headline tree es w }
 {}
 
-/// Behind every run of every tree in which no process is failed, the audit of the logs' kept records gives
+/// After every run of every tree in which no process is failed, the audit of the logs' kept records gives
 /// each case that it lists the outcome of its transaction, although roots have forgotten and trimmed; and
 /// the mismatches that it shows are just those that stand.
 pub fn audits_are_true()
@@ -35,7 +35,7 @@ pub fn audits_are_true()
         → AuditsAreTrue tree w }
 {}
 
-/// The world's invariant holds behind every run of every tree.
+/// The world's invariant holds after every run of every tree.
 pub fn the_world_holds()
     ensures { (tree : List TreeEntry) (es : List Made) (w : World) → IsTree tree → IsRun tree es w
         → WorldHolds tree w }

@@ -73,7 +73,7 @@ aborted_memory me p boot i c m h e = record {
   begun = rw (e, same_case-refl c) (closed-begun (retires m c) m.phase refl);
 }
 
--- A plain Abort behind the promise.
+-- A plain Abort after the promise.
 
 half_aborted : (s s' : Standing) (m m' : Memory) (n : Node) (h : Heard) (e : Effect) (c : Case)
     (t : Ticket) → SameMemory m m'

@@ -26,7 +26,7 @@ abbrev pub promised : ChildHalf → ChildHalf
 promised k = record (hardened k)
     { is_open = false; prepared_kept = true; prepared_forced = true; prepared_ever = true }
 
--- an Abort that names nobody was written behind the promise, unforced
+-- an Abort that names nobody was written after the promise, unforced
 abbrev pub aborts_promise : ParentHalf → ParentHalf
 aborts_promise p = record p { abort_kept = true; obeyed_abort = true }
 
@@ -77,7 +77,7 @@ failed_half front k = record k {
   forgot_ever = front.forgot || k.forgot_ever;
 }
 
--- It failed behind the promise.
+-- It failed after the promise.
 abbrev pub failed_promise : ChildFront → ChildHalf → ChildHalf
 failed_promise front k = record (failed_half front k) { prepared_kept = true }
 

@@ -157,7 +157,7 @@ pub record ParentHalf : Type 0 where
   pub told_aborted : Bool
   -- the root began the transaction, by all that is left of it
   pub begun : Bool
-  -- an Abort was once appended behind the promise
+  -- an Abort was once appended after the promise
   pub obeyed_abort : Bool
   pub collecting_kept : Bool
   pub collecting_forced : Bool

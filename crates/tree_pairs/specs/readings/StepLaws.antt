@@ -37,7 +37,7 @@ pub record IsReady (v : ManagerView) (n : ℕ) (a : DataAnswer) (ws : List Write
   pub done : ((v.done == n) && not v.spoiled) ≡ true
   pub holds : a.holding ≡ Holds ws
 
--- PREPARE at a ready branch is the move of the vote YES, behind the force of what stood before.
+-- PREPARE at a ready branch is the move of the vote YES, after the force of what stood before.
 abbrev pub ManagerVotesYes : Type 0
 ManagerVotesYes = (tree : List TreeEntry) (w w' : World) (above : Bool) (c : Case) (t : Ticket)
     (p : ProcessId) (i n : ℕ)
@@ -68,7 +68,7 @@ pub record IsLastVote (v : CoordinatorView) (found : Option Case) (x : Txn) (t :
   pub first : is_counted v.accepted v.votes t ≡ true
   pub last : all_voted v.accepted (v.votes ++ (t, VoteYes) ∷ []) ≡ true
 
--- The last vote, under Presumed Abort, is the moves of hearing it and of the root's decision, behind the
+-- The last vote, under Presumed Abort, is the moves of hearing it and of the root's decision, after the
 -- force of what stood before, for the pair of the ticket whose vote it is.
 abbrev pub RootDecides : Type 0
 RootDecides = (tree : List TreeEntry) (w w' : World) (above : Bool) (x : Txn) (t : Ticket) (i : ℕ)
@@ -87,7 +87,7 @@ abbrev pub promise_fault : ℕ → Reading → Reading
 promise_fault zero r = child_fails r
 promise_fault (suc k) r = fails_to_promise r
 
--- A fault at PREPARE of a ready branch is the move of failing, before its promise or behind it, and then
+-- A fault at PREPARE of a ready branch is the move of failing, before its promise or after it, and then
 -- the forced front has moved on to where it is.
 abbrev pub ManagerFails : Type 0
 ManagerFails = (tree : List TreeEntry) (w w' : World) (above : Bool) (c : Case) (t : Ticket)

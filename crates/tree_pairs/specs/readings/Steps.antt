@@ -67,7 +67,7 @@ asks_by Unmarked = false
 asks_by (ToldOf o) = false
 asks_by Finished = false
 
--- A process restarts; so many records behind the forced front are kept, and its device does not fail.
+-- A process restarts; N records after the forced front are kept, and its device does not fail.
 abbrev pub restarts_at : ProcessId → ℕ → DataAnswer → Move
 restarts_at q k a = record {
   step = record { process = q; happening = Restart k; fault = None };

@@ -1,4 +1,4 @@
--- Which rows close their case: its phase is over behind them.
+-- Which rows close their case: its phase is over after them.
 use Rattle.std.proofs.Common.{◌≡◌, ◌∙◌, inl, inr, ℕ, Bool, true, false, Some, List, [], ◌∷◌, ◌++◌, refl, sym, ap, subst, if◌then◌else◌}
 use Rattle.std.specs.Prelude.{filter, find}
 use Rattle.tree_model.specs.declared.names.Case.{Case}

@@ -116,7 +116,7 @@ module _ (turn : Turn) where
         (behind a f ∙ ap (λ (z : OwnHalf). failed_own (front_of d (fails_in n h e (suc a) f).forced) z)
         (aside d r b q x))
 
-    -- as this move, behind the record
+    -- as this move, after the record
     own_fails_as : (x : OwnHalf) → wrote r (has (is_prepare (own_case turn)) n.life) (own_case turn)
         (half_in turn) ≡ x
         → (s : Reading)
@@ -180,7 +180,7 @@ module _ (turn : Turn) where
         no_forgot = refl;
       })
 
-  -- behind it
+  -- after it
   pub commit_fails : (e : Effect) (ts : List Ticket) (is_forced : Bool)
       → e.written ≡ record { entry = CommitRecord d ts; is_forced = is_forced } ∷ []
       → (j : ℕ) → h.input ≡ MessageInput j (Commit d) → (coordinator_view place n d).standing ≡ Prepared

@@ -18,7 +18,7 @@ use Rattle.tree_nodes.proofs.ChildOf.{NoBranch, half_as_child}
 use Rattle.tree_model.specs.declared.messages.Finding.{Finding}
 use Rattle.tree_model.specs.declared.names.ProcessId.{ProcessId}
 
--- What the process says of its own case: whether it is open, whether it aborted behind its promise or
+-- What the process says of its own case: whether it is open, whether it aborted after its promise or
 -- committed, and
 -- which of its records stand in the log, in its forced front, or ever stood there.
 pub record OwnHalf : Type 0 where
@@ -83,7 +83,7 @@ half_above s n d b = half_as_child s fresh_memory n d (any_ticket d) b
 abbrev pub stands_so : Bool → OwnHalf → OwnHalf
 stands_so o q = record q { is_open = o }
 
--- the record was written behind what stands; a promise was ever written, or not
+-- the record was written after what stands; a promise was ever written, or not
 abbrev pub wrote : Record → Bool → Case → OwnHalf → OwnHalf
 wrote r promised d q = record q {
   obeyed_abort = (is_abort d r && promised) || q.obeyed_abort;
@@ -144,7 +144,7 @@ promises q = record q { prepare_kept = true }
 abbrev pub commits : OwnHalf → OwnHalf
 commits q = record q { committed = true; commit_kept = true }
 
--- behind a promise that was ever written, or not
+-- after a promise that was ever written, or not
 abbrev pub aborts : Bool → OwnHalf → OwnHalf
 aborts promised q = record q { obeyed_abort = promised || q.obeyed_abort; abort_kept = true }
 

@@ -94,7 +94,7 @@ pub none_read : (me : ProcessId) (c : Case) (xs ys : List Envelope) → said_rea
     → said_read me c ys ≡ false → said_read me c (xs ++ ys) ≡ false
 none_read me c xs ys e f = read_append me c xs ys ∙ neither _ _ e f
 
--- The log behind an event that appended these records.
+-- The log after an event that appended these records.
 
 pub record Appended (n k : Node) (c : Case) (xs : List Record) (was : Bool) : Type 0 where
   pub kept_then : kept k ≡ kept n ++ xs

@@ -154,7 +154,7 @@ module _ (me p : ProcessId) (tree : List TreeEntry) (net : List Envelope) (n : N
         by_words (promises_now ts w i x y) = absurd (let k = sym (read_sent me c e.messages f) ∙ x in cc)
         by_words (collects_now w x y) = absurd (let k = sym (read_sent me c e.messages f) ∙ x in cc)
 
-    -- behind a front of what was written
+    -- after a front of what was written
     pub promised_nothing : (xs : List Record) → (has (is_prepare c) xs ≡ true → has (is_prepare c) new ≡ true)
         → (k : Node) → k.life ≡ reverse xs ++ n.life → said_read me c net ≡ true → has (is_prepare c) k.life
         ≡ false

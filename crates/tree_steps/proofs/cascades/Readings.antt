@@ -101,7 +101,7 @@ module _ (root outcome above : Bool) (p : ParentHalf) (q : OwnHalf) (v : Wire) w
       ≡ move.votes_yes (move.hardens_child (R q v))
   reading-yes e f = rw (e, f) (simp (or_twice, and-false, dead-live, dead-promised))
 
-  -- The case is behind its promise.
+  -- The case is after its promise.
   module _ (closed : q.is_open ≡ false) (kept : q.prepare_kept ≡ true) where
     pub reading-commit_forced : R (stands_so false (hardens (commits q))) (record v { ack = true })
         ≡ move.commits_forced (move.hardens_child (R q v))

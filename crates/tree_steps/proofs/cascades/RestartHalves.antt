@@ -217,7 +217,7 @@ module _ (d : Case) (rs : List Record) where
 
 -- Readings.
 
--- an Abort behind a promise is of a promise that was lost
+-- an Abort after a promise is of a promise that was lost
 abbrev pub IsLost : (aborted promised left ever issued read : Bool) → Type 0
 IsLost aborted promised left ever issued read = (aborted && promised) ≡ true
     → (left ≡ false) × ((ever ≡ false) × ((issued ≡ true) × (read ≡ false)))

@@ -42,7 +42,7 @@ module _ (c : Case) (e : Effect) where
     pub no_promise : has (is_prepare c) (entries_written e.written) ≡ false
     pub no_collecting : has (is_collecting c) (entries_written e.written) ≡ false
 
-  -- what it does, of a case that was open or not, and is so behind it
+  -- what it does, of a case that was open or not, and is so after it
   pub data Words (was is : Bool) : Type 0 where
     plainly : IsPlain → Words was is
     reads_now : was ≡ true → is ≡ false → has (is_prepare c) (entries_written e.written) ≡ false
@@ -251,7 +251,7 @@ module _ (me p : ProcessId) (tree : List TreeEntry) (n : Node) (h : Heard) (net 
     | inr o ↦ other_promise x u w ys o.0
   ]
 
-  -- The collecting of votes behind a record.
+  -- The collecting of votes after a record.
 
   abbrev Collects : Case → Effect
   Collects x = row_effect x (active_commit_with (seat x) (view x) PresumeCommit)

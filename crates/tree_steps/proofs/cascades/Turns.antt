@@ -66,7 +66,7 @@ opens place n d = is_live (phase_by n.failed (coordinator_view place n d).standi
 
 -- The pair's case and ticket, with the parent's half; the coordinator below its parent, what it was and
 -- heard, and the
--- net behind it; and what is known of them.
+-- net after it; and what is known of them.
 pub record Turn : Type 0 where
   pub c : Case
   pub t : Ticket
@@ -147,7 +147,7 @@ module _ (turn : Turn) where
   abbrev pub r0 : Reading
   r0 = R q v
 
-  -- what is known behind an effect
+  -- what is known after an effect
   pub record Then (e : Effect) : Type 0 where
     pub alike_then : IsOpenAlike place (after n h e) d
     pub sent_here : AllSentBy t.child e.messages

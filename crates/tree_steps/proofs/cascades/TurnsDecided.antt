@@ -1,4 +1,4 @@
--- The rows of the pair's case behind its promise, and of one that is over, keep the pair's invariant.
+-- The rows of the pair's case after its promise, and of one that is over, keep the pair's invariant.
 use Rattle.std.proofs.Common.{◌≡◌, ◌∙◌, ◌⊎◌, inl, inr, ◌&&◌, ℕ, Bool, true, false, Some, List, [], ◌∷◌, refl, sym, ap, subst, arith, None}
 use Rattle.tree_model.specs.declared.names.Case.{Case}
 use Rattle.tree_model.specs.declared.names.Outcome.{Outcome}

@@ -122,7 +122,7 @@ module _ (turn : Turn) where
 
   -- An Abort before the promise.
 
-  -- with this word, behind a record that is not forced
+  -- with this word, after a record that is not forced
   abort_plain : (e : Effect) → Then turn e → (us : List Ticket)
       → e.written ≡ record { entry = AbortRecord d us; is_forced = false } ∷ []
       → live (Remembered turn).phase ≡ false → (s : Said) → said_by c t e.messages ≡ s → (m : Reading)

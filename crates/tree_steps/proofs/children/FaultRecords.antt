@@ -1,4 +1,4 @@
--- An input of a manager in which its device fails, as one of its pairs sees it; and what a record behind it
+-- An input of a manager in which its device fails, as one of its pairs sees it; and what a record after it
 -- is to the pair.
 use Rattle.std.proofs.Common.{◌≡◌, ◌∙◌, ℕ, zero, suc, Bool, true, false, List, [], ◌∷◌, ◌++◌, take, refl, sym, ap, subst}
 use Rattle.std.specs.Prelude.{not}
@@ -94,7 +94,7 @@ module _ (turn : Broken) where
   abbrev pub r0 : Reading
   r0 = R k
 
-  -- the process behind the fault
+  -- the process after the fault
   abbrev pub Failed : Effect → ℕ → ℕ → Node
   Failed e a f = fails_in n h e a f
 
@@ -161,7 +161,7 @@ module _ (turn : Broken) where
         ∙ ap (λ (z : ChildHalf). failed_half (front_of d k.heuristic_commits (Failed e (suc a) f).forced) z)
         (unrelated d r k other plain))
 
-    -- it is the branch's, and failing behind it is this move
+    -- it is the branch's, and failing after it is this move
     pub fails_own : (s : Reading)
         → ((rs : List Record) → R (failed_half (front_of d s.heuristic_commits rs) (wrote r d k))
         ≡ crash.hardens_failed_child (front_of d s.heuristic_commits rs) s)

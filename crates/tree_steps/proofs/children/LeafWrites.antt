@@ -14,7 +14,7 @@ use Rattle.tree_pairs.specs.Reading.{is_live}
 use Rattle.tree_pairs.specs.readings.ReadingOf.{child_half_at, ChildHalf, phase_by, is_promise, is_learnt_commit, is_learnt_abort, is_committing}
 use Rattle.tree_pairs.proofs.readings.Lists.{has-push, has-push_behind, has-nil, has-nil_behind, has-cons, has-history}
 
--- the record was written behind what stands
+-- the record was written after what stands
 abbrev pub wrote : Record → Case → ChildHalf → ChildHalf
 wrote r d k = record k {
   obeyed_abort = is_learnt_abort d r || k.obeyed_abort;

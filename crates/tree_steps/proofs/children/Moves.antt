@@ -1,4 +1,4 @@
--- A child's moves keep the invariant under either presumption, one behind another.
+-- A child's moves keep the invariant under either presumption, one after another.
 use Rattle.std.proofs.Common.{◌≡◌, ◌⊎◌, Bool, true, false, refl, arith}
 use Rattle.tree_model.specs.declared.names.Presumption.{Presumption}
 use Rattle.tree_model.specs.declared.names.Presumption.TheVariants.{PresumeAbort, PresumeCommit}

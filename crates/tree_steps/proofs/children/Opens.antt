@@ -1,4 +1,4 @@
--- Whether a branch is open behind an input, by its last record and the phase that is remembered.
+-- Whether a branch is open after an input, by its last record and the phase that is remembered.
 use Rattle.std.proofs.Common.{◌≡◌, ◌∙◌, ◌⊎◌, inl, inr, ℕ, Bool, true, false, List, refl, sym, ap, subst}
 use Rattle.tree_model.specs.declared.names.Case.{Case}
 use Rattle.tree_model.specs.declared.names.ProcessId.{ProcessId}

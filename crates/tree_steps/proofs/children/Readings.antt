@@ -81,7 +81,7 @@ module _ (root outcome above : Bool) (p : ParentHalf) (k : ChildHalf) (v : Wire)
   pub reading-hardened : R (stands_so k.is_open (hardens k)) v ≡ move.hardens_child (R k v)
   reading-hardened = simp (or_twice)
 
-  -- a record of the branch behind the promise
+  -- a record of the branch after the promise
   module _ (d : Case) (r : Record) (closed : k.is_open ≡ false) (kept : k.prepared_kept ≡ true)
       (plain : is_promise d r ≡ false) where
     module _ (commit : is_learnt_commit d r ≡ true) (abort : is_learnt_abort d r ≡ false)

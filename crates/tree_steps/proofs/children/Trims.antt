@@ -132,7 +132,7 @@ module _ (c : Case) (t : Ticket) (p : ProcessId) (tree : List TreeEntry) (n : No
     promised_ever : k.prepared_kept ≡ true → k.prepared_ever ≡ true
     promised_ever e = (common.child_forced_promise (common.child_promise_is_forced e up)).1
 
-    -- The half behind the trim, where the branch then stands so.
+    -- The half after the trim, where the branch then stands so.
 
     abbrev Left : Standing → ChildHalf → Type 0
     Left s x = child_half_at s (trims place n) d ≡ stands_so (is_live (phase_by n.failed s)) x

@@ -27,7 +27,7 @@ use Rattle.tree_model.specs.declared.messages.Finding.{Finding}
 
 -- The pair's case and ticket, with the parent's half; the manager below its parent, what it was and heard,
 -- and the net
--- behind it; and what is known of them.
+-- after it; and what is known of them.
 pub record Turn : Type 0 where
   pub c : Case
   pub t : Ticket
@@ -75,7 +75,7 @@ module _ (turn : Turn) where
   abbrev pub r0 : Reading
   r0 = R k v
 
-  -- whether the branch is open behind an effect
+  -- whether the branch is open after an effect
   abbrev pub O : Effect → Bool
   O e = opens n.failed (manager_view place (after n h e) d)
 

@@ -27,7 +27,7 @@ use Rattle.tree_steps.proofs.crashes.Reopened.{collects_alone, is_alone}
 
 -- Histories.
 
--- of records newly appended, none of which passes the second test, those that pass the first stand behind
+-- of records newly appended, none of which passes the second test, those that pass the first stand after
 -- what passed it
 -- before
 follows-new : (q p : Record → Bool) (xs ys : List Record) → has p xs ≡ false
@@ -73,7 +73,7 @@ root_says : (r : Reading) (front : ParentFront) → r.parent_is_root ≡ true �
 root_says r front root h f =
     grind (arith, root, h.unborn, h.undecided, h.root_commit_is_once, h.root_promises_nobody, f.holds_commit)
 
--- a case below the root that collects alone, behind its crash, had promised or refused
+-- a case below the root that collects alone, after its crash, had promised or refused
 abandoned_so : (r : Reading) → PresumedCommit r → r.parent_is_root ≡ false → r.collecting_kept ≡ true
     → r.read_up ≡ false → (is_live r.phase || (r.own_prepare_kept || r.refused)) ≡ true
 abandoned_so r h root e f = grind (arith, root, e, f, h.collected_is_decided, h.common.cascaded_commit_obeys)

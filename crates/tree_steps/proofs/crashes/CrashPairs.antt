@@ -180,7 +180,7 @@ begun_half me tree n c t s x e =
     subst (λ (d : Case). (parent_half_at s (memory_of (root_place me tree) n d) n d t).begun
     ≡ has_begun (root_place me tree) n x) (sym e) refl
 
--- what is known of the process, before the step and behind it
+-- what is known of the process, before the step and after it
 pub record NodeFacts (place : Place) (net : List Envelope) (n : Node) : Type 0 where
   pub coordinates : Coordinates place net n
   pub nested : Nested (logs_of n)

@@ -1,4 +1,4 @@
--- A coordinator behind its restart, and behind one in which its device failed: what is left of its log, and
+-- A coordinator after its restart, and after one in which its device failed: what is left of its log, and
 -- what was
 -- appended to it.
 use Rattle.std.proofs.Common.{◌≡◌, ◌∙◌, ◌||◌, ◌&&◌, ℕ, Bool, true, false, List, [], ◌++◌, take, refl, sym, ap, subst, arith}

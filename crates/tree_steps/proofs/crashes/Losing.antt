@@ -1,4 +1,4 @@
--- The parent's half of a pair behind a crash: what is left of the log, what was appended for the case, and
+-- The parent's half of a pair after a crash: what is left of the log, what was appended for the case, and
 -- the reading.
 use Rattle.std.proofs.Common.{◌≡◌, ◌∙◌, ◌||◌, ◌&&◌, Bool, true, false, refl, arith}
 use Rattle.std.specs.Prelude.{not}
@@ -7,7 +7,7 @@ use Rattle.tree_pairs.specs.ParentCrash as crash
 use Rattle.tree_pairs.specs.ParentCrash.{ParentFront, IsParentFront}
 use Rattle.tree_pairs.specs.readings.ReadingOf.{ParentHalf, ChildHalf, Wire, reading_from, is_born, is_dead, is_refused}
 
--- a parent's half behind a crash that left this front, whether an Abort of the case was appended, and what
+-- a parent's half after a crash that left this front, whether an Abort of the case was appended, and what
 -- is forced then
 pub record Lost (front forced : ParentFront) (aborted : Bool) (p p' : ParentHalf) : Type 0 where
   pub phase : p'.phase ≡ Closed

@@ -1,4 +1,4 @@
--- The parent's half of a pair behind a coordinator's crash, by what is left of the log and what was
+-- The parent's half of a pair after a coordinator's crash, by what is left of the log and what was
 -- appended to it.
 use Rattle.std.proofs.Common.{◌≡◌, ◌∙◌, ◌||◌, ◌&&◌, ℕ, Bool, false, List, [], ◌++◌, take, drop, append_assoc, refl, sym, ap, subst, arith}
 use Rattle.std.specs.List.{list_any}
@@ -36,7 +36,7 @@ owes-both : (x y ab named fc co : Bool) → x ≡ co → y ≡ (ab && named) →
     ≡ ((ab && fc) || co)
 owes-both x y ab named fc co e f g = grind arith
 
--- what is known of the process behind the crash, in which these records were appended
+-- what is known of the process after the crash, in which these records were appended
 pub record Crashed (c : Case) (t : Ticket) (n n' : Node) (k : ℕ) (new : List Record) : Type 0 where
   pub kept_so : (q : Record → Bool) → has q (kept n') ≡ (has q (left_of n k) || has q new)
   pub ever_so : (q : Record → Bool) → ((d : Case) (ts : List Ticket) → q (AbortRecord d ts) ≡ false)

@@ -1,4 +1,4 @@
--- Behind each promise of a coordinator's case stands a YES that it counted: over every run. So a case that
+-- After each promise of a coordinator's case stands a YES that it counted: over every run. So a case that
 -- said READ never
 -- promised.
 use Rattle.std.proofs.Common.{◌≡◌, ◌∙◌, ◌||◌, ◌&&◌, inl, inr, ℕ, zero, suc, Bool, true, false, Option, Some, None, List, [], ◌∷◌, ◌++◌, take, refl, sym, ap, subst, arith}

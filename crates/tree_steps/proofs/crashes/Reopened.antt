@@ -1,4 +1,4 @@
--- What a coordinator's restart appends for one case: an Abort where the case collects votes behind its
+-- What a coordinator's restart appends for one case: an Abort where the case collects votes after its
 -- record and nothing
 -- else is known of it, which names whom that record names.
 use Rattle.std.proofs.Common.{◌≡◌, ◌∙◌, ◌||◌, ◌&&◌, ℕ, zero, suc, ◌+◌, Bool, true, false, List, [], ◌∷◌, ◌++◌, take, refl, sym, ap, subst, arith}

@@ -372,7 +372,7 @@ module _ (me : ProcessId) (parent : Option ProcessId) (rs : List Record) (c : Ca
             ) refl))
             refl f.third)
 
-    -- the net behind the restart
+    -- the net after the restart
     pub wire_resumed : (net : List Envelope) → has (is_prepare d) rs ≡ false
         → wire c t (net ++ flat_map resumed (cases_in rs))
         ≡ record (wire c t net) {

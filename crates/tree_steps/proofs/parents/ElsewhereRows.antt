@@ -324,7 +324,7 @@ module _ (turn : Turn) (d : Case) where
 
     -- The rows.
 
-    -- what the pair's case has on its lists behind the row
+    -- what the pair's case has on its lists after the row
     pub record After (row : Row) : Type 0 where
       pub alike : IsOpenAlike place (after n h (row_effect d row)) c
 
@@ -517,7 +517,7 @@ module _ (turn : Turn) (d : Case) where
     turn_elsewhere _ (turns.answers u o i e) later =
         row_fine _ later (rest_inquiry u i) (answer o i.txn u i.belongs) (inl refl) (none_written refl)
 
-    -- what the pair's case remembers behind the turn
+    -- what the pair's case remembers after the turn
     pub rests_elsewhere : (row : Row) → CaseTurn place parent n h d row → Rests turn
     rests_elsewhere _ (turns.rests r) = rest_nothing r
     rests_elsewhere _ (turns.invites q i e f g) = rested.rest_same turn (by_input.join_act turn d q i)

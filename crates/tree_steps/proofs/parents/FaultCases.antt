@@ -1,4 +1,4 @@
--- Faults behind the records of the pair's own case, on the pair.
+-- Faults after the records of the pair's own case, on the pair.
 use Rattle.std.proofs.Common.{◌≡◌, ◌∙◌, inl, inr, ℕ, Bool, true, false, ◌&&◌, not, Some, None, List, [], ◌∷◌, take, refl, sym, ap, subst}
 use Rattle.tree_model.specs.declared.names.ProcessId.{ProcessId}
 use Rattle.tree_model.specs.declared.names.Ticket.{Ticket}

@@ -1,4 +1,4 @@
--- Faults behind the records of the pair's own case that has promised, or was decided, on the pair.
+-- Faults after the records of the pair's own case that has promised, or was decided, on the pair.
 use Rattle.std.proofs.Common.{◌≡◌, ◌∙◌, ℕ, Bool, true, false, [], refl, sym, subst, List}
 use Rattle.tree_model.specs.declared.names.Ticket.{Ticket}
 use Rattle.tree_model.specs.declared.names.Outcome.{Outcome}

@@ -1,4 +1,4 @@
--- A fault behind which nothing of the pair's case was appended: the pair's parent fails, behind what it
+-- A fault after which nothing of the pair's case was appended: the pair's parent fails, after what it
 -- heard.
 use Rattle.std.proofs.Common.{◌≡◌, ◌∙◌, Bool, true, false, ◌||◌, refl, sym, ap, subst, arith}
 use Rattle.tree_model.specs.Nodes.{Effect}
@@ -109,7 +109,7 @@ module _ (turn : Turn) where
   begun_live l = own.begun_by turn refl
       (live_begun m.phase (sym (ap (λ b. is_live (phase_of b m.phase)) up) ∙ l))
 
-  -- the parent fails behind what it heard
+  -- the parent fails after what it heard
   pub failing : (e : Effect) (y : Hears e) (b : Bool) → (is_begun y.phase ≡ true → b ≡ true)
       → (is_begun y.phase ≡ is_begun m.phase → b ≡ p0.begun)
       → Fits_in turn (seen turn o0 (down y.accepted y.acked b y.half_then) v0)

@@ -1,4 +1,4 @@
--- A fault behind which nothing of the pair's case was appended: nothing at all, or a record of another case.
+-- A fault after which nothing of the pair's case was appended: nothing at all, or a record of another case.
 use Rattle.std.proofs.Common.{◌≡◌, ◌∙◌, ℕ, Bool, true, ◌||◌, List, [], ◌∷◌, take, refl, sym, ap}
 use Rattle.std.specs.Prelude.{fold}
 use Rattle.std.specs.List.{list_any}

@@ -1,4 +1,4 @@
--- What a turn of the pair's own case leads to even where the device fails in it, behind no record of it.
+-- What a turn of the pair's own case leads to even where the device fails in it, after no record of it.
 use Rattle.std.proofs.Common.{◌≡◌, ◌∙◌, Bool, true, false, ◌||◌, [], ◌∷◌, refl, sym, ap, subst, arith, if◌then◌else◌}
 use Rattle.tree_model.specs.declared.names.Ticket.{Ticket}
 use Rattle.tree_model.specs.declared.messages.Message.TheVariants.{Joined}

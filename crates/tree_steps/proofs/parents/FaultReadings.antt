@@ -1,4 +1,4 @@
--- Faults behind a record of the pair's case, on readings: halves and wires as variables.
+-- Faults after a record of the pair's case, on readings: halves and wires as variables.
 use Rattle.std.proofs.Common.{◌≡◌, Bool, true, false, not, ◌||◌, ◌&&◌, List, [], refl, arith, Option, None}
 use Rattle.tree_model.specs.declared.names.Case.{Case}
 use Rattle.tree_model.specs.declared.names.Ticket.{Ticket}

@@ -1,4 +1,4 @@
--- A parent's moves keep the invariant, one behind another: under either presumption, or under the one that
+-- A parent's moves keep the invariant, one after another: under either presumption, or under the one that
 -- has the move.
 use Rattle.std.proofs.Common.{◌≡◌, false}
 use Rattle.tree_model.specs.declared.names.Presumption.{Presumption}

@@ -296,7 +296,7 @@ module _ (turn : Turn) where
   abbrev pub told : Txn → Ticket → Effect
   told x u = sends_only (post place.me u.child (tells_outcome (presumed x.presumption) (child_case x u)) ∷ [])
 
-  -- the net behind it
+  -- the net after it
   told_wire_by : (x : Txn) (u : Ticket) (o : Outcome) (b : Bool)
       → same_case (child_case x u) (child_case c.txn t) ≡ b
       → wire c t (net ++ post place.me u.child (tells_outcome o (child_case x u)) ∷ [])

@@ -1,4 +1,4 @@
--- A turn of the pair's own case: what it finds, and what is remembered behind it.
+-- A turn of the pair's own case: what it finds, and what is remembered after it.
 use Rattle.std.proofs.Common.{◌≡◌, ◌∙◌, ◌⊎◌, inl, inr, Bool, true, false, ◌||◌, ◌&&◌, Option, Some, None, List, [], ◌∷◌, refl, sym, ap, subst, arith, if◌then◌else◌}
 use Rattle.std.specs.Prelude.{find, filter}
 use Rattle.std.specs.List.{list_any}

@@ -106,7 +106,7 @@ module _ (turn : Turn) where
         (stands_so false ph p0.accepted p0.acked now (wrote r c t (has (is_prepare c) n.life) x)) w))
         (sym d) f)
 
-  -- one move, behind the force of what stood
+  -- one move, after the force of what stood
   pub forced_first : Fits_in turn (move.hardens_parent (reading turn))
   forced_first = moves.hardens c.txn.presumption (reading turn) inv up
 

@@ -32,7 +32,7 @@ module _ (turn : Turn) where
   abbrev v : CoordinatorView
   v = view turn
 
-  -- what the pair's case has on its lists behind the row
+  -- what the pair's case has on its lists after the row
   pub record After (row : Row) : Type 0 where
     pub alike : IsOpenAlike place (after n h (row_effect c row)) c
 

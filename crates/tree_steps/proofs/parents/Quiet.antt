@@ -87,7 +87,7 @@ module _ (turn : Turn) where
       subst (λ (x : Bool). Fits_in turn (seen turn o0 (rested x) v0)) (sym e.0)
       (moves.hears_ack c.txn.presumption (reading turn) inv (record { said = e.1 }))
 
-  -- as the half is written behind an event
+  -- as the half is written after an event
   pub shown : (b : Bool) → stands_so false m.phase (in_list m.accepted t) b p0.begun p0 ≡ rested b
   shown b = rw up refl
 

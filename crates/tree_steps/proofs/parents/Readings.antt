@@ -61,7 +61,7 @@ module _ (manager above : Bool) (k : ChildHalf) (c : Case) (t : Ticket) where
   abbrev pub R : Bool → Bool → ParentHalf → Wire → Reading
   R root o p v = reading_from root manager o above p k v
 
-  -- what is remembered behind the row
+  -- what is remembered after the row
   abbrev S : Phase → ParentHalf → ParentHalf → ParentHalf
   S ph p q = stands_so false ph p.accepted p.acked true q
 

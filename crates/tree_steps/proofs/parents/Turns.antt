@@ -36,7 +36,7 @@ abbrev pub is_top : Role → Bool
 is_top AtRoot = true
 is_top _ = false
 
--- The coordinator, what it was and heard, and the net behind it; the pair's case and ticket, with the
+-- The coordinator, what it was and heard, and the net after it; the pair's case and ticket, with the
 -- child's half; and
 -- what is known of them.
 pub record Turn : Type 0 where
@@ -103,7 +103,7 @@ module _ (turn : Turn) where
   abbrev pub r0 : Reading
   r0 = R o0 p0 v0
 
-  -- what is remembered behind the input
+  -- what is remembered after the input
   abbrev pub m' : Memory
   m' = remembers place.me place.role (boot_of (kept n)) c m h
 
@@ -116,13 +116,13 @@ module _ (turn : Turn) where
   abbrev pub Fits_in : Reading → Type 0
   Fits_in r = Fits c.txn.presumption r0 r
 
-  -- what memory says of the pair behind the input
+  -- what memory says of the pair after the input
   pub record Says (ph : Phase) (accepted acked : Bool) : Type 0 where
     pub phase : m'.phase ≡ ph
     pub accepted_so : in_list m'.accepted t ≡ accepted
     pub acked_so : acked_of m' c t ≡ acked
 
-  -- The outcome behind an event.
+  -- The outcome after an event.
 
   outcome_stays : (role : Role) (e : Effect) → is_any_forced e.written ≡ false
       → outcome_in role (after n h e) c outcome ≡ outcome_in role n c outcome
@@ -140,7 +140,7 @@ module _ (turn : Turn) where
   outcome_forced (Below p) b e r one up_there = rw up_there refl
   outcome_forced (AtLeaf p) b e r one up_there = rw up_there refl
 
-  -- The half behind an event.
+  -- The half after an event.
 
   still_up : (e : Effect) → (after n h e).failed ≡ false
   still_up e = either_logs n (entries_written e.written) (is_any_forced e.written)

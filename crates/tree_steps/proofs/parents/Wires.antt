@@ -109,7 +109,7 @@ module _ (c : Case) (t : Ticket) (net : List Envelope) where
   abbrev pub Silent : List Envelope → Type 0
   Silent ls = wire c t ls ≡ no_wire
 
-  -- the two parts, one behind the other
+  -- the two parts, one after the other
   abbrev both : Wire → Wire → Wire
   both x y = record {
     issued = x.issued || y.issued;

@@ -19,7 +19,7 @@ use Rattle.tree_pairs.specs.readings.ReadingOf.{ParentHalf, is_begun, is_told_co
 use Rattle.tree_pairs.proofs.readings.Lists.{has-push, has-push_behind, has-nil, has-nil_behind, has-cons, has-history}
 use Rattle.tree_steps.proofs.parents.Halves.{half_of, phase_of}
 
--- the record was written behind what stands; an Abort behind a promise obeys
+-- the record was written after what stands; an Abort after a promise obeys
 abbrev pub wrote : Record → Case → Ticket → Bool → ParentHalf → ParentHalf
 wrote r c t promised p = record p {
   obeyed_abort = (is_abort c r && promised) || p.obeyed_abort;

@@ -1,4 +1,4 @@
--- The restart that gives out the last boot again: the ticket that was given in it is not behind what is
+-- The restart that gives out the last boot again: the ticket that was given in it is not after what is
 -- given next.
 use Rattle.std.proofs.Common.{◌≡◌, inl, inr, ℕ, true, false, List, refl, arith}
 use Rattle.tree_model.specs.declared.names.Presumption.TheVariants.{PresumeAbort}

@@ -13,7 +13,7 @@ use Rattle.tree_pairs.specs.Invariant.{PresumedAbort, PresumedCommit}
 use Rattle.tree_worked.specs.wrong.WrongSteps.{WrongStep, Breaks, wrongly_left}
 use Rattle.tree_worked.proofs.wrong.PlayedRuns.{player_of, goes_on, goes, are_single, is_run}
 
--- where the run of a wrong step comes to, and the world behind the step
+-- where the run of a wrong step comes to, and the world after the step
 abbrev pub play_of : WrongStep → Played
 play_of s = plays_all s.tree (process 1) s.events
 

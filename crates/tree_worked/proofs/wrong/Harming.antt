@@ -1,4 +1,4 @@
--- Worlds that do not have the headline; and the runs behind a wrong step that lead there.
+-- Worlds that do not have the headline; and the runs after a wrong step that lead there.
 use Rattle.std.proofs.Common.{◌≡◌, ◌⊎◌, inl, inr, Bool, true, false, List, [], if◌then◌else◌}
 use Rattle.tree_model.specs.declared.names.Case.{Case}
 use Rattle.tree_model.specs.declared.names.Outcome.{Outcome}
@@ -17,7 +17,7 @@ use Rattle.tree_worked.specs.wrong.WrongSteps.{WrongStep, Harms, plays_behind, w
 use Rattle.tree_worked.proofs.wrong.PlayedRuns.{player_of, goes_on, goes, are_single, is_run, continues}
 use Rattle.tree_worked.proofs.wrong.Breaking.{play_of, reached}
 
--- where the right steps behind a wrong one lead
+-- where the right steps after a wrong one lead
 abbrev pub later_of : WrongStep → World
 later_of s = (player_of (plays_behind s (reached s))).world
 
@@ -25,7 +25,7 @@ later_of s = (player_of (plays_behind s (reached s))).world
 abbrev pub Fails : List TreeEntry → World → Type 0
 Fails tree w = (es : List Made) → Headline tree es w → ⊥
 
--- the run, the steps behind the wrong one, and that the headline fails there
+-- the run, the steps after the wrong one, and that the headline fails there
 pub by_later : (s : WrongStep) → goes_on (play_of s) ≡ true → are_single s.events ≡ true
     → goes_on (plays_behind s (reached s)) ≡ true → are_single s.behind ≡ true
     → Fails s.tree (later_of s) → Harms s

@@ -46,7 +46,7 @@ prepare_before_collecting = by_pair wrong.prepare_before_collecting
     (top PresumeCommit) second asks_goes refl tree_a_is_tree asks_stands
     (root_and_second PresumeCommit) asks_free (asked_early asks_reading asks_says)
 
--- The coordinator that obeys a commit behind an abort.
+-- The coordinator that obeys a commit after an abort.
 
 obeys_goes : goes_on (play_of wrong.obeys_contradicting_commit) ≡ true
 unfolding computing

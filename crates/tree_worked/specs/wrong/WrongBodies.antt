@@ -1,5 +1,5 @@
 -- Wrong bodies, each close to a right one, and where each breaks the invariant: the events of the run, and
--- the wrong step behind it, written out.
+-- the wrong step after it, written out.
 use Rattle.std.specs.Prelude.{ℕ, true, false, Some, List, [], ◌∷◌, ◌++◌, take, codes, None}
 use Rattle.tree_model.specs.declared.names.Case.{Case}
 use Rattle.tree_model.specs.declared.names.Outcome.TheVariants.{Committed as CommittedOutcome, Aborted as AbortedOutcome}
@@ -152,7 +152,7 @@ forgets_after_first_ack = record {
   behind = Acts (Ask (case_at PresumeAbort third)) ∷ Delivers 14 ∷ Delivers 15 ∷ [];
 }
 
--- PREPARE goes out behind a Collecting that is not forced. The manager promises, the root loses its
+-- PREPARE goes out after a Collecting that is not forced. The manager promises, the root loses its
 -- Collecting in a crash, and the manager, which asks, is told that the transaction committed.
 abbrev pub prepare_before_collecting : WrongStep
 prepare_before_collecting = record {

@@ -23,7 +23,7 @@ use Rattle.tree_worked.specs.wrong.WrongSteps.{WrongStep, player_at, wrongly_lef
 -- What is said of them.
 
 -- The list is a tree, none of the events is refused, and they are a run by the second version; what happens next stands
--- in the net; and the world behind the wrong step does not have the invariant of reports any more.
+-- in the net; and the world after the wrong step does not have the invariant of reports any more.
 pub record BreaksReports (s : WrongStep) : Type 0 where
   pub player : Player
   pub played_out : second_plays_all s.tree (process 1) s.events ≡ Goes player
@@ -32,7 +32,7 @@ pub record BreaksReports (s : WrongStep) : Type 0 where
   pub stands : Stands player.world.net s.process s.happening
   pub breaks : SinceOpened s.tree (wrongly_left s player.world).net (wrongly_left s player.world) → ⊥
 
--- the events behind the wrong step, each of them handled as is right by the second version
+-- the events after the wrong step, each of them handled as is right by the second version
 abbrev pub second_plays_behind : WrongStep → World → Played
 second_plays_behind s w = fold (second_plays_on s.tree (process 1)) (Goes (player_at (wrongly_left s w))) s.behind
 
@@ -41,7 +41,7 @@ abbrev pub ReportsFalsely : List TreeEntry → List Made → World → Type 0
 ReportsFalsely tree [] w = ⊥
 ReportsFalsely tree (e ∷ es) w = EndsReportTruly tree e w → ⊥
 
--- Behind the wrong step of a run, right steps by the second version lead to an End that does not report truly.
+-- After the wrong step of a run, right steps by the second version lead to an End that does not report truly.
 pub record HarmsReports (s : WrongStep) : Type 0 where
   pub player : Player
   pub later : Player

@@ -23,7 +23,7 @@ pub record WrongStep : Type 0 where
   pub happening : Happening
   pub leaves : Node → Node
   pub sends : List Envelope
-  -- what happens behind the step
+  -- what happens after the step
   pub behind : List Play
 
 -- the world that the wrong step leaves: nothing but the one process and the net is changed
@@ -31,7 +31,7 @@ abbrev pub wrongly_left : WrongStep → World → World
 wrongly_left s w = record { at = put_at s.process (s.leaves (w.at s.process)) w.at; net = w.net ++ s.sends }
 
 -- The list is a tree, none of the events is refused, and they are a run; what happens next stands in the
--- net, where it is a message; and the world behind the wrong step does not have the invariant any more.
+-- net, where it is a message; and the world after the wrong step does not have the invariant any more.
 pub record Breaks (s : WrongStep) : Type 0 where
   pub player : Player
   pub played_out : plays_all s.tree (process 1) s.events ≡ Goes player
@@ -44,11 +44,11 @@ pub record Breaks (s : WrongStep) : Type 0 where
 abbrev pub player_at : World → Player
 player_at w = record { world = w; moves = []; delivered = [] }
 
--- the events behind the wrong step, each of them handled as is right
+-- the events after the wrong step, each of them handled as is right
 abbrev pub plays_behind : WrongStep → World → Played
 plays_behind s w = fold (plays_on s.tree (process 1)) (Goes (player_at (wrongly_left s w))) s.behind
 
--- Behind the wrong step of a run, right steps lead to a world that does not have the headline, whatever the
+-- After the wrong step of a run, right steps lead to a world that does not have the headline, whatever the
 -- moves.
 pub record Harms (s : WrongStep) : Type 0 where
   pub player : Player

@@ -1,4 +1,4 @@
-//! Each wrong step breaks the world's invariant, and right steps behind it lead to a world without the
+//! Each wrong step breaks the world's invariant, and right steps after it lead to a world without the
 //! headline.
 ghost use Rattle.tree_worked.specs.wrong.WrongBodies as wrong;
 ghost use Rattle.tree_worked.specs.wrong.WrongReports as reports;
@@ -18,7 +18,7 @@ pub fn wrong_steps()
     ensures commits_on_votes_so_far { Breaks wrong.commits_on_votes_so_far }
 {}
 
-/// Behind each of these wrong steps right ones lead to a world in which a clause of the headline fails: two
+/// After each of these wrong steps right ones lead to a world in which a clause of the headline fails: two
 /// processes end the transaction differently, commit was decided without a vote, or an operator's decision
 /// is gone.
 pub fn wrong_steps_harm()
@@ -39,7 +39,7 @@ pub fn wrong_reports()
     ensures unknown_reports_nothing { BreaksReports reports.unknown_reports_nothing }
 {}
 
-/// Behind each of these wrong steps right ones lead to an End of the root that does not report truly: a mismatch stands of
+/// After each of these wrong steps right ones lead to an End of the root that does not report truly: a mismatch stands of
 /// which it says nothing.
 pub fn wrong_reports_harm()
     ensures acknowledges_before_children { HarmsReports reports.acknowledges_before_children }

@@ -1,4 +1,4 @@
--- So many of the lines that were looked at ask for something.
+-- N of the lines that were looked at ask for something.
 use Rattle.std.proofs.Common.{◌≡◌, ◌≤◌, count_by, not, take}
 use Rattle.script_words.specs.Lines.{is_skipped}
 use Rattle.input_faults.proofs.place.event_place.Given as goal

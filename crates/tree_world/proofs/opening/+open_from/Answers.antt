@@ -43,7 +43,7 @@ returns-in-Err-clause-handed_back g t c =
     c.in-Some-pop.store c.in-Err.store c.in-Err.error c.in-Some-pop.ensures.items c.put_back.ensures.items
     c.in-Err.ensures.handed_back
 
--- It opened, and so did those behind it.
+-- It opened, and so did those after it.
 
 pub returns-in-Ok-open_from-clause-ok : goal.returns-in-Ok-open_from-clause-ok
 returns-in-Ok-open_from-clause-ok g t c =
@@ -53,7 +53,7 @@ returns-in-Ok-open_from-clause-ok g t c =
     c.in-Ok.ensures.holdings c.put_by_name.ensures.own c.put_by_name.ensures.others
     c.in-Ok-open_from.ensures.ok
 
--- It opened, and one behind it did not.
+-- It opened, and one after it did not.
 
 pub returns-in-Err-open_from-clause-err : goal.returns-in-Err-open_from-clause-err
 returns-in-Err-open_from-clause-err g t c =

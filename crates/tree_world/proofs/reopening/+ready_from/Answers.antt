@@ -54,7 +54,7 @@ returns-in-Err-clause-handed_back g t c =
     c.in-Some-pop.store c.in-Err.store c.in-Err.error c.in-Some-pop.ensures.items c.put_back.ensures.items
     c.in-Err.ensures.handed_back
 
--- It was, and so were those behind it.
+-- It was, and so were those after it.
 
 pub returns-in-Ok-ready_from-clause-ok : goal.returns-in-Ok-ready_from-clause-ok
 returns-in-Ok-ready_from-clause-ok g t c =
@@ -65,7 +65,7 @@ returns-in-Ok-ready_from-clause-ok g t c =
     c.put_back-in-Ok-ready_from.new.stores.items c.in-Some-pop.store c.in-Ok.store c.in-Some-pop.ensures.items
     c.put_back-in-Ok-ready_from.ensures.items c.in-Ok.ensures.ok c.in-Ok-ready_from.ensures.ok
 
--- It was, and one behind it was not.
+-- It was, and one after it was not.
 
 pub returns-in-Err-ready_from-clause-err : goal.returns-in-Err-ready_from-clause-err
 returns-in-Err-ready_from-clause-err g t c =

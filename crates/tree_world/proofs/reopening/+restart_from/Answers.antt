@@ -74,7 +74,7 @@ restart_from-requires g t c =
     c.in-Some-pop.ensures.items c.requires.ready in
     λ κs below. (search rules, (below, (c.requires.tree, (more, (c.requires.empty, (c.requires.room, ready))))))
 
--- It did, and so did those behind it.
+-- It did, and so did those after it.
 
 pub returns-in-Ok-restart_from-clause-ok : goal.returns-in-Ok-restart_from-clause-ok
 returns-in-Ok-restart_from-clause-ok g t c =
@@ -86,7 +86,7 @@ returns-in-Ok-restart_from-clause-ok g t c =
     c.restart_from.new.journal c.requires.tree c.in-Some-pop.ensures.items c.in-Ok.ensures.ok
     c.put_by_name.ensures.own c.put_by_name.ensures.others c.in-Ok-restart_from.ensures.ok
 
--- It did, and one behind it did not.
+-- It did, and one after it did not.
 
 pub returns-in-Err-restart_from-clause-err : goal.returns-in-Err-restart_from-clause-err
 returns-in-Err-restart_from-clause-err g t c =

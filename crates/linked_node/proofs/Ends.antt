@@ -1,0 +1,87 @@
+-- A node whose input is empty ends as it stood.
+use Rattle.std.proofs.Common.{◌≡◌, ◌∙◌, inl, inr, IfOk, ℕ, Bool, Result, Ok, Err, true, false, Some, None, List, [], ◌∷◌, ◌++◌, refl, sym, ap, subst, true≢false}
+use Rattle.std.specs.List.{flat_map}
+use Rattle.std.specs.Io.KnownBytes.{Consumes}
+use Rattle.tree_model.specs.declared.events.Reaction.{Reaction}
+use Rattle.tree_model.specs.declared.names.ProcessId.{ProcessId}
+use Rattle.tree_model.specs.Trees.{root_of}
+use Rattle.file_store.specs.declared.store.FileStore.{FileStore}
+use Rattle.file_store.specs.Stores.{file_bytes, file_failures, file_forced}
+use Rattle.file_calls.specs.declared.file.CalledFile.{CalledFile}
+use Rattle.core_model.specs.States.{CoreState}
+use Rattle.node_lines.specs.declared.asked.Asked.{Asked}
+use Rattle.node_lines.specs.declared.asked.Asked.TheVariants as asked
+use Rattle.node_lines.specs.Asked.{asked_at}
+use Rattle.node_engine.specs.declared.run.Ended.{Ended}
+use Rattle.node_engine.specs.declared.run.Ended.TheVariants.{Input, Asked as EndAsked}
+use Rattle.node_engine.specs.Answers.{Answers, AnswersLine, Asks, NodeState}
+use Rattle.node_engine.specs.Runs.{ClosesLog, EndsBy, EndsInOrder, Known, Served, Serves, Stand, line_of, stand}
+use Rattle.linked_node.specs.Turns.{Closed, Ends}
+
+abbrev is_nil : List ℕ → Bool
+is_nil [] = true
+is_nil (x ∷ xs) = false
+
+both_nil : (xs ys : List ℕ) → xs ++ ys ≡ [] → (xs ≡ []) × (ys ≡ [])
+both_nil [] ys h = (refl, h)
+both_nil (x ∷ xs) ys h = absurd (true≢false (sym (ap is_nil h)))
+
+-- of nothing, nothing is read
+nothing_taken : (new : Known) (xs : List ℕ) → Consumes (Some []) new xs → xs ≡ []
+nothing_taken None xs h = absurd h
+nothing_taken (Some ys) xs h = (both_nil xs ys (sym h)).0
+
+empty_asks : (root : ProcessId) → asked_at root [] ≡ asked.Nothing
+unfolding asked_at
+empty_asks root = refl
+
+-- a line without bytes changes nothing, whether it is text or not
+stays_by : (root : ProcessId) (old new : NodeState) (text : List ℕ) (a : Asked) → Asks root [] a → Answers a old new text
+    → new ≡ old
+stays_by root old new text a (inl (is, e)) h = (subst (λ (b : Asked). Answers b old new text) (e ∙ empty_asks root) h).0
+stays_by root old new text a (inr (is, e)) h = (subst (λ (b : Asked). Answers b old new text) e h).0
+
+stays : (old new : NodeState) (text : List ℕ) → AnswersLine [] old new text → new ≡ old
+stays old new text h = stays_by (root_of old.tree) old new text h.asked h.asks h.answers
+
+-- lines of nothing change nothing
+serves_nothing : (old new : NodeState) (pieces : List (List ℕ)) (text : List ℕ) → flat_map (λ p. p) pieces ≡ []
+    → Serves old pieces new text → new ≡ old
+serves_nothing old new [] text none h = h.0
+serves_nothing old new (piece ∷ pieces) text none (mid, first, rest, answers, serves, is) =
+    let parts = both_nil piece (flat_map (λ p. p) pieces) none in
+    serves_nothing mid new pieces rest parts.1 serves
+    ∙ stays old mid first (subst (λ (l : List ℕ). AnswersLine (line_of l) old mid first) parts.0 answers)
+
+served_nothing : (start : Stand) (opening : Reaction) (now : Stand) → start.left ≡ Some [] → Served start opening now
+    → now.state.core ≡ start.state.core
+served_nothing start opening now none h =
+    let taken = subst (λ (k : Known). Consumes k now.left (flat_map (λ p. p) h.pieces)) none h.took in
+    let nothing = nothing_taken now.left (flat_map (λ p. p) h.pieces) taken in
+    ap (λ (s : NodeState). s.core) (serves_nothing h.opened now.state h.pieces h.rest nothing h.serves)
+    ∙ ap (λ (s : NodeState). s.core) h.shows.after
+
+ends_core : (by : Ended) (start : Stand) (opening : Reaction) (now : Stand) → start.left ≡ Some []
+    → EndsBy by start opening now → now.state.core ≡ start.state.core
+ends_core Input start opening now none h = served_nothing start opening now none h.0
+ends_core EndAsked start opening now none h =
+    ap (λ (s : NodeState). s.core) h.state ∙ served_nothing start opening h.before none h.served
+
+-- what is closed is the log of the process as it stood
+pub ends_closes : {L : Type 0} (bytes : L → List ℕ) (forced failures : L → ℕ) (start : Stand) (opening : Reaction)
+    (left held : Known) (store : L) → start.left ≡ Some [] → EndsInOrder bytes forced failures start opening left held store
+    → ClosesLog bytes forced failures start.state.core store
+ends_closes bytes forced failures start opening left held store none h =
+    subst (λ (c : CoreState). ClosesLog bytes forced failures c store) (ends_core h.by start opening h.last none h.ends)
+    h.closes
+
+-- a node that was given no line has ended in order, if its store was closed
+pub if_ended : {V E : Type 0} (r : Result V E) (s : NodeState) (from held : Known) (opening : Reaction) (left now : Known)
+    (store : FileStore CalledFile) → from ≡ Some [] → IfOk r (λ _. Closed store)
+    → EndsInOrder file_bytes file_forced file_failures (stand from held s) opening left now store → IfOk r (λ _. Ends s)
+if_ended (Ok v) s from held opening left now store none closed h = record {
+  store = store;
+  closes = ends_closes file_bytes file_forced file_failures (stand from held s) opening left now store none h;
+  closed = closed;
+}
+if_ended (Err e) s from held opening left now store none closed h = tt

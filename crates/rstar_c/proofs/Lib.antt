@@ -1,0 +1,2 @@
+pub mod CoreValues
+pub mod Openings

@@ -1,0 +1,2 @@
+pub mod Handles
+pub mod Texts
