@@ -15,9 +15,15 @@ use std::marker::Model;
 use tree_model::{Case, Standing, Ticket, Txn};
 
 /// The live cases of a coordinator.
-#[derive(Drop)]
 pub struct Cases {
     table: LiveTable<Held>,
+}
+
+// For the proof: what is let go by hand is proved here alone, and not again by each crate above.
+impl Drop for Cases {
+    fn drop(self) {
+        let Cases { table: _ } = self;
+    }
 }
 
 impl Model for Cases {

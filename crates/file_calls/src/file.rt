@@ -8,10 +8,16 @@ use std::io::{self, ErrorKind};
 
 /// A log's file whose calls are left to somebody else. Each method answers Ok if it has asked for its call, and Err
 /// only if there is no memory to ask for it.
-#[derive(Drop)]
 pub struct CalledFile {
     alloc: Global,
     calls: Calls,
+}
+
+// For the proof: what is let go by hand is proved here alone, and not again by each crate above.
+impl Drop for CalledFile {
+    fn drop(self) {
+        let CalledFile { alloc: _, calls: _ } = self;
+    }
 }
 
 /// What is said if there is no memory.

@@ -18,7 +18,6 @@ const TOGETHER: usize = 4_096;
 
 /// An open log file: its name and its folder, the name under which a new one is written, and the file that has the
 /// name, which is locked for as long as it is open.
-#[derive(Drop)]
 pub struct HostFile {
     rt: HostRuntime,
     /// None, until a first file was written.
@@ -29,6 +28,21 @@ pub struct HostFile {
     path: String,
     beside: String,
     trouble: Trouble,
+}
+
+// For the proof: what is let go by hand is proved here alone, and not again by each crate above.
+impl Drop for HostFile {
+    fn drop(self) {
+        let HostFile {
+            rt: _,
+            file: _,
+            at: _,
+            folder: _,
+            path: _,
+            beside: _,
+            trouble: _,
+        } = self;
+    }
 }
 
 /// The file under a descriptor above the standard streams', so that what is meant for one that was closed

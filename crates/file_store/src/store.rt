@@ -15,7 +15,6 @@ use std::io;
 /// A store in a file. What one force covers is written as one block, then: until it is forced nothing of it
 /// is in the file. After a failure the file may hold other bytes than the store: the next force, or `replace`,
 /// writes all that is to stand to a new file, which takes its place.
-#[derive(Drop)]
 pub struct FileStore<F> {
     file: F,
     /// The number of the file.
@@ -28,6 +27,21 @@ pub struct FileStore<F> {
     /// The file may hold other bytes than these.
     stale: bool,
     ghost within: { forced ≤ length bytes.items },
+}
+
+// For the proof: what is let go by hand is proved here alone, and not again by each crate above.
+impl<F: Drop> Drop for FileStore<F> {
+    fn drop(self) {
+        let FileStore {
+            file: _,
+            number: _,
+            end: _,
+            bytes: _,
+            forced: _,
+            failures: _,
+            stale: _,
+        } = self;
+    }
 }
 
 /// Where the block that begins after a block at this place with N bytes; None, where no file is so
@@ -93,7 +107,16 @@ impl<F: LogFile> FileStore<F> {
     pub fn into_file(self) -> F
         ensures { result ≡ file_of self }
     {
-        self.file
+        let FileStore {
+            file,
+            number: _,
+            end: _,
+            bytes: _,
+            forced: _,
+            failures: _,
+            stale: _,
+        } = self;
+        file
     }
 
     /// Counts a failure of the device.

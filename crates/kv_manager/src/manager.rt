@@ -49,12 +49,23 @@ pub enum RestoreError {
 }
 
 /// A key store with a log, as an XA manager.
-#[derive(Drop)]
 pub struct KvManager<L: LogStore> {
     pub(crate) alloc: Global,
     pub(crate) log: RecLog<L>,
     boot: u64,
     pub(crate) store: KeyStore,
+}
+
+// For the proof: what is let go by hand is proved here alone, and not again by each crate above.
+impl<L: LogStore + Drop> Drop for KvManager<L> {
+    fn drop(self) {
+        let KvManager {
+            alloc: _,
+            log: _,
+            boot: _,
+            store: _,
+        } = self;
+    }
 }
 
 impl<L: LogStore> Model for KvManager<L> {
@@ -400,8 +411,12 @@ impl<L: LogStore + Drop> KvManager<L> {
         ensures { (log_state self.log.sight.form (L.bytes result) (L.forced result) (L.failures result)
             (L.room result) self.log.sight.failed).sight ≡ self.log.sight }
     {
-        let KvManager { store, log, .. } = self;
-        drop(store);
+        let KvManager {
+            alloc: _,
+            log,
+            boot: _,
+            store: _,
+        } = self;
         log.into_store()
     }
 

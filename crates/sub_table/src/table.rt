@@ -15,9 +15,15 @@ use tree_model::{Case, Outcome, Ticket};
 use xa_xid::Xid;
 
 /// The live branches. A ticket is active while its branch is: the branch has the case for which it was given.
-#[derive(Drop)]
 pub struct Branches {
     branches: LiveTable<Branch>,
+}
+
+// For the proof: what is let go by hand is proved here alone, and not again by each crate above.
+impl Drop for Branches {
+    fn drop(self) {
+        let Branches { branches: _ } = self;
+    }
 }
 
 impl Model for Branches {

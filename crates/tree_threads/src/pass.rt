@@ -8,11 +8,21 @@ use tree_ties::seats::{Place, Seats};
 
 /// A caller's pass: what it was told of the journal. To a contract it is its number and its pairs of a place and
 /// an entry.
-#[derive(Drop)]
 pub struct Pass<N: Seats> {
     pub(crate) seat: Place,
     pub(crate) caller: u64,
     pub(crate) name: PhantomData<N>,
+}
+
+// For the proof: what is let go by hand is proved here alone, and not again by each crate above.
+impl<N: Seats> Drop for Pass<N> {
+    fn drop(self) {
+        let Pass {
+            seat: _,
+            caller: _,
+            name: _,
+        } = self;
+    }
 }
 
 impl<N: Seats> Model for Pass<N> {

@@ -87,13 +87,25 @@ fn next_of<N: Seats>(
 }
 
 /// A process and its seat, between two events. To a contract it is its name, its entries, and the process itself.
-#[derive(Drop)]
 pub struct Seated<N: Seats> {
     pub(crate) me: ProcessId,
     pub(crate) word: usize,
     pub(crate) node: Node<MemoryStore>,
     pub(crate) seat: Place,
     pub(crate) name: PhantomData<N>,
+}
+
+// For the proof: what is let go by hand is proved here alone, and not again by each crate above.
+impl<N: Seats> Drop for Seated<N> {
+    fn drop(self) {
+        let Seated {
+            me: _,
+            word: _,
+            node: _,
+            seat: _,
+            name: _,
+        } = self;
+    }
 }
 
 impl<N: Seats> Model for Seated<N> {
