@@ -102,6 +102,19 @@ impl<L: LogStore> Coordinator<L> {
         }
     }
 
+    /// Who owes an acknowledgement of a case's decision: tickets of its children; none, where it is not live.
+    pub fn owed(&self, case: &Case) -> &[Ticket]
+        ensures { result.now ≡ ((state self.now).view_of case.now).owed }
+    {
+        match self.cases.find(case) {
+            None => &[],
+            Some(key) => match self.cases.get(key) {
+                None => unreachable!(),
+                Some(live) => live.owed(),
+            },
+        }
+    }
+
     /// How many cases are live.
     pub fn live(&self) -> usize
         ensures { result ≡ live_count self.now.slots }

@@ -1,5 +1,5 @@
 -- What is sent once more: a decision, to those who owe an acknowledgement of it by the log.
-use Rattle.std.specs.Prelude.{Option, Some, None, List, map}
+use Rattle.std.specs.Prelude.{Option, Some, None, List, filter, map}
 use Rattle.tree_model.specs.declared.names.Case.{Case}
 use Rattle.tree_model.specs.declared.names.Outcome.{Outcome}
 use Rattle.tree_model.specs.declared.names.Outcome.TheVariants as outcome
@@ -13,6 +13,7 @@ use Rattle.tree_model.specs.CoordinatorRows.{post, tells_outcome}
 use Rattle.tree_model.specs.LogNames.{own_records}
 use Rattle.tree_model.specs.Names.{child_case}
 use Rattle.tree_model.specs.Nodes.{Place}
+use Rattle.tree_model.specs.Records.{in_list}
 use Rattle.tree_model.specs.Restarts.{recorded_view}
 use Rattle.tree_model.specs.Standings.{CoordinatorView}
 
@@ -34,8 +35,12 @@ tellings_for me c v (Some o) = Some (map (telling me c o) v.owed)
 abbrev pub tellings_by : ProcessId → Case → CoordinatorView → Standing → Option (List Envelope)
 tellings_by me c v s = tellings_for me c v (decided_by s)
 
--- what a process sends once more of a case by the records of its log: what a restart over them would send of it, but no
--- inquiry
-abbrev pub owed_again : Place → List LogRecord → Case → Option (List Envelope)
-owed_again place ls c =
-    let v = recorded_view (own_records place ls) c in tellings_by place.me c v v.standing
+-- of those who owe an acknowledgement by the log, those who owe it still
+abbrev pub still_owing : List Ticket → CoordinatorView → CoordinatorView
+still_owing owed v = record v { owed = filter (in_list owed) v.owed }
+
+-- what a process sends once more of a case by the records of its log, while these owe an acknowledgement: what a restart
+-- over them would send of it to these, but no inquiry
+abbrev pub owed_again : Place → List LogRecord → List Ticket → Case → Option (List Envelope)
+owed_again place ls owed c =
+    let v = recorded_view (own_records place ls) c in tellings_by place.me c (still_owing owed v) v.standing

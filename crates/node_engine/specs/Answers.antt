@@ -266,9 +266,9 @@ pub record TellsLog (s : NodeState) (text : List ℕ) : Type 0 where
 abbrev pub own_place : NodeState → Place
 own_place s = place_below s.me (parent_of s.tree s.me) s.tree
 
--- what is sent once more of a case, by the log; none of one that waits for no acknowledgement
+-- what is sent once more of a case, by the log, to those who owe an acknowledgement; none of one that waits for none
 abbrev pub owed_at : NodeState → Case → Option (List Envelope)
-owed_at s c = owed_again (own_place s) (records_at s) c
+owed_at s c = owed_again (own_place s) (records_at s) (s.core.view_of c).owed c
 
 -- what is shown of them
 abbrev pub resends : List Envelope → Reaction

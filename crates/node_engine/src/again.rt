@@ -1,12 +1,14 @@
 //! What is sent once more: a decision, to those who owe an acknowledgement of it.
 
-ghost use Rattle.std.specs.Prelude.{◌≡◌, IfOk, map, option_map};
+ghost use Rattle.std.specs.Prelude.{◌≡◌, IfOk, filter, map, option_map};
 ghost use Rattle.std.specs.Map.{lookup};
+ghost use Rattle.tree_model.specs.Records.{in_list};
 ghost use Rattle.inquire_core.specs.Readings.{place_below, same, view_in};
 ghost use Rattle.inquire_core.specs.Summaries.{view_of};
 ghost use Rattle.node_engine.specs.Again.{
   decided_by,
-  owed_again,
+  owed_again as messages_again,
+  still_owing as owing_still,
   telling as telling_of,
   tellings_by,
 };
@@ -65,20 +67,50 @@ fn tellings(
     Ok(Sequence::from_vec(messages))
 }
 
-/// What is sent once more of a case of which the records say this; None, where it waits for no acknowledgement.
+/// Whether the ticket is among these.
+#[tactic(auto, unfolding(tree_model::specs::Records::in_list))]
+fn is_in(tickets: &[Ticket], ticket: &Ticket) -> bool
+    ensures { result ≡ in_list tickets.now ticket.now }
+{
+    tickets.iter().any(|other| other.is(ticket))
+}
+
+/// Those of the tickets that are among these, too.
+fn still_owing(
+    alloc: Global,
+    tickets: &[Ticket],
+    owed: &[Ticket],
+) -> Result<Vec<Ticket>, AllocError>
+    ensures { IfOk result (λ owing. owing.items ≡ filter (in_list owed.now) tickets.now) }
+{
+    let mut owing = Vec::from_slice(alloc, tickets)?;
+    owing.retain(
+        |ticket: &Ticket| -> bool
+            ensures { result ≡ in_list owed.now ticket.now }
+        { is_in(owed, ticket) },
+    );
+    Ok(owing)
+}
+
+/// What is sent once more of a case of which the records say this, while these owe an acknowledgement; None, where it waits
+/// for none.
 #[tactic(auto, using(crate::proofs::Owed::by_summary))]
 fn owed_by(
     alloc: Global,
     me: ProcessId,
     case: &Case,
     recorded: &Recorded,
+    owed: &[Ticket],
 ) -> Result<Option<Envelopes>, AllocError>
-    ensures { IfOk result (λ owed. owed
-        ≡ tellings_by me case.now (view_of recorded.now) (view_of recorded.now).standing) }
+    ensures { IfOk result (λ told. told
+        ≡ tellings_by me case.now (owing_still owed.now (view_of recorded.now)) (view_of recorded.now).standing) }
 {
     match decided(recorded.standing()) {
         None => Ok(None),
-        Some(outcome) => Ok(Some(tellings(alloc, me, case, outcome, recorded.owing())?)),
+        Some(outcome) => {
+            let owing = still_owing(alloc, recorded.owing(), owed)?;
+            Ok(Some(tellings(alloc, me, case, outcome, &owing)?))
+        }
     }
 }
 
@@ -89,36 +121,39 @@ fn recorded_of<'a>(reading: &'a Reading, case: &Case) -> Option<&'a Recorded>
     reading.cases().get(case)
 }
 
-/// What is sent once more of a case, by what was read of the log.
+/// What is sent once more of a case, by what was read of the log, while these owe an acknowledgement.
 #[tactic(auto, using(crate::proofs::Owed::nothing_read_of))]
 fn owed_in(
     alloc: Global,
     me: ProcessId,
     case: &Case,
     reading: &Reading,
+    owed: &[Ticket],
 ) -> Result<Option<Envelopes>, AllocError>
-    ensures { IfOk result (λ owed. owed ≡ tellings_by me case.now (view_in reading.now.table case.now)
-        (view_in reading.now.table case.now).standing) }
+    ensures { IfOk result (λ told. told ≡ tellings_by me case.now
+        (owing_still owed.now (view_in reading.now.table case.now)) (view_in reading.now.table case.now).standing) }
 {
     match recorded_of(reading, case) {
         None => Ok(None),
-        Some(recorded) => owed_by(alloc, me, case, recorded),
+        Some(recorded) => owed_by(alloc, me, case, recorded, owed),
     }
 }
 
 /// What the process `me` below this parent sends once more of a case, by the records of its log: the decision, to
-/// those whom it names. None: the case is not its own, or waits for no acknowledgement.
-pub(crate) fn owed(
+/// those whom it names and who are among these, which owe an acknowledgement. None: the case is not its own, or waits for
+/// no acknowledgement.
+pub(crate) fn owed_again(
     alloc: Global,
     me: ProcessId,
     parent: Option<ProcessId>,
     tree: &Tree,
     records: &[LogRecord],
+    owed: &[Ticket],
     case: &Case,
 ) -> Result<Option<Envelopes>, AllocError>
-    ensures { IfOk result (λ owed. owed
-        ≡ owed_again (place_below me parent tree.now) records.now case.now) }
+    ensures { IfOk result (λ told. told
+        ≡ messages_again (place_below me parent tree.now) records.now owed.now case.now) }
 {
     let reading = Reading::of(alloc, me, parent, tree, records)?;
-    owed_in(alloc, me, case, &reading)
+    owed_in(alloc, me, case, &reading, owed)
 }

@@ -50,7 +50,7 @@ ghost use Rattle.tree_model.specs.declared.events.Input.TheVariants.{Act as ActI
 ghost use Rattle.log_news.specs.News.{news_in};
 ghost use Rattle.node_answers.specs.Texts.{news_text, ok_text, refused_text as text_of_refusal};
 
-use crate::again::owed;
+use crate::again::owed_again;
 use crate::branches::{found_in, name_text, trust_by};
 use crate::data::{answer, pairs_in};
 use crate::failure::NodeFailure;
@@ -69,7 +69,7 @@ use std::alloc::Global;
 use std::str;
 use tree_model::{
     Act, Bytes, Case, Envelope, Envelopes, Kind, ProcessId, Reaction, Sequence, Standing,
-    StepError, Tree, Txn,
+    StepError, Ticket, Tree, Txn,
 };
 use tree_node::Node;
 
@@ -309,14 +309,27 @@ impl<L: LogStore> Serving<L> {
         Ok(answer(self.alloc, self.manner, &pairs)?)
     }
 
-    /// What is to be sent once more of a case, by the log.
+    /// Who owes an acknowledgement of a case's decision, by what stands.
+    fn owing(&self, case: &Case) -> &[Ticket]
+        ensures { result.now ≡ ((state_of self.now).core.view_of case.now).owed }
+    {
+        match &self.node {
+            Node::Coordinator(coordinator) => coordinator.owed(case),
+            Node::Manager(_) => &[],
+        }
+    }
+
+    /// What is to be sent once more of a case.
     fn owed(&self, case: &Case) -> Result<Option<Envelopes>, NodeFailure>
         ensures ok { IfOk result (λ owed. owed ≡ owed_at (state_of self.now) case.now) }
         ensures err { IfErr result (λ e. e ≡ NodeFailure.Memory) }
     {
         let records = self.node.records()?;
         let parent = self.tree.parent(self.me);
-        Ok(owed(self.alloc, self.me, parent, &self.tree, &records, case)?)
+        let owed = self.owing(case);
+        Ok(owed_again(
+            self.alloc, self.me, parent, &self.tree, &records, owed, case,
+        )?)
     }
 
     /// The answer to a line that asks for a decision once more: its messages, under the next numbers; nothing is

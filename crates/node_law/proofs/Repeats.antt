@@ -1,5 +1,5 @@
 -- What a node sends once more was sent before.
-use Rattle.std.proofs.Common.{◌≡◌, ◌∙◌, ◌||◌, inl, inr, ℕ, zero, suc, Bool, true, false, Option, Some, None, List, [], ◌∷◌, ◌++◌, find, map, take, refl, sym, ap, subst, append_assoc, cond, if◌then◌else◌}
+use Rattle.std.proofs.Common.{◌≡◌, ◌∙◌, ◌||◌, inl, inr, ℕ, zero, suc, Bool, true, false, Option, Some, None, List, [], ◌∷◌, ◌++◌, filter, find, map, take, refl, sym, ap, subst, append_assoc, cond, if◌then◌else◌}
 use Rattle.std.specs.Prelude.{is_some}
 use Rattle.std.proofs.lemmas.List.{append-nil}
 use Rattle.tree_model.specs.declared.messages.Envelope.{Envelope}
@@ -24,9 +24,9 @@ use Rattle.tree_model.specs.Memory.{memory_of}
 use Rattle.tree_model.specs.Names.{same_process}
 use Rattle.tree_model.specs.Nodes.{AtLeaf, AtRoot, Below, Effect, Heard, IsCoordinator, Node, Place, Role, entries_written, is_listed, kept, place_of, role_by, role_of}
 use Rattle.tree_model.specs.Reactions.{seat_of}
-use Rattle.tree_model.specs.Records.{boot_of, has, is_abort, is_collecting, is_commit, is_end, is_prepare, none_of, owing_by, record_case}
-use Rattle.tree_model.specs.Restarts.{reopens, resumes, staying, trim_fails, trimmed}
-use Rattle.tree_model.specs.Standings.{coordinator_view, phase_standing, standing_by}
+use Rattle.tree_model.specs.Records.{boot_of, has, in_list, is_abort, is_collecting, is_commit, is_end, is_prepare, none_of, owing_by, record_case}
+use Rattle.tree_model.specs.Restarts.{recorded_view, reopens, resumes, staying, trim_fails, trimmed}
+use Rattle.tree_model.specs.Standings.{CoordinatorView, coordinator_view, phase_standing, standing_by}
 use Rattle.tree_model.specs.Trees.{IsTree, entry_parent, parent_of}
 use Rattle.tree_model.specs.World.{IsRun, Made, Move, World, makes, opens}
 use Rattle.tree_model.proofs.ListLaws.{kept-after}
@@ -47,12 +47,12 @@ use Rattle.core_model.specs.States.{CoreState}
 use Rattle.core_law.specs.worlds.Worlds.{WorldState}
 use Rattle.core_law.specs.worlds.Ties.{FollowsBehindFaults}
 use Rattle.core_law.proofs.worlds.Kept.{keeps_own}
-use Rattle.node_engine.specs.Again.{telling}
+use Rattle.node_engine.specs.Again.{decided_by, still_owing, telling, tellings_by, tellings_for}
 use Rattle.node_engine.specs.Answers.{owed_at}
 use Rattle.ordered_logs.specs.Orders.{log_of}
 use Rattle.node_law.specs.Nodes.{RepeatsWereSent, WereSent}
 use Rattle.node_law.proofs.Finding.{logged_are}
-use Rattle.node_law.proofs.Sending.{AreAmong, IsUndecided, Sent, all_more, at_end, behind_opened, commit_sent, abort_sent, end_sent, quiet_sent, resent_was_sent, restart_sends, sent_more, stands_in, staying_sent}
+use Rattle.node_law.proofs.Sending.{AreAmong, IsUndecided, Sent, all_more, at_end, behind_opened, commit_sent, abort_sent, end_sent, quiet_sent, resent_was_sent, restart_sends, sent_more, some_are, stands_in, staying_sent}
 
 -- Rows.
 
@@ -363,6 +363,29 @@ module _ (s : WorldState) (es : List Made) (w : World) (is_tree : IsTree s.tree)
   by_role (Below p) e d = coordinator_sent (subst IsCoordinator (sym e) tt) d
   by_role (AtLeaf p) e d = manager_sent p e d
 
+-- Those who owe an acknowledgement still.
+
+filtered_among : (net : List Envelope) (f : Ticket → Envelope) (p : Ticket → Bool) (ts : List Ticket)
+    → AreAmong net (map f ts) → AreAmong net (map f (filter p ts))
+filtered_among net f p [] h = tt
+filtered_among net f p (t ∷ ts) h = by_test (p t)
+  where
+    by_test : (b : Bool) → AreAmong net (map f (if b then t ∷ filter p ts else filter p ts))
+    by_test true = (h.0, filtered_among net f p ts h.1)
+    by_test false = filtered_among net f p ts h.1
+
+module _ (me : ProcessId) (c : Case) (owed : List Ticket) (v : CoordinatorView) (net ms : List Envelope) where
+  by_outcome : (o : Option Outcome) → ((es : List Envelope) → tellings_for me c v o ≡ Some es → AreAmong net es)
+      → tellings_for me c (still_owing owed v) o ≡ Some ms → AreAmong net ms
+  by_outcome None all e = absurd (cc)
+  by_outcome (Some o) all e = subst (AreAmong net) (some_are _ _ e)
+      (filtered_among net (telling me c o) (in_list owed) v.owed (all (map (telling me c o) v.owed) refl))
+
+  -- what is sent to these was sent, if what is sent to all was
+  still_sent : (s : Standing) → ((es : List Envelope) → tellings_by me c v s ≡ Some es → AreAmong net es)
+      → tellings_by me c (still_owing owed v) s ≡ Some ms → AreAmong net ms
+  still_sent s all e = by_outcome (decided_by s) all e
+
 all_stand : (net ms : List Envelope) → AreAmong net ms → WereSent net ms
 all_stand net [] h = tt
 all_stand net (m ∷ ms) h = (stands_in m net h.0, all_stand net ms h.1)
@@ -374,4 +397,6 @@ repeats_were_sent s es w is_tree f old sits works c ms e =
     let is : owed_at (record old { tree = s.tree }) c ≡ Some ms =
     subst (λ (tree : List TreeEntry). owed_at (record old { tree = tree }) c ≡ Some ms) sits.tree e in
     subst (λ (net : List Envelope). WereSent net ms) (sym f.follows.net)
-    (all_stand w.net ms (resent_was_sent q c w.net _ sent ms is))
+    (all_stand w.net ms (still_sent q c (old.core.view_of c).owed
+    (recorded_view (own_records (place_below q (parent_of s.tree q) s.tree) (records_of old.core.log.kept)) c) w.net ms _
+    (resent_was_sent q c w.net _ sent) is))

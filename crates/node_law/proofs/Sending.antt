@@ -110,7 +110,7 @@ idle_decides : (p : Presumption) → decided_by (phase_standing p Idle) ≡ None
 idle_decides PresumeAbort = refl
 idle_decides PresumeCommit = refl
 
-some_are : (a b : List Envelope) → Some a ≡ Some b → a ≡ b
+pub some_are : (a b : List Envelope) → Some a ≡ Some b → a ≡ b
 some_are a b e = cc
 
 module _ (me : ProcessId) (c : Case) where

@@ -141,7 +141,7 @@ doubt a1.2@4.1.2
 ok
 ";
 
-/// Lines of a root that tells decisions once more: to those whom they name, until all have acknowledged.
+/// Lines of a root that tells decisions once more: to those who owe an acknowledgement, until none does.
 const AGAIN: &str = "\
 again a1.1
 begin pa
@@ -163,6 +163,8 @@ join c1.2 4
 1 4->1 JOINED c1.2 4.1.2
 commit c1.2
 abort c1.2
+again c1.2
+2 2->1 ACK c1.2@2.1.1 abort
 again c1.2
 again
 ";
@@ -211,6 +213,9 @@ told c1.2 aborted
 ok
 12 1->2 ABORT c1.2@2.1.1
 13 1->4 ABORT c1.2@4.1.2
+ok
+ok
+14 1->4 ABORT c1.2@4.1.2
 ok
 error
 ";

@@ -266,9 +266,9 @@ In, a line each, answered in order, each before the next is read:
                                        'unknown', as far as the log tells; 'unknown' is one that
                                        wrote no record, or that a trim took: who is in doubt of
                                        it is answered abort by a..., commit by c...
-  again CASE                           the decision of the case once more, to each child that it
-                                       names: for one whose acknowledgement was lost. Nothing is
-                                       recorded; refused 9, if the case waits for none
+  again CASE                           the decision of the case once more, to each child that owes
+                                       an acknowledgement of it: one may have been lost. Nothing
+                                       is recorded; refused 9, if the case waits for none
   resolve NAME                         what is to be done with a prepared branch of this name, as
                                        'rstar resolve' reads names: 'resolve NAME commit',
                                        'rollback', 'heuristic-commit', 'heuristic-rollback',

@@ -1,10 +1,10 @@
 use Rattle.tree_model.specs.LogNames.{own_records}
 use Rattle.inquire_core.specs.Readings.{place_below}
 use Rattle.node_engine.proofs.Owed.{read_exactly}
-use Rattle.node_engine.proofs.again.owed.Goals as goal
+use Rattle.node_engine.proofs.again.owed_again.Goals as goal
 
 pub returns : goal.returns
 returns c =
-    read_exactly (λ o. o) c.args.me c.args.case.now
+    read_exactly (λ o. o) c.args.me c.args.case.now c.args.owed.now
     (own_records (place_below c.args.me c.args.parent c.args.tree.now) c.args.records.now)
     c.in_ok-reading.reading c.owed_in.result c.in_ok-reading.ensures c.owed_in.ensures
