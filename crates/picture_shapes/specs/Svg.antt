@@ -1,7 +1,6 @@
 -- The text of each shape.
 use Rattle.std.specs.Prelude.{ℕ, ◌-◌, Bool, true, false, if◌then◌else◌, List, [], ◌∷◌, ◌++◌, codes}
 use Rattle.std.specs.List.{flat_map}
-use Rattle.std.specs.Fmt.{decimal}
 use Rattle.picture_rows.specs.declared.stretches.Band.{Band}
 use Rattle.picture_rows.specs.declared.stretches.Band.TheVariants.{Doubt, Operator as ByOperator}
 use Rattle.picture_shapes.specs.declared.shapes.Tone.{Tone}
@@ -23,6 +22,7 @@ use Rattle.picture_shapes.specs.declared.shapes.Dot.{Dot}
 use Rattle.picture_shapes.specs.declared.shapes.Ring.{Ring}
 use Rattle.picture_shapes.specs.declared.shapes.Square.{Square}
 use Rattle.picture_shapes.specs.declared.shapes.Torn.{Torn}
+use Rattle.picture_shapes.specs.declared.shapes.Note.{Note}
 use Rattle.picture_shapes.specs.declared.shapes.Spot.{Spot}
 use Rattle.picture_shapes.specs.declared.shapes.Shape.{Shape}
 use Rattle.picture_shapes.specs.declared.shapes.Shape.TheVariants as shape
@@ -213,6 +213,12 @@ torn_text t =
     ++ pair_text (codes "h44v14h-44z\"/><path class=\"l no\" d=\"M") t.edge t.y
     ++ codes "l5 -4 10 8 10 -8 10 8 5 -4m0 14l-5 4 -10 -8 -10 8 -10 -8 -5 4\"/></g>"
 
+-- a ring around a step, with what is told of it
+unfoldable pub note_text : Note → List ℕ
+note_text n =
+    codes "<g>" ++ title_text n.title.items ++ codes "<circle class=\"l dim\" pointer-events=\"all\""
+    ++ circle_text n.x n.y 8 ++ codes "</g>"
+
 -- two bars across a line
 unfoldable pub trim_text : Spot → List ℕ
 trim_text s = pair_text (codes "<path class=\"l dim\" d=\"M") s.x s.y ++ codes "h20m-20 6h20\"/>"
@@ -270,6 +276,7 @@ shape_text (shape.Ring r) = ring_text r
 shape_text (shape.Dot d) = dot_text d
 shape_text (shape.Square s) = square_text s
 shape_text (shape.Torn t) = torn_text t
+shape_text (shape.Note n) = note_text n
 shape_text (shape.Trim s) = trim_text s
 shape_text (shape.Warning s) = warning_text s
 shape_text (shape.Label l) = label_text l

@@ -30,7 +30,7 @@ g:hover>.l{stroke-width:3}\n\
 ";
 
 /// The signs of the legend, how each is drawn, and what it means.
-pub(crate) const LEGEND: [(Sign, &str, &str); 19] = [
+pub(crate) const LEGEND: [(Sign, &str, &str); 20] = [
     (
         Sign::Forced,
         "<rect class=\"f vote\" x=\"15\" y=\"-5\" width=\"10\" height=\"10\"/>",
@@ -129,5 +129,10 @@ pub(crate) const LEGEND: [(Sign, &str, &str); 19] = [
         Sign::Trim,
         "<path class=\"l dim\" d=\"M10 -3h20M10 3h20\"/>",
         "log trimmed",
+    ),
+    (
+        Sign::Note,
+        "<circle class=\"l dim\" cx=\"20\" r=\"8\"/>",
+        "point here: what is told",
     ),
 ];

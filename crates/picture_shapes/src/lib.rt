@@ -16,8 +16,8 @@ mod words;
 pub use frame::{Frame, ROW, Room, WIDE, width_of};
 pub use head::{Summary, keys_of, push_head};
 pub use shapes::{
-    Bar, Dot, EventRule, Joint, Label, Life, Look, Patch, Path, Plate, Ring, Shape, Spot, Square,
-    Stroke, Tip, Tone, Torn,
+    Bar, Dot, EventRule, Joint, Label, Life, Look, Note, Patch, Path, Plate, Ring, Shape, Spot,
+    Square, Stroke, Tip, Tone, Torn,
 };
 pub use signs::Signs;
 pub use strokes::push_strokes;

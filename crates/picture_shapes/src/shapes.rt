@@ -174,6 +174,14 @@ pub struct Torn {
     pub y: u64,
 }
 
+/// What is told of a step: a ring around it, with words that show where the pointer rests.
+#[derive(Drop)]
+pub struct Note {
+    pub title: Vec<u8>,
+    pub x: u64,
+    pub y: u64,
+}
+
 /// A place.
 #[derive(Clone, Copy)]
 pub struct Spot {
@@ -195,6 +203,7 @@ pub enum Shape {
     Dot(Dot),
     Square(Square),
     Torn(Torn),
+    Note(Note),
     /// Two bars across a line, where a log was trimmed.
     Trim(Spot),
     /// A triangle: an operator acts, or a mismatch.

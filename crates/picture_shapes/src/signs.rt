@@ -22,6 +22,7 @@ pub enum Sign {
     Several,
     Handled,
     Trim,
+    Note,
 }
 
 /// Which signs a picture has.
@@ -46,6 +47,7 @@ pub struct Signs {
     pub several: bool,
     pub handled: bool,
     pub trim: bool,
+    pub note: bool,
 }
 
 impl Signs {
@@ -70,6 +72,7 @@ impl Signs {
             several: false,
             handled: false,
             trim: false,
+            note: false,
         }
     }
 
@@ -94,6 +97,7 @@ impl Signs {
             Sign::Several => self.several,
             Sign::Handled => self.handled,
             Sign::Trim => self.trim,
+            Sign::Note => self.note,
         }
     }
 }

@@ -1,41 +1,12 @@
 //! The text of a shape.
 
 ghost use Rattle.std.specs.Prelude.{◌≡◌, ◌++◌, ◌-◌, OnOk, if◌then◌else◌};
-ghost use Rattle.picture_shapes.specs.Svg.{
-  anchor_text,
-  band_begin,
-  band_words as words_of_band,
-  bar_text,
-  corner_text,
-  dot_text,
-  force_words as words_of_force,
-  frame_text,
-  ground_of,
-  ground_text,
-  joint_text,
-  label_begin,
-  label_text,
-  life_text,
-  look_word as word_of_look,
-  patch_text,
-  plate_words,
-  record_title,
-  ring_text,
-  rule_text,
-  shape_text,
-  shapes_text,
-  span_text,
-  square_begin,
-  square_text,
-  squares_text,
-  torn_text,
-  trim_text,
-  warning_text,
-};
+ghost use Rattle.picture_shapes.specs.Svg.{anchor_text, band_begin, band_words as words_of_band, bar_text, corner_text, dot_text, force_words as words_of_force, frame_text, ground_of, ground_text, joint_text, label_begin, label_text, note_text, life_text, look_word as word_of_look, patch_text, plate_words, record_title, ring_text, rule_text, shape_text, shapes_text, span_text, square_begin, square_text, squares_text, torn_text, trim_text, warning_text};
 
 use crate::parts::{push_circle, push_place, push_size, push_title, push_tone, push_words};
 use crate::shapes::{
-    Bar, Dot, EventRule, Joint, Label, Life, Look, Patch, Plate, Ring, Shape, Spot, Square, Torn,
+    Bar, Dot, EventRule, Joint, Label, Life, Look, Note, Patch, Plate, Ring, Shape, Spot, Square,
+    Torn,
 };
 use crate::strokes::push_stroke;
 use crate::words::{push_pair, push_word};
@@ -257,6 +228,16 @@ fn push_torn(out: &mut Vec<u8>, torn: &Torn) -> Result<(), AllocError>
     )
 }
 
+fn push_note(out: &mut Vec<u8>, note: &Note) -> Result<(), AllocError>
+    ensures { OnOk result (out.new.items ≡ out.old.items ++ note_text note.now) }
+{
+    push(out, "<g>")?;
+    push_title(out, &note.title)?;
+    push(out, "<circle class=\"l dim\" pointer-events=\"all\"")?;
+    push_circle(out, note.x, note.y, 8)?;
+    push(out, "</g>")
+}
+
 #[tactic(auto, unfolding(crate::specs::Svg::trim_text))]
 fn push_trim(out: &mut Vec<u8>, spot: &Spot) -> Result<(), AllocError>
     ensures { OnOk result (out.new.items ≡ out.old.items ++ trim_text spot.now) }
@@ -365,6 +346,7 @@ fn push_shape(out: &mut Vec<u8>, shape: &Shape) -> Result<(), AllocError>
         Shape::Dot(dot) => push_dot(out, dot),
         Shape::Square(square) => push_square(out, square),
         Shape::Torn(torn) => push_torn(out, torn),
+        Shape::Note(note) => push_note(out, note),
         Shape::Trim(spot) => push_trim(out, spot),
         Shape::Warning(spot) => push_warning(out, spot),
         Shape::Label(label) => push_label(out, label),

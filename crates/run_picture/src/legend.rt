@@ -107,6 +107,9 @@ pub(crate) fn signs_of(scene: &Scene, plan: &Plan) -> Signs {
     signs = with_stretches(signs, plan);
     signs.crash = !plan.history.crashes.is_empty();
     signs.warning = !plan.history.mismatches.is_empty();
+    for words in scene.notes {
+        signs.note = signs.note || !words.is_empty();
+    }
     for (entry, rows) in scene.entries.iter().zip(plan.rows.steps.iter()) {
         let place = place_of(&plan.seats, entry.step.process);
         signs = with_step(signs, place, entry, *rows);

@@ -33,6 +33,7 @@ fn draw_run(drawing: &mut Drawing, scene: &Scene, plan: &Plan) -> Result<(), All
         drawing.draw_stretch(&plan.seats, stretch)?;
     }
     drawing.draw_steps(scene, plan)?;
+    drawing.draw_notes(scene, plan)?;
     drawing.draw_crashes(scene, plan)?;
     drawing.draw_mismatches(scene, plan)?;
     draw_refusal(drawing, scene, plan)?;

@@ -21,6 +21,8 @@ pub struct Scene<'a> {
     pub events: &'a [Event],
     pub turns: &'a [Turn],
     pub entries: &'a [Entry],
+    /// What is told of each step beside, in their order; of one of which nothing is, no bytes.
+    pub notes: &'a [Vec<u8>],
     pub refusal: Option<StepError>,
 }
 

@@ -15,9 +15,10 @@ use crate::run::{Refusal, Run};
 use log_store::MemoryStore;
 use picture_rows::{PictureError, Turn};
 use report_io::{Failure, Status};
+use run_notes::notes_of;
 use run_picture::{Scene, picture};
 use std::alloc::{AllocError, Global};
-use tree_model::{Entry, Event, StepError};
+use tree_model::{Entry, Event, LogRecord, StepError};
 use tree_world::World;
 
 /// The steps that were made, each made again.
@@ -77,24 +78,27 @@ fn cause_of(refusal: Refusal) -> Option<StepError> {
     }
 }
 
-/// The picture of a run of these events. Exhausted: it would have 2^32 rows or more.
+/// The picture of a run of these events from these logs. Exhausted: it would have 2^32 rows or more.
 fn drawn(
     alloc: Global,
     world: &World<MemoryStore>,
     refusal: Refusal,
     events: &[Event],
     turns: &[Turn],
+    logs: &[Vec<LogRecord>],
 ) -> Result<Vec<u8>, Failure>
     ensures text { IfOk result (λ text. IsPicture (state world.now).entries text.items) }
     ensures err { IfErr result (λ why. (why ≡ Failure.Memory) ⊎ ((why ≡ Failure.Exhausted)
         × IsLong (state world.now).tree (length turns.now) (state world.now).entries)) }
 {
     let entries = entries_of(alloc, world)?;
+    let notes = notes_of(alloc, world.tree().entries(), logs, &entries)?;
     let scene = Scene {
         tree: world.tree().entries(),
         events,
         turns,
         entries: &entries,
+        notes: &notes,
         refusal: cause_of(refusal),
     };
     match picture(alloc, &scene) {
@@ -110,21 +114,23 @@ fn drawn_run(
     run: &Run,
     events: &[Event],
     turns: &[Turn],
+    logs: &[Vec<LogRecord>],
 ) -> Result<(Vec<u8>, Status), Failure>
     ensures text { IfOk result (λ r. IsPicture (state run.now.world).entries r.0.items) }
     ensures status { IfOk result (λ r. r.1 ≡ ending run.now.refusal) }
     ensures err { IfErr result (λ why. (why ≡ Failure.Memory) ⊎ ((why ≡ Failure.Exhausted)
         × IsLong (state run.now.world).tree (length turns.now) (state run.now.world).entries)) }
 {
-    let text = drawn(alloc, &run.world, run.refusal, events, turns)?;
+    let text = drawn(alloc, &run.world, run.refusal, events, turns, logs)?;
     Ok((text, status_of(run.refusal)))
 }
 
-/// Makes these events in a tree that has just opened, and draws the run.
-pub(crate) fn draw_run(
+/// Makes these events in a tree that has just opened over these logs, and draws the run.
+fn draw_run_from(
     alloc: Global,
     run: Run,
     events: &[Event],
+    logs: &[Vec<LogRecord>],
 ) -> Result<(Vec<u8>, Status), Failure>
     requires { HasCome (state run.world) [] run }
     ensures draws { IfOk result (λ r. Draws (state run.world) events.now r.1 r.0.items) }
@@ -140,9 +146,31 @@ pub(crate) fn draw_run(
             Err(failure)
         }
         Ok(turns) => {
-            let drawn = drawn_run(alloc, &run, events, &turns);
+            let drawn = drawn_run(alloc, &run, events, &turns, logs);
             run.close();
             drawn
+        }
+    }
+}
+
+/// Makes these events in a tree that has just opened, and draws the run.
+pub(crate) fn draw_run(
+    alloc: Global,
+    run: Run,
+    events: &[Event],
+) -> Result<(Vec<u8>, Status), Failure>
+    requires { HasCome (state run.world) [] run }
+    ensures draws { IfOk result (λ r. Draws (state run.world) events.now r.1 r.0.items) }
+    ensures err { IfErr result (λ why. (why ≡ Failure.Memory)
+        ⊎ BreaksOff (state run.world) events.now why
+        ⊎ ((why ≡ Failure.Exhausted) × DrawsTooLong (state run.world) events.now)) }
+    ensures why { IfErr result IsOfRun }
+{
+    match run.world.logs() {
+        Ok(logs) => draw_run_from(alloc, run, events, &logs),
+        Err(_) => {
+            run.close();
+            Err(Failure::Memory)
         }
     }
 }

@@ -3,7 +3,7 @@ use Rattle.picture_rows.specs.declared.rows.Turn.{Turn}
 use Rattle.std.proofs.lemmas.Result.{IfErr-weaker}
 use Rattle.tree_world.specs.Worlds.{state}
 use Rattle.tree_engine.proofs.TreeReports.{draws_run, run_not_drawn}
-use Rattle.tree_engine.proofs.drawn.draw_run.Goals as goal
+use Rattle.tree_engine.proofs.drawn.draw_run_from.Goals as goal
 
 pub returns-in-Ok-clause-draws : goal.returns-in-Ok-clause-draws
 returns-in-Ok-clause-draws c =
