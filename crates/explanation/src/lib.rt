@@ -10,8 +10,8 @@
 //! reason       why an event was refused
 //! event        the sentences of that
 //! names        names as text
-//! votes        why managers voted NO in a run
-//! rest         what is to be noted of a run: those votes, and messages that are never delivered
+//! told         what is told of the steps of a run
+//! rest         what is to be noted of a run: what is told of its steps, and messages that are never delivered
 //! clean        a text that a terminal can show
 //! ```
 #![tactic(auto)]
@@ -23,7 +23,7 @@ mod names;
 mod program;
 mod reason;
 mod rest;
-mod votes;
+mod told;
 
 pub use line_faults::Script;
 pub use program::{failure_text, plain_refusal_text, refusal_text};

@@ -2,10 +2,11 @@
 
 use crate::clean::cleaned;
 use crate::history::{History, play};
-use crate::votes::push_votes;
+use crate::told::push_told;
 use log_store::MemoryStore;
 use reopen_script::read_reopen;
 use report_io::Failure;
+use run_notes::Notes;
 use std::alloc::{AllocError, Global};
 use tree_engine::Run;
 use tree_model::{Entry, Event, Happening, Input};
@@ -52,9 +53,9 @@ fn push_rest(
     }
 }
 
-/// What is to be noted of the run of a tree script, in lines: of each NO of a manager why, if that is to be explained; and
-/// how many messages it leaves undelivered, unless an event is refused. Of a script that is refused there is nothing. An
-/// error says why the run could not be made again, or that memory was refused.
+/// What is to be noted of the run of a tree script, in lines: why managers vote NO and what gets read, if that is to be
+/// explained; and how many messages it leaves undelivered, unless an event is refused. Of a script that is refused there
+/// is nothing. An error says why the run could not be made again, or that memory was refused.
 pub fn notes_text(alloc: Global, input: &[u8], explains: bool) -> Result<String, Failure> {
     let mut out = String::new(alloc);
     let Ok((tree, logs, events)) = read_reopen(alloc, input) else {
@@ -77,6 +78,12 @@ pub fn notes_text(alloc: Global, input: &[u8], explains: bool) -> Result<String,
     Ok(cleaned(alloc, &out)?)
 }
 
+/// The notes of a tree that has just opened.
+fn opened_notes(alloc: Global, world: &World<MemoryStore>) -> Result<Notes, AllocError> {
+    let logs = world.logs()?;
+    Notes::new(alloc, world.tree().entries(), &logs)
+}
+
 /// The same of a tree that has just opened, and the events that are made in it.
 fn push_notes(
     alloc: Global,
@@ -86,14 +93,18 @@ fn push_notes(
     explains: bool,
 ) -> Result<(), Failure> {
     let mut steps = Vec::new(alloc);
+    let notes = match explains {
+        true => Some(opened_notes(alloc, run.world())?),
+        false => None,
+    };
     play(alloc, run, events, &mut steps)?;
-    if explains {
+    if let Some(mut notes) = notes {
         let history = History {
             world: run.world(),
             events,
             steps: steps.as_slice(),
         };
-        push_votes(alloc, out, &history)?;
+        push_told(out, &mut notes, &history)?;
     }
     if run.refusal().is_none() {
         push_rest(alloc, out, run.world())?;

@@ -1,22 +1,20 @@
 //! Floor: engines and program.
 //!
-//! What is told of the steps of a run beside its trace.
+//! What is told of a step of a run beside its trace: why a manager votes NO, and what a get read.
+//!
+//! ```text
+//! notes     what managers hold, and what is told of their steps
+//! manager   one manager: its pairs, its branches, and what a crash may take back
+//! branch    a branch, from its ticket to its end
+//! locks     which branch holds which key
+//! words     the words of a note
+//! ```
 #![tactic(auto)]
 
-use std::alloc::{AllocError, Global};
-use tree_model::{Entry, LogRecord, TreeEntry};
+mod branch;
+mod locks;
+mod manager;
+mod notes;
+mod words;
 
-/// What is told of each of these steps, in their order; of one of which nothing is, no bytes.
-pub fn notes_of(
-    alloc: Global,
-    tree: &[TreeEntry],
-    logs: &[Vec<LogRecord>],
-    entries: &[Entry],
-) -> Result<Vec<Vec<u8>>, AllocError> {
-    let _ = (tree, logs);
-    let mut notes = Vec::new(alloc);
-    for _ in entries {
-        notes.push(Vec::new(alloc))?;
-    }
-    Ok(notes)
-}
+pub use notes::{Notes, notes_of};
