@@ -1,0 +1,4 @@
+pub mod Belonging
+pub mod Cut
+pub mod Tails
+pub mod Parts
