@@ -1,2 +1,4 @@
-pub mod Steps
 pub mod Marking
+pub mod Counting
+pub mod Answering
+pub mod Framing

@@ -6,7 +6,7 @@ use Rattle.tree_model.specs.declared.events.Entry.{Entry}
 use Rattle.picture_parts.specs.declared.belonging.Choice.{Choice}
 use Rattle.picture_parts.specs.declared.belonging.Marked.{Marked}
 use Rattle.picture_parts.specs.Belonging.{marks_of, with_mark}
-use Rattle.picture_parts.proofs.Steps.{taken_at}
+use Rattle.tree_engine.proofs.Traces.{taken_at}
 
 -- a step more
 pub marked_more : (choice : Choice) (es : List Entry) (k : ℕ) (e : Entry) (old new : List Marked)

@@ -159,7 +159,7 @@ impl Choice {
 }
 
 /// The steps of a run, each with whether it is drawn.
-#[tactic(auto, using(crate::proofs::Steps::taken_at), unfolding(crate::specs::Belonging::marks_of))]
+#[tactic(auto, unfolding(crate::specs::Belonging::marks_of))]
 pub(crate) fn marks_of(
     alloc: Global,
     world: &World<MemoryStore>,

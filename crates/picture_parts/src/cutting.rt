@@ -83,7 +83,7 @@ fn push_drawn(sent: &mut Vec<bool>, only: Option<Txn>, marked: &Marked) -> Resul
 
 /// Of each message of a run, in the order of their numbers, whether it is drawn.
 #[tactic(auto, unfolding(crate::specs::Cut::drawn_sent))]
-fn sent_of(alloc: Global, only: Option<Txn>, marks: &[Marked]) -> Result<Vec<bool>, AllocError>
+pub(crate) fn sent_of(alloc: Global, only: Option<Txn>, marks: &[Marked]) -> Result<Vec<bool>, AllocError>
     ensures { IfOk result (λ sent. sent.items ≡ drawn_sent only marks.now) }
 {
     let mut sent = Vec::new(alloc);

@@ -5,11 +5,16 @@
 #![tactic(auto)]
 
 mod belonging;
+mod caption;
 mod counting;
 mod cutting;
+mod drawing;
+mod events;
 mod fault;
 mod part;
 
+pub use belonging::Marked;
 pub use cutting::drawn_from;
+pub use drawing::{Picture, picture_of, whole_fault};
 pub use fault::PartFault;
 pub use part::{MOST_EVENTS, MOST_PROCESSES, Part, Range, range_of};

@@ -21,11 +21,9 @@ pub struct Range {
     pub last: usize,
 }
 
-/// What is drawn of a run.
+/// A part of a run.
 #[derive(Clone, Copy, PartialEq, Eq)]
 pub enum Part {
-    /// All of it.
-    Whole,
     /// The steps of a transaction of this presumption, boot and number, and the restarts of the processes that took part
     /// in it before.
     Case(Txn),
@@ -100,20 +98,6 @@ impl Turns {
         self.places.push(place)?;
         self.turns.push(Turn { steps, refused })?;
         Ok(())
-    }
-
-    /// All events, of which the last is refused or not.
-    pub(crate) fn of_whole(
-        alloc: Global,
-        counts: &[usize],
-        refused: bool,
-    ) -> Result<Turns, AllocError> {
-        let mut turns = Turns::new(alloc);
-        for (place, count) in counts.iter().enumerate() {
-            let is_last = counts.len() - place == 1;
-            turns.push(place, *count, refused && is_last)?;
-        }
-        Ok(turns)
     }
 
     /// The events of these numbers, of which the last of the run is refused or not; N steps were made before them.

@@ -56,7 +56,7 @@ enum Request {
     /// The same, its trace with the number of its event before each line.
     Events,
     /// The same, a picture of its run, or of a part of it.
-    Picture(Part),
+    Picture(Option<Part>),
     /// The events of a tree script, on processes that run at the same time.
     Run(Run),
     /// The calls of an XA script.

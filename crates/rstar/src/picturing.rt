@@ -3,7 +3,7 @@
 use crate::tell;
 use clap::{Arg, ArgAction, ArgMatches};
 use link_script::txn_of;
-use picture_parts::{Part, PartFault, picture_of, range_of};
+use picture_parts::{Part, PartFault, picture_of, range_of, whole_fault};
 use report_io::{Failure, read_all, write_all};
 use std::alloc::{AllocError, Global};
 use std::io;
@@ -40,21 +40,21 @@ pub(crate) fn case<'a>(alloc: Global) -> Result<Arg<'a>, AllocError> {
         .conflicts_with("events")
 }
 
-/// The part of a run that these words name.
-pub(crate) fn part_of<'a>(matches: &ArgMatches<'a>) -> Result<Part, NoPart<'a>> {
+/// The part of a run that these words name; none, if all of it is to be drawn.
+pub(crate) fn part_of<'a>(matches: &ArgMatches<'a>) -> Result<Option<Part>, NoPart<'a>> {
     if let Some(word) = matches.get_str("case") {
         // The root is the tree's, which is not read yet.
         return match txn_of(ProcessId(0), word) {
-            Some(txn) => Ok(Part::Case(txn)),
+            Some(txn) => Ok(Some(Part::Case(txn))),
             None => Err(NoPart::Case(word)),
         };
     }
     if !matches.contains_id("events") {
-        return Ok(Part::Whole);
+        return Ok(None);
     }
     let word = matches.get_str("events").unwrap_or("");
     match range_of(word) {
-        Some(range) => Ok(Part::Events(range)),
+        Some(range) => Ok(Some(Part::Events(range))),
         None => Err(NoPart::Events(word)),
     }
 }
@@ -81,27 +81,43 @@ fn why(alloc: Global, fault: PartFault) -> Result<String, AllocError> {
     format!(in alloc; "rstar: {fault}\n")
 }
 
-/// Draws a part of the run of a script. Of a script that is refused its line is written.
+/// Says why a picture is not drawn.
+fn refused(rt: &HostRuntime, fault: PartFault) -> Drawn {
+    tell(rt, why(rt.alloc(), fault).ok());
+    Drawn::Refused
+}
+
+/// Draws the whole run of a script; of one that is refused its line is written.
+fn perform_whole(rt: &HostRuntime, mut input: &[u8]) -> Result<Drawn, Failure> {
+    let alloc = rt.alloc();
+    let status = run_tree(alloc, Output::Picture, &mut input, &mut io::writer(rt))?;
+    Ok(Drawn::Ended(status.number()))
+}
+
+/// Draws a part of the run of a script; of one that is refused its line is written.
+fn perform_part(rt: &HostRuntime, input: &[u8], part: Part) -> Result<Drawn, Failure> {
+    match picture_of(rt.alloc(), input, &part)? {
+        None => perform_whole(rt, input),
+        Some(Ok((text, status))) => {
+            write_all(&mut io::writer(rt), &text)?;
+            Ok(Drawn::Ended(status.number()))
+        }
+        Some(Err(fault)) => Ok(refused(rt, fault)),
+    }
+}
+
+/// Draws the run of a script, or a part of it, if that is small enough.
 pub(crate) fn perform<R: Read>(
     rt: &HostRuntime,
-    part: Part,
+    part: Option<Part>,
     reader: &mut R,
 ) -> Result<Drawn, Failure> {
-    let alloc = rt.alloc();
-    let mut writer = io::writer(rt);
-    let input = read_all(alloc, reader)?;
-    match picture_of(alloc, &input, &part)? {
-        None => {
-            let status = run_tree(alloc, Output::Picture, &mut input.as_slice(), &mut writer)?;
-            Ok(Drawn::Ended(status.number()))
-        }
-        Some(Ok((text, status))) => {
-            write_all(&mut writer, &text)?;
-            Ok(Drawn::Ended(status.number()))
-        }
-        Some(Err(fault)) => {
-            tell(rt, why(alloc, fault).ok());
-            Ok(Drawn::Refused)
-        }
+    let input = read_all(rt.alloc(), reader)?;
+    if let Some(part) = part {
+        return perform_part(rt, &input, part);
+    }
+    match whole_fault(rt.alloc(), &input)? {
+        Some(fault) => Ok(refused(rt, fault)),
+        None => perform_whole(rt, &input),
     }
 }
