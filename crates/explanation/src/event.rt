@@ -26,18 +26,18 @@ pub(crate) enum EventFault {
         other: TxnName,
         event: u64,
     },
-    #[error("{case} is known no more: event {begun} began it, and its end was told in event {told}")]
+    #[error("{case} is no longer known: event {begun} began it, and its end was told in event {told}")]
     Ended {
         case: CaseName,
         begun: u64,
         told: u64,
     },
-    #[error("{case} is known no more: event {begun} began it, and a restart lost it or it has ended")]
+    #[error("{case} is no longer known: event {begun} began it, and a restart lost it or it has ended")]
     Forgotten {
         case: CaseName,
         begun: u64,
     },
-    #[error("process {process} gave out no such ticket: {case} is no case")]
+    #[error("process {process} gave out no such ticket: {case} is not a case")]
     NoTicket {
         case: CaseName,
         process: u32,
@@ -57,7 +57,7 @@ pub(crate) enum EventFault {
         case: CaseName,
         event: u64,
     },
-    #[error("{case} is known no more: its ticket is of event {joined}, and it has ended, or a crash took it")]
+    #[error("{case} is no longer known: its ticket is of event {joined}, and it has ended, or a crash took it")]
     CaseForgotten {
         case: CaseName,
         joined: u64,
@@ -66,7 +66,7 @@ pub(crate) enum EventFault {
     ManagerInvites {
         process: u32,
     },
-    #[error("process {child} is no child of process {process}")]
+    #[error("process {child} is not a child of process {process}")]
     NoChild {
         child: u32,
         process: u32,
@@ -108,7 +108,7 @@ pub(crate) enum EventFault {
     NotPromised {
         case: CaseName,
     },
-    #[error("{case} is in doubt no more: it promised in event {event}, and its outcome came")]
+    #[error("{case} is no longer in doubt: it promised in event {event}, and its outcome came")]
     InDoubtNoMore {
         case: CaseName,
         event: u64,

@@ -8,18 +8,18 @@ use toml::{Table, Value};
 /// Why a text is no tree's. `entry` counts the processes of the list from 1.
 #[derive(Clone, Copy, Debug, Error)]
 pub(crate) enum DocumentFault<'a> {
-    #[error("`{key:.40}` is no key of a tree text{near}")]
+    #[error("`{key:.40}` is not a key of a tree text{near}")]
     TextKey {
         key: &'a str,
         near: Near,
     },
-    #[error("`process` is no list of tables")]
+    #[error("`process` is not a list of tables")]
     NoList,
-    #[error("process {entry} of the list is no table")]
+    #[error("process {entry} of the list is not a table")]
     NoTable {
         entry: usize,
     },
-    #[error("process {entry} of the list: `{key:.40}` is no key of a process{near}")]
+    #[error("process {entry} of the list: `{key:.40}` is not a key of a process{near}")]
     Key {
         entry: usize,
         key: &'a str,
@@ -30,22 +30,22 @@ pub(crate) enum DocumentFault<'a> {
         entry: usize,
         key: &'static str,
     },
-    #[error("process {entry} of the list: `{key}` is no number from 1 to 4294967295")]
+    #[error("process {entry} of the list: `{key}` is not a number from 1 to 4294967295")]
     Number {
         entry: usize,
         key: &'static str,
     },
-    #[error("process {entry} of the list: the kind `{kind:.40}` is none{near}")]
+    #[error("process {entry} of the list: `{kind:.40}` is not a kind{near}")]
     Kind {
         entry: usize,
         kind: &'a str,
         near: Near,
     },
-    #[error("process {entry} of the list: `kind` is no text")]
+    #[error("process {entry} of the list: `kind` is not a text")]
     KindNoText {
         entry: usize,
     },
-    #[error("process {entry} of the list: `info` is no text of at most 32 letters")]
+    #[error("process {entry} of the list: `info` is not a text of at most 32 letters")]
     Info {
         entry: usize,
     },

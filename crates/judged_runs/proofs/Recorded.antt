@@ -59,7 +59,7 @@ use Rattle.kv_manager.proofs.Staying.{SameDoubts, moves_doubts}
 use Rattle.kv_manager.proofs.TrimOrder.{TrimFollows, trim_follows}
 use Rattle.kv_manager.proofs.Turns.{decided_behind, due_leads, entry_by_xid, leads, mark_behind}
 use Rattle.judged_runs.specs.Deeds.{none_lost}
-use Rattle.judged_runs.specs.Events.{HasSoundLog}
+use Rattle.xa_engine.specs.Runs.{HasSoundLog}
 
 -- What is kept.
 

@@ -73,9 +73,9 @@ use Rattle.xa_engine.specs.declared.script.request.Request.TheVariants.{Open, Cl
 use Rattle.xa_engine.specs.declared.answer.Answer.{Answer}
 use Rattle.xa_engine.specs.declared.answer.Answer.TheVariants as answer
 use Rattle.xa_engine.specs.Makes.{Boots, CallsBranch, Decides, IsCode, IsRead, IsWritten, Joins, Makes, Moves, Scans, Trims, Works, kept_bytes}
-use Rattle.xa_engine.specs.Runs.{IsFresh}
+use Rattle.xa_engine.specs.Runs.{HasSoundLog, IsFresh}
 use Rattle.judged_runs.specs.Deeds.{AreCounted, Closed, Deed, Decided, Ended, Finished, Is, IsScan, Leads, Limited as LimitedDeed, Loses, NoMore, Opened, Recovered, Restarted as RestartedDeed, Returns, Started, StillKnown, Trimmed, Undecided, Unread, Unwritten, Wrote, decision_of, ends_branch, none_lost, on, rows_for}
-use Rattle.judged_runs.specs.Events.{AreEvents, HasSoundLog, IsEvent, LeadsCovered, LeadsJudged, Says, is_booted, is_covered, is_failure, is_judged, tells_failure, verb_of}
+use Rattle.judged_runs.specs.Events.{AreEvents, IsEvent, LeadsCovered, LeadsJudged, Says, is_booted, is_covered, is_failure, is_judged, tells_failure, verb_of}
 use Rattle.judged_runs.specs.Names.{Numbers, lacks_forced, value_number}
 use Rattle.judged_runs.proofs.Conforming.{deeds_legal}
 use Rattle.judged_runs.proofs.Recorded.{IsRecorded, IsSaid, all_left, boot_recorded, lost_after, lost_before, lost_cases, more_recorded, stays_recorded, trim_recorded, turn_recorded, written_recorded}

@@ -1,16 +1,12 @@
 -- What a request of a script, with its answer, is to the judge; and which runs the law covers.
-use Rattle.std.specs.Prelude.{◌≡◌, ◌<◌, ◌^◌, ℕ, Bool, true, false, List, [], ◌∷◌, is_some, map}
-use Rattle.std.specs.List.{AllByRecursion}
+use Rattle.std.specs.Prelude.{◌≡◌, ℕ, Bool, true, false, List, [], ◌∷◌, is_some, map}
 use Rattle.xa_codes.specs.declared.code.Code.{Code}
 use Rattle.xa_codes.specs.declared.code.Code.TheVariants as code
 use Rattle.tree_model.specs.declared.messages.Op.{Op}
 use Rattle.tree_model.specs.declared.messages.Op.TheVariants.{Put, Get, Delete}
 use Rattle.manager_model.specs.declared.errors.DecideError.{DecideError}
 use Rattle.manager_model.specs.declared.errors.DecideError.TheVariants as decide_error
-use Rattle.tree_model.specs.declared.names.Kind.TheVariants.{Manager}
-use Rattle.log_rules.specs.sound.Sound.{IsSound}
-use Rattle.rec_log.specs.Sights.{left_by, records_of}
-use Rattle.kv_manager.specs.Sights.{KvSight, are_ordered}
+use Rattle.kv_manager.specs.Sights.{KvSight}
 use Rattle.judge_rules.specs.declared.calls.Answer.{Answer as Judged}
 use Rattle.judge_rules.specs.declared.calls.Answer.TheVariants as judged
 use Rattle.judge_rules.specs.declared.calls.BranchVerb.{BranchVerb}
@@ -26,6 +22,7 @@ use Rattle.xa_engine.specs.declared.script.request.Request.TheVariants.{Open, Cl
 use Rattle.xa_engine.specs.declared.answer.Answer.{Answer}
 use Rattle.xa_engine.specs.declared.answer.Answer.TheVariants as answer
 use Rattle.xa_engine.specs.Makes.{Makes}
+use Rattle.xa_engine.specs.Runs.{HasSoundLog}
 use Rattle.judged_runs.specs.Deeds.{AreCounted, AreListedOnce, IsGiven, is_commit, on}
 use Rattle.judged_runs.specs.Names.{Numbers, value_number}
 
@@ -127,16 +124,6 @@ is_booted _ = false
 abbrev pub is_judged : Request → Answer → Bool
 is_judged (Restart keep) a = is_booted a
 is_judged r a = is_covered r a
-
--- what is true of the log of each manager (`records_are_sound`, `records_are_ordered` and `log_size` of `kv_manager` say it):
--- its records can stand in a manager's log and may follow one another; and for some N below 2^64 a crash that keeps N of the
--- unforced bytes leaves all of them
-pub record HasSoundLog (m : KvSight) : Type 0 where
-  pub sound : AllByRecursion (IsSound Manager) (records_of m.log.sight.kept)
-  pub ordered : are_ordered (records_of m.log.sight.kept) ≡ true
-  pub size : ℕ
-  pub fits : size < 2 ^ 64
-  pub whole : left_by m.log.sight size ≡ records_of m.log.sight.kept
 
 -- requests lead from a manager to another, restarts among them
 abbrev pub LeadsJudged : KvSight → List Request → List Answer → KvSight → Type 0

@@ -32,8 +32,8 @@ pub enum LineFault<'a> {
     OtherScript {
         script: &'static str,
     },
-    /// Two blanks stand side by side, or one at an end.
-    #[error("there is a blank too many")]
+    /// Two spaces stand side by side, or one at an end.
+    #[error("there is one space too many")]
     Blank,
     /// Nothing stands where a part is wanted.
     #[error("{part} is missing")]
@@ -41,14 +41,14 @@ pub enum LineFault<'a> {
         part: &'static str,
     },
     /// What stands where a part is wanted is none.
-    #[error("`{word:.40}` is no {part}{near}")]
+    #[error("`{word:.40}` is not {part}{near}")]
     Wrong {
         word: &'a str,
         part: &'static str,
         near: Near,
     },
     /// What stands where an XID is wanted is none.
-    #[error("`{word:.40}` is no XID: {cause}")]
+    #[error("`{word:.40}` is not an XID: {cause}")]
     WrongXid {
         word: &'a str,
         cause: XidError,

@@ -401,8 +401,8 @@ run_of m n [] [] e = record { moves = []; shown = tt; leads = ap (λ (s : KvSigh
 run_of m n [] (a ∷ given) e = absurd e
 run_of m n (r ∷ rs) [] e = absurd e
 run_of m n (r ∷ rs) (a ∷ given) e =
-    let first = moved m e.0 r a e.1 in
-    let rest = run_of e.0 n rs given e.2 in
+    let first = moved m e.0 r a e.2 in
+    let rest = run_of e.0 n rs given e.3 in
     record {
       moves = first.move ∷ rest.moves;
       shown = (first.shown, rest.shown);

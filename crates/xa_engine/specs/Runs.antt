@@ -1,10 +1,13 @@
 -- A run of a script's requests on a key store with a log, and the text of its answers.
-use Rattle.std.specs.Prelude.{◌≡◌, ℕ, List, [], ◌∷◌, ◌++◌, codes}
-use Rattle.std.specs.List.{flat_map}
+use Rattle.std.specs.Prelude.{◌≡◌, ◌<◌, ◌^◌, ℕ, true, List, [], ◌∷◌, ◌++◌, codes}
+use Rattle.std.specs.List.{AllByRecursion, flat_map}
 use Rattle.std.specs.Fmt.{decimal}
 use Rattle.report_io.specs.declared.status.Status.{Status}
 use Rattle.report_io.specs.declared.status.Status.TheVariants.{Ended, Refused, Stopped}
-use Rattle.kv_manager.specs.Sights.{KvSight}
+use Rattle.tree_model.specs.declared.names.Kind.TheVariants.{Manager}
+use Rattle.log_rules.specs.sound.Sound.{IsSound}
+use Rattle.rec_log.specs.Sights.{left_by, records_of}
+use Rattle.kv_manager.specs.Sights.{KvSight, are_ordered}
 use Rattle.kv_manager.specs.Restarts.{RestoredFrom}
 use Rattle.xa_engine.specs.declared.script.request.Request.{Request}
 use Rattle.xa_engine.specs.declared.script.reading.ScriptError.{ScriptError}
@@ -18,15 +21,25 @@ use Rattle.xa_engine.specs.Makes.{Makes}
 abbrev pub IsFresh : KvSight → Type 0
 IsFresh m = RestoredFrom (record { 0 = 1 }) [] 0 0 m
 
--- requests take a manager from one state to another, each with its answer
+-- what is true of the log of a manager: its records can stand in a manager's log and may follow one another; and for some N
+-- below 2^64 a crash that keeps N of the unforced bytes leaves all of them
+pub record HasSoundLog (m : KvSight) : Type 0 where
+  pub sound : AllByRecursion (IsSound Manager) (records_of m.log.sight.kept)
+  pub ordered : are_ordered (records_of m.log.sight.kept) ≡ true
+  pub size : ℕ
+  pub fits : size < 2 ^ 64
+  pub whole : left_by m.log.sight size ≡ records_of m.log.sight.kept
+
+-- requests take a manager from one state to another, each with its answer, over a sound log before each
 abbrev pub Leads : KvSight → List Request → List Answer → KvSight → Type 0
 Leads m [] [] n = m ≡ n
-Leads m (r ∷ rs) (a ∷ rest) n = (k : KvSight) × Makes m k r a × Leads k rs rest n
+Leads m (r ∷ rs) (a ∷ rest) n = (k : KvSight) × HasSoundLog m × Makes m k r a × Leads k rs rest n
 Leads m _ _ n = ⊥
 
--- a request takes a manager from one state to another, and the line of its answer is written
+-- a request takes a manager with a sound log from one state to another, and the line of its answer is written
 pub record Steps (old new : KvSight) (request : Request) (before behind : List ℕ) : Type 0 where
   pub answer : Answer
+  pub sound : HasSoundLog old
   pub makes : Makes old new request answer
   pub line : behind ≡ before ++ answer_text answer
 

@@ -6,7 +6,7 @@ ghost use Rattle.report_io.specs.Streams.{IsInput, WritesFront};
 ghost use Rattle.report_io.specs.declared.status.Status.{Status as AnyStatus};
 ghost use Rattle.xa_engine.specs.declared.script.request.Request.{Request as AnyRequest};
 ghost use Rattle.xa_engine.specs.script.Scripts.{IsFirstBadLine, SpellEach, call_lines};
-ghost use Rattle.xa_engine.specs.Runs.{IsFresh, IsReport, Reports, Runs, Steps, fault_text};
+ghost use Rattle.xa_engine.specs.Runs.{HasSoundLog, IsFresh, IsReport, Reports, Runs, Steps, fault_text};
 
 use crate::answer::push_answer;
 use crate::calls::{Manager, make};
@@ -140,6 +140,15 @@ fn run(
     Ok(Ok(out))
 }
 
+/// The records of its log can stand in it and may follow one another, and there are fewer than 2^64 bytes of them.
+fn log_is_sound(manager: &Manager)
+    ensures { HasSoundLog manager.now }
+{
+    manager.records_are_sound();
+    manager.records_are_ordered();
+    let _size = manager.log_size();
+}
+
 /// Makes a request, and adds the line of its answer.
 fn step(
     alloc: Global,
@@ -149,6 +158,7 @@ fn step(
 ) -> Result<(), AllocError>
     ensures { OnOk result (Steps manager.old manager.new request.now out.old.items out.new.items) }
 {
+    log_is_sound(manager);
     let answer = make(manager, request)?;
     push_answer(alloc, out, &answer)
 }

@@ -33,7 +33,7 @@ loop-i-preserved c =
           (spelled c.args.lines.now c.loop-i.i _ c.in-Some.request c.in-Some.is
           c.in_ok-request.ensures.found) inv.2,
       leads_more c.args.manager.now c.loop-i.manager c.step.new.manager inv.0 c.in-Some.request inv.1
-          made.answer inv.3 made.makes,
+          made.answer inv.3 made.sound made.makes,
       made.line ∙ ap (λ t. t ++ answer_text made.answer) inv.4 ∙ sym (text_more inv.1 made.answer),
     )
 
