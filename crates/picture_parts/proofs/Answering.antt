@@ -1,10 +1,10 @@
 -- The answer for a part of a run.
 use Rattle.std.proofs.Common.{◌≡◌, ◌≤◌, ℕ, Option, List, Result, Ok, Err, length}
-use Rattle.std.specs.Prelude.{Vec}
+use Rattle.std.specs.Global.{Vec}
 use Rattle.tree_model.specs.declared.events.Event.{Event}
 use Rattle.tree_model.specs.declared.names.ProcessId.{ProcessId}
 use Rattle.tree_model.specs.declared.trees.TreeEntry.{TreeEntry}
-use Rattle.tree_model.specs.Trees.{root_in}
+use Rattle.tree_model.specs.Trees.{root_of}
 use Rattle.logs_script.specs.declared.line.ProcessLog.{ProcessLog}
 use Rattle.reopen_script.specs.Inputs.{IsReopenScript}
 use Rattle.report_io.specs.declared.status.Status.{Status}
@@ -33,7 +33,7 @@ pub answers_script : (part : Part) (input : List ℕ) (answer : Result (Vec ℕ 
     → AnswersRun part input answer → AnswersScript part input answer
 answers_script part input (Ok r) a = a
 answers_script part input (Err (faults.Processes n)) a =
-    absurd (no_processes part (root_in a.tree) (state a.first.world) a.events n a.answers)
+    absurd (no_processes part (root_of a.tree) (state a.first.world) a.events n a.answers)
 answers_script part input (Err (faults.Events n)) a = a
 answers_script part input (Err faults.NoCase) a = a
 answers_script part input (Err (faults.Beyond n)) a = a

@@ -1,4 +1,4 @@
 pub mod Marking
-pub mod Counting
+pub mod Telling
 pub mod Answering
 pub mod Framing

@@ -1,9 +1,10 @@
 -- The picture of a part of the run of a script.
-use Rattle.std.specs.Prelude.{◌≡◌, ⊥, ◌⊎◌, ◌<◌, ◌≤◌, ℕ, Option, Some, None, List, Result, Ok, Err, Vec, length}
+use Rattle.std.specs.Prelude.{◌≡◌, ◌⊎◌, ◌<◌, ◌≤◌, ℕ, Option, Some, None, List, Result, Ok, Err, length}
+use Rattle.std.specs.Global.{Vec}
 use Rattle.tree_model.specs.declared.events.Event.{Event}
 use Rattle.tree_model.specs.declared.names.ProcessId.{ProcessId}
 use Rattle.tree_model.specs.declared.trees.TreeEntry.{TreeEntry}
-use Rattle.tree_model.specs.Trees.{root_in}
+use Rattle.tree_model.specs.Trees.{root_of}
 use Rattle.link_script.specs.declared.script.ScriptError.TheVariants.{Fault}
 use Rattle.link_script.specs.declared.script.ScriptFault.{ScriptFault}
 use Rattle.logs_script.specs.declared.line.ProcessLog.{ProcessLog}
@@ -53,7 +54,7 @@ pub record AnswersRun (part : Part) (input : List ℕ) (answer : Result (Vec ℕ
   pub few : length tree ≤ 40
   pub first : Run
   pub begins : BeginsBy tree logs first
-  pub answers : AnswersFrom part (root_in tree) (state first.world) events answer
+  pub answers : AnswersFrom part (root_of tree) (state first.world) events answer
 
 -- the input is a script of a tree of N processes, more than 40
 pub record HasManyProcesses (input : List ℕ) (n : ℕ) : Type 0 where

@@ -10,7 +10,7 @@ ghost use Rattle.picture_parts.specs.Drawn.{AnswersFrom, AnswersScript, HasNoRun
 use crate::belonging::{Choice, marks_of};
 use crate::caption::{caption_of_case, caption_of_events, captioned};
 use crate::cutting::{drawn_from, sent_of};
-use crate::events::{Made, make_events};
+use crate::events::make_events;
 use crate::fault::PartFault;
 use crate::part::{MOST_EVENTS, MOST_PROCESSES, Part, Range, Turns, at_root, is_there};
 use link_script::ScriptError;
@@ -58,12 +58,14 @@ fn count_at(start: usize, counts: &[usize], events: usize) -> usize
     }
 }
 
-/// A run: its tree, the events that its script has, and what those made that were made.
+/// A run: its tree, the events of its script, how many steps are made after each of those that were made, and which was
+/// refused, if one was.
 #[derive(Clone, Copy)]
 struct Run<'a> {
     world: &'a World<MemoryStore>,
     events: &'a [Event],
-    made: &'a Made,
+    counts: &'a [usize],
+    refusal: Refusal,
 }
 
 /// The events at these places.
@@ -92,7 +94,7 @@ fn draw_steps(
         events,
         turns,
         entries,
-        refusal: cause_of(run.made.refusal),
+        refusal: cause_of(run.refusal),
     };
     match picture(alloc, &scene) {
         Ok(text) => Ok(text),
@@ -102,6 +104,7 @@ fn draw_steps(
 }
 
 /// The picture of these steps, of which these are the events, below its caption.
+#[tactic(auto, using(crate::proofs::Framing::framed))]
 fn draw_turns(
     alloc: Global,
     run: &Run,
@@ -125,15 +128,15 @@ fn draw_case(
     txn: &Txn,
 ) -> Result<Result<Vec<u8>, PartFault>, Failure>
     ensures { IfOk result (Answers (Part.Case txn.now) root start (state run.now.world.now).entries
-        run.now.made.now.counts.items) }
+        run.now.counts.now) }
 {
     let txn = at_root(root, txn);
     let marks = marks_of(alloc, run.world, &Choice::OfTxn(txn))?;
     if !is_there(&marks) {
         return Ok(Err(PartFault::NoCase));
     }
-    let counts = run.made.counts.as_slice();
-    let turns = Turns::of_shown(alloc, counts, &marks, run.made.refusal.is_some())?;
+    let counts = run.counts;
+    let turns = Turns::of_shown(alloc, counts, &marks, run.refusal.is_some())?;
     let size = turns.turns.len();
     if size > MOST_EVENTS {
         return Ok(Err(PartFault::Events(size)));
@@ -153,9 +156,9 @@ fn draw_range(
     range: &Range,
 ) -> Result<Result<Vec<u8>, PartFault>, Failure>
     ensures { IfOk result (Answers (Part.Events range.now) root start (state run.now.world.now).entries
-        run.now.made.now.counts.items) }
+        run.now.counts.now) }
 {
-    let counts = run.made.counts.as_slice();
+    let counts = run.counts;
     if range.last > counts.len() {
         return Ok(Err(PartFault::Beyond(counts.len())));
     }
@@ -172,7 +175,7 @@ fn draw_range(
         counts,
         *range,
         from,
-        run.made.refusal.is_some(),
+        run.refusal.is_some(),
     )?;
     let sent = sent_of(alloc, None, &marks)?;
     let caption = caption_of_events(alloc, range, counts.len(), &sent)?;
@@ -188,7 +191,7 @@ fn draw_part(
     part: &Part,
 ) -> Result<Result<Vec<u8>, PartFault>, Failure>
     ensures { IfOk result (Answers part.now root start (state run.now.world.now).entries
-        run.now.made.now.counts.items) }
+        run.now.counts.now) }
 {
     match part {
         Part::Case(txn) => draw_case(alloc, run, root, start, txn),
@@ -207,12 +210,14 @@ fn draw_events(
     ensures { IfOk result (AnswersFrom part.now root (state world.old) events.now) }
 {
     let start = world.made();
-    let made = make_events(alloc, world, events)?;
-    let status = status_of(made.refusal);
+    let mut counts = Vec::new(alloc);
+    let refusal = make_events(alloc, &mut counts, world, events)?;
+    let status = status_of(refusal);
     let run = Run {
         world,
         events,
-        made: &made,
+        counts: &counts,
+        refusal,
     };
     match draw_part(alloc, &run, root, start, part)? {
         Ok(text) => Ok(Ok((text, status))),
@@ -224,6 +229,7 @@ fn draw_events(
 /// the events are drawn; of a transaction also the restarts of the processes that took part in it before, and of all these
 /// steps what is of no other. Messages are numbered from 1 in the picture. None: the script is refused, or a log that it
 /// begins with is damaged. An error says that memory was refused, or why an event could not be made.
+#[tactic(auto, using(crate::proofs::Answering::answers_script))]
 pub fn picture_of(alloc: Global, input: &[u8], part: &Part) -> Result<Option<Picture>, Failure>
     ensures answer { IfOk result (λ found. IfSome found (AnswersScript part.now input.now)) }
     ensures none { IfOk result (λ found. IfNone found (HasNoRun input.now)) }
