@@ -374,7 +374,9 @@ fn events<'a>(alloc: Global) -> Result<Arg<'a>, AllocError> {
         .long("events")
         .value_name("A-B")
         .num_args(0..=1)
-        .help("Writes the number of its event before each line of the trace; with --picture draws the events A to B")
+        .help(
+            "Writes the number of its event before each line; with --picture draws the events A to B",
+        )
         .action(ArgAction::Set)
         .conflicts_with("logs")?
         .conflicts_with("counts")?

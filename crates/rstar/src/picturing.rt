@@ -63,10 +63,12 @@ pub(crate) fn part_of<'a>(matches: &ArgMatches<'a>) -> Result<Option<Part>, NoPa
 fn text_of(alloc: Global, word: NoPart<'_>) -> Result<String, AllocError> {
     match word {
         NoPart::Case(word) => {
-            format!(in alloc; "rstar: --case takes a transaction, as a1.1, and `{word}` is none\n")
+            format!(in alloc; "rstar: --case takes a transaction, as a1.1: not `{word}`\n")
         }
         NoPart::Events(word) => {
-            format!(in alloc; "rstar: --events takes two numbers with --picture, as 3-7, and `{word}` is not so\n")
+            format!(in alloc;
+                "rstar: --events takes two numbers, as 3-7, and only with --picture: not `{word}`\n"
+            )
         }
     }
 }
