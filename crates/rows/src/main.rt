@@ -12,6 +12,7 @@ mod fakes;
 mod floods;
 mod judges;
 mod migrations;
+mod parts;
 mod reopenings;
 mod resolves;
 mod scripts;
@@ -23,6 +24,7 @@ use crate::damages::{run_cuts, run_damages};
 use crate::edges::holds;
 use crate::judges::{judged, planned};
 use crate::migrations::run_migrations;
+use crate::parts::drawn;
 use crate::resolves::resolved;
 use crate::stops::run_stops;
 use audit_engine::{Detail, run_audit, run_log};
@@ -50,6 +52,8 @@ enum Program {
     Counts,
     /// A tree script, for the picture of its run.
     Picture,
+    /// A part of a run and a tree script, for the picture of the part.
+    Part,
     /// A tree script, for the data that it leaves.
     Data,
     /// A tree script, for its trace with the number of its event before each line.
@@ -138,6 +142,7 @@ impl Program {
             "logs" => Some(Program::Logs),
             "counts" => Some(Program::Counts),
             "picture" => Some(Program::Picture),
+            "part" => Some(Program::Part),
             "data" => Some(Program::Data),
             "events" => Some(Program::Events),
             "expand" => Some(Program::Expand),
@@ -171,6 +176,7 @@ impl Program {
             Program::Logs => ("tree", "logs"),
             Program::Counts => ("tree", "counts"),
             Program::Picture => ("tree", "svg"),
+            Program::Part => ("part", "drawn"),
             Program::Data => ("tree", "data"),
             Program::Events => ("tree", "events"),
             Program::Expand => ("words", "expanded"),
@@ -199,6 +205,7 @@ impl Program {
             Program::Logs => run_tree(alloc, Output::Logs, &mut input, out),
             Program::Counts => run_tree(alloc, Output::Counts, &mut input, out),
             Program::Picture => run_tree(alloc, Output::Picture, &mut input, out),
+            Program::Part => return drawn(alloc, input, out),
             Program::Data => {
                 let text = data_text(alloc, input).ok()??;
                 out.extend_from_slice(&text).ok()?;

@@ -15,6 +15,7 @@ mod logs;
 mod migration;
 mod node;
 mod numbering;
+mod picturing;
 mod resolving;
 mod running;
 mod source;
@@ -31,6 +32,8 @@ use judging::JudgeWords;
 use migrate_engine::run_migrate;
 use migration::FileWords;
 use node::NodeWords;
+use picture_parts::Part;
+use picturing::{Drawn, NoPart};
 use report_io::{read_all, write_all};
 use resolving::ResolveWords;
 use source::{Source, bytes_in, source_of, tell_refused, tell_waiting};
@@ -52,6 +55,8 @@ enum Request {
     Data,
     /// The same, its trace with the number of its event before each line.
     Events,
+    /// The same, a picture of its run, or of a part of it.
+    Picture(Option<Part>),
     /// The events of a tree script, on processes that run at the same time.
     Run(Run),
     /// The calls of an XA script.
@@ -89,6 +94,8 @@ enum Asked<'a> {
     Resolve(ResolveWords<'a>),
     /// What a request for logs asks of those in files, and whether only their text is written.
     Files(Request, Told, Vec<&'a str>, bool),
+    /// A part of a run that no word names.
+    NoPart(NoPart<'a>),
     Memory,
 }
 
@@ -147,7 +154,9 @@ first Opened of a process over an empty log does not count. With --logs, where n
 refused: the processes, a line ---, and a line 'log P HEX' for the log of each process, as
 'rstar log' and 'rstar audit' read them. With --picture, in place of the trace: one SVG file,
 time downward, a line for each process, an arrow for each delivery, a mark for each record; a
-refused event is its last row. With --data, after the trace, a line 'data P KEY VALUE' for each key that a
+refused event is its last row. A picture has room for 40 processes and 2,000 events. With --case
+TXN it has the steps of one transaction, with --events A-B those of the events A to B, counted as
+--events counts them; of such a part events and messages are numbered from 1. With --data, after the trace, a line 'data P KEY VALUE' for each key that a
 manager holds then, keys rising. With --events the number of its event stands before each line:
 0 before the lines of the opening, none before the last line.
 
@@ -155,6 +164,7 @@ Examples: rstar tree < examples/commit.tree
           rstar tree < examples/crash.tree
           rstar tree --counts < examples/commit.tree
           rstar tree --picture < examples/commit.tree > commit.svg
+          rstar tree --picture --case a1.1 < examples/hotel.tree > hotel.svg
           rstar tree --logs < examples/commit.tree | rstar log";
 
 /// What `rstar xa --help` says below its usage.
@@ -358,17 +368,19 @@ fn data<'a>(alloc: Global) -> Result<Arg<'a>, AllocError> {
     .conflicts_with("picture")
 }
 
-/// The flag `--events` of `rstar tree`, which excludes the others.
+/// The flag `--events` of `rstar tree`, which excludes the others; with `--picture` it takes the numbers of two events.
 fn events<'a>(alloc: Global) -> Result<Arg<'a>, AllocError> {
-    flag(
-        alloc,
-        "events",
-        "Writes the number of its event before each line of the trace",
-    )
-    .conflicts_with("logs")?
-    .conflicts_with("counts")?
-    .conflicts_with("picture")?
-    .conflicts_with("data")
+    Arg::new(alloc, "events")
+        .long("events")
+        .value_name("A-B")
+        .num_args(0..=1)
+        .help(
+            "Writes the number of its event before each line; with --picture draws the events A to B",
+        )
+        .action(ArgAction::Set)
+        .conflicts_with("logs")?
+        .conflicts_with("counts")?
+        .conflicts_with("data")
 }
 
 /// The words of `rstar tree`.
@@ -388,6 +400,7 @@ fn tree<'a>(alloc: Global) -> Result<Command<'a>, AllocError> {
     .arg(picture(alloc)?)?
     .arg(data(alloc)?)?
     .arg(events(alloc)?)?
+    .arg(picturing::case(alloc)?)?
     .arg(expanding::flag(alloc))?
     .arg(source::word(alloc))
 }
@@ -513,14 +526,27 @@ fn tree_request(matches: &ArgMatches) -> Request {
         Request::Tree(Output::Logs)
     } else if matches.get_flag("counts") {
         Request::Tree(Output::Counts)
-    } else if matches.get_flag("picture") {
-        Request::Tree(Output::Picture)
     } else if matches.get_flag("data") {
         Request::Data
-    } else if matches.get_flag("events") {
+    } else if matches.contains_id("events") {
         Request::Events
     } else {
         Request::Tree(Output::Trace)
+    }
+}
+
+/// What these words of `rstar tree` ask for.
+fn tree_asked<'a>(matches: &ArgMatches<'a>) -> Asked<'a> {
+    let (told, words) = (told_of(matches), expanding::asked(matches));
+    if matches.get_flag("picture") {
+        return match picturing::part_of(matches) {
+            Ok(part) => Asked::Request(Request::Picture(part), told, words, source_of(matches)),
+            Err(word) => Asked::NoPart(word),
+        };
+    }
+    match numbering::source_of(matches) {
+        Ok(source) => Asked::Request(tree_request(matches), told, words, source),
+        Err(word) => Asked::NoPart(NoPart::Events(word)),
     }
 }
 
@@ -565,12 +591,7 @@ fn read_words<'a>(alloc: Global, words: &'a [String]) -> Result<Asked<'a>, Error
     let matches = grammar(alloc)?.try_get_matches_from(words)?;
     match matches.subcommand() {
         Some((name, found)) => Ok(match name {
-            "tree" => Asked::Request(
-                tree_request(found),
-                told_of(found),
-                expanding::asked(found),
-                source_of(found),
-            ),
+            "tree" => tree_asked(found),
             "expand" => Asked::Expand(told_of(found), source_of(found)),
             "run" => Asked::Request(
                 Request::Run(running::asked(found)),
@@ -626,16 +647,17 @@ fn number(ended: Result<Status, Failure>) -> Result<u8, Failure> {
     }
 }
 
-/// Runs what was asked on this input: the exit status, or why it could not go on.
+/// Runs what was asked on this input: how it ended, or why it could not go on.
 fn run<R: Read, T: Threads + Wait + Sync>(
     rt: &HostRuntime,
     threads: &T,
     request: Request,
     reader: &mut R,
-) -> Result<u8, Failure> {
+) -> Result<Drawn, Failure> {
     let mut writer = io::writer(rt);
     let alloc = rt.alloc();
-    match request {
+    let status = match request {
+        Request::Picture(part) => return picturing::perform(rt, part, reader),
         Request::Tree(output) => number(run_tree(alloc, output, reader, &mut writer)),
         Request::Data => leaving::perform(alloc, reader, &mut writer),
         Request::Events => numbering::perform(alloc, reader, &mut writer),
@@ -648,7 +670,8 @@ fn run<R: Read, T: Threads + Wait + Sync>(
             Ok(ending) => Ok(ending.number()),
             Err(failure) => Err(failure),
         },
-    }
+    };
+    Ok(Drawn::Ended(status?))
 }
 
 /// The exit status of a run that ended so.
@@ -664,8 +687,12 @@ fn status_by(ended: Result<u8, Failure>) -> u8 {
 /// What is read for a request.
 fn script_of(request: Request) -> Script {
     match request {
-        Request::Tree(_) | Request::Data | Request::Events | Request::Run(_) | Request::Crash =>
-            Script::Tree,
+        Request::Tree(_)
+        | Request::Data
+        | Request::Events
+        | Request::Picture(_)
+        | Request::Run(_)
+        | Request::Crash => Script::Tree,
         Request::Xa => Script::Xa,
         Request::Log | Request::Audit(_) | Request::Migrate => Script::Logs,
     }
@@ -696,7 +723,9 @@ fn run_on<T: Threads + Wait + Sync>(
     input: &[u8],
 ) -> Result<u8, Failure> {
     let mut reader = input;
-    let status = run(rt, threads, request, &mut reader)?;
+    let Drawn::Ended(status) = run(rt, threads, request, &mut reader)? else {
+        return Ok(1);
+    };
     if status == 0 || status == 2 {
         tell_notes(rt, request, told, input);
     }
@@ -717,7 +746,7 @@ fn tell_notes(rt: &HostRuntime, request: Request, told: Told, input: &[u8]) {
     if told == Told::Silent && input.len() > MOST_NOTED {
         return;
     }
-    if let Request::Tree(_) | Request::Data | Request::Events = request {
+    if let Request::Tree(_) | Request::Data | Request::Events | Request::Picture(_) = request {
         tell(
             rt,
             notes_text(rt.alloc(), input, told == Told::Explained).ok(),
@@ -769,6 +798,19 @@ fn name_of(request: Request) -> &'static str {
 }
 
 /// Runs what was asked on this input, and answers the exit status.
+fn run_silent<R: Read, T: Threads + Wait + Sync>(
+    rt: &HostRuntime,
+    threads: &T,
+    request: Request,
+    reader: &mut R,
+) -> Result<u8, Failure> {
+    match run(rt, threads, request, reader)? {
+        Drawn::Ended(status) => Ok(status),
+        Drawn::Refused => Ok(1),
+    }
+}
+
+/// Runs what was asked on this input, tells what is to be told of it, and answers the exit status.
 fn perform_on<R: Read, T: Threads + Wait + Sync>(
     rt: &HostRuntime,
     threads: &T,
@@ -777,7 +819,7 @@ fn perform_on<R: Read, T: Threads + Wait + Sync>(
     reader: &mut R,
 ) -> u8 {
     if told == Told::Silent && !rt.stderr().is_terminal() {
-        return status_by(run(rt, threads, request, reader));
+        return status_by(run_silent(rt, threads, request, reader));
     }
     let ended = explained(rt, threads, request, told, reader);
     if let Err(failure) = ended {
@@ -853,6 +895,10 @@ fn status_of<T: Threads + Wait + Sync>(rt: &HostRuntime, threads: &T) -> u8 {
         Ok(Asked::Judge(words)) => judging::run(rt, words),
         Ok(Asked::Files(request, told, words, is_text)) => {
             perform_files(rt, threads, request, told, &words, is_text)
+        }
+        Ok(Asked::NoPart(word)) => {
+            picturing::tell_no_part(rt, word);
+            1
         }
         Ok(Asked::Memory) => 4,
         Err(error) => {

@@ -1,10 +1,22 @@
 //! `rstar tree --events`.
 
+use crate::source::{self, Source};
+use clap::ArgMatches;
 use event_trace::event_trace;
 use report_io::{Failure, read_all, write_all};
 use std::alloc::Global;
 use std::io::{Read, Write};
 use tree_engine::{Output, run_tree};
+
+/// What these words name as the input, where no picture is asked for: the word after `--events` is the file, if there is
+/// one, and no other word may name it then.
+pub(crate) fn source_of<'a>(matches: &ArgMatches<'a>) -> Result<Source<'a>, &'a str> {
+    match (matches.get_str("events"), source::source_of(matches)) {
+        (None, named) => Ok(named),
+        (Some(path), Source::Standard) => Ok(Source::File(path)),
+        (Some(word), Source::File(_)) => Err(word),
+    }
+}
 
 /// Runs a tree script, writes its trace with the number of its event before each line, and answers the exit status. Of a
 /// script that is refused its line is written, as without the numbers.

@@ -1,0 +1,4 @@
+pub mod Marking
+pub mod Telling
+pub mod Answering
+pub mod Framing

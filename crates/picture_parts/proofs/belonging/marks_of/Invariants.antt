@@ -1,0 +1,7 @@
+use Rattle.std.proofs.Common.{◌≡◌, take}
+use Rattle.tree_world.specs.Worlds.{state}
+use Rattle.picture_parts.specs.Belonging.{marks_of}
+use Rattle.picture_parts.proofs.belonging.marks_of.Given as goal
+
+abbrev pub invariant-loop-place : goal.invariant-loop-place
+invariant-loop-place l = l.marks.items ≡ marks_of l.choice (take l.place (state l.world).entries)

@@ -1,0 +1,144 @@
+-- The steps of a part of a run, as they are drawn.
+use Rattle.std.specs.Prelude.{ℕ, ◌+◌, ◌-◌, Bool, true, false, not, ◌==◌, ◌&&◌, if◌then◌else◌, Option, Some, None, List, [], ◌∷◌, ◌++◌, count_by, drop, filter, flat_map, fold, map, slice_get, take}
+use Rattle.tree_model.specs.declared.events.Entry.{Entry}
+use Rattle.tree_model.specs.declared.events.Happening.{Happening}
+use Rattle.tree_model.specs.declared.events.Happening.TheVariants as happening
+use Rattle.tree_model.specs.declared.events.Input.TheVariants as input
+use Rattle.tree_model.specs.declared.events.Reaction.{Reaction}
+use Rattle.tree_model.specs.declared.messages.Envelope.{Envelope}
+use Rattle.tree_model.specs.declared.names.ProcessId.{ProcessId}
+use Rattle.tree_model.specs.declared.names.Txn.{Txn}
+use Rattle.tree_model.specs.declared.records.Logged.{Logged}
+use Rattle.tree_model.specs.declared.records.Subject.{Subject}
+use Rattle.tree_model.specs.declared.records.Subject.TheVariants as subject
+use Rattle.tree_model.specs.Names.{same_process, same_txn}
+use Rattle.picture_parts.specs.Belonging.{message_is_of}
+use Rattle.picture_parts.specs.declared.belonging.Marked.{Marked}
+
+-- What is drawn of a step: all of it, or what is of one transaction.
+
+-- a record is of no other transaction
+abbrev pub subject_stays : Txn → Subject → Bool
+subject_stays t (subject.Boot n) = true
+subject_stays t (subject.Case c) = same_txn c.txn t
+subject_stays t subject.Other = true
+
+abbrev pub record_stays : Option Txn → Logged → Bool
+record_stays None l = true
+record_stays (Some t) l = subject_stays t l.subject
+
+-- a message is of no other transaction
+abbrev pub message_stays : Option Txn → Envelope → Bool
+message_stays None e = true
+message_stays (Some t) e = message_is_of t e
+
+-- what is drawn of a reaction
+abbrev pub cut : Option Txn → Reaction → Reaction
+cut only r = record {
+  begun = r.begun;
+  written = filter (record_stays only) r.written;
+  told = r.told;
+  messages = filter (message_stays only) r.messages;
+  kept = r.kept;
+}
+
+-- The messages that are drawn are numbered from 1, in the order in which they are sent.
+
+-- of each message of a step, whether it is drawn
+unfoldable pub drawn_messages : Option Txn → Marked → List Bool
+drawn_messages only m = map (λ e. m.shown && message_stays only e) m.entry.reaction.messages
+
+-- of each message of a run, in the order of their numbers
+unfoldable pub drawn_sent : Option Txn → List Marked → List Bool
+drawn_sent only ms = flat_map (drawn_messages only) ms
+
+-- a flag, if there is one
+abbrev pub flag : Option Bool → Bool
+flag None = false
+flag (Some b) = b
+
+-- the message with this number is drawn
+abbrev pub is_drawn : List Bool → ℕ → Bool
+is_drawn sent n = not (n == 0) && flag (slice_get sent (n - 1))
+
+-- its number in the picture; 0, if it is not drawn
+abbrev pub number_in : List Bool → ℕ → ℕ
+number_in sent n = if is_drawn sent n then count_by (λ b. b) (take n sent) else 0
+
+-- A crash takes of the records that are drawn those that it takes in the run.
+
+-- Of the records of a process that a crash may take: of each, whether it is drawn; and how many of those that are drawn a
+-- crash could take, if the process had no others.
+pub record TailState : Type 0 where
+  pub own : ℕ
+  pub all : List Bool
+
+-- with a record more, which is forced or not, and drawn or not: a forced one leaves none that a crash may take
+abbrev pub with_record : Bool → Bool → TailState → TailState
+with_record true true t = record { own = 0; all = [] }
+with_record true false t = record { own = t.own; all = [] }
+with_record false true t = record { own = t.own + 1; all = t.all ++ true ∷ [] }
+with_record false false t = record { own = t.own; all = t.all ++ false ∷ [] }
+
+-- with the records of a step that is drawn or not
+abbrev pub with_records : Option Txn → Bool → TailState → List Logged → TailState
+with_records only shown t ls = fold (λ t l. with_record l.forced (shown && record_stays only l) t) t ls
+
+-- a restart and a trim leave none, either
+abbrev pub begun_by : Bool → Happening → TailState → TailState
+begun_by shown (happening.Input i) t = t
+begun_by shown (happening.Restart k) t = with_record true shown t
+begun_by shown happening.Trim t = with_record true shown t
+
+-- with a step of a process
+abbrev pub with_step : Option Txn → TailState → Marked → TailState
+with_step only t m = with_records only m.shown (begun_by m.shown m.entry.step.happening t) m.entry.reaction.written
+
+-- with a step more, if it is of this process
+unfoldable pub with_step_at : Option Txn → ProcessId → TailState → Marked → TailState
+with_step_at only p t m = if same_process m.entry.step.process p then with_step only t m else t
+
+-- those of a process after these steps
+unfoldable pub tail_at : Option Txn → ProcessId → List Marked → TailState
+tail_at only p ms = fold (with_step_at only p) (record { own = 0; all = [] }) ms
+
+-- a crash that leaves N of them leaves so many of those that are drawn
+abbrev pub own_left : TailState → ℕ → ℕ
+own_left t kept = t.own - count_by (λ b. b) (drop kept t.all)
+
+-- A step as it is drawn, where messages are drawn so and these steps were before.
+abbrev pub drawn_happening : Option Txn → List Bool → List Marked → ProcessId → Happening → Happening
+drawn_happening only sent before p (happening.Input (input.Act a)) = happening.Input (input.Act a)
+drawn_happening only sent before p (happening.Input (input.Message n m)) =
+    happening.Input (input.Message (number_in sent n) m)
+drawn_happening only sent before p (happening.Restart k) = happening.Restart (own_left (tail_at only p before) k)
+drawn_happening only sent before p happening.Trim = happening.Trim
+
+unfoldable pub drawn_entry : Option Txn → List Bool → List Marked → Entry → Entry
+drawn_entry only sent before e = record {
+  step = record {
+    process = e.step.process;
+    happening = drawn_happening only sent before e.step.process e.step.happening;
+    fault = e.step.fault;
+  };
+  reaction = cut only e.reaction;
+}
+
+-- steps that were gone over, and those of them that are drawn, as they are drawn
+pub record Drawn : Type 0 where
+  pub before : List Marked
+  pub entries : List Entry
+
+abbrev pub with_drawn : Option Txn → List Bool → Drawn → Marked → Drawn
+with_drawn only sent d m = record {
+  before = d.before ++ m ∷ [];
+  entries = if m.shown then d.entries ++ drawn_entry only sent d.before m.entry ∷ [] else d.entries;
+}
+
+abbrev pub drawn_by : Option Txn → List Bool → List Marked → Drawn
+drawn_by only sent ms = fold (with_drawn only sent) (record { before = []; entries = [] }) ms
+
+-- The steps that are drawn of a run, in order: what is of one transaction, if only that is drawn, or all; their messages
+-- with their numbers in the picture, and their crashes with the records that they leave of those that are drawn.
+unfoldable pub drawn_from : Option Txn → List Marked → List Entry
+drawn_from only ms = (drawn_by only (drawn_sent only ms) ms).entries

@@ -1,0 +1,183 @@
+//! The steps of a part of a run, as they are drawn.
+
+ghost use Rattle.std.specs.Prelude.{◌≡◌, ◌++◌, IfOk, OnOk, filter};
+ghost use Rattle.picture_parts.specs.Cut.{cut as cut_by, drawn_entry as drawn_by, drawn_from as drawn_part, drawn_happening, drawn_messages, drawn_sent, flag, is_drawn, message_stays as message_by, number_in, record_stays as record_by};
+
+use crate::belonging::{Marked, is_message_of};
+use crate::counting::{Tail, record_stays};
+use report_io::Failure;
+use std::alloc::{AllocError, Global};
+use tree_model::{
+    Entry, Envelope, Happening, Input, Logged, ProcessId, Reaction, Sequence, Step, Txn,
+};
+
+/// Whether a message is of no other transaction than this one, if only that is drawn.
+fn message_stays(only: Option<Txn>, envelope: &Envelope) -> bool
+    ensures { result ≡ message_by only envelope.now }
+{
+    match only {
+        None => true,
+        Some(txn) => is_message_of(&txn, envelope),
+    }
+}
+
+/// The records that are drawn of these.
+fn records_of(
+    alloc: Global,
+    only: Option<Txn>,
+    written: &[Logged],
+) -> Result<Vec<Logged>, AllocError>
+    ensures { IfOk result (λ stay. stay.items ≡ filter (record_by only) written.now) }
+{
+    let mut stay = Vec::new(alloc);
+    for logged in written {
+        if record_stays(only, logged) {
+            stay.push(*logged)?;
+        }
+    }
+    Ok(stay)
+}
+
+/// The messages that are drawn of these.
+fn messages_of(
+    alloc: Global,
+    only: Option<Txn>,
+    messages: &[Envelope],
+) -> Result<Vec<Envelope>, AllocError>
+    ensures { IfOk result (λ stay. stay.items ≡ filter (message_by only) messages.now) }
+{
+    let mut stay = Vec::new(alloc);
+    for envelope in messages {
+        if message_stays(only, envelope) {
+            stay.push(envelope.copied(alloc)?)?;
+        }
+    }
+    Ok(stay)
+}
+
+/// What is drawn of a reaction.
+fn cut(alloc: Global, only: Option<Txn>, reaction: &Reaction) -> Result<Reaction, AllocError>
+    ensures { IfOk result (λ drawn. drawn ≡ cut_by only reaction.now) }
+{
+    let written = records_of(alloc, only, reaction.written.as_slice())?;
+    let messages = messages_of(alloc, only, reaction.messages.as_slice())?;
+    Ok(Reaction {
+        begun: reaction.begun,
+        written: Sequence::from_vec(written),
+        told: reaction.told,
+        messages: Sequence::from_vec(messages),
+        kept: reaction.kept,
+    })
+}
+
+/// Adds of each message of a step whether it is drawn.
+#[tactic(auto, unfolding(crate::specs::Cut::drawn_messages))]
+fn push_drawn(sent: &mut Vec<bool>, only: Option<Txn>, marked: &Marked) -> Result<(), AllocError>
+    ensures { OnOk result (sent.new.items ≡ sent.old.items ++ drawn_messages only marked.now) }
+{
+    for envelope in marked.entry.reaction.messages.as_slice() {
+        sent.push(marked.shown && message_stays(only, envelope))?;
+    }
+    Ok(())
+}
+
+/// Of each message of a run, in the order of their numbers, whether it is drawn.
+#[tactic(auto, unfolding(crate::specs::Cut::drawn_sent))]
+pub(crate) fn sent_of(
+    alloc: Global,
+    only: Option<Txn>,
+    marks: &[Marked],
+) -> Result<Vec<bool>, AllocError>
+    ensures { IfOk result (λ sent. sent.items ≡ drawn_sent only marks.now) }
+{
+    let mut sent = Vec::new(alloc);
+    for marked in marks {
+        push_drawn(&mut sent, only, marked)?;
+    }
+    Ok(sent)
+}
+
+/// Whether the message with this number is drawn.
+fn is_sent(sent: &[bool], number: u64) -> bool
+    ensures { result ≡ is_drawn sent.now number }
+{
+    if number == 0 || number > sent.len() as u64 {
+        return false;
+    }
+    sent[(number - 1) as usize]
+}
+
+/// The number of a message in the picture; 0, if it is not drawn.
+fn number_of(sent: &[bool], number: u64) -> u64
+    ensures { result ≡ number_in sent.now number }
+{
+    if !is_sent(sent, number) {
+        return 0;
+    }
+    let end = (number as usize).min(sent.len());
+    sent[..end].iter().filter(|drawn| **drawn).count() as u64
+}
+
+/// What happens in a step, as it is drawn.
+fn happening_of(
+    alloc: Global,
+    only: Option<Txn>,
+    sent: &[bool],
+    before: &[Marked],
+    process: ProcessId,
+    happening: &Happening,
+) -> Result<Happening, Failure>
+    ensures { IfOk result (λ drawn. drawn ≡ drawn_happening only sent.now before.now process happening.now) }
+{
+    Ok(match happening {
+        Happening::Input(Input::Act(act)) => Happening::Input(Input::Act(act.copied(alloc)?)),
+        Happening::Input(Input::Message(number, message)) => {
+            let message = message.copied(alloc)?;
+            Happening::Input(Input::Message(number_of(sent, *number), message))
+        }
+        Happening::Restart(kept) => {
+            let tail = Tail::of(alloc, only, process, before)?;
+            Happening::Restart(tail.own_left(*kept))
+        }
+        Happening::Trim => Happening::Trim,
+    })
+}
+
+/// A step as it is drawn, after these.
+#[tactic(auto, unfolding(crate::specs::Cut::drawn_entry))]
+fn entry_of(
+    alloc: Global,
+    only: Option<Txn>,
+    sent: &[bool],
+    before: &[Marked],
+    entry: &Entry,
+) -> Result<Entry, Failure>
+    ensures { IfOk result (λ drawn. drawn ≡ drawn_by only sent.now before.now entry.now) }
+{
+    let process = entry.step.process;
+    let happening = happening_of(alloc, only, sent, before, process, &entry.step.happening)?;
+    let reaction = cut(alloc, only, &entry.reaction)?;
+    Ok(Entry {
+        step: Step {
+            process,
+            happening,
+            fault: entry.step.fault,
+        },
+        reaction,
+    })
+}
+
+/// The steps that are drawn of a run, as they are drawn: what is of one transaction, if only that is drawn, or all.
+#[tactic(auto, unfolding(crate::specs::Cut::drawn_from))]
+pub fn drawn_from(alloc: Global, only: Option<Txn>, marks: &[Marked]) -> Result<Vec<Entry>, Failure>
+    ensures { IfOk result (λ drawn. drawn.items ≡ drawn_part only marks.now) }
+{
+    let sent = sent_of(alloc, only, marks)?;
+    let mut drawn = Vec::new(alloc);
+    for (place, marked) in marks.iter().enumerate() {
+        if marked.shown {
+            drawn.push(entry_of(alloc, only, &sent, &marks[..place], &marked.entry)?)?;
+        }
+    }
+    Ok(drawn)
+}
