@@ -86,7 +86,7 @@ fn still_owing(
     let mut owing = Vec::from_slice(alloc, tickets)?;
     owing.retain(
         |ticket: &Ticket| -> bool
-            ensures { result ≡ in_list owed.now ticket.now }
+            ensures { result ≡ in_list owed.entry.now ticket.now }
         { is_in(owed, ticket) },
     );
     Ok(owing)
