@@ -5,22 +5,35 @@ use run_notes::Notes;
 use std::alloc::AllocError;
 use std::str;
 
+/// How many of these events were made before a step, where so many were made before an earlier one.
+fn made_before(steps: &[usize], earlier: usize, step: usize) -> usize {
+    let Some(rest) = steps.get(earlier..) else {
+        return earlier;
+    };
+    let mut made = earlier;
+    for steps in rest {
+        if *steps > step {
+            break;
+        }
+        made = made.saturating_add(1);
+    }
+    made
+}
+
 /// Adds a line for each step of a run of which something is told: in which event, and what.
 pub(crate) fn push_told(
     out: &mut String,
     notes: &mut Notes,
     history: &History<'_>,
 ) -> Result<(), AllocError> {
-    let mut event: usize = 0;
+    let mut events = 0;
     for step in 0..history.world.made() {
         let Some(entry) = history.world.entry(step)? else {
             return Ok(());
         };
-        while let Some(steps) = history.steps.get(event) && *steps <= step {
-            event += 1;
-        }
+        events = made_before(history.steps, events, step);
         if let Some(words) = notes.take(&entry)? {
-            push_line(out, event, words.as_slice())?;
+            push_line(out, events, words.as_slice())?;
         }
     }
     Ok(())

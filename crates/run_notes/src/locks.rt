@@ -99,7 +99,9 @@ impl Locks {
         }
         let mut holders = Holders::new(self.alloc);
         holders.add(xid, is_written)?;
-        let _ = self.keys.insert(Vec::from_slice(self.alloc, key)?, holders)?;
+        let _ = self
+            .keys
+            .insert(Vec::from_slice(self.alloc, key)?, holders)?;
         Ok(true)
     }
 

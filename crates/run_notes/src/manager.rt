@@ -1,5 +1,8 @@
 //! One manager: its pairs, its branches, and what a crash may take back.
 
+ghost use Rattle.std.specs.Prelude.{IfOk, IfSome};
+ghost use Rattle.run_notes.specs.Words.{IsNo, IsRead};
+
 use crate::branch::{Branch, Spoiled, is_too_long, key_of, writes};
 use crate::locks::Locks;
 use crate::words::{count_words, read_words, spoiled_words, unknown_words};
@@ -44,7 +47,10 @@ pub(crate) struct Manager {
 
 /// Whether a record of this kind makes a branch's writes data.
 fn commits(kind: RecordKind) -> bool {
-    matches!(kind, RecordKind::Committed | RecordKind::Direct | RecordKind::HeurCommit)
+    matches!(
+        kind,
+        RecordKind::Committed | RecordKind::Direct | RecordKind::HeurCommit
+    )
 }
 
 /// Whether a record of this kind takes a branch's writes away.
@@ -160,7 +166,9 @@ impl Manager {
             branch.keys.clear();
             for key in branch.writes.keys() {
                 let _ = self.locks.take(xid, key.as_slice(), true)?;
-                branch.keys.push(Vec::from_slice(self.alloc, key.as_slice())?)?;
+                branch
+                    .keys
+                    .push(Vec::from_slice(self.alloc, key.as_slice())?)?;
             }
         }
         Ok(())
@@ -229,7 +237,9 @@ impl Manager {
         case: &Case,
         index: u64,
         op: &Op,
-    ) -> Result<Option<Vec<u8>>, AllocError> {
+    ) -> Result<Option<Vec<u8>>, AllocError>
+        ensures { IfOk result (λ said. IfSome said (λ words. IsRead case.now op.now words.items)) }
+    {
         let xid = self.xid(case);
         let Some(branch) = self.branches.get(&xid) else {
             return Ok(None);
@@ -277,7 +287,9 @@ impl Manager {
     }
 
     /// A case that is asked for its vote after this number of works says NO, and ends: why.
-    pub(crate) fn refuse(&mut self, case: &Case, works: u64) -> Result<Vec<u8>, AllocError> {
+    pub(crate) fn refuse(&mut self, case: &Case, works: u64) -> Result<Vec<u8>, AllocError>
+        ensures { IfOk result (λ words. IsNo case.now words.items) }
+    {
         let xid = self.xid(case);
         let Some(branch) = self.end(&xid) else {
             return unknown_words(self.alloc, case);
@@ -350,10 +362,10 @@ impl Manager {
 
     /// A crash, which keeps so many of the records that are not forced. What has not promised is gone.
     pub(crate) fn restart(&mut self, kept: u64) -> Result<(), AllocError> {
-        while self.deeds.len() as u64 > kept {
-            match self.deeds.pop() {
-                Some(deed) => self.take_back(deed)?,
-                None => break,
+        let lost = (self.deeds.len() as u64).saturating_sub(kept);
+        for _ in 0..lost {
+            if let Some(deed) = self.deeds.pop() {
+                self.take_back(deed)?;
             }
         }
         self.branches.retain(|_, branch| branch.has_promised);

@@ -1,10 +1,14 @@
 //! What is told of the steps of a run.
 
+ghost use Rattle.std.specs.Prelude.{IfOk, IfSome};
+ghost use Rattle.run_notes.specs.Words.{IsTold, IsToldOf};
+
 use crate::manager::Manager;
 use indexmap::IndexMap;
 use std::alloc::{AllocError, Global};
 use tree_model::{
-    Case, Entry, Happening, Input, Kind, LogRecord, Message, ProcessId, Reaction, Ticket, TreeEntry,
+    Case, Entry, Happening, Input, Kind, LogRecord, Logged, Message, ProcessId, Reaction, Ticket,
+    TreeEntry,
 };
 
 /// What managers hold, and what is told of their steps.
@@ -15,9 +19,7 @@ pub struct Notes {
 // For the proof: what is let go by hand is proved here alone, and not again by each crate above.
 impl Drop for Notes {
     fn drop(self) {
-        let Notes {
-            managers: _,
-        } = self;
+        let Notes { managers: _ } = self;
     }
 }
 
@@ -55,7 +57,9 @@ fn hear(
     manager: &mut Manager,
     message: &Message,
     reaction: &Reaction,
-) -> Result<Option<Vec<u8>>, AllocError> {
+) -> Result<Option<Vec<u8>>, AllocError>
+    ensures { IfOk result (λ said. IfSome said (λ words. IsToldOf message.now words.items)) }
+{
     match message {
         Message::Join(_) => {
             if let Some((case, ticket)) = given(reaction) {
@@ -85,7 +89,9 @@ fn meet(
     manager: &mut Manager,
     happening: &Happening,
     reaction: &Reaction,
-) -> Result<Option<Vec<u8>>, AllocError> {
+) -> Result<Option<Vec<u8>>, AllocError>
+    ensures { IfOk result (λ said. IfSome said (λ words. IsTold happening.now words.items)) }
+{
     match happening {
         Happening::Input(Input::Message(_, message)) => hear(manager, message, reaction),
         Happening::Input(Input::Act(_)) => Ok(None),
@@ -98,6 +104,14 @@ fn meet(
             Ok(None)
         }
     }
+}
+
+/// A manager writes these records.
+fn write_all(manager: &mut Manager, written: &[Logged]) -> Result<(), AllocError> {
+    for logged in written {
+        manager.writes(logged)?;
+    }
+    Ok(())
 }
 
 impl Notes {
@@ -119,14 +133,14 @@ impl Notes {
 
     /// Takes the next step of the run, and says what is told of it, as bytes without a line feed, if anything is: why a
     /// manager votes NO, or what a get read.
-    pub fn take(&mut self, entry: &Entry) -> Result<Option<Vec<u8>>, AllocError> {
+    pub fn take(&mut self, entry: &Entry) -> Result<Option<Vec<u8>>, AllocError>
+        ensures { IfOk result (λ said. IfSome said (λ words. IsTold entry.now.step.happening words.items)) }
+    {
         let Some(manager) = self.managers.get_mut(&entry.step.process) else {
             return Ok(None);
         };
         let said = meet(manager, &entry.step.happening, &entry.reaction)?;
-        for logged in entry.reaction.written.as_slice() {
-            manager.writes(logged)?;
-        }
+        write_all(manager, entry.reaction.written.as_slice())?;
         Ok(said)
     }
 }

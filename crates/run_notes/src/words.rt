@@ -1,5 +1,8 @@
 //! The words of a note.
 
+ghost use Rattle.std.specs.Prelude.{◌≡◌, ◌++◌, [], IfOk, OnOk, option_map};
+ghost use Rattle.run_notes.specs.Words.{byte_text, bytes_text, count_text, held_text, is_plain as stands_as_it_is, no_text, read_text, spoiled_text, unknown_text, value_text};
+
 use crate::branch::Spoiled;
 use spellings::hexadecimal::Hexadecimal;
 use std::alloc::{AllocError, Global};
@@ -7,12 +10,16 @@ use trace_lines::{push, push_case, push_number};
 use tree_model::{Branch as Name, Case};
 
 /// Whether a byte of a key or a value stands as it is: a visible character of ASCII, and no backslash.
-fn is_plain(byte: u8) -> bool {
+fn is_plain(byte: u8) -> bool
+    ensures { result ≡ stands_as_it_is byte }
+{
     33 <= byte && byte <= 126 && byte != 92
 }
 
 /// A byte as it is, or as `\\x0a`.
-fn push_byte(alloc: Global, out: &mut Vec<u8>, byte: u8) -> Result<(), AllocError> {
+fn push_byte(alloc: Global, out: &mut Vec<u8>, byte: u8) -> Result<(), AllocError>
+    ensures { OnOk result (out.new.items ≡ out.old.items ++ byte_text byte) }
+{
     if is_plain(byte) {
         out.push(byte)?;
         return Ok(());
@@ -25,11 +32,24 @@ fn push_byte(alloc: Global, out: &mut Vec<u8>, byte: u8) -> Result<(), AllocErro
 }
 
 /// The bytes of a key or a value.
-fn push_bytes(alloc: Global, out: &mut Vec<u8>, bytes: &[u8]) -> Result<(), AllocError> {
+fn push_bytes(alloc: Global, out: &mut Vec<u8>, bytes: &[u8]) -> Result<(), AllocError>
+    ensures { OnOk result (out.new.items ≡ out.old.items ++ bytes_text bytes.now) }
+{
     for byte in bytes {
         push_byte(alloc, out, *byte)?;
     }
     Ok(())
+}
+
+/// A value that was read, or that none is there.
+fn push_value(alloc: Global, out: &mut Vec<u8>, value: Option<&[u8]>) -> Result<(), AllocError>
+    ensures { OnOk result (out.new.items ≡ out.old.items
+        ++ value_text (option_map (λ v. v.now) value.entry)) }
+{
+    match value {
+        None => push(out, "nothing is there"),
+        Some(value) => push_bytes(alloc, out, value),
+    }
 }
 
 /// What a case read at a key.
@@ -38,21 +58,23 @@ pub(crate) fn read_words(
     case: &Case,
     key: &[u8],
     value: Option<&[u8]>,
-) -> Result<Vec<u8>, AllocError> {
+) -> Result<Vec<u8>, AllocError>
+    ensures { IfOk result (λ words. words.items ≡ read_text case.now key.now
+        (option_map (λ v. v.now) value.entry)) }
+{
     let mut out = Vec::new(alloc);
     push_case(&mut out, case)?;
     push(&mut out, " reads ")?;
     push_bytes(alloc, &mut out, key)?;
     push(&mut out, ": ")?;
-    match value {
-        None => push(&mut out, "nothing is there")?,
-        Some(value) => push_bytes(alloc, &mut out, value)?,
-    }
+    push_value(alloc, &mut out, value)?;
     Ok(out)
 }
 
 /// Why a case votes NO, in words that have no end yet.
-fn no_words(alloc: Global, case: &Case) -> Result<Vec<u8>, AllocError> {
+fn no_words(alloc: Global, case: &Case) -> Result<Vec<u8>, AllocError>
+    ensures { IfOk result (λ words. words.items ≡ no_text case.now []) }
+{
     let mut out = Vec::new(alloc);
     push_case(&mut out, case)?;
     push(&mut out, " votes NO: ")?;
@@ -60,9 +82,14 @@ fn no_words(alloc: Global, case: &Case) -> Result<Vec<u8>, AllocError> {
 }
 
 /// The same of one that is not known.
-pub(crate) fn unknown_words(alloc: Global, case: &Case) -> Result<Vec<u8>, AllocError> {
+pub(crate) fn unknown_words(alloc: Global, case: &Case) -> Result<Vec<u8>, AllocError>
+    ensures { IfOk result (λ words. words.items ≡ unknown_text case.now) }
+{
     let mut out = no_words(alloc, case)?;
-    push(&mut out, "it knows no such branch: it was lost in a crash, or has ended")?;
+    push(
+        &mut out,
+        "it knows no such branch: it was lost in a crash, or has ended",
+    )?;
     Ok(out)
 }
 
@@ -72,7 +99,9 @@ pub(crate) fn count_words(
     case: &Case,
     works: u64,
     done: u64,
-) -> Result<Vec<u8>, AllocError> {
+) -> Result<Vec<u8>, AllocError>
+    ensures { IfOk result (λ words. words.items ≡ count_text case.now works done) }
+{
     let mut out = no_words(alloc, case)?;
     push(&mut out, "of ")?;
     push_number(&mut out, works)?;
@@ -83,18 +112,28 @@ pub(crate) fn count_words(
 }
 
 /// Adds which key a branch holds.
-fn push_held(
-    alloc: Global,
-    out: &mut Vec<u8>,
-    key: &[u8],
-    holder: &Name,
-) -> Result<(), AllocError> {
+fn push_held(alloc: Global, out: &mut Vec<u8>, key: &[u8], holder: &Name) -> Result<(), AllocError>
+    ensures { OnOk result (out.new.items ≡ out.old.items ++ held_text key.now holder.now) }
+{
     push(out, "key ")?;
     push_bytes(alloc, out, key)?;
-    push(out, " is held by ")?;
     match holder {
-        Name::Case(case) => push_case(out, case),
-        Name::Foreign(_) => push(out, "a branch that is no case"),
+        Name::Case(case) => {
+            push(out, " is held by ")?;
+            push_case(out, case)
+        }
+        Name::Foreign(_) => push(out, " is held by a branch that is no case"),
+    }
+}
+
+/// Adds why a work was refused.
+fn push_spoiled(alloc: Global, out: &mut Vec<u8>, spoiled: &Spoiled) -> Result<(), AllocError>
+    ensures { OnOk result (out.new.items ≡ out.old.items ++ spoiled_text spoiled.now) }
+{
+    match spoiled {
+        Spoiled::Held(key, holder) => push_held(alloc, out, key.as_slice(), holder),
+        Spoiled::TooLong => push(out, "a key or a value has too many bytes, or a key none"),
+        Spoiled::TooMany => push(out, "it would have written more than 64 keys"),
     }
 }
 
@@ -103,12 +142,10 @@ pub(crate) fn spoiled_words(
     alloc: Global,
     case: &Case,
     spoiled: &Spoiled,
-) -> Result<Vec<u8>, AllocError> {
+) -> Result<Vec<u8>, AllocError>
+    ensures { IfOk result (λ words. words.items ≡ no_text case.now (spoiled_text spoiled.now)) }
+{
     let mut out = no_words(alloc, case)?;
-    match spoiled {
-        Spoiled::Held(key, holder) => push_held(alloc, &mut out, key.as_slice(), holder)?,
-        Spoiled::TooLong => push(&mut out, "a key or a value has too many bytes, or a key none")?,
-        Spoiled::TooMany => push(&mut out, "it would have written more than 64 keys")?,
-    }
+    push_spoiled(alloc, &mut out, spoiled)?;
     Ok(out)
 }
