@@ -1,14 +1,20 @@
 //! Floor: engines and program.
 //!
-//! Rows of what a program does beside a node: the lines that stand in for a node's answer as one would.
+//! Rows of nodes that are run by desks, over stores in memory.
 #![tactic(auto)]
 
-mod stand_in;
+mod lines;
 
-use node_desk::{Desk, Direct, Feed, Habits, Told};
-use stand_in::serve;
+use desk_engine::run_desk;
+use link_script::read_tree;
+use log_store::{LogStore, MemoryStore};
+use node_desk::{Habits, Watch};
+use node_engine::{Nobody, start};
 use std::alloc::{AllocError, Global};
-use std::io::{self, ErrorKind};
+use std::io::{self, BufReader};
+use tree_model::{ProcessId, Tree};
+
+const ROOT: ProcessId = ProcessId(1);
 
 /// Adds a line of so many bytes.
 fn push_line(input: &mut Vec<u8>, byte: u8, count: usize, is_fed: bool) -> Result<(), AllocError> {
@@ -25,86 +31,90 @@ fn push_line(input: &mut Vec<u8>, byte: u8, count: usize, is_fed: bool) -> Resul
 fn long_lines(alloc: Global) -> Result<Vec<u8>, AllocError> {
     let mut input = Vec::new(alloc);
     push_line(&mut input, b'#', 4096, true)?;
-    input.extend_from_slice(b"first\n")?;
+    input.extend_from_slice(b"doubt\n")?;
     push_line(&mut input, b'#', 4097, true)?;
     push_line(&mut input, b'x', 20_000, true)?;
-    input.extend_from_slice(b"second\n")?;
+    input.extend_from_slice(b"doubt\r\n")?;
     push_line(&mut input, b'y', 4097, false)?;
     Ok(input)
 }
 
-const LONG_SAID: &str = "got first\nok\nerror\nerror\ngot second\nok\nerror\n";
+/// Lets a store go.
+fn let_go(_store: MemoryStore) {}
 
-const JOINED: &str = "\
-1 4->1 JOINED a1.1 4.1.1
-2 4->1 JOINED a1.1 4.1.1
-3 4->1 JOINED a1.1 4.2.1
-4 2->9 JOINED a1.2 2.1.1
-5 4->1 JOINED
-last";
-
-const JOINED_SAID: &str = "\
-joined a1.1 4 a1.1@4.1.1
-ok
-ok
-ok
-refused 9
-got 5 4->1 JOINED
-ok
-got last
-ok
-";
-
-const PLAIN_SAID: &str = "\
-ok
-ok
-ok
-refused 9
-got 5 4->1 JOINED
-ok
-got last
-ok
-";
-
-/// Memory was refused.
-fn no_memory(_: AllocError) -> io::Error {
-    io::Error::from(ErrorKind::OutOfMemory)
+/// What the root writes of these lines over this store, and the store that it leaves.
+fn served(
+    rt: &HostRuntime,
+    tree: &Tree,
+    habits: Habits<'_>,
+    store: MemoryStore,
+    lines: &[u8],
+) -> Option<(Vec<u8>, MemoryStore)> {
+    let alloc = rt.alloc();
+    let entry = tree.entry(ROOT)?;
+    let mut watch = Watch::new(rt, habits).ok()?;
+    let mut reader = BufReader::new(alloc, lines).ok()?;
+    let Ok((node, opening)) = start(alloc, tree, entry, store) else {
+        return None;
+    };
+    let mut out = Vec::new(alloc);
+    let ended = run_desk(
+        alloc,
+        node,
+        &opening,
+        &mut watch,
+        &mut reader,
+        &mut out,
+        &mut Nobody,
+    );
+    Some((out, ended.ok()?))
 }
 
-/// What is told of these lines, and how often the log was trimmed.
-fn told_of(
-    rt: &HostRuntime,
-    input: &[u8],
-    habits: Habits<'_>,
-    told: &mut Vec<u8>,
-) -> io::Result<u64> {
-    let desk = Desk::new(rt.alloc()).map_err(no_memory)?;
-    let other = desk.shared().map_err(no_memory)?;
-    let mut feed = Feed::new(rt, desk, Direct::new(input), habits)?;
-    let mut writer = Told::new(other, told);
-    serve(rt.alloc(), &mut feed, &mut writer)
+/// Whether the root writes just this of these lines, over a new store.
+fn says(rt: &HostRuntime, tree: &Tree, habits: Habits<'_>, lines: &[u8], said: &str) -> bool {
+    let store = MemoryStore::from_bytes(Vec::new(rt.alloc()));
+    match served(rt, tree, habits, store, lines) {
+        None => false,
+        Some((out, store)) => {
+            let_go(store);
+            out.as_slice() == said.as_bytes()
+        }
+    }
 }
 
-/// Whether this is told of these lines, and the log is trimmed so often.
-fn is_told(
-    rt: &HostRuntime,
-    input: &[u8],
-    habits: Habits<'_>,
-    said: &str,
-    trims: u64,
-) -> io::Result<bool> {
-    let mut told = Vec::new(rt.alloc());
-    let count = told_of(rt, input, habits, &mut told)?;
-    Ok(told.as_slice() == said.as_bytes() && count == trims)
+/// A copy of the bytes of a store.
+fn copied(alloc: Global, store: &MemoryStore) -> Option<MemoryStore> {
+    let bytes = Vec::from_slice(alloc, store.bytes()).ok()?;
+    Some(MemoryStore::from_bytes(bytes))
+}
+
+/// Whether the next root over the log of a transaction writes just this of it.
+fn says_later(rt: &HostRuntime, tree: &Tree, habits: Habits<'_>, said: &str) -> Option<bool> {
+    let store = MemoryStore::from_bytes(Vec::new(rt.alloc()));
+    let (_, first) = served(rt, tree, nothing(), store, lines::ENDED.as_bytes())?;
+    let next = copied(rt.alloc(), &first);
+    let_go(first);
+    let (out, last) = served(rt, tree, habits, next?, lines::OUTCOME.as_bytes())?;
+    let_go(last);
+    Some(out.as_slice() == said.as_bytes())
 }
 
 /// Nothing beside the lines of the input.
 fn nothing() -> Habits<'static> {
     Habits {
+        root: ROOT,
         ask: None,
         trim_at: None,
         tells_joined: false,
         log: "some.log",
+    }
+}
+
+/// That, and the log is trimmed over this length of a file that has ten bytes.
+fn trims(at: u64) -> Habits<'static> {
+    Habits {
+        trim_at: Some(at),
+        ..nothing()
     }
 }
 
@@ -118,29 +128,29 @@ fn tell(rt: &HostRuntime, name: &str, is_so: bool) -> io::Result<()> {
     println!(rt; "{name}: {word}")
 }
 
-fn main(rt: HostRuntime) -> io::Result<()> {
-    let long = long_lines(rt.alloc()).map_err(no_memory)?;
+/// Says it of each row.
+fn tell_rows(rt: &HostRuntime, tree: &Tree, long: &[u8]) -> io::Result<()> {
     let joins = Habits {
         tells_joined: true,
         ..nothing()
     };
-    let trims = Habits {
-        trim_at: Some(9),
-        ..nothing()
-    };
-    let later = Habits {
-        trim_at: Some(10),
-        ..nothing()
-    };
-    let lines = JOINED.as_bytes();
-    let is_so = is_told(&rt, &long, nothing(), LONG_SAID, 0)?;
-    tell(&rt, "lines that are too long", is_so)?;
-    let is_so = is_told(&rt, lines, nothing(), PLAIN_SAID, 0)?;
-    tell(&rt, "nothing beside", is_so)?;
-    let is_so = is_told(&rt, lines, joins, JOINED_SAID, 0)?;
-    tell(&rt, "who has joined", is_so)?;
-    let is_so = is_told(&rt, lines, trims, PLAIN_SAID, 1)?;
-    tell(&rt, "a trim", is_so)?;
-    let is_so = is_told(&rt, lines, later, PLAIN_SAID, 0)?;
-    tell(&rt, "no trim", is_so)
+    let lines = lines::JOINED.as_bytes();
+    let is_so = says(rt, tree, nothing(), long, lines::LONG_SAID);
+    tell(rt, "lines that are too long", is_so)?;
+    let is_so = says(rt, tree, nothing(), lines, lines::PLAIN_SAID);
+    tell(rt, "nothing beside", is_so)?;
+    let is_so = says(rt, tree, joins, lines, lines::JOINED_SAID);
+    tell(rt, "who has joined", is_so)?;
+    let is_so = says_later(rt, tree, trims(10), lines::KEPT_SAID);
+    tell(rt, "no trim", is_so == Some(true))?;
+    let is_so = says_later(rt, tree, trims(9), lines::TRIMMED_SAID);
+    tell(rt, "a trim", is_so == Some(true))
+}
+
+fn main(rt: HostRuntime) -> io::Result<()> {
+    let alloc = rt.alloc();
+    match (read_tree(alloc, lines::TREE), long_lines(alloc)) {
+        (Ok(tree), Ok(long)) => tell_rows(&rt, &tree, &long),
+        _ => println!(rt; "no memory"),
+    }
 }

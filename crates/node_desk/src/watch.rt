@@ -83,7 +83,7 @@ impl<'a> Ways {
 impl<'a> Watch<'a> {
     /// Begins to watch. Err: the clock cannot be read, which is read with `ask` alone.
     pub fn new(rt: &HostRuntime, habits: Habits<'a>) -> io::Result<Self>
-        ensures { IfOk result (λ watch. watch.ways ≡ ways_of habits) }
+        ensures { IfOk result (λ watch. watch.ways ≡ ways_of habits.entry) }
     {
         let asked = match habits.ask {
             Some(_) => Some(Instant::now(rt)?),

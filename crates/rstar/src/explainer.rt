@@ -3,7 +3,6 @@
 use crate::tell;
 use input_lines::LONGEST;
 use line_faults::{Script, finding_of};
-use node_desk::{Desk, Turn};
 use node_engine::Witness;
 use spellings::word::cut;
 use std::alloc::{AllocError, Global};
@@ -20,40 +19,16 @@ pub struct Explainer {
     rt: HostRuntime,
     tells: bool,
     line: u64,
-    desk: Desk,
 }
 
 impl Explainer {
-    pub fn new(rt: &HostRuntime, tells: bool, desk: Desk) -> Self {
+    pub fn new(rt: &HostRuntime, tells: bool) -> Self {
         Explainer {
             rt: *rt,
             tells,
             line: 0,
-            desk,
         }
     }
-
-    /// Tells what is wrong with a line of the input, if anything is.
-    fn tell_of(&mut self, line: &[u8], answer: &[u8], is_too_long: bool) {
-        self.line = self.line.saturating_add(1);
-        if !self.tells {
-            return;
-        }
-        let alloc = self.rt.alloc();
-        let text = if is_too_long {
-            too_long(alloc, self.line)
-        } else {
-            told(alloc, self.line, line, answer)
-        };
-        if let Ok(Some(text)) = text {
-            tell(&self.rt, Some(text));
-        }
-    }
-}
-
-/// What is told of a line that is too long.
-fn too_long(alloc: Global, number: u64) -> Result<Option<String>, AllocError> {
-    Ok(Some(format!(in alloc; "line {number}: it has more than {LONGEST} bytes\n")?))
 }
 
 /// Why a line is refused by this number (docs/ERRORS.md).
@@ -136,13 +111,33 @@ fn told(
     }
 }
 
+/// What is told of a line that is too long.
+fn too_long(alloc: Global, number: u64) -> Result<Option<String>, AllocError> {
+    Ok(Some(format!(in alloc; "line {number}: it has more than {LONGEST} bytes\n")?))
+}
+
+/// What is told of a line, if anything is wrong with it.
+fn sentence(
+    alloc: Global,
+    number: u64,
+    line: &[u8],
+    answer: &[u8],
+) -> Result<Option<String>, AllocError> {
+    if line.len() > LONGEST {
+        too_long(alloc, number)
+    } else {
+        told(alloc, number, line, answer)
+    }
+}
+
 impl Witness for Explainer {
-    /// Lines of the program's own are none of the input's.
     fn see(&mut self, line: &[u8], answer: &[u8]) {
-        match self.desk.turn() {
-            Turn::Input | Turn::Joined => self.tell_of(line, answer, false),
-            Turn::TooLong => self.tell_of(line, answer, true),
-            Turn::Doubt | Turn::Ask | Turn::Trim | Turn::Probe => {}
+        self.line = self.line.saturating_add(1);
+        if !self.tells {
+            return;
+        }
+        if let Ok(Some(text)) = sentence(self.rt.alloc(), self.line, line, answer) {
+            tell(&self.rt, Some(text));
         }
     }
 }
