@@ -1,11 +1,10 @@
 -- What a desk has woven, turn by turn.
-use Rattle.std.proofs.Common.{◌≡◌, ◌≢◌, ◌∙◌, ◌+◌, ◌≤◌, ◌<◌, inl, inr, length, take, ℕ, Bool, true, false, not, ◌&&◌, ◌==◌, Option, Some, None, List, [], ◌∷◌, ◌++◌, Result, Ok, Err, refl, sym, ap, subst, append_assoc, true≢false, arith}
-use Rattle.std.specs.Prelude.{⊤, ◌⊎◌, All, IfErr, IfOk, OnOk, OnSome, nat_lt}
-use Rattle.std.specs.Result.{IsErrAnd}
+use Rattle.std.proofs.Common.{◌≡◌, ◌∙◌, ◌+◌, ◌≤◌, inl, inr, length, take, suc, ℕ, Bool, true, false, Option, Some, None, List, [], ◌∷◌, ◌++◌, refl, sym, ap, subst, append_assoc, true≢false, arith}
+use Rattle.std.specs.Prelude.{◌⊎◌, ◌==◌, ◌&&◌, OnSome, if◌then◌else◌, nat_lt, not}
 use Rattle.std.specs.List.{flat_map}
-use Rattle.std.specs.Io.{StartsWith}
 use Rattle.std.specs.Io.KnownBytes.{Appends, Consumes, IsAtEnd}
-use Rattle.std.proofs.lemmas.List.{append-nil}
+use Rattle.std.proofs.lemmas.List.{append-nil, length-take, nil_from_length, take_all}
+use Rattle.std.proofs.lemmas.Bool.Decides.{nat_tests}
 use Rattle.std.proofs.lemmas.Grind.{flat_map-append}
 use Rattle.report_io.specs.Streams.{WritesFront}
 use Rattle.tree_model.specs.declared.names.Case.{Case}
@@ -16,16 +15,13 @@ use Rattle.node_lines.specs.Asked.{end_word}
 use Rattle.node_desk.specs.declared.watch.Ways.{Ways}
 use Rattle.node_desk.specs.Words.{ask_line, messages_in, trim_line}
 use Rattle.node_engine.specs.declared.failure.NodeFailure.{NodeFailure}
-use Rattle.node_engine.specs.declared.failure.NodeFailure.TheVariants.{Memory, Write}
+use Rattle.node_engine.specs.declared.failure.NodeFailure.TheVariants.{Write}
 use Rattle.node_engine.specs.declared.run.Ended.{Ended}
 use Rattle.node_engine.specs.declared.run.Ended.TheVariants.{Input, Asked as EndAsked}
 use Rattle.node_engine.specs.Answers.{AnswersLine, NodeState, Shows, TakesLine}
 use Rattle.node_engine.specs.Runs.{Known, ReadsAll, Stand, stand}
-use Rattle.desk_engine.specs.Turns.{AskedAbout, Asks, Leaves, LeavesLine, LeavesOwn, Line, Makes, Round, RoundBreaks, TellsLine, Trims, Turn, cases_at, given, given_by}
-use Rattle.desk_engine.specs.Turns.RoundBreaks.{untold as round_untold, partly as round_partly}
-use Rattle.desk_engine.specs.Turns.Leaves.{nothing, line, ask, trim}
-use Rattle.desk_engine.specs.Weaves.{AsksEnd, Breaks, Ends, Weaves, Woven, bytes_taken}
-use Rattle.desk_engine.specs.Weaves.Breaks.{untold, partly}
+use Rattle.desk_engine.specs.Turns.{AreFirst, AskedAbout, Asks, Leaves, LeavesLine, LeavesOwn, Line, Makes, Round, RoundBreaks, TellsLine, Trims, Turn, cases_at, given, given_by, leaves_ask, leaves_line, leaves_nothing, leaves_trim, line_in, nothing_line, round_partly, round_untold}
+use Rattle.desk_engine.specs.Weaves.{AsksEnd, Breaks, Ends, Weaves, Woven, bytes_taken, partly, untold}
 
 -- Known bytes.
 
@@ -53,8 +49,10 @@ appends_nothing (Some x) = sym (append-nil x)
 
 -- after all that is told a front of what comes then
 take_on : (xs ys : List ℕ) (n : ℕ) → xs ++ take n ys ≡ take (length xs + n) (xs ++ ys)
-take_on [] ys n = refl
-take_on (x ∷ xs) ys n = ap (λ (t : List ℕ). x ∷ t) (take_on xs ys n)
+take_on [] ys n = let none : n ≡ 0 + n = omega arith in ap (λ (k : ℕ). take k ys) none
+take_on (x ∷ xs) ys n =
+    let more : suc (length xs + n) ≡ length (x ∷ xs) + n = omega arith in
+    ap (λ (t : List ℕ). x ∷ t) (take_on xs ys n) ∙ ap (λ (k : ℕ). take k (x ∷ xs ++ ys)) more
 
 pub front_on : (a b c : Known) (xs ys : List ℕ) → Appends a b xs → WritesFront b c ys → WritesFront a c (xs ++ ys)
 front_on a b c xs ys h (n, k) =
@@ -138,7 +136,14 @@ woven_first w start now opening text shows left written = record {
 -- as much is kept of a line as tells what a node is given of it
 by_room : (front : List ℕ) (fed b : Bool) → nat_lt longest (length front) ≡ b
     → given_by (take (longest + 1) front) fed ≡ given_by front fed
-by_room front fed b is = ?
+by_room front fed true is =
+    let long : nat_lt longest (length (take (longest + 1) front)) ≡ true =
+    grind (arith, nat_tests, is, length-take (longest + 1) front) in
+    ap (λ (b : Bool). if b then nothing_line else line_in (take (longest + 1) front) fed) long
+    ∙ sym (ap (λ (b : Bool). if b then nothing_line else line_in front fed) is)
+by_room front fed false is =
+    let short : length front ≤ longest + 1 = grind (arith, nat_tests, is) in
+    ap (λ (l : List ℕ). given_by l fed) (take_all (longest + 1) front short)
 
 given_kept : (p : Piece) (kept : List ℕ) (fed : Bool) → kept ≡ take (longest + 1) p.front → fed ≡ p.fed
     → given_by kept fed ≡ given p
@@ -159,12 +164,11 @@ and_right true b h = h
 and_right false b h = absurd (true≢false (sym h))
 
 is_false : (b : Bool) → not b ≡ true → b ≡ false
-is_false true h = h ∙ refl
+is_false true h = sym h
 is_false false h = refl
 
 none_kept : (kept : List ℕ) → (length kept == 0) ≡ true → kept ≡ []
-none_kept [] h = refl
-none_kept (x ∷ xs) h = ?
+none_kept kept h = let none : length kept ≡ 0 = grind (arith, nat_tests, h) in nil_from_length kept none
 
 pair_is : {a c : List ℕ} {b d : Bool} → a ≡ c → b ≡ d → (a, b) ≡ (c, d)
 pair_is {a} {c} {b} {d} e f = ap (λ (x : List ℕ). (x, b)) e ∙ ap (λ (y : Bool). (c, y)) f
@@ -241,13 +245,13 @@ module _ (w : Ways) (start : Stand) (opening : Reaction) (before now : Stand) (k
       → now.held ≡ before.held → Breaks w start opening now why
   line_left why leaves held =
       untold before h
-      (line reads.piece (subst (λ (l : List ℕ). LeavesLine w l before.state now.state why) given_is leaves)) held
+      (leaves_line reads.piece (subst (λ (l : List ℕ). LeavesLine w l before.state now.state why) given_is leaves)) held
 
 -- no line is read
 pub line_unread : (w : Ways) (start : Stand) (opening : Reaction) (before now : Stand) (why : NodeFailure)
     → now.state ≡ before.state → now.held ≡ before.held → Woven w start opening before
     → Breaks w start opening now why
-line_unread w start opening before now why state held h = untold before h (nothing state) held
+line_unread w start opening before now why state held h = untold before h (leaves_nothing state) held
 
 -- Rounds.
 
@@ -284,13 +288,13 @@ asked_more old mid new held at now cs c text (told, asks, written) answers more 
 
 -- memory was refused before the next case was asked about, or the node took the question
 pub round_left : (old mid new : NodeState) (held now : Known) (cs : List Case) (c : Case) (why : NodeFailure)
-    → StartsWith (cases_at old) cs → AskedAbout old cs mid held now → LeavesOwn (ask_line c) mid new why
+    → AreFirst (cases_at old) cs → AskedAbout old cs mid held now → LeavesOwn (ask_line c) mid new why
     → RoundBreaks old new held now why
 round_left old mid new held now cs c why starts asked leaves = round_untold cs starts mid asked (inr (c, leaves))
 
 -- a front of what is told of the next case was written
 pub round_cut : (old mid new : NodeState) (held at now : Known) (cs : List Case) (c : Case) (text : List ℕ)
-    (why : NodeFailure) → StartsWith (cases_at old) (cs ++ c ∷ []) → AskedAbout old cs mid held at
+    (why : NodeFailure) → AreFirst (cases_at old) (cs ++ c ∷ []) → AskedAbout old cs mid held at
     → AnswersLine (ask_line c) mid new text → WritesFront at now (messages_in text) → why ≡ Write
     → RoundBreaks old new held now why
 round_cut old mid new held at now cs c text why starts (told, asks, written) answers front is =
@@ -306,7 +310,7 @@ round_unbegun old new held now why state same_held =
 
 module _ (w : Ways) (start : Stand) (opening : Reaction) (left : Known) (old new : NodeState) (held now : Known)
     (may : w.asks ≡ true) (h : Woven w start opening (stand left held old)) where
-  round_woven : (cs : List Case) (mid : NodeState) → StartsWith (cases_at old) cs → AskedAbout old cs mid held now
+  round_woven : (cs : List Case) (mid : NodeState) → AreFirst (cases_at old) cs → AskedAbout old cs mid held now
       → Woven w start opening (stand left now mid)
   round_woven cs mid starts (told, asks, written) =
       woven_more w start opening (stand left held old) (stand left now mid) (Round cs) told (nothing_taken left)
@@ -314,16 +318,13 @@ module _ (w : Ways) (start : Stand) (opening : Reaction) (left : Known) (old new
 
   -- each case was asked about
   pub round_made : AskedAbout old (cases_at old) new held now → Woven w start opening (stand left now new)
-  round_made asked = round_woven (cases_at old) new (all_of (cases_at old)) asked
-    where
-      all_of : (cs : List Case) → take (length cs) cs ≡ cs
-      all_of [] = refl
-      all_of (c ∷ cs) = ap (λ (t : List Case). c ∷ t) (all_of cs)
+  round_made asked =
+      round_woven (cases_at old) new (take_all (length (cases_at old)) (cases_at old) (omega arith)) asked
 
   round_stops : (mid : NodeState) (why : NodeFailure) → Woven w start opening (stand left now mid)
       → (new ≡ mid) ⊎ ((c : Case) × LeavesOwn (ask_line c) mid new why) → Breaks w start opening (stand left now new) why
-  round_stops mid why woven (inl e) = untold (stand left now mid) woven (nothing e) refl
-  round_stops mid why woven (inr (c, leaves)) = untold (stand left now mid) woven (ask c may leaves) refl
+  round_stops mid why woven (inl e) = untold (stand left now mid) woven (leaves_nothing e) refl
+  round_stops mid why woven (inr (c, leaves)) = untold (stand left now mid) woven (leaves_ask c may leaves) refl
 
   -- the round broke off
   pub round_broken : (why : NodeFailure) → RoundBreaks old new held now why
@@ -340,7 +341,7 @@ module _ (w : Ways) (start : Stand) (opening : Reaction) (left held : Known) (ol
   pub trim_made : (text : List ℕ) → AnswersLine trim_line old new text → Woven w start opening (stand left held new)
   trim_made text answers =
       woven_more w start opening (stand left held old) (stand left held new) Trims [] (nothing_taken left)
-      (record { may = may; text = text; answers = answers; nothing = refl }) (appends_nothing held) h
+      (record { may = may; text = text; answers = answers; silent = refl }) (appends_nothing held) h
 
   pub trim_left : (why : NodeFailure) → TakesLine trim_line old new why → Breaks w start opening (stand left held new) why
-  trim_left why takes = untold (stand left held old) h (trim may takes) refl
+  trim_left why takes = untold (stand left held old) h (leaves_trim may takes) refl

@@ -1,6 +1,5 @@
 -- What a desk makes of a line of the input, and of its own lines.
-use Rattle.std.specs.Prelude.{◌≡◌, ◌≢◌, ◌⊎◌, ℕ, Bool, true, false, List, [], ◌∷◌, ◌++◌, All, codes, map, Option, Some, None, if◌then◌else◌}
-use Rattle.std.specs.Io.{StartsWith}
+use Rattle.std.specs.Prelude.{◌≡◌, ◌≢◌, ◌⊎◌, ℕ, Bool, true, false, List, [], ◌∷◌, ◌++◌, All, codes, length, map, take, Option, Some, None, if◌then◌else◌}
 use Rattle.std.specs.Io.BufRead.{strip_last}
 use Rattle.std.specs.Io.KnownBytes.{Appends}
 use Rattle.report_io.specs.Streams.{WritesFront}
@@ -81,6 +80,10 @@ pub record TellsLine (w : Ways) (line : List ℕ) (old new : NodeState) (told : 
 abbrev pub cases_at : NodeState → List Case
 cases_at s = doubts_in (records_at s) ++ map (λ d. d.case) (decisions_in (records_at s))
 
+-- these cases are the first of all
+abbrev pub AreFirst : List Case → List Case → Type 0
+AreFirst all cs = take (length cs) all ≡ cs
+
 -- these cases are asked about, one after another; told are the messages of the answers
 abbrev pub Asks : NodeState → List Case → NodeState → List ℕ → Type 0
 Asks old [] new told = (new ≡ old) × (told ≡ [])
@@ -111,7 +114,7 @@ pub record MakesLine (w : Ways) (p : Piece) (old new : NodeState) (told : List �
 -- the first of the cases that are in doubt, and what is told of them, if the desk asks at all
 pub record MakesRound (w : Ways) (cs : List Case) (old new : NodeState) (told : List ℕ) : Type 0 where
   pub may : w.asks ≡ true
-  pub cases : StartsWith (cases_at old) cs
+  pub cases : AreFirst (cases_at old) cs
   pub asks : Asks old cs new told
 
 -- a trim, of which nothing is told, if the desk trims at all
@@ -119,7 +122,7 @@ pub record MakesTrim (w : Ways) (old new : NodeState) (told : List ℕ) : Type 0
   pub may : w.trims ≡ true
   pub text : List ℕ
   pub answers : AnswersLine trim_line old new text
-  pub nothing : told ≡ []
+  pub silent : told ≡ []
 
 -- a turn is made, and this is told
 abbrev pub Makes : Ways → Turn → NodeState → NodeState → List ℕ → Type 0
@@ -144,24 +147,24 @@ LeavesProbe w line old new why =
 -- a line of the input is not told of, for this reason
 pub data LeavesLine (w : Ways) (line : List ℕ) (old new : NodeState) (why : NodeFailure) : Type 0 where
   -- nothing is made of it, but that the node was asked whether a child may join
-  before : LeavesProbe w line old new why → LeavesLine w line old new why
+  line_before : LeavesProbe w line old new why → LeavesLine w line old new why
   -- the node took the line
-  taken : (mid : NodeState) (j : Option Joining) → Probes w line old mid j → TakesLine line mid new why
+  line_taken : (mid : NodeState) (j : Option Joining) → Probes w line old mid j → TakesLine line mid new why
       → LeavesLine w line old new why
   -- it answered the line
-  untold : (told : List ℕ) → TellsLine w line old new told → why ≡ Memory → LeavesLine w line old new why
+  line_untold : (told : List ℕ) → TellsLine w line old new told → why ≡ Memory → LeavesLine w line old new why
 
 -- A round broke off: the first of the cases were asked about, and of the next one, if there is one, nothing is told; or a
 -- front of what is told of them was written.
 pub data RoundBreaks (old new : NodeState) (held now : Known) (why : NodeFailure) : Type 0 where
-  untold : (cs : List Case) → StartsWith (cases_at old) cs → (mid : NodeState) → AskedAbout old cs mid held now
+  round_untold : (cs : List Case) → AreFirst (cases_at old) cs → (mid : NodeState) → AskedAbout old cs mid held now
       → (new ≡ mid) ⊎ ((c : Case) × LeavesOwn (ask_line c) mid new why) → RoundBreaks old new held now why
-  partly : (cs : List Case) → StartsWith (cases_at old) cs → (told : List ℕ) → Asks old cs new told
+  round_partly : (cs : List Case) → AreFirst (cases_at old) cs → (told : List ℕ) → Asks old cs new told
       → WritesFront held now told → why ≡ Write → RoundBreaks old new held now why
 
 -- a turn is not told of, for this reason
 pub data Leaves (w : Ways) (old new : NodeState) (why : NodeFailure) : Type 0 where
-  nothing : new ≡ old → Leaves w old new why
-  line : (p : Piece) → LeavesLine w (given p) old new why → Leaves w old new why
-  ask : (c : Case) → w.asks ≡ true → LeavesOwn (ask_line c) old new why → Leaves w old new why
-  trim : w.trims ≡ true → TakesLine trim_line old new why → Leaves w old new why
+  leaves_nothing : new ≡ old → Leaves w old new why
+  leaves_line : (p : Piece) → LeavesLine w (given p) old new why → Leaves w old new why
+  leaves_ask : (c : Case) → w.asks ≡ true → LeavesOwn (ask_line c) old new why → Leaves w old new why
+  leaves_trim : w.trims ≡ true → TakesLine trim_line old new why → Leaves w old new why
