@@ -191,7 +191,7 @@ module _ (w : Ways) (start : Stand) (opening : Reaction) (before now : Stand) (k
   none_in : is_none_left kept fed ≡ true → bytes_of reads.piece ≡ []
   none_in none =
       let front = none_before reads.piece.front
-          (sym reads.keeps.front ∙ none_kept kept (and_left (length kept == 0) (not fed) none)) in
+      (sym reads.keeps.front ∙ none_kept kept (and_left (length kept == 0) (not fed) none)) in
       let unfed = sym reads.keeps.fed ∙ is_false fed (and_right (length kept == 0) (not fed) none) in
       ap (λ (p : List ℕ × Bool). bytes_of (record { front = p.0; fed = p.1 })) (pair_is front unfed)
 
@@ -200,8 +200,7 @@ module _ (w : Ways) (start : Stand) (opening : Reaction) (before now : Stand) (k
       → Ends Input w start opening now
   none_left none state held =
       let took = subst (λ (x : List ℕ). Consumes before.left now.left x) (none_in none) reads.next.took in
-      let unfed = sym reads.keeps.fed ∙ is_false fed (and_right (length kept == 0) (not fed) none) in
-      (
+      let unfed = sym reads.keeps.fed ∙ is_false fed (and_right (length kept == 0) (not fed) none) in (
         woven_still w start opening before now state held took h,
         all_read start.left before.left now.left (flat_map bytes_taken h.turns) h.took (reads.next.last unfed) took,
       )

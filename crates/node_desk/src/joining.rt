@@ -49,7 +49,11 @@ fn joining_at(alloc: Global, root: ProcessId, line: &str) -> Result<Option<Joini
 }
 
 /// Who has joined, by a line of the input over a tree with this root; None, if it is no JOINED.
-pub fn joining_in(alloc: Global, root: ProcessId, line: &[u8]) -> Result<Option<Joining>, AllocError>
+pub fn joining_in(
+    alloc: Global,
+    root: ProcessId,
+    line: &[u8],
+) -> Result<Option<Joining>, AllocError>
     ensures { IfOk result (Joins root line.now) }
 {
     match str::from_utf8(line) {
