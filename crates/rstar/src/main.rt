@@ -501,7 +501,7 @@ fn node_grammar<'a>(alloc: Global) -> Result<Command<'a>, AllocError> {
 }
 
 /// `--ask` waits at most a day.
-const MOST_SECONDS: u64 = 86_400;
+const MOST_SECONDS: i64 = 86_400;
 
 /// The words after the program's name, and what help says of them.
 fn grammar<'a>(alloc: Global) -> Result<Command<'a>, AllocError> {
