@@ -1,16 +1,17 @@
 -- What a desk has woven, turn by turn.
-use Rattle.std.proofs.Common.{◌≡◌, ◌∙◌, ◌+◌, ◌≤◌, inl, inr, length, take, suc, ℕ, Bool, true, false, Option, Some, None, List, [], ◌∷◌, ◌++◌, refl, sym, ap, subst, append_assoc, true≢false, arith}
-use Rattle.std.specs.Prelude.{◌⊎◌, ◌==◌, ◌&&◌, OnSome, if◌then◌else◌, nat_lt, not}
+use Rattle.std.proofs.Common.{◌≡◌, ◌∙◌, ◌+◌, ◌≤◌, ◌<◌, inl, inr, length, take, zero, suc, ℕ, Bool, true, false, Option, Some, None, Result, Ok, Err, List, [], ◌∷◌, ◌++◌, refl, sym, ap, subst, append_assoc, true≢false, arith}
+use Rattle.std.specs.Result.{IsErrAnd}
+use Rattle.std.specs.Prelude.{◌⊎◌, IfErr, ◌==◌, ◌&&◌, OnSome, if◌then◌else◌, nat_lt, not}
 use Rattle.std.specs.List.{flat_map}
 use Rattle.std.specs.Io.KnownBytes.{Appends, Consumes, IsAtEnd}
-use Rattle.std.proofs.lemmas.List.{append-nil, length-take, nil_from_length, take_all}
+use Rattle.std.proofs.lemmas.List.{append-nil, length-take-le, nil_from_length, take_all}
 use Rattle.std.proofs.lemmas.Bool.Decides.{nat_tests}
 use Rattle.std.proofs.lemmas.Grind.{flat_map-append}
 use Rattle.report_io.specs.Streams.{WritesFront}
 use Rattle.tree_model.specs.declared.names.Case.{Case}
 use Rattle.tree_model.specs.declared.events.Reaction.{Reaction}
 use Rattle.script_words.specs.Steps.{same}
-use Rattle.input_lines.specs.Lines.{Piece, Reads, beyond, bytes_of, is_none_left, longest}
+use Rattle.input_lines.specs.Lines.{Piece, Reads, bytes_of, feed, is_none_left, longest}
 use Rattle.node_lines.specs.Asked.{end_word}
 use Rattle.node_desk.specs.declared.watch.Ways.{Ways}
 use Rattle.node_desk.specs.Words.{ask_line, messages_in, trim_line}
@@ -22,6 +23,11 @@ use Rattle.node_engine.specs.Answers.{AnswersLine, NodeState, Shows, TakesLine}
 use Rattle.node_engine.specs.Runs.{Known, ReadsAll, Stand, stand}
 use Rattle.desk_engine.specs.Turns.{AreFirst, AskedAbout, Asks, Leaves, LeavesLine, LeavesOwn, Line, Makes, Round, RoundBreaks, TellsLine, Trims, Turn, cases_at, given, given_by, leaves_ask, leaves_line, leaves_nothing, leaves_trim, line_in, nothing_line, round_partly, round_untold}
 use Rattle.desk_engine.specs.Weaves.{AsksEnd, Breaks, Ends, Weaves, Woven, bytes_taken, partly, untold}
+
+-- a failure that is passed on
+pub passed_on : {A E : Type 0} (r : Result A E) (e : E) (P : E → Type 0) → IsErrAnd r (λ x. x ≡ e) → P e → IfErr r P
+passed_on (Ok a) e P is h = tt
+passed_on (Err x) e P is h = subst P (sym is) h
 
 -- Known bytes.
 
@@ -133,17 +139,23 @@ woven_first w start now opening text shows left written = record {
 
 -- Lines of the input.
 
+long_of : (n : ℕ) (front : List ℕ) → nat_lt n (length front) ≡ true → nat_lt n (length (take (n + 1) front)) ≡ true
+long_of n front h =
+    let below : n < length front = grind (arith, nat_tests, h) in
+    let all : length (take (n + 1) front) ≡ n + 1 = length-take-le (n + 1) front (omega (arith, below)) in
+    let next : nat_lt n (n + 1) ≡ true = grind (arith, nat_tests) in
+    ap (nat_lt n) all ∙ next
+
+short_of : (n : ℕ) (front : List ℕ) → nat_lt n (length front) ≡ false → take (n + 1) front ≡ front
+short_of n front h = let short : length front ≤ n + 1 = grind (arith, nat_tests, h) in take_all (n + 1) front short
+
 -- as much is kept of a line as tells what a node is given of it
 by_room : (front : List ℕ) (fed b : Bool) → nat_lt longest (length front) ≡ b
     → given_by (take (longest + 1) front) fed ≡ given_by front fed
 by_room front fed true is =
-    let long : nat_lt longest (length (take (longest + 1) front)) ≡ true =
-    grind (arith, nat_tests, is, length-take (longest + 1) front) in
-    ap (λ (b : Bool). if b then nothing_line else line_in (take (longest + 1) front) fed) long
+    ap (λ (b : Bool). if b then nothing_line else line_in (take (longest + 1) front) fed) (long_of longest front is)
     ∙ sym (ap (λ (b : Bool). if b then nothing_line else line_in front fed) is)
-by_room front fed false is =
-    let short : length front ≤ longest + 1 = grind (arith, nat_tests, is) in
-    ap (λ (l : List ℕ). given_by l fed) (take_all (longest + 1) front short)
+by_room front fed false is = ap (λ (l : List ℕ). given_by l fed) (short_of longest front is)
 
 given_kept : (p : Piece) (kept : List ℕ) (fed : Bool) → kept ≡ take (longest + 1) p.front → fed ≡ p.fed
     → given_by kept fed ≡ given p
@@ -170,9 +182,6 @@ is_false false h = refl
 none_kept : (kept : List ℕ) → (length kept == 0) ≡ true → kept ≡ []
 none_kept kept h = let none : length kept ≡ 0 = grind (arith, nat_tests, h) in nil_from_length kept none
 
-pair_is : {a c : List ℕ} {b d : Bool} → a ≡ c → b ≡ d → (a, b) ≡ (c, d)
-pair_is {a} {c} {b} {d} e f = ap (λ (x : List ℕ). (x, b)) e ∙ ap (λ (y : Bool). (c, y)) f
-
 none_before : (front : List ℕ) → take (longest + 1) front ≡ [] → front ≡ []
 none_before [] h = refl
 none_before (x ∷ xs) h = absurd (true≢false (sym (ap is_nil h)))
@@ -193,7 +202,7 @@ module _ (w : Ways) (start : Stand) (opening : Reaction) (before now : Stand) (k
       let front = none_before reads.piece.front
       (sym reads.keeps.front ∙ none_kept kept (and_left (length kept == 0) (not fed) none)) in
       let unfed = sym reads.keeps.fed ∙ is_false fed (and_right (length kept == 0) (not fed) none) in
-      ap (λ (p : List ℕ × Bool). bytes_of (record { front = p.0; fed = p.1 })) (pair_is front unfed)
+      ap (λ (f : List ℕ). f ++ feed reads.piece.fed) front ∙ ap feed unfed
 
   -- the input has no line any more
   pub none_left : is_none_left kept fed ≡ true → now.state ≡ before.state → now.held ≡ before.held
@@ -252,6 +261,31 @@ pub line_unread : (w : Ways) (start : Stand) (opening : Reaction) (before now : 
     → Breaks w start opening now why
 line_unread w start opening before now why state held h = untold before h (leaves_nothing state) held
 
+-- The same, where a failure is passed on.
+
+module _ {A : Type 0} (r : Result A NodeFailure) (why : NodeFailure) (w : Ways) (before now : Stand)
+    (failed : IsErrAnd r (λ e. e ≡ why)) where
+  abbrev BreaksAfter : NodeFailure → Type 0
+  BreaksAfter e = (start : Stand) → (opening : Reaction) → Woven w start opening before → Breaks w start opening now e
+
+  pub if_unread : now.state ≡ before.state → now.held ≡ before.held → IfErr r BreaksAfter
+  if_unread state held =
+      passed_on r why BreaksAfter failed
+      (λ start opening h. line_unread w start opening before now why state held h)
+
+  pub if_left : (kept : List ℕ) (fed : Bool) → Reads before.left now.left kept fed
+      → LeavesLine w (given_by kept fed) before.state now.state why → now.held ≡ before.held → IfErr r BreaksAfter
+  if_left kept fed reads leaves held =
+      passed_on r why BreaksAfter failed
+      (λ start opening h. line_left w start opening before now kept fed reads h why leaves held)
+
+  pub if_cut : (kept : List ℕ) (fed : Bool) → Reads before.left now.left kept fed → (told : List ℕ)
+      → same (given_by kept fed) end_word ≡ false → TellsLine w (given_by kept fed) before.state now.state told
+      → why ≡ Write → WritesFront before.held now.held told → IfErr r BreaksAfter
+  if_cut kept fed reads told on tells is front =
+      passed_on r why BreaksAfter failed
+      (λ start opening h. line_cut w start opening before now kept fed reads h told on tells why is front)
+
 -- Rounds.
 
 asks_on : (old mid new : NodeState) (cs : List Case) (told : List ℕ) (c : Case) (text : List ℕ) → Asks old cs mid told
@@ -307,6 +341,33 @@ round_unbegun old new held now why state same_held =
     round_untold [] refl old
     (subst (λ (k : Known). AskedAbout old [] old held k) (sym same_held) (asked_none old held)) (inl state)
 
+first_of : (i : ℕ) (xs : List Case) → take (length (take i xs)) xs ≡ take i xs
+first_of zero xs = refl
+first_of (suc i) [] = refl
+first_of (suc i) (x ∷ xs) =
+    let more : length (x ∷ take i xs) ≡ suc (length (take i xs)) = omega arith in
+    ap (λ (k : ℕ). take k (x ∷ xs)) more ∙ ap (λ (t : List Case). x ∷ t) (first_of i xs)
+
+-- the first of the cases that are to be asked about
+pub first_cases : (s : NodeState) (xs : List Case) (i : ℕ) → xs ≡ cases_at s → AreFirst (cases_at s) (take i xs)
+first_cases s xs i is = subst (λ (all : List Case). take (length (take i xs)) all ≡ take i xs) is (first_of i xs)
+
+module _ {A : Type 0} (r : Result A NodeFailure) (why : NodeFailure) (old mid new : NodeState) (held at now : Known)
+    (xs : List Case) (i : ℕ) (c : Case) (failed : IsErrAnd r (λ e. e ≡ why)) (is : xs ≡ cases_at old)
+    (asked : AskedAbout old (take i xs) mid held at) where
+  pub if_round_left : now ≡ at → LeavesOwn (ask_line c) mid new why → IfErr r (RoundBreaks old new held now)
+  if_round_left still leaves =
+      passed_on r why (RoundBreaks old new held now) failed
+      (round_left old mid new held now (take i xs) c why (first_cases old xs i is)
+      (subst (λ (k : Known). AskedAbout old (take i xs) mid held k) (sym still) asked) leaves)
+
+  pub if_round_cut : take (i + 1) xs ≡ take i xs ++ c ∷ [] → (text : List ℕ) → AnswersLine (ask_line c) mid new text
+      → WritesFront at now (messages_in text) → why ≡ Write → IfErr r (RoundBreaks old new held now)
+  if_round_cut next text answers front write =
+      passed_on r why (RoundBreaks old new held now) failed
+      (round_cut old mid new held at now (take i xs) c text why
+      (subst (AreFirst (cases_at old)) next (first_cases old xs (i + 1) is)) asked answers front write)
+
 module _ (w : Ways) (start : Stand) (opening : Reaction) (left : Known) (old new : NodeState) (held now : Known)
     (may : w.asks ≡ true) (h : Woven w start opening (stand left held old)) where
   round_woven : (cs : List Case) (mid : NodeState) → AreFirst (cases_at old) cs → AskedAbout old cs mid held now
@@ -344,3 +405,12 @@ module _ (w : Ways) (start : Stand) (opening : Reaction) (left held : Known) (ol
 
   pub trim_left : (why : NodeFailure) → TakesLine trim_line old new why → Breaks w start opening (stand left held new) why
   trim_left why takes = untold (stand left held old) h (leaves_trim may takes) refl
+
+pub if_trim_left : {A : Type 0} (r : Result A NodeFailure) (why : NodeFailure) (w : Ways) (old new : NodeState)
+    → IsErrAnd r (λ e. e ≡ why) → w.trims ≡ true → TakesLine trim_line old new why
+    → IfErr r (λ e. (left held : Known) (start : Stand) (opening : Reaction)
+    → Woven w start opening (stand left held old) → Breaks w start opening (stand left held new) e)
+if_trim_left r why w old new failed may takes =
+    passed_on r why (λ e. (left held : Known) (start : Stand) (opening : Reaction)
+    → Woven w start opening (stand left held old) → Breaks w start opening (stand left held new) e) failed
+    (λ left held start opening h. trim_left w start opening left held old new may h why takes)
