@@ -414,3 +414,51 @@ if_trim_left r why w old new failed may takes =
     passed_on r why (λ e. (left held : Known) (start : Stand) (opening : Reaction)
     → Woven w start opening (stand left held old) → Breaks w start opening (stand left held new) e) failed
     (λ left held start opening h. trim_left w start opening left held old new may h why takes)
+
+-- Turns.
+
+-- a round that was not begun
+pub if_round_unbegun : {A : Type 0} (r : Result A NodeFailure) (s : NodeState) (held : Known)
+    → IfErr r (RoundBreaks s s held held)
+if_round_unbegun (Ok a) s held = tt
+if_round_unbegun (Err e) s held = round_unbegun s s held held e refl refl
+
+pub if_round_broken : {A : Type 0} (r : Result A NodeFailure) (why : NodeFailure) (w : Ways) (old new : NodeState)
+    (held now : Known) → IsErrAnd r (λ e. e ≡ why) → w.asks ≡ true → RoundBreaks old new held now why
+    → IfErr r (λ e. (left : Known) (start : Stand) (opening : Reaction)
+    → Woven w start opening (stand left held old) → Breaks w start opening (stand left now new) e)
+if_round_broken r why w old new held now failed may breaks =
+    passed_on r why (λ e. (left : Known) (start : Stand) (opening : Reaction)
+    → Woven w start opening (stand left held old) → Breaks w start opening (stand left now new) e) failed
+    (λ left start opening h. round_broken w start opening left old new held now may h why breaks)
+
+-- a round that broke off after waiting, which reads nothing
+pub round_after : {A : Type 0} (r : Result A NodeFailure) (w : Ways) (old new : NodeState) (held now from left : Known)
+    → left ≡ from → IfErr r (λ e. (left : Known) (start : Stand) (opening : Reaction)
+    → Woven w start opening (stand left held old) → Breaks w start opening (stand left now new) e)
+    → IfErr r (λ e. (start : Stand) (opening : Reaction) → Woven w start opening (stand from held old)
+    → Breaks w start opening (stand left now new) e)
+round_after (Ok a) w old new held now from left is h = tt
+round_after (Err e) w old new held now from left is h = λ start opening k.
+    h left start opening (subst (λ (l : Known). Woven w start opening (stand l held old)) (sym is) k)
+
+-- a trim that broke off after that
+pub trim_after : {A : Type 0} (r : Result A NodeFailure) (v w : Ways) (old new : NodeState) (held from left : Known)
+    → v ≡ w → left ≡ from → IfErr r (λ e. (left held : Known) (start : Stand) (opening : Reaction)
+    → Woven v start opening (stand left held old) → Breaks v start opening (stand left held new) e)
+    → IfErr r (λ e. (start : Stand) (opening : Reaction) → Woven w start opening (stand from held old)
+    → Breaks w start opening (stand left held new) e)
+trim_after (Ok a) v w old new held from left ways is h = tt
+trim_after (Err e) v w old new held from left ways is h = λ start opening k.
+    subst (λ (u : Ways). Breaks u start opening (stand left held new) e) ways
+    (h left held start opening
+    (subst (λ (u : Ways). Woven u start opening (stand left held old)) (sym ways)
+    (subst (λ (l : Known). Woven w start opening (stand l held old)) (sym is) k)))
+
+-- a run that broke off after its opening
+pub or_breaks : {A : Type 0} (r : Result A NodeFailure) (P : NodeFailure → Type 0) (w : Ways) (start : Stand)
+    (opening : Reaction) (before now : Stand) → Woven w start opening before
+    → IfErr r (λ e. (start : Stand) (opening : Reaction) → Woven w start opening before → Breaks w start opening now e)
+    → IfErr r (λ e. P e ⊎ Breaks w start opening now e)
+or_breaks (Ok a) P w start opening before now h k = tt
+or_breaks (Err e) P w start opening before now h k = inr (k start opening h)
