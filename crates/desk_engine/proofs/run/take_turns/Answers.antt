@@ -30,7 +30,7 @@ returns-in-Some-clause-ends g c = λ start opening h.
     let now = stand (g.R.Read.remaining c.take_turn.new.reader) (g.W.Write.contents c.take_turn.new.writer)
     (state_of c.take_turn.new.serving) in
     subst (λ (o : Option Ended). LeadsTo o c.args.watch.now.ways start opening now) c.in-Some.is
-    (subst (λ (v : Ways). LeadsTo c.in_ok-ended.ended v start opening now) c.loop.invariant.ways
+    (subst (λ (v : Ways). LeadsTo c.in_ok-ended.field-0 v start opening now) c.loop.invariant.ways
     (c.in_ok-ended.ensures.leads start opening
     (subst (λ (v : Ways). Woven v start opening
     (stand (g.R.Read.remaining c.loop.reader) (g.W.Write.contents c.loop.writer) (state_of c.loop.serving)))
