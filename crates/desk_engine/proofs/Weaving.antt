@@ -1,5 +1,5 @@
 -- What a desk has woven, turn by turn.
-use Rattle.std.proofs.Common.{◌≡◌, ◌∙◌, ◌+◌, ◌≤◌, ◌<◌, inl, inr, length, take, zero, suc, ℕ, Bool, true, false, Option, Some, None, Result, Ok, Err, List, [], ◌∷◌, ◌++◌, refl, sym, ap, subst, append_assoc, true≢false, arith}
+use Rattle.std.proofs.Common.{◌≡◌, ◌∙◌, ◌+◌, ◌≤◌, ◌<◌, inl, inr, length, take, zero, suc, ℕ, Bool, true, false, Some, None, Result, Ok, Err, List, [], ◌∷◌, ◌++◌, refl, sym, ap, subst, append_assoc, true≢false, arith}
 use Rattle.std.specs.Result.{IsErrAnd}
 use Rattle.std.specs.Prelude.{◌⊎◌, IfErr, ◌==◌, ◌&&◌, OnSome, if◌then◌else◌, nat_lt, not}
 use Rattle.std.specs.List.{flat_map}
@@ -17,12 +17,11 @@ use Rattle.node_desk.specs.declared.watch.Ways.{Ways}
 use Rattle.node_desk.specs.Words.{ask_line, messages_in, trim_line}
 use Rattle.node_engine.specs.declared.failure.NodeFailure.{NodeFailure}
 use Rattle.node_engine.specs.declared.failure.NodeFailure.TheVariants.{Write}
-use Rattle.node_engine.specs.declared.run.Ended.{Ended}
 use Rattle.node_engine.specs.declared.run.Ended.TheVariants.{Input, Asked as EndAsked}
 use Rattle.node_engine.specs.Answers.{AnswersLine, NodeState, Shows, TakesLine}
 use Rattle.node_engine.specs.Runs.{Known, ReadsAll, Stand, stand}
-use Rattle.desk_engine.specs.Turns.{AreFirst, AskedAbout, Asks, Leaves, LeavesLine, LeavesOwn, Line, Makes, Round, RoundBreaks, TellsLine, Trims, Turn, cases_at, given, given_by, leaves_ask, leaves_line, leaves_nothing, leaves_trim, line_in, nothing_line, round_partly, round_untold}
-use Rattle.desk_engine.specs.Weaves.{AsksEnd, Breaks, Ends, Weaves, Woven, bytes_taken, partly, untold}
+use Rattle.desk_engine.specs.Turns.{AreFirst, AskedAbout, Asks, LeavesLine, LeavesOwn, Line, Makes, Round, RoundBreaks, TellsLine, Trims, Turn, cases_at, given, given_by, leaves_ask, leaves_line, leaves_nothing, leaves_trim, line_in, nothing_line, round_partly, round_untold}
+use Rattle.desk_engine.specs.Weaves.{Breaks, Ends, Weaves, Woven, bytes_taken, partly, untold}
 
 -- a failure that is passed on
 pub passed_on : {A E : Type 0} (r : Result A E) (e : E) (P : E → Type 0) → IsErrAnd r (λ x. x ≡ e) → P e → IfErr r P

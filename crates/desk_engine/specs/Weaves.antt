@@ -7,10 +7,9 @@ use Rattle.tree_model.specs.declared.events.Reaction.{Reaction}
 use Rattle.script_words.specs.Steps.{same}
 use Rattle.input_lines.specs.Lines.{Piece, bytes_of}
 use Rattle.node_lines.specs.Asked.{end_word}
-use Rattle.node_answers.specs.Texts.{ok_text}
 use Rattle.node_desk.specs.declared.watch.Ways.{Ways}
 use Rattle.node_engine.specs.declared.failure.NodeFailure.{NodeFailure}
-use Rattle.node_engine.specs.declared.failure.NodeFailure.TheVariants.{Device, Write}
+use Rattle.node_engine.specs.declared.failure.NodeFailure.TheVariants.{Write}
 use Rattle.node_engine.specs.declared.run.Ended.{Ended}
 use Rattle.node_engine.specs.declared.run.Ended.TheVariants.{Input, Asked}
 use Rattle.node_engine.specs.Answers.{NodeState, Shows}

@@ -1,11 +1,11 @@
-use Rattle.std.proofs.Common.{◌≡◌, ◌∙◌, ℕ, List, ap, refl, subst, sym, false, true}
+use Rattle.std.proofs.Common.{◌∙◌, ℕ, List, ap, refl, subst, sym}
 use Rattle.std.specs.Io.KnownBytes.{Appends}
 use Rattle.report_io.specs.Streams.{WritesFront}
 use Rattle.script_words.specs.Steps.{same}
 use Rattle.node_lines.specs.Asked.{end_word}
 use Rattle.node_engine.specs.Answers.{state_of}
 use Rattle.node_engine.specs.Runs.{stand}
-use Rattle.desk_engine.specs.Turns.{LeavesLine, TellsLine, given_by}
+use Rattle.desk_engine.specs.Turns.{LeavesLine, TellsLine}
 use Rattle.desk_engine.proofs.Weaving.{asks_end, if_cut, if_left, if_unread, line_told}
 use Rattle.desk_engine.proofs.run.take_line.Goals as goal
 
