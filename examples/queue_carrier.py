@@ -14,7 +14,7 @@ this program. Else standard input is not read; the lines come to standard output
 --socket: whoever connects to the socket PATH writes lines, and gets the answer to each, and beside these answers the lines of all
 others, as `told TXN committed`: for operators, and for an application that is another program.
 --ask: a node has no clock, so this program has it ask, every SECONDS, for what it is in doubt of.
-A JOINED that is accepted is told by a line `joined TXN CHILD CASE`, by the process or else by this program.
+A JOINED that is accepted is told by a line `joined CASE CHILD TXN@TICKET`, by the process (rstar node --joined) or else by this program.
 SIGTERM ends the process in order. The status is that of the process: 4 is to be started again.
 """
 import argparse

@@ -1,6 +1,7 @@
 //! What a node refuses, in sentences.
 
 use crate::tell;
+use input_lines::LONGEST;
 use line_faults::{Script, finding_of};
 use node_engine::Witness;
 use spellings::word::cut;
@@ -110,13 +111,32 @@ fn told(
     }
 }
 
+/// What is told of a line that is too long.
+fn too_long(alloc: Global, number: u64) -> Result<Option<String>, AllocError> {
+    Ok(Some(format!(in alloc; "line {number}: it has more than {LONGEST} bytes\n")?))
+}
+
+/// What is told of a line, if anything is wrong with it.
+fn sentence(
+    alloc: Global,
+    number: u64,
+    line: &[u8],
+    answer: &[u8],
+) -> Result<Option<String>, AllocError> {
+    if line.len() > LONGEST {
+        too_long(alloc, number)
+    } else {
+        told(alloc, number, line, answer)
+    }
+}
+
 impl Witness for Explainer {
     fn see(&mut self, line: &[u8], answer: &[u8]) {
         self.line = self.line.saturating_add(1);
         if !self.tells {
             return;
         }
-        if let Ok(Some(text)) = told(self.rt.alloc(), self.line, line, answer) {
+        if let Ok(Some(text)) = sentence(self.rt.alloc(), self.line, line, answer) {
             tell(&self.rt, Some(text));
         }
     }

@@ -16,6 +16,7 @@ mod migration;
 mod node;
 mod numbering;
 mod picturing;
+mod pump;
 mod resolving;
 mod running;
 mod source;
@@ -25,7 +26,7 @@ use crate::expanding::{Vocabulary, expanded};
 use crate::running::Run;
 use audit_engine::run_log;
 use clap::error::ErrorKind;
-use clap::{Arg, ArgAction, ArgMatches, Command, Error};
+use clap::{Arg, ArgAction, ArgMatches, Command, Error, value_parser};
 use crash_engine::run_crash;
 use explanation::{Script, failure_text, notes_text, plain_refusal_text, refusal_text};
 use judging::JudgeWords;
@@ -43,6 +44,7 @@ use std::io::{IsTerminal, Read};
 use std::process::ExitCode;
 use std::sync::Wait;
 use std::thread::Threads;
+use std::time::Clock;
 use tree_engine::{Failure, Output, Status, run_tree};
 use xa_engine::run_xa;
 
@@ -264,6 +266,15 @@ that it refuses. With --words a refusal has a word after its number, as 'refused
 'error' one, no-line or no-text. --name says how the names of the tree's branches in databases
 begin, for 'resolve'.
 
+Beside the lines of the input, and without an 'ok', so that each 'ok' answers one of them:
+  --ask SECONDS    each case in doubt is asked about again, as by 'ask CASE', each time so many
+                   seconds have passed; what is written of it are its messages
+  --trim-at BYTES  the log is trimmed after an answer, if its file is longer; of what a trim took
+                   'outcome' is 'unknown'. If much is left, not before it has doubled
+  --joined         before the 'ok' to a JOINED that is accepted a line 'joined CASE CHILD
+                   TXN@TICKET': CASE is the case that JOINED names, the last word the child's.
+                   Numbers of messages may be left out then
+
 In, a line each, answered in order, each before the next is read:
   begin pa|pc, join, work, commit, abort, ask, heur, forget    as 'rstar tree --help' has them
   N F->T MESSAGE                       a message to this process, as another node wrote it; N is
@@ -293,11 +304,12 @@ In, a line each, answered in order, each before the next is read:
   help                                 a line for each kind of line that a node knows
   end                                  all that stands is forced, and it ends; nothing behind is read
 Out: what the process did, as a trace has it, and then 'ok'; 'refused E' (docs/ERRORS.md; 9 what
-is for another process, or from one that may not send it); 'error' where the line is the line of nothing. What an answer rests on
-is on the disk before it is written. Whoever carries the messages reads '->T' and may lose,
-repeat and reorder them, and may not alter one or invent one. At the end of the input all that
-stands is forced, and the status is 0. A signal that ends it forces nothing: the next start goes
-on from what was forced. Where the device or memory fails it ends at once, with no answer to the line, and goes on
+is for another process, or from one that may not send it); 'error' where the line is the line of
+nothing, or has more than 4,096 bytes before its line feed. What an answer rests on is on the disk
+before it is written. Whoever carries the messages reads '->T' and may lose, repeat and reorder
+them, and may not alter one or invent one. At the end of the input all that stands is forced, and
+the status is 0. A signal that ends it forces nothing: the next start goes on from what was forced.
+Where the device or memory fails it ends at once, with no answer to the line, and goes on
 when it is started again.
 
 Examples: rstar node tree.toml 1 1.log --new
@@ -473,14 +485,36 @@ fn node_grammar<'a>(alloc: Global) -> Result<Command<'a>, AllocError> {
         "words",
         "Says a word after the number of a refusal, and after 'error'",
     ))?
+    .arg(flag(
+        alloc,
+        "joined",
+        "Says a line 'joined CASE CHILD TXN@TICKET' where a child has joined a case",
+    ))?
     .arg(
         Arg::new(alloc, "name")
             .long("name")
             .value_name("NAME")
             .help("The name of the tree, as the names of its branches in databases begin")
             .action(ArgAction::Set),
+    )?
+    .arg(
+        Arg::new(alloc, "ask")
+            .long("ask")
+            .value_name("SECONDS")
+            .help("Asks again about what is in doubt, each time so many seconds have passed")
+            .value_parser(value_parser!(u64).range(1..=MOST_SECONDS)),
+    )?
+    .arg(
+        Arg::new(alloc, "trim-at")
+            .long("trim-at")
+            .value_name("BYTES")
+            .help("Trims the log after an answer, if its file is longer than this")
+            .value_parser(value_parser!(u64).range(1..)),
     )
 }
+
+/// `--ask` waits at most a day.
+const MOST_SECONDS: i64 = 86_400;
 
 /// The words after the program's name, and what help says of them.
 fn grammar<'a>(alloc: Global) -> Result<Command<'a>, AllocError> {
@@ -569,6 +603,9 @@ fn node_of<'a>(matches: &ArgMatches<'a>) -> Option<NodeWords<'a>> {
         is_explained: matches.get_flag("explain"),
         has_words: matches.get_flag("words"),
         name: matches.get_str("name"),
+        ask: matches.get_one::<u64>("ask"),
+        trim_at: matches.get_one::<u64>("trim-at"),
+        tells_joined: matches.get_flag("joined"),
     })
 }
 
@@ -870,7 +907,10 @@ fn perform<T: Threads + Wait + Sync>(
 }
 
 /// Reads the command line and runs it.
-fn status_of<T: Threads + Wait + Sync>(rt: &HostRuntime, threads: &T) -> u8 {
+fn status_of<T: Threads + Wait + Sync + Clock + Copy + Drop + Send + 'static>(
+    rt: &HostRuntime,
+    threads: &T,
+) -> u8 {
     let alloc = rt.alloc();
     let args = match std::env::args(rt) {
         Ok(args) => args,
@@ -889,7 +929,7 @@ fn status_of<T: Threads + Wait + Sync>(rt: &HostRuntime, threads: &T) -> u8 {
             perform(rt, threads, request, told, words, source)
         }
         Ok(Asked::Expand(told, source)) => expanding::run(rt, told == Told::Explained, source),
-        Ok(Asked::Node(words)) => node::run(rt, words),
+        Ok(Asked::Node(words)) => node::run(rt, *threads, words),
         Ok(Asked::MigrateFile(words)) => migration::run(rt, words),
         Ok(Asked::Resolve(words)) => resolving::run(rt, words),
         Ok(Asked::Judge(words)) => judging::run(rt, words),

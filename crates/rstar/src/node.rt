@@ -5,16 +5,23 @@ use crate::files::{
     End, device_failed, entry_of, failed, judged, log_in, no_memory, refused, settled, status_of,
     tree_in, warn,
 };
+use crate::pump::Pump;
+use desk_engine::run_desk;
 use file_store::{FileStore, HostFile, Trouble};
 use node_answers::Manner;
-use node_engine::{NodeFailure, Serving, StartError, run_node, start};
+use node_desk::{Habits, Waits, Watch};
+use node_engine::{NodeFailure, Serving, StartError, start};
 use std::alloc::{AllocError, Global};
 use std::io::{self, BufReader};
-use tree_model::Reaction;
+use std::sync::Wait;
+use std::thread::Threads;
+use std::time::{Clock, Duration};
+use tree_model::{ProcessId, Reaction};
 use tree_node::ReopenError;
 
 /// The words after `rstar node`: the file of the tree, the process, the file of its log, and whether that is
-/// to be made; whether what is refused is explained, and said by words; and the name of the tree.
+/// to be made; whether what is refused is explained, and said by words; the name of the tree; after how many seconds it
+/// asks again; over how many bytes of its log's file it trims; and whether it tells of each child that joins.
 #[derive(Clone, Copy)]
 pub struct NodeWords<'a> {
     pub tree: &'a str,
@@ -24,6 +31,9 @@ pub struct NodeWords<'a> {
     pub is_explained: bool,
     pub has_words: bool,
     pub name: Option<&'a str>,
+    pub ask: Option<u64>,
+    pub trim_at: Option<u64>,
+    pub tells_joined: bool,
 }
 
 /// A node over a log in a file.
@@ -43,12 +53,11 @@ fn not_started(alloc: Global, path: &str, error: StartError, trouble: &Trouble) 
 
 /// A node that started.
 #[derive(Drop)]
-struct OpenNode {
+struct OpenNode<'a> {
+    watch: Watch<'a>,
     node: FileNode,
     /// What it did as it opened.
     opening: Reaction,
-    /// The reason of whatever fails under its log.
-    trouble: Trouble,
 }
 
 /// How much the node says of what it refuses.
@@ -71,10 +80,27 @@ fn name_of(alloc: Global, words: NodeWords<'_>) -> Result<Option<String>, End> {
     }
 }
 
-/// The node of these words. Its file is written only once it is known that the process goes on over the log.
-fn started(rt: &HostRuntime, words: NodeWords<'_>) -> Result<OpenNode, End> {
+/// What tells the node of these words, in a tree with this root, when to ask and when to trim.
+fn watch_of<'a>(rt: &HostRuntime, words: NodeWords<'a>, root: ProcessId) -> Result<Watch<'a>, End> {
+    let habits = Habits {
+        root,
+        ask: words.ask.map(|seconds| Duration::from_secs(seconds)),
+        trim_at: words.trim_at,
+        tells_joined: words.tells_joined,
+        log: words.log,
+    };
+    match Watch::new(rt, habits) {
+        Ok(watch) => Ok(watch),
+        Err(_) => Err(failed(format!(in rt.alloc(); "the clock cannot be read"))),
+    }
+}
+
+/// The node of these words, and the reason of whatever fails under its log. Its file is written only once it is known that
+/// the process goes on over the log.
+fn started<'a>(rt: &HostRuntime, words: NodeWords<'a>) -> Result<(OpenNode<'a>, Trouble), End> {
     let alloc = rt.alloc();
     let tree = tree_in(rt, words.tree)?;
+    let watch = watch_of(rt, words, tree.root())?;
     let entry = entry_of(alloc, &tree, words.me)?;
     let name = name_of(alloc, words)?;
     let seen = log_in(rt, words.log, words.is_new)?;
@@ -82,11 +108,15 @@ fn started(rt: &HostRuntime, words: NodeWords<'_>) -> Result<OpenNode, End> {
     warn(rt, words.log, entry, seen.bytes());
     let (store, trouble) = settled(alloc, words.log, seen)?;
     match start(alloc, &tree, entry, store) {
-        Ok((node, opening)) => Ok(OpenNode {
-            node: node.speaking(manner_of(words), name),
-            opening,
-            trouble,
-        }),
+        Ok((node, opening)) => {
+            let node = node.speaking(manner_of(words), name);
+            let open = OpenNode {
+                watch,
+                node,
+                opening,
+            };
+            Ok((open, trouble))
+        }
         Err(error) => Err(not_started(alloc, words.log, error, &trouble)),
     }
 }
@@ -99,30 +129,68 @@ fn not_ended(alloc: Global, path: &str, failure: NodeFailure, trouble: &Trouble)
     }
 }
 
-/// Answers the input, and gives the store of the node, all of it forced.
-fn answer_input(
+/// Answers the lines that come from this reader, and gives the store of the node, all of it forced.
+fn answer_from<R: Waits>(
     rt: &HostRuntime,
     words: NodeWords<'_>,
-    node: FileNode,
-    opening: &Reaction,
+    open: OpenNode<'_>,
     trouble: &Trouble,
+    reader: &mut R,
 ) -> Result<FileStore<HostFile>, End> {
-    let alloc = rt.alloc();
-    let Ok(mut reader) = BufReader::new(alloc, rt.reader()) else {
-        let_go(node);
-        return Err(failed(Err(AllocError)));
-    };
-    let mut witness = Explainer::new(rt, words.is_explained);
-    match run_node(
-        alloc,
+    let OpenNode {
+        mut watch,
         node,
         opening,
-        &mut reader,
+    } = open;
+    let mut witness = Explainer::new(rt, words.is_explained);
+    match run_desk(
+        rt.alloc(),
+        node,
+        &opening,
+        &mut watch,
+        reader,
         &mut io::writer(rt),
         &mut witness,
     ) {
         Ok(store) => Ok(store),
-        Err(failure) => Err(not_ended(alloc, words.log, failure, trouble)),
+        Err(failure) => Err(not_ended(rt.alloc(), words.log, failure, trouble)),
+    }
+}
+
+/// Answers the input, which a thread reads, so that it can be waited for.
+fn answer_waiting<T: Threads + Wait + Clock + Copy + Drop + Send + 'static>(
+    rt: &HostRuntime,
+    threads: T,
+    words: NodeWords<'_>,
+    open: OpenNode<'_>,
+    trouble: &Trouble,
+) -> Result<FileStore<HostFile>, End> {
+    match Pump::new(threads, *rt) {
+        Ok(mut reader) => answer_from(rt, words, open, trouble, &mut reader),
+        Err(error) => {
+            let_go(open.node);
+            Err(failed(format!(in rt.alloc(); "standard input: {error}")))
+        }
+    }
+}
+
+/// Answers the input.
+fn answer_input<T: Threads + Wait + Clock + Copy + Drop + Send + 'static>(
+    rt: &HostRuntime,
+    threads: T,
+    words: NodeWords<'_>,
+    open: OpenNode<'_>,
+    trouble: &Trouble,
+) -> Result<FileStore<HostFile>, End> {
+    if words.ask.is_some() {
+        return answer_waiting(rt, threads, words, open, trouble);
+    }
+    match BufReader::new(rt.alloc(), rt.reader()) {
+        Ok(mut reader) => answer_from(rt, words, open, trouble, &mut reader),
+        Err(_) => {
+            let_go(open.node);
+            Err(failed(Err(AllocError)))
+        }
     }
 }
 
@@ -143,18 +211,22 @@ fn close(
 }
 
 /// Starts the node and answers its input.
-fn serve(rt: &HostRuntime, words: NodeWords<'_>) -> Result<(), End> {
-    let OpenNode {
-        node,
-        opening,
-        trouble,
-    } = started(rt, words)?;
-    let store = answer_input(rt, words, node, &opening, &trouble)?;
+fn serve<T: Threads + Wait + Clock + Copy + Drop + Send + 'static>(
+    rt: &HostRuntime,
+    threads: T,
+    words: NodeWords<'_>,
+) -> Result<(), End> {
+    let (open, trouble) = started(rt, words)?;
+    let store = answer_input(rt, threads, words, open, &trouble)?;
     close(rt, words.log, store, &trouble)
 }
 
-/// Runs a node, and answers the exit status. Why it did not start, or ended before its input did, stands on
-/// standard error.
-pub fn run(rt: &HostRuntime, words: NodeWords<'_>) -> u8 {
-    status_of(rt, "node", serve(rt, words))
+/// Runs a node, and answers the exit status. Why it did not start, or ended before its input did, is told on standard
+/// error. Threads are started with `ask` alone.
+pub fn run<T: Threads + Wait + Clock + Copy + Drop + Send + 'static>(
+    rt: &HostRuntime,
+    threads: T,
+    words: NodeWords<'_>,
+) -> u8 {
+    status_of(rt, "node", serve(rt, threads, words))
 }

@@ -1,0 +1,38 @@
+//! Lines of the desk's own, and what it tells of their answers.
+
+ghost use Rattle.std.specs.Prelude.{◌≡◌, IfOk};
+ghost use Rattle.node_desk.specs.Words.{ask_line as ask_line_of, messages_in as messages_of, takes as takes_by};
+
+use std::alloc::{AllocError, Global};
+use trace_lines::{push, push_case};
+use tree_model::Case;
+
+/// The line that trims a log.
+pub const TRIM: &str = "trim";
+
+/// The line that asks about a case.
+pub fn ask_line(alloc: Global, case: &Case) -> Result<Vec<u8>, AllocError>
+    ensures { IfOk result (λ line. line.items ≡ ask_line_of case.now) }
+{
+    let mut line = Vec::new(alloc);
+    push(&mut line, "ask ")?;
+    push_case(&mut line, case)?;
+    Ok(line)
+}
+
+/// What an answer says before its `ok`; of a refusal nothing.
+pub fn messages_in(answer: &[u8]) -> &[u8]
+    ensures { result.now ≡ messages_of answer.now }
+{
+    match answer.strip_suffix("ok\n".as_bytes()) {
+        Some(messages) => messages,
+        None => &[],
+    }
+}
+
+/// Whether an answer has a message before its `ok`.
+pub fn takes(answer: &[u8]) -> bool
+    ensures { result ≡ takes_by answer.now }
+{
+    !messages_in(answer).is_empty()
+}
