@@ -368,11 +368,12 @@ module _ (s : WorldState) (es : List Made) (w : World) (is_tree : IsTree s.tree)
 filtered_among : (net : List Envelope) (f : Ticket → Envelope) (p : Ticket → Bool) (ts : List Ticket)
     → AreAmong net (map f ts) → AreAmong net (map f (filter p ts))
 filtered_among net f p [] h = tt
-filtered_among net f p (t ∷ ts) h = by_test (p t)
+filtered_among net f p (t ∷ ts) h = by_test (p t) (filtered_among net f p ts h.1)
   where
-    by_test : (b : Bool) → AreAmong net (map f (if b then t ∷ filter p ts else filter p ts))
-    by_test true = (h.0, filtered_among net f p ts h.1)
-    by_test false = filtered_among net f p ts h.1
+    by_test : (b : Bool) → AreAmong net (map f (filter p ts))
+        → AreAmong net (map f (if b then t ∷ filter p ts else filter p ts))
+    by_test true rest = (h.0, rest)
+    by_test false rest = rest
 
 module _ (me : ProcessId) (c : Case) (owed : List Ticket) (v : CoordinatorView) (net ms : List Envelope) where
   by_outcome : (o : Option Outcome) → ((es : List Envelope) → tellings_for me c v o ≡ Some es → AreAmong net es)
