@@ -95,8 +95,16 @@ pub(crate) fn is_of(txn: &Txn, entry: &Entry) -> bool
     let written = reaction.written.as_slice();
     let messages = reaction.messages.as_slice();
     names(txn, reaction.begun, &entry.step.happening)
-        || written.iter().filter(|logged| is_record_of(txn, logged)).count() != 0
-        || messages.iter().filter(|envelope| is_message_of(txn, envelope)).count() != 0
+        || written
+            .iter()
+            .filter(|logged| is_record_of(txn, logged))
+            .count()
+            != 0
+        || messages
+            .iter()
+            .filter(|envelope| is_message_of(txn, envelope))
+            .count()
+            != 0
 }
 
 /// Whether a step of this process is of a transaction.
@@ -127,7 +135,11 @@ pub(crate) enum Choice {
 fn took_part(txn: &Txn, process: ProcessId, before: &[Marked]) -> bool
     ensures { result ≡ took_part_by txn.now process before.now }
 {
-    before.iter().filter(|marked| is_of_at(txn, process, &marked.entry)).count() != 0
+    before
+        .iter()
+        .filter(|marked| is_of_at(txn, process, &marked.entry))
+        .count()
+        != 0
 }
 
 /// Whether a step is a restart.

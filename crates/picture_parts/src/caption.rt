@@ -29,7 +29,11 @@ pub(crate) fn caption_of_events(
     push_number(&mut out, range.first as u64)?;
     let before = sent.iter().take_while(|drawn| !**drawn).count();
     if before < sent.len() {
-        push_word(&mut out, ", message 1 is message ", (before as u64).saturating_add(1))?;
+        push_word(
+            &mut out,
+            ", message 1 is message ",
+            (before as u64).saturating_add(1),
+        )?;
     }
     push(&mut out, ".")?;
     Ok(out)
@@ -74,7 +78,10 @@ pub(crate) fn caption_of_case(
     push_number(&mut out, txn.boot)?;
     push_word(&mut out, ".", txn.sequence)?;
     push_word(&mut out, " of a run of ", events as u64)?;
-    push(&mut out, " events. Events and messages are numbered from 1 here.")?;
+    push(
+        &mut out,
+        " events. Events and messages are numbered from 1 here.",
+    )?;
     Ok(out)
 }
 
@@ -93,10 +100,18 @@ fn head_of(alloc: Global, caption: &[u8], text: &[u8]) -> Result<Vec<u8>, AllocE
     let (width, height) = size_of(text).unwrap_or((0, 0));
     let height = height.saturating_add(HEIGHT);
     let mut out = Vec::new(alloc);
-    push_word(&mut out, "<svg xmlns=\"http://www.w3.org/2000/svg\" width=\"", width)?;
+    push_word(
+        &mut out,
+        "<svg xmlns=\"http://www.w3.org/2000/svg\" width=\"",
+        width,
+    )?;
     push_word(&mut out, "\" height=\"", height)?;
     push_pair(&mut out, "\" viewBox=\"0 0 ", width, height)?;
-    push_word(&mut out, "\" class=\"ink\">\n<rect class=\"bg\" width=\"", width)?;
+    push_word(
+        &mut out,
+        "\" class=\"ink\">\n<rect class=\"bg\" width=\"",
+        width,
+    )?;
     push_word(&mut out, "\" height=\"", HEIGHT)?;
     push(&mut out, "\"/><text x=\"20\" y=\"20\" class=\"b\">")?;
     out.extend_from_slice(caption)?;
@@ -106,11 +121,7 @@ fn head_of(alloc: Global, caption: &[u8], text: &[u8]) -> Result<Vec<u8>, AllocE
 }
 
 /// A picture below its caption.
-pub(crate) fn captioned(
-    alloc: Global,
-    caption: &[u8],
-    text: &[u8],
-) -> Result<Vec<u8>, AllocError>
+pub(crate) fn captioned(alloc: Global, caption: &[u8], text: &[u8]) -> Result<Vec<u8>, AllocError>
     ensures { IfOk result (λ whole. Surrounds text.now whole.items) }
 {
     let head = head_of(alloc, caption, text)?;

@@ -83,7 +83,11 @@ fn push_drawn(sent: &mut Vec<bool>, only: Option<Txn>, marked: &Marked) -> Resul
 
 /// Of each message of a run, in the order of their numbers, whether it is drawn.
 #[tactic(auto, unfolding(crate::specs::Cut::drawn_sent))]
-pub(crate) fn sent_of(alloc: Global, only: Option<Txn>, marks: &[Marked]) -> Result<Vec<bool>, AllocError>
+pub(crate) fn sent_of(
+    alloc: Global,
+    only: Option<Txn>,
+    marks: &[Marked],
+) -> Result<Vec<bool>, AllocError>
     ensures { IfOk result (λ sent. sent.items ≡ drawn_sent only marks.now) }
 {
     let mut sent = Vec::new(alloc);
@@ -165,11 +169,7 @@ fn entry_of(
 
 /// The steps that are drawn of a run, as they are drawn: what is of one transaction, if only that is drawn, or all.
 #[tactic(auto, unfolding(crate::specs::Cut::drawn_from))]
-pub fn drawn_from(
-    alloc: Global,
-    only: Option<Txn>,
-    marks: &[Marked],
-) -> Result<Vec<Entry>, Failure>
+pub fn drawn_from(alloc: Global, only: Option<Txn>, marks: &[Marked]) -> Result<Vec<Entry>, Failure>
     ensures { IfOk result (λ drawn. drawn.items ≡ drawn_part only marks.now) }
 {
     let sent = sent_of(alloc, only, marks)?;

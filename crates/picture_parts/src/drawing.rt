@@ -170,13 +170,7 @@ fn draw_range(
     let to = count_at(start, counts, range.last);
     let marks = marks_of(alloc, run.world, &Choice::Between(from, to))?;
     let entries = drawn_from(alloc, None, &marks)?;
-    let turns = Turns::of_events(
-        alloc,
-        counts,
-        *range,
-        from,
-        run.refusal.is_some(),
-    )?;
+    let turns = Turns::of_events(alloc, counts, *range, from, run.refusal.is_some())?;
     let sent = sent_of(alloc, None, &marks)?;
     let caption = caption_of_events(alloc, range, counts.len(), &sent)?;
     Ok(Ok(draw_turns(alloc, run, &turns, &entries, &caption)?))
