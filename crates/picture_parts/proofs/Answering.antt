@@ -1,26 +1,17 @@
 -- The answer for a part of a run.
-use Rattle.std.proofs.Common.{◌≡◌, ◌≤◌, ℕ, Option, List, Result, Ok, Err, length}
+use Rattle.std.proofs.Common.{ℕ, List, Result, Ok, Err}
 use Rattle.std.specs.Global.{Vec}
 use Rattle.tree_model.specs.declared.events.Event.{Event}
 use Rattle.tree_model.specs.declared.names.ProcessId.{ProcessId}
-use Rattle.tree_model.specs.declared.trees.TreeEntry.{TreeEntry}
 use Rattle.tree_model.specs.Trees.{root_of}
-use Rattle.logs_script.specs.declared.line.ProcessLog.{ProcessLog}
-use Rattle.reopen_script.specs.Inputs.{IsReopenScript}
 use Rattle.report_io.specs.declared.status.Status.{Status}
-use Rattle.core_law.specs.worlds.Refusals.{Refusal}
 use Rattle.core_law.specs.worlds.Worlds.{WorldState}
 use Rattle.tree_world.specs.Worlds.{state}
-use Rattle.tree_engine.specs.Runs.{BeginsBy}
-use Rattle.tree_engine.specs.Trees.{ending}
-use Rattle.tree_engine.specs.declared.run.Run.{Run}
 use Rattle.picture_parts.specs.declared.fault.PartFault.{PartFault}
 use Rattle.picture_parts.specs.declared.fault.PartFault.TheVariants as faults
 use Rattle.picture_parts.specs.declared.part.Part.{Part}
 use Rattle.picture_parts.specs.declared.part.Part.TheVariants.{Case, Events}
-use Rattle.picture_parts.specs.Counted.{CountsTo}
-use Rattle.picture_parts.specs.Drawn.{AnswersFrom, AnswersRun, AnswersScript, DrawsFrom, RefusesFrom}
-use Rattle.picture_parts.specs.Parts.{IsDrawn, IsFault}
+use Rattle.picture_parts.specs.Drawn.{AnswersRun, AnswersScript, RefusesFrom}
 
 -- of a run none is refused for its processes
 no_processes : (part : Part) (root : ProcessId) (start : WorldState) (events : List Event) (n : ℕ)

@@ -1,5 +1,5 @@
 -- Steps that are marked, one after another.
-use Rattle.std.proofs.Common.{◌≡◌, ◌∙◌, ap, sym, ℕ, ◌+◌, Some, List, [], ◌∷◌, ◌++◌, take}
+use Rattle.std.proofs.Common.{◌≡◌, ◌∙◌, ap, sym, ℕ, ◌+◌, Some, List, [], ◌∷◌, take}
 use Rattle.std.specs.Prelude.{fold, slice_get}
 use Rattle.std.proofs.lemmas.List.Sums.{fold-append}
 use Rattle.tree_model.specs.declared.events.Entry.{Entry}

@@ -1,5 +1,5 @@
 -- Events whose steps are counted, one after another.
-use Rattle.std.proofs.Common.{◌≡◌, ◌∙◌, ap, sym, subst, ℕ, zero, suc, ◌+◌, Some, List, [], ◌∷◌, ◌++◌, drop, length, take, refl, arith}
+use Rattle.std.proofs.Common.{◌≡◌, ap, sym, subst, ℕ, zero, suc, ◌+◌, Some, List, [], ◌∷◌, ◌++◌, drop, length, take, refl, arith}
 use Rattle.std.specs.Prelude.{slice_get}
 use Rattle.tree_model.specs.declared.events.Event.{Event}
 use Rattle.tree_model.specs.declared.events.StepError.{StepError}

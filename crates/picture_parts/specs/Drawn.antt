@@ -1,5 +1,5 @@
 -- The picture of a part of the run of a script.
-use Rattle.std.specs.Prelude.{◌≡◌, ◌⊎◌, ◌<◌, ◌≤◌, ℕ, Option, Some, None, List, Result, Ok, Err, length}
+use Rattle.std.specs.Prelude.{◌≡◌, ◌⊎◌, ◌<◌, ◌≤◌, ℕ, Option, List, Result, Ok, Err, length}
 use Rattle.std.specs.Global.{Vec}
 use Rattle.tree_model.specs.declared.events.Event.{Event}
 use Rattle.tree_model.specs.declared.names.ProcessId.{ProcessId}

@@ -1,11 +1,10 @@
 -- Which part of a run is drawn, and how large it is.
-use Rattle.std.specs.Prelude.{◌≡◌, ℕ, ◌+◌, ◌-◌, ◌<◌, ◌≤◌, Bool, true, false, not, ◌==◌, ◌&&◌, leb, if◌then◌else◌, Option, Some, None, Result, Ok, Err, List, [], count_by, fold, length, slice_get, unwrap_or}
+use Rattle.std.specs.Prelude.{◌≡◌, ℕ, ◌+◌, ◌-◌, ◌<◌, ◌≤◌, Bool, true, false, not, ◌==◌, ◌&&◌, leb, if◌then◌else◌, Some, None, Result, Ok, Err, List, count_by, fold, length, slice_get, unwrap_or}
 use Rattle.std.specs.Global.{Vec}
 use Rattle.std.specs.List.{slice_range}
 use Rattle.tree_model.specs.declared.events.Entry.{Entry}
 use Rattle.tree_model.specs.declared.names.ProcessId.{ProcessId}
 use Rattle.tree_model.specs.declared.names.Txn.{Txn}
-use Rattle.picture_parts.specs.declared.belonging.Choice.{Choice}
 use Rattle.picture_parts.specs.declared.belonging.Choice.TheVariants.{Between, OfTxn}
 use Rattle.picture_parts.specs.declared.belonging.Marked.{Marked}
 use Rattle.picture_parts.specs.declared.fault.PartFault.{PartFault}

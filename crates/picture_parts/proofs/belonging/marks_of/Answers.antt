@@ -1,4 +1,4 @@
-use Rattle.std.proofs.Common.{◌≡◌, ◌∙◌, ap, sym, [], ◌∷◌, ◌++◌}
+use Rattle.std.proofs.Common.{◌∙◌, ap, sym, [], ◌∷◌, ◌++◌}
 use Rattle.tree_world.specs.Worlds.{state}
 use Rattle.picture_parts.specs.Belonging.{is_shown}
 use Rattle.picture_parts.proofs.Marking.{marked_more}

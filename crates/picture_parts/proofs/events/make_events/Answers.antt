@@ -1,4 +1,4 @@
-use Rattle.std.proofs.Common.{◌≡◌, ◌∙◌, IfErr, IfOk, OnOk, [], ◌∷◌, ◌+◌, ap, drop, length, refl, subst, sym}
+use Rattle.std.proofs.Common.{◌≡◌, ◌∙◌, IfErr, OnOk, [], ◌∷◌, ◌+◌, ap, drop, refl, subst, sym}
 use Rattle.std.proofs.lemmas.List.{at_drop_more}
 use Rattle.core_law.specs.worlds.Worlds.{Applies, Stops}
 use Rattle.tree_engine.specs.Runs.{IsOwn}
