@@ -1,5 +1,5 @@
 -- The steps of a part of a run, as they are drawn.
-use Rattle.std.specs.Prelude.{ℕ, ◌+◌, ◌-◌, Bool, true, false, not, ◌==◌, ◌&&◌, if◌then◌else◌, Option, Some, None, List, [], ◌∷◌, ◌++◌, count_by, drop, filter, flat_map, fold, map, slice_get, take}
+use Rattle.std.specs.Prelude.{ℕ, ◌+◌, ◌-◌, Bool, true, false, ◌==◌, ◌&&◌, if◌then◌else◌, Option, Some, None, List, [], ◌∷◌, ◌++◌, count_by, drop, filter, flat_map, fold, map, slice_get, unwrap_or}
 use Rattle.tree_model.specs.declared.events.Entry.{Entry}
 use Rattle.tree_model.specs.declared.events.Happening.{Happening}
 use Rattle.tree_model.specs.declared.events.Happening.TheVariants as happening
@@ -52,18 +52,28 @@ drawn_messages only m = map (λ e. m.shown && message_stays only e) m.entry.reac
 unfoldable pub drawn_sent : Option Txn → List Marked → List Bool
 drawn_sent only ms = flat_map (drawn_messages only) ms
 
--- a flag, if there is one
-abbrev pub flag : Option Bool → Bool
-flag None = false
-flag (Some b) = b
+-- how many messages are drawn, and the numbers of all in the picture
+pub record Numbered : Type 0 where
+  pub drawn : ℕ
+  pub numbers : List ℕ
 
--- the message with this number is drawn
-abbrev pub is_drawn : List Bool → ℕ → Bool
-is_drawn sent n = not (n == 0) && flag (slice_get sent (n - 1))
+-- with a message more, which is drawn or not
+abbrev pub with_message : Numbered → Bool → Numbered
+with_message s b = record {
+  drawn = if b then s.drawn + 1 else s.drawn;
+  numbers = s.numbers ++ (if b then s.drawn + 1 else 0) ∷ [];
+}
 
--- its number in the picture; 0, if it is not drawn
-abbrev pub number_in : List Bool → ℕ → ℕ
-number_in sent n = if is_drawn sent n then count_by (λ b. b) (take n sent) else 0
+abbrev pub numbered_by : List Bool → Numbered
+numbered_by sent = fold with_message (record { drawn = 0; numbers = [] }) sent
+
+-- of each message its number in the picture; 0, if it is not drawn
+unfoldable pub numbers_of : List Bool → List ℕ
+numbers_of sent = (numbered_by sent).numbers
+
+-- that of the message with this number in the run; 0, if there is none
+abbrev pub number_in : List ℕ → ℕ → ℕ
+number_in numbers n = if n == 0 then 0 else unwrap_or (slice_get numbers (n - 1)) 0
 
 -- A crash takes of the records that are drawn those that it takes in the run.
 
@@ -106,19 +116,19 @@ tail_at only p ms = fold (with_step_at only p) (record { own = 0; all = [] }) ms
 abbrev pub own_left : TailState → ℕ → ℕ
 own_left t kept = t.own - count_by (λ b. b) (drop kept t.all)
 
--- A step as it is drawn, where messages are drawn so and these steps were before.
-abbrev pub drawn_happening : Option Txn → List Bool → List Marked → ProcessId → Happening → Happening
-drawn_happening only sent before p (happening.Input (input.Act a)) = happening.Input (input.Act a)
-drawn_happening only sent before p (happening.Input (input.Message n m)) =
-    happening.Input (input.Message (number_in sent n) m)
-drawn_happening only sent before p (happening.Restart k) = happening.Restart (own_left (tail_at only p before) k)
-drawn_happening only sent before p happening.Trim = happening.Trim
+-- A step as it is drawn, where messages have these numbers and these steps were before.
+abbrev pub drawn_happening : Option Txn → List ℕ → List Marked → ProcessId → Happening → Happening
+drawn_happening only numbers before p (happening.Input (input.Act a)) = happening.Input (input.Act a)
+drawn_happening only numbers before p (happening.Input (input.Message n m)) =
+    happening.Input (input.Message (number_in numbers n) m)
+drawn_happening only numbers before p (happening.Restart k) = happening.Restart (own_left (tail_at only p before) k)
+drawn_happening only numbers before p happening.Trim = happening.Trim
 
-unfoldable pub drawn_entry : Option Txn → List Bool → List Marked → Entry → Entry
-drawn_entry only sent before e = record {
+unfoldable pub drawn_entry : Option Txn → List ℕ → List Marked → Entry → Entry
+drawn_entry only numbers before e = record {
   step = record {
     process = e.step.process;
-    happening = drawn_happening only sent before e.step.process e.step.happening;
+    happening = drawn_happening only numbers before e.step.process e.step.happening;
     fault = e.step.fault;
   };
   reaction = cut only e.reaction;
@@ -129,16 +139,16 @@ pub record Drawn : Type 0 where
   pub before : List Marked
   pub entries : List Entry
 
-abbrev pub with_drawn : Option Txn → List Bool → Drawn → Marked → Drawn
-with_drawn only sent d m = record {
+abbrev pub with_drawn : Option Txn → List ℕ → Drawn → Marked → Drawn
+with_drawn only numbers d m = record {
   before = d.before ++ m ∷ [];
-  entries = if m.shown then d.entries ++ drawn_entry only sent d.before m.entry ∷ [] else d.entries;
+  entries = if m.shown then d.entries ++ drawn_entry only numbers d.before m.entry ∷ [] else d.entries;
 }
 
-abbrev pub drawn_by : Option Txn → List Bool → List Marked → Drawn
-drawn_by only sent ms = fold (with_drawn only sent) (record { before = []; entries = [] }) ms
+abbrev pub drawn_by : Option Txn → List ℕ → List Marked → Drawn
+drawn_by only numbers ms = fold (with_drawn only numbers) (record { before = []; entries = [] }) ms
 
 -- The steps that are drawn of a run, in order: what is of one transaction, if only that is drawn, or all; their messages
 -- with their numbers in the picture, and their crashes with the records that they leave of those that are drawn.
 unfoldable pub drawn_from : Option Txn → List Marked → List Entry
-drawn_from only ms = (drawn_by only (drawn_sent only ms) ms).entries
+drawn_from only ms = (drawn_by only (numbers_of (drawn_sent only ms)) ms).entries

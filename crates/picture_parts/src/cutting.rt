@@ -1,7 +1,7 @@
 //! The steps of a part of a run, as they are drawn.
 
-ghost use Rattle.std.specs.Prelude.{◌≡◌, ◌++◌, IfOk, OnOk, filter};
-ghost use Rattle.picture_parts.specs.Cut.{cut as cut_by, drawn_entry as drawn_by, drawn_from as drawn_part, drawn_happening, drawn_messages, drawn_sent, flag, is_drawn, message_stays as message_by, number_in, record_stays as record_by};
+ghost use Rattle.std.specs.Prelude.{◌≡◌, ◌+◌, ◌++◌, ◌∷◌, [], if◌then◌else◌, IfOk, OnOk, filter};
+ghost use Rattle.picture_parts.specs.Cut.{cut as cut_by, drawn_entry as drawn_by, drawn_from as drawn_part, drawn_happening, drawn_messages, drawn_sent, message_stays as message_by, number_in, numbers_of as numbers_by, record_stays as record_by};
 
 use crate::belonging::{Marked, is_message_of};
 use crate::counting::{Tail, record_stays};
@@ -97,43 +97,65 @@ pub(crate) fn sent_of(
     Ok(sent)
 }
 
-/// Whether the message with this number is drawn.
-fn is_sent(sent: &[bool], number: u64) -> bool
-    ensures { result ≡ is_drawn sent.now number }
+/// Adds the number of a message in the picture, of which N messages before it are drawn: how many are drawn with it.
+fn push_drawn_number(numbers: &mut Vec<u64>, drawn: u64, flag: bool) -> Result<u64, Failure>
+    ensures items { OnOk result (numbers.new.items
+        ≡ numbers.old.items ++ (if flag then drawn + 1 else 0) ∷ []) }
+    ensures next { IfOk result (λ next. next ≡ (if flag then drawn + 1 else drawn)) }
 {
-    if number == 0 || number > sent.len() as u64 {
-        return false;
+    if !flag {
+        numbers.push(0)?;
+        return Ok(drawn);
     }
-    sent[(number - 1) as usize]
+    let Some(next) = drawn.checked_add(1) else {
+        return Err(Failure::Exhausted);
+    };
+    numbers.push(next)?;
+    Ok(next)
 }
 
-/// The number of a message in the picture; 0, if it is not drawn.
-fn number_of(sent: &[bool], number: u64) -> u64
-    ensures { result ≡ number_in sent.now number }
+/// Of each message its number in the picture; 0, if it is not drawn.
+#[tactic(auto, unfolding(crate::specs::Cut::numbers_of))]
+fn numbers_of(alloc: Global, sent: &[bool]) -> Result<Vec<u64>, Failure>
+    ensures { IfOk result (λ numbers. numbers.items ≡ numbers_by sent.now) }
 {
-    if !is_sent(sent, number) {
+    let mut numbers = Vec::new(alloc);
+    let mut drawn: u64 = 0;
+    for flag in sent {
+        drawn = push_drawn_number(&mut numbers, drawn, *flag)?;
+    }
+    Ok(numbers)
+}
+
+/// The number in the picture of the message with this number in the run; 0, if it is not drawn.
+fn number_of(numbers: &[u64], number: u64) -> u64
+    ensures { result ≡ number_in numbers.now number }
+{
+    if number == 0 {
         return 0;
     }
-    let end = (number as usize).min(sent.len());
-    sent[..end].iter().filter(|drawn| **drawn).count() as u64
+    match numbers.get((number - 1) as usize) {
+        None => 0,
+        Some(number) => *number,
+    }
 }
 
 /// What happens in a step, as it is drawn.
 fn happening_of(
     alloc: Global,
     only: Option<Txn>,
-    sent: &[bool],
+    numbers: &[u64],
     before: &[Marked],
     process: ProcessId,
     happening: &Happening,
 ) -> Result<Happening, Failure>
-    ensures { IfOk result (λ drawn. drawn ≡ drawn_happening only sent.now before.now process happening.now) }
+    ensures { IfOk result (λ drawn. drawn ≡ drawn_happening only numbers.now before.now process happening.now) }
 {
     Ok(match happening {
         Happening::Input(Input::Act(act)) => Happening::Input(Input::Act(act.copied(alloc)?)),
         Happening::Input(Input::Message(number, message)) => {
             let message = message.copied(alloc)?;
-            Happening::Input(Input::Message(number_of(sent, *number), message))
+            Happening::Input(Input::Message(number_of(numbers, *number), message))
         }
         Happening::Restart(kept) => {
             let tail = Tail::of(alloc, only, process, before)?;
@@ -148,14 +170,14 @@ fn happening_of(
 fn entry_of(
     alloc: Global,
     only: Option<Txn>,
-    sent: &[bool],
+    numbers: &[u64],
     before: &[Marked],
     entry: &Entry,
 ) -> Result<Entry, Failure>
-    ensures { IfOk result (λ drawn. drawn ≡ drawn_by only sent.now before.now entry.now) }
+    ensures { IfOk result (λ drawn. drawn ≡ drawn_by only numbers.now before.now entry.now) }
 {
     let process = entry.step.process;
-    let happening = happening_of(alloc, only, sent, before, process, &entry.step.happening)?;
+    let happening = happening_of(alloc, only, numbers, before, process, &entry.step.happening)?;
     let reaction = cut(alloc, only, &entry.reaction)?;
     Ok(Entry {
         step: Step {
@@ -172,11 +194,11 @@ fn entry_of(
 pub fn drawn_from(alloc: Global, only: Option<Txn>, marks: &[Marked]) -> Result<Vec<Entry>, Failure>
     ensures { IfOk result (λ drawn. drawn.items ≡ drawn_part only marks.now) }
 {
-    let sent = sent_of(alloc, only, marks)?;
+    let numbers = numbers_of(alloc, &sent_of(alloc, only, marks)?)?;
     let mut drawn = Vec::new(alloc);
     for (place, marked) in marks.iter().enumerate() {
         if marked.shown {
-            drawn.push(entry_of(alloc, only, &sent, &marks[..place], &marked.entry)?)?;
+            drawn.push(entry_of(alloc, only, &numbers, &marks[..place], &marked.entry)?)?;
         }
     }
     Ok(drawn)

@@ -4,5 +4,5 @@ use Rattle.picture_parts.proofs.cutting.drawn_from.Given as goal
 
 abbrev pub invariant-loop-place : goal.invariant-loop-place
 invariant-loop-place l =
-    ((drawn_by l.only l.sent.items (take l.place l.marks)).before ≡ take l.place l.marks)
-    × ((drawn_by l.only l.sent.items (take l.place l.marks)).entries ≡ l.drawn.items)
+    ((drawn_by l.only l.numbers.items (take l.place l.marks)).before ≡ take l.place l.marks)
+    × ((drawn_by l.only l.numbers.items (take l.place l.marks)).entries ≡ l.drawn.items)
