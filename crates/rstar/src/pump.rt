@@ -1,5 +1,7 @@
 //! An input that can be waited for: a thread of its own reads it.
 
+ghost use Rattle.std.specs.Prelude.{◌≤◌, length};
+
 use crossbeam_channel::{Receiver, RecvTimeoutError, Sender, bounded};
 use node_desk::Waits;
 use std::alloc::Global;
@@ -52,6 +54,15 @@ fn hand_on<T: Wait, R: Read>(rt: &T, alloc: Global, reader: &mut R, parts: &Send
             return;
         }
     }
+}
+
+/// Copies as many of these bytes as there is room for, and says how many.
+fn copy_front(bytes: &[u8], room: &mut [u8]) -> usize
+    ensures { result ≤ length room.new }
+{
+    let count = bytes.len().min(room.len());
+    room[..count].copy_from_slice(&bytes[..count]);
+    count
 }
 
 /// An input that a thread of its own reads.
@@ -134,8 +145,7 @@ impl<T: Wait + Clock + Drop> Pump<T> {
 impl<T: Wait + Clock + Drop> Read for Pump<T> {
     fn read(&mut self, buf: &mut [u8]) -> io::Result<usize> {
         self.fill()?;
-        let count = self.rest().len().min(buf.len());
-        buf[..count].copy_from_slice(&self.rest()[..count]);
+        let count = copy_front(self.rest(), buf);
         self.consume(count);
         Ok(count)
     }
