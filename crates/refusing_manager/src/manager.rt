@@ -5,6 +5,7 @@ ghost use Rattle.std.specs.List.{list_any};
 ghost use Rattle.xa_branch.specs.Names.{same};
 ghost use Rattle.xa_codes.specs.declared.code.Code.TheVariants as code;
 ghost use Rattle.manager_model.specs.Ends.{Finishes};
+ghost use Rattle.manager_model.specs.Opening.{IsNew};
 ghost use Rattle.manager_model.specs.Sights.{SameManager};
 ghost use Rattle.refusing_manager.specs.Sights.{RefusesIt, limited};
 
@@ -27,6 +28,7 @@ impl<M: ResourceManager> RefusingManager<M> {
     pub fn new(manager: M, refused: Vec<Xid>) -> Self
         ensures manager { result.manager ≡ manager }
         ensures refused { result.refused ≡ refused }
+        ensures fresh { IsNew (M.sight manager) → IsNew (limited (M.sight result.manager)) }
     {
         RefusingManager { manager, refused }
     }
