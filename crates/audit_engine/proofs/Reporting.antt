@@ -40,11 +40,11 @@ mixed_pushed tree root t old a b c d e f g h told puts place right child then na
     told puts place right child then named end
 
 pub unreported_pushed : (tree : List TreeEntry) (root : Case) (t : Ticket) (old a b c d e f : List ℕ)
-    → a ≡ old ++ reporter_text tree t (codes " was known no more")
+    → a ≡ old ++ reporter_text tree t (codes " was no longer known")
     → b ≡ a ++ codes "  do: look at the data of " → c ≡ b ++ decimal t.child.0
     → d ≡ c ++ codes " and of what is below it, then forget " → e ≡ d ++ case_text root
     → f ≡ e ++ codes "\n" → f ≡ old ++ unreported_text tree root t
 unreported_pushed tree root t old a b c d e f told look place below named end =
-    six old a b c d e f (reporter_text tree t (codes " was known no more"))
+    six old a b c d e f (reporter_text tree t (codes " was no longer known"))
     (codes "  do: look at the data of ") (decimal t.child.0) (codes " and of what is below it, then forget ") (case_text root) (codes "\n")
     told look place below named end

@@ -140,7 +140,7 @@ mixed_text tree root t =
 -- who cannot say what became of a ticket, and what to do
 abbrev pub unreported_text : List TreeEntry → Case → Ticket → List ℕ
 unreported_text tree root t =
-    reporter_text tree t (codes " was known no more") ++ codes "  do: look at the data of "
+    reporter_text tree t (codes " was no longer known") ++ codes "  do: look at the data of "
     ++ decimal t.child.0 ++ codes " and of what is below it, then forget " ++ case_text root ++ codes "\n"
 
 -- who reported what the root's End reports, and what to do

@@ -272,7 +272,7 @@ fn push_unreported(
     requires { IsTree tree.now }
     ensures { OnOk result (out.new.items ≡ out.old.items ++ unreported_text tree.now root.now ticket.now) }
 {
-    push_reporter(out, tree, ticket, " was known no more")?;
+    push_reporter(out, tree, ticket, " was no longer known")?;
     push(out, "  do: look at the data of ")?;
     push_number(out, u64::from(ticket.child.0))?;
     push(out, " and of what is below it, then forget ")?;

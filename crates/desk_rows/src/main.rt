@@ -16,7 +16,7 @@ use tree_model::{ProcessId, Tree};
 
 const ROOT: ProcessId = ProcessId(1);
 
-/// Adds a line of so many bytes.
+/// Adds a line of N bytes.
 fn push_line(input: &mut Vec<u8>, byte: u8, count: usize, is_fed: bool) -> Result<(), AllocError> {
     for _ in 0..count {
         input.push(byte)?;

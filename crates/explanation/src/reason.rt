@@ -101,7 +101,7 @@ impl History<'_> {
         }
     }
 
-    /// Why a child's case is known no more, whose ticket was given in this event.
+    /// Why a child's case is no longer known, whose ticket was given in this event.
     fn known_no_more(&self, case: CaseName, joined: u64) -> EventFault
         ensures { refusal_of result ≡ StepError.UnknownTxn }
     {

@@ -5,7 +5,7 @@ use run_notes::Notes;
 use std::alloc::AllocError;
 use std::str;
 
-/// How many of these events were made before a step, where so many were made before an earlier one.
+/// How many of these events were made before a step, from the number made before an earlier one on.
 fn made_before(steps: &[usize], earlier: usize, step: usize) -> usize {
     let Some(rest) = steps.get(earlier..) else {
         return earlier;
@@ -39,7 +39,7 @@ pub(crate) fn push_told(
     Ok(())
 }
 
-/// Adds the line of what is told of a step after so many events.
+/// Adds the line of what is told of a step after this number of events.
 fn push_line(out: &mut String, events: usize, words: &[u8]) -> Result<(), AllocError> {
     let number = (events as u64).saturating_add(1);
     match str::from_utf8(words) {

@@ -6,7 +6,7 @@ use Rattle.std.specs.Io.KnownBytes.{Consumes, IsAtEnd}
 abbrev pub longest : ℕ
 longest = 4096
 
--- so many bytes are too many for a line
+-- these bytes are too many for a line
 abbrev pub beyond : List ℕ → Bool
 beyond front = nat_lt longest (length front)
 

@@ -1,6 +1,6 @@
 //! Floor: engines and program.
 //!
-//! The lines of an input, of which no more is kept in memory than a bound.
+//! The lines of an input, each kept in memory up to a bound.
 #![tactic(auto)]
 
 mod line;

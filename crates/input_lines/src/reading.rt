@@ -35,8 +35,8 @@ fn before_feed(bytes: &[u8]) -> usize
     at
 }
 
-/// What so many bytes bring a line to, of which the first line feed comes after so many, or none does; and how many of them
-/// the line takes.
+/// What the next bytes bring a line to: their number, and that of those before the first line feed, or of all if none is
+/// there. And how many of them the line takes.
 fn reach_of(before: usize, count: usize) -> (Reach, usize)
     requires { before ≤ count }
     ensures end { result.0 ≡ Reach.End → count ≡ 0 }
@@ -53,7 +53,7 @@ fn reach_of(before: usize, count: usize) -> (Reach, usize)
     }
 }
 
-/// So many of these bytes at most.
+/// The first of these bytes, as far as there is room.
 fn front_of(bytes: &[u8], room: usize) -> &[u8]
     ensures { result.now ≡ take room bytes.now }
 {
@@ -63,7 +63,7 @@ fn front_of(bytes: &[u8], room: usize) -> &[u8]
     }
 }
 
-/// Reads on in a line, as far as bytes are at hand, and keeps so many of them at most.
+/// Reads on in a line, as far as bytes are at hand, and keeps as many of them as there is room for.
 fn read_on<R: BufRead>(reader: &mut R, kept: &mut Vec<u8>, room: usize) -> Result<Reach, LineFault>
     ensures { IfOk result (λ reach. ReadsOn (R.remaining reader.old) (R.remaining reader.new)
         kept.old.items kept.new.items room reach) }
@@ -85,7 +85,7 @@ fn read_on<R: BufRead>(reader: &mut R, kept: &mut Vec<u8>, room: usize) -> Resul
     Ok(reach)
 }
 
-/// Reads the next line through its line feed, and keeps of it no more than `LONGEST` bytes and one. Without a line any
+/// Reads the next line through its line feed, and keeps at most `LONGEST` bytes and one of it. Without a line any
 /// more nothing is kept, and no line feed ends it.
 pub fn read_line<R: BufRead>(alloc: Global, reader: &mut R) -> Result<Line, LineFault>
     ensures { IfOk result (λ line. Reads (R.remaining reader.old) (R.remaining reader.new)

@@ -34,7 +34,7 @@ refusal_text refusal.Utf8 = codes "error 4" ++ 10 ∷ []
 refusal_text refusal.TooMany = codes "error 5" ++ 10 ∷ []
 refusal_text (refusal.Line n) = codes "error 3 " ++ decimal n ++ 10 ∷ []
 
--- why an input is refused: it is no text; the line of this number is the first that is the line of nothing; or more
+-- why an input is refused: it is no text; the line of this number is the first that asks for nothing; or more
 -- states are possible than can be gone through
 abbrev pub IsRefusal : List ℕ → Refusal → Type 0
 IsRefusal input refusal.Utf8 = IsUtf8 input → ⊥

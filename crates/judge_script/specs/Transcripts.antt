@@ -49,13 +49,13 @@ pub record AreTranscript (ls : List (List ℕ)) (t : Transcript) : Type 0 where
 abbrev pub IsTranscript : List ℕ → Transcript → Type 0
 IsTranscript text t = AreTranscript (lines text) t
 
--- a line is the line of nothing after a transcript: if no event came yet, it says nothing of the manager; and it spells
+-- a line asks for nothing after a transcript: if no event came yet, it says nothing of the manager; and it spells
 -- no event
 pub record IsNoLine (t : Transcript) (line : List ℕ) : Type 0 where
   pub header : length t.events.items ≡ 0 → ruled t.rules (words_in line) ≡ None
   pub event : SpellsNoEvent (words_in line)
 
--- the line of this number, counted from 1, is the first that is the line of nothing: those before it are a transcript,
+-- the line of this number, counted from 1, is the first that asks for nothing: those before it are a transcript,
 -- and it is not passed over
 pub record IsFirstBadLine (ls : List (List ℕ)) (number : ℕ) : Type 0 where
   pub index : ℕ

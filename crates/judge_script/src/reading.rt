@@ -115,7 +115,7 @@ impl<'a> Transcript<'a> {
         }
     }
 
-    /// Adds a line of this number: false, if it is the line of nothing.
+    /// Adds a line of this number: false, if it asks for nothing.
     fn add(&mut self, alloc: Global, line: &'a str, number: usize) -> Result<bool, AllocError>
         ensures added { IfOk result (λ added. added ≡ true → (ls : List (List ℕ)) → is_blank line.now ≡ false
             → number ≡ length ls + 1 → AreTranscript ls self.old → AreTranscript (ls ++ line.now ∷ []) self.new) }

@@ -64,7 +64,7 @@ Asks root n (Some line) (Err (Fault (Line k))) =
     (is_skipped line ≡ false) × (event_at root line ≡ None) × (k ≡ n)
 Asks root n line read = ⊥
 
--- memory was refused, or the first line that is the line of no event has the fault's number
+-- memory was refused, or the first line that is not an event has the fault's number
 abbrev pub IsLineError : ScriptError → Result (List Event) ℕ → Type 0
 IsLineError Memory asked = Unit {0}
 IsLineError (Fault (Line n)) asked = asked ≡ Err n

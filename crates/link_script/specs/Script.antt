@@ -14,7 +14,7 @@ line_then n None more = Err n
 line_then n (Some e) more = with_front (e ∷ []) more
 
 -- the events of lines, each read so, the first of which has this number; or the number of the first line that
--- is the line of no event
+-- is not an event
 unfoldable pub events_at : (List ℕ → Option Event) → ℕ → List (List ℕ) → Result (List Event) ℕ
 events_at read n [] = Ok []
 events_at read n (line ∷ lines) =

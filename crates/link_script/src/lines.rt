@@ -94,7 +94,7 @@ impl<'a> Lines<'a> {
     }
 
     /// The event that the line at this place asks for, from 0; None where it is empty or begins with `#`, and
-    /// where there are not N. Line, with its number in the script: it is the line of no event.
+    /// where there are not N. Line, with its number in the script: it is not an event.
     pub fn event(&self, alloc: Global, place: usize) -> Result<Option<Event>, ScriptError>
         ensures { Asks self.now.root (self.now.before + place + 1)
             (slice_get self.now.lines place) result }
@@ -115,7 +115,7 @@ impl<'a> Lines<'a> {
         }
     }
 
-    /// What all of them ask for, in order; or the fault Line of the first that is the line of no event.
+    /// What all of them ask for, in order; or the fault Line of the first that is not an event.
     pub fn events(&self, alloc: Global) -> Result<Vec<Event>, ScriptError>
         ensures ok { IfOk result (λ events. asked_by self.now ≡ Ok events.items) }
         ensures err { IfErr result (λ error. IsLineError error (asked_by self.now)) }

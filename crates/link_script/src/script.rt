@@ -31,7 +31,7 @@ pub enum ScriptFault {
     TooLong,
     /// The line of this number, counted from the input's first from 1 on, asks for no event; those before it
     /// do.
-    #[error("line {0} is the line of no event")]
+    #[error("line {0} is not an event")]
     Line(u64),
 }
 

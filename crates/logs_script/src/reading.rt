@@ -83,8 +83,8 @@ fn logs_behind(
 
 /// Reads the text of a tree, a line of three dashes, and a line for the log of each process, each once, in
 /// any order. Empty lines and lines that begin with `#` are skipped. The faults are Utf8, TreeText, Tree and
-/// Line, each judged over the whole input before the next. Line has the number of the first line that is the
-/// line of no log, of no process of the tree, or of a process that has one already; where each is sound and
+/// Line, each judged over the whole input before the next. Line has the number of the first line that is
+/// not a log, or is of no process of the tree, or of a process that has one already; where each is sound and
 /// a process has none, that of the input's last.
 pub fn read_logs(alloc: Global, bytes: &[u8]) -> Result<(Tree, ProcessLogs), ScriptError>
     ensures ok { IfOk result (λ (tree, logs). IsLogsText bytes.now tree logs) }

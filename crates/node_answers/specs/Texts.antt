@@ -62,7 +62,7 @@ data_text ps = pairs_text ps ++ ok_text
 
 -- Refusals.
 
--- why a line is the line of nothing, in a word after a space, if it is to be said
+-- why a line asks for nothing, in a word after a space, if it is to be said
 abbrev pub nothing_word : Manner → Nothing → List ℕ
 nothing_word Numbers n = []
 nothing_word Words NoText = codes " no-text"

@@ -16,7 +16,7 @@ pub enum Manner {
     Words,
 }
 
-/// Why a line is the line of nothing.
+/// Why a line asks for nothing.
 #[derive(Clone, Copy, Debug, PartialEq, Eq)]
 pub enum Nothing {
     /// It is no UTF-8.
@@ -25,7 +25,7 @@ pub enum Nothing {
     NoLine,
 }
 
-/// Why a line is the line of nothing, after a space, if it is to be said.
+/// Why a line asks for nothing, after a space, if it is to be said.
 fn word_of_nothing(manner: Manner, nothing: Nothing) -> &'static str
     ensures { result.now ≡ nothing_word manner nothing }
 {

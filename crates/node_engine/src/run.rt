@@ -251,7 +251,7 @@ fn finish<W: Write, L: LogStore + Drop, N: Witness>(
 }
 
 /// Writes what a process did as it opened, and answers each line of the input: by the lines of a trace and
-/// `ok`, by `refused` and a number, or by `error` where it is the line of nothing. Each answer is written
+/// `ok`, by `refused` and a number, or by `error` where it asks for nothing. Each answer is written
 /// before the next line is read, and after the records that it rests on, which are forced where the process
 /// forces them. After each answer the witness sees it with its line. At the end of the input, and at a line `end`,
 /// all that stands in the log is forced; `end` is answered then, and nothing is read after it. Ok: so it ended,

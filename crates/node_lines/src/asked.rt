@@ -50,7 +50,7 @@ pub enum Asked {
     Help,
     /// That it ends.
     End,
-    /// It is the line of nothing.
+    /// It asks for nothing.
     Unknown,
     /// It is no text: not UTF-8.
     NoText,

@@ -1,4 +1,4 @@
--- A line whose first word is `log` is the line of no event.
+-- A line whose first word is `log` is not an event.
 use Rattle.std.proofs.Common.{◌≡◌, ◌∙◌, ap, refl, ℕ, true, codes, Option, Some, None, List}
 use Rattle.spellings.specs.Words.{cut_at}
 use Rattle.tree_model.specs.declared.names.ProcessId.{ProcessId}

@@ -38,14 +38,14 @@ ahead_in lines = take (leading lines) lines
 abbrev pub behind_in : List (List ℕ) → List (List ℕ)
 behind_in lines = drop (leading lines) lines
 
--- what is read after a line: the line's number, where it is the line of no log
+-- what is read after a line: the line's number, where it is not the line of a log
 abbrev pub line_then : List ProcessLog → ℕ → Option ProcessLog
     → (List ProcessLog → Result (List ProcessLog) ℕ) → Result (List ProcessLog) ℕ
 line_then ls n None more = Err n
 line_then ls n (Some l) more = more (ls ++ l ∷ [])
 
 -- these logs and those of the lines, the first of which has this number; or the number of the first line that is
--- the line of no log
+-- not the line of a log
 unfoldable pub logs_in : List ProcessLog → ℕ → List (List ℕ) → Result (List ProcessLog) ℕ
 logs_in ls n [] = Ok ls
 logs_in ls n (line ∷ lines) =

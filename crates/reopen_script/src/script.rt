@@ -14,7 +14,7 @@ use tree_model::{Event, Tree};
 /// them, which are read one after another. Empty lines and lines that begin with `#` are skipped. The faults are
 /// Utf8, TreeText, Tree, TooLong and Line, each judged over the whole input before the next; the lines ahead of
 /// the events do not count for TooLong. Line is that of the first line whose first word is `log`, before any
-/// event, and which is the line of no log; where each is one and they are not those of all processes, each once,
+/// event, and which is not the line of a log; where each is one and they are not those of all processes, each once,
 /// that of the first line after them, or of the last of them, if none is.
 pub fn open_reopen<'a>(
     alloc: Global,
@@ -43,7 +43,7 @@ pub fn open_reopen<'a>(
 }
 
 /// The tree, the logs and the events of such a script, all of its lines read. The faults are those of
-/// `open_reopen`, and Line of the first line after the logs that is the line of no event.
+/// `open_reopen`, and Line of the first line after the logs that is not an event.
 pub fn read_reopen(
     alloc: Global,
     bytes: &[u8],

@@ -35,7 +35,7 @@ without a code, as 'refused 22001'. Empty lines and lines that begin with # are 
 Out: 'conforms N calls' if a manager that keeps to XA may have answered so; else the first line that none
 may have answered, how thread and branch stand there, what is admitted, and the rule; the status is 3.
 With --all it goes on after a fault as if the answer had been admitted, and counts the faults by sort.
-'error 3 N': line N is the line of nothing; 'error 4': no UTF-8; 'error 5': more states are possible than
+'error 3 N': line N asks for nothing; 'error 4': no UTF-8; 'error 5': more states are possible than
 it goes through. docs/XA_MANAGERS.md has the rules, and what managers do.
 
 With --plan SEED N a script of N calls for 'rstar xa' or a driver of another manager, which walks every

@@ -138,7 +138,7 @@ In: the processes as TOML, a line ---, and an event a line:
   settle                               all that were not delivered, at most 10,000 of them
   ask CASE                             a case in doubt asks its parent
   restart P [K]                        process P crashes and comes back; K bytes of its log are
-                                       kept behind those that are forced (without K: all)
+                                       kept after those that are forced (without K: all)
   trim P                               the log of process P
   heur CASE commit|rollback            an operator decides a manager's case in doubt
   forget CASE                          and lets it go; at the root: clears what its End reports
@@ -180,7 +180,7 @@ In: a request a line, of one resource manager:
   get TH KEY, put TH KEY VALUE, del TH KEY    in the branch that the thread is active in
   heur XID commit|rollback                    an operator decides a prepared branch
   restart [K]                                 it crashes and comes back; K bytes of its log are
-                                              kept behind those that are forced (without K: all)
+                                              kept after those that are forced (without K: all)
   trim                                        its log
 TH is a number, XID as 7:01:02 (format, global name and branch's name, both in hexadecimal),
 FLAGS are XA's names, joined by +, as TMJOIN or TMNOFLAGS. INFO is 1 to 32 letters; opened by
@@ -200,7 +200,7 @@ Where it refuses, --explain tells on standard error what is wrong, and what is w
 
 In: the processes as TOML, a line ---, and a line 'log P HEX' for the log of each process, of
 either format. Out: for each process 'log P' and a line for each record: the place of its first
-byte, its kind, its name, and what it carries; 'torn N' behind the last where N bytes are a torn
+byte, its kind, its name, and what it carries; 'torn N' after the last if N bytes are a torn
 tail. 'damaged P PLACE' alone where a log is damaged, 'error ..' where the input is refused.
 
 With --file nothing is read on standard input: TREE is a file with the processes, and then come the
@@ -218,11 +218,11 @@ that a log still tells of, process by process: 'CASE OWN OUTCOME'. OWN is how th
 by the records of its own process: commit, abort, collecting, in-doubt, heur-commit or
 heur-rollback. OUTCOME is how its transaction ends if every process restarts now: the case's
 own decision or what it was told, or else what its parent's log says, or else what is presumed;
-one that is not decided yet counts as aborted. ' mismatch' stands behind it where an operator
-decided otherwise; behind a root's line ' reported T ..' and ' unreported T ..' where the end of
-its case reports these tickets as decided against the outcome, or as known no more, until it is
+one that is not decided yet counts as aborted. ' mismatch' stands after it if an operator
+decided otherwise; after a root's line ' reported T ..' and ' unreported T ..' where the end of
+its case reports these tickets as decided against the outcome, or as no longer known, until it is
 forgotten. The last line is 'mismatches N'; the status is 3 where N is above 0. 'damaged P PLACE'
-alone where a log is damaged, 'error ..' where the input is refused. With --explain, behind each
+alone where a log is damaged, 'error ..' where the input is refused. With --explain, after each
 line that is in-doubt, shows a mismatch or reports tickets: who asks whom about it, or who
 reported it, a line a step, or what it was told; and what to do. With --file the logs are read in
 files, as 'rstar log --help' has it.
@@ -246,8 +246,8 @@ all events leave without one, where they leave something: 'in-doubt CASE ..', 'm
 likewise the cases that it adds; it is the run of the first N events and 'restart P K'. Within
 a settle it is 'event N delivery D restart P K:', after the first D deliveries of event N.
 'refused N E' would stand there, too, were there such a crash; none was found. The last line is
-'points N in-doubt D mismatches M': so many crashes were tried, and so many add a case in doubt,
-and a mismatch. 'refused N E' stands behind it where event N of the script is refused, and
+'points N in-doubt D mismatches M': N crashes were tried, D of them add a case in doubt, and M
+a mismatch. 'refused N E' stands after it if event N of the script is refused, and
 'error ..' alone where the script is. The status is 2 where an event is refused, else 3 where
 the script or a crash leaves something. Standard error has a line for each percent of the
 events. Each crash runs its script anew, so the time goes with the square of the number of
@@ -267,7 +267,7 @@ that it refuses. With --words a refusal has a word after its number, as 'refused
 begin, for 'resolve'.
 
 Beside the lines of the input, and without an 'ok', so that each 'ok' answers one of them:
-  --ask SECONDS    each case in doubt is asked about again, as by 'ask CASE', each time so many
+  --ask SECONDS    each case in doubt is asked about again, as by 'ask CASE', each time this many
                    seconds have passed; what is written of it are its messages
   --trim-at BYTES  the log is trimmed after an answer, if its file is longer; of what a trim took
                    'outcome' is 'unknown'. If much is left, not before it has doubled
@@ -302,7 +302,7 @@ In, a line each, answered in order, each before the next is read:
   data                                 a line 'data KEY VALUE' for each key of a manager, both in
                                        hexadecimal
   help                                 a line for each kind of line that a node knows
-  end                                  all that stands is forced, and it ends; nothing behind is read
+  end                                  all that stands is forced, and it ends; nothing after it is read
 Out: what the process did, as a trace has it, and then 'ok'; 'refused E' (docs/ERRORS.md; 9 what
 is for another process, or from one that may not send it); 'error' where the line is the line of
 nothing, or has more than 4,096 bytes before its line feed. What an answer rests on is on the disk
@@ -501,7 +501,7 @@ fn node_grammar<'a>(alloc: Global) -> Result<Command<'a>, AllocError> {
         Arg::new(alloc, "ask")
             .long("ask")
             .value_name("SECONDS")
-            .help("Asks again about what is in doubt, each time so many seconds have passed")
+            .help("Asks again about what is in doubt, each time this many seconds have passed")
             .value_parser(value_parser!(u64).range(1..=MOST_SECONDS)),
     )?
     .arg(

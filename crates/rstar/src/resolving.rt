@@ -61,7 +61,7 @@ pub(crate) fn words<'a>(alloc: Global) -> Result<Command<'a>, AllocError> {
     subcommand(
         alloc,
         "resolve",
-        "Tells of prepared branches that were left behind how to end them, by the logs of their tree",
+        "Tells of prepared branches that were left over: how to end them, by the logs of their tree",
         HELP,
     )
     .arg(option(alloc, "logs", "FILE", "The file of a tree and its logs").conflicts_with("file")?)?

@@ -94,7 +94,7 @@ pub fault_there : (input : List ℕ) (error : ScriptError) (fault : ScriptFault)
     → IsReopenError input error → IsReopenFault input fault
 fault_there input error fault is there = subst (IsReopenError input) is there
 
--- the first line of no event is what is wrong with a script as far as its lines
+-- the first line that is not an event is what is wrong with a script as far as its lines
 pub line_fault : (input : List ℕ) (tree : List TreeEntry) (logs : Option (List ProcessLog)) (lines : LinesState)
     (fault : ScriptFault) → IsOpenReopen input tree logs lines → IsLineError (Fault fault) (asked_by lines)
     → IsReopenFault input fault

@@ -62,7 +62,7 @@ abbrev pub IsInputFault : List ℕ → InputFault → Type 0
 IsInputFault input (inputs.Script fault) = IsReopenFault input fault
 IsInputFault input (inputs.Damaged process place) = IsDamaged input process place
 
--- what is first wrong with a script one of whose logs is damaged there, if its lines ask for this: a line of no event,
+-- what is first wrong with a script one of whose logs is damaged there, if its lines ask for this: a line that is not an event,
 -- or the log
 abbrev pub IsFirstFault : ProcessId → ℕ → Result (List Event) ℕ → InputFault → Type 0
 IsFirstFault process place asked (inputs.Script fault) = IsLineError (Fault fault) asked

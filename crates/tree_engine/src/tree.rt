@@ -233,7 +233,7 @@ fn play(alloc: Global, input: &[u8]) -> Result<Result<Run, InputFault>, Failure>
     }
 }
 
-/// Makes the event of each of these lines in a tree that has just opened; or tells the first line of no event.
+/// Makes the event of each of these lines in a tree that has just opened; or tells the first line that is not an event.
 fn play_lines(alloc: Global, run: Run, lines: &Lines) -> Result<Result<Run, ScriptFault>, Failure>
     requires { HasCome (state run.world) [] run }
     ensures run { IfOk result (λ played. IfOk played (λ end. HasPlayed run end lines.now)) }
@@ -257,8 +257,8 @@ fn play_lines(alloc: Global, run: Run, lines: &Lines) -> Result<Result<Run, Scri
     }
 }
 
-/// Makes the event of each of these lines in a tree that has just opened; or tells the first line of no
-/// event.
+/// Makes the event of each of these lines in a tree that has just opened; or tells the first line that is not
+/// an event.
 fn make_lines(
     alloc: Global,
     run: &mut Run,
@@ -284,7 +284,7 @@ fn make_lines(
     Ok(Ok(()))
 }
 
-/// What is wrong with an input one of whose logs is damaged there: a line of no event comes first.
+/// What is wrong with an input one of whose logs is damaged there: a line that is not an event comes first.
 fn first_fault(
     alloc: Global,
     lines: &Lines,

@@ -58,8 +58,8 @@ pub enum TreeError {
     /// A process is listed twice.
     #[error("a process is listed twice")]
     TwoParents,
-    /// The parents of a process lead round in a circle.
-    #[error("the parents of a process lead round in a circle")]
+    /// The parents of a process form a cycle.
+    #[error("the parents of a process form a cycle")]
     Cycle,
     /// A manager has a child.
     #[error("a manager has a child")]

@@ -16,7 +16,7 @@ const LINES: usize = 100_000;
 #[derive(Clone, Copy, Debug, PartialEq, Eq, Error)]
 pub enum ScriptError {
     /// A line that spells no request, by its number from 1. The first of them is named.
-    #[error("line {0} is the line of no request")]
+    #[error("line {0} is not a request")]
     Line(usize),
     /// The input is no UTF-8.
     #[error("the script is not UTF-8")]
