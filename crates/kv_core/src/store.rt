@@ -8,6 +8,7 @@ ghost use Rattle.kv_locks.specs.Locks.{holders_of};
 ghost use Rattle.kv_store.specs.Pairs.{ArePairsOf};
 ghost use Rattle.kv_store.specs.writes.Writes.{AreWrites, ListedAt, writes_of};
 ghost use Rattle.xa_assoc.specs.Answers.{Answers, BeginsIdle, Closes, Opens, Recovers, Takes, Wanted, map_ok};
+ghost use Rattle.xa_assoc.specs.Associations.{IsListed};
 ghost use Rattle.xa_assoc.specs.Ready.{is_closed, is_work_verb, leaves};
 ghost use Rattle.xa_tables.specs.Calls.{legal};
 ghost use Rattle.xa_tables.specs.Tables.{is_spoiled};
@@ -182,6 +183,13 @@ impl KeyStore {
         ensures { AreListedOnce self.now.tables.branches.branches }
     {
         self.states.branches_are_listed_once();
+    }
+
+    /// Each thread that holds associations is listed once, and a branch as suspended for migration only if it is.
+    pub fn associations_are_listed_once(&self)
+        ensures { IsListed self.now.tables.associations }
+    {
+        self.states.associations_are_listed_once();
     }
 
     /// Whether one commit more can be counted: fewer than 2^63 - 1 were made.

@@ -9,6 +9,7 @@ ghost use Rattle.kv_core.specs.Ends.{known_of};
 ghost use Rattle.xa_branch.specs.Branches.{AreListedOnce};
 ghost use Rattle.xa_heur.specs.Decisions.{decision_at};
 ghost use Rattle.xa_assoc.specs.Answers.{Answers, BeginsIdle, Closes, Opens, Recovers, Wanted, map_ok};
+ghost use Rattle.xa_assoc.specs.Associations.{IsListed};
 ghost use Rattle.xa_assoc.specs.Ready.{is_work_verb, leaves};
 ghost use Rattle.xa_tables.specs.Calls.{legal};
 ghost use Rattle.kv_manager.specs.Resources.{sight_of};
@@ -123,6 +124,13 @@ impl<L: LogStore> KvManager<L> {
         ensures { AreListedOnce self.now.store.tables.branches.branches }
     {
         self.store.branches_are_listed_once();
+    }
+
+    /// Each thread that holds associations is listed once, and a branch as suspended for migration only if it is.
+    pub fn associations_are_listed_once(&self)
+        ensures { IsListed self.now.store.tables.associations }
+    {
+        self.store.associations_are_listed_once();
     }
 
     /// The records of its log may follow one another, also where its device has failed.

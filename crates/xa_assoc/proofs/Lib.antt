@@ -1,3 +1,4 @@
+pub mod Listed
 pub mod Sound
 pub mod Counts
 pub mod Reactions

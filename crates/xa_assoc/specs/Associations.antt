@@ -1,6 +1,6 @@
 -- The associations of threads with branches (C193, chapter 6).
-use Rattle.std.specs.Prelude.{◌≡◌, ◌≢◌, ◌+◌, ℕ, Bool, true, false, ◌||◌, List, Option, Some, None, Result, Ok, Err, MatchResult, IfOk, Contains, is_some, ◌&&◌, not, length, nat_lt, ◌==◌, ◌-◌, ◌^◌, unwrap_or, nat_eq, if◌then◌else◌}
-use Rattle.std.specs.List.{list_any}
+use Rattle.std.specs.Prelude.{◌≡◌, ◌≢◌, ◌+◌, ◌<◌, ℕ, Bool, true, false, ◌||◌, List, [], ◌∷◌, Option, Some, None, Result, Ok, Err, MatchResult, IfOk, Contains, is_some, ◌&&◌, not, length, nat_lt, ◌==◌, ◌-◌, ◌^◌, unwrap_or, nat_eq, if◌then◌else◌}
+use Rattle.std.specs.List.{AllByRecursion, list_any}
 use Rattle.std.specs.Option.{option_map_or}
 use Rattle.std.specs.Map.{lookup}
 use Rattle.xa_codes.specs.declared.code.Code.{Code}
@@ -53,10 +53,26 @@ is_holder a t = is_some (lookup (nat_eq t) a.holders)
 abbrev pub holds_any : AssocList → ℕ → Bool
 holds_any a t = is_some (active_of a t) || has_some a.seats t
 
--- no thread has suspended the branch that it is active in, and one that has suspended a branch is listed
+-- each thread that holds associations is listed once, as the keys of a map are
+abbrev pub AreListedOnce : List (ℕ × Option Xid) → Type 0
+AreListedOnce [] = Unit {0}
+AreListedOnce (e ∷ es) = AllByRecursion (λ f. nat_eq f.0 e.0 ≡ false) es × AreListedOnce es
+
+-- nothing is listed that is counted no times
+abbrev pub AreCounted : {K : Type 0} → List (K × ℕ) → Type 0
+AreCounted es = AllByRecursion (λ e. 0 < e.1) es
+
+-- each thread is listed once among those that hold associations, and a branch as suspended for migration only if it is
+pub record IsListed (a : AssocList) : Type 0 where
+  pub once : AreListedOnce a.holders
+  pub counted : AreCounted a.moved
+
+-- no thread has suspended the branch that it is active in, and one that has suspended a branch is listed; a branch is
+-- listed as suspended for migration only if it is
 pub record IsSound (a : AssocList) : Type 0 where
   pub apart : (t : ℕ) (x : Xid) → is_active a t x ≡ true → has_seat a t x ≡ false
   pub kept : (t : ℕ) (x : Xid) → has_seat a t x ≡ true → is_holder a t ≡ true
+  pub counted : AreCounted a.moved
 
 -- a thread is active in a branch, whichever it is
 abbrev pub has_active : AssocList → Xid → Bool

@@ -1,7 +1,7 @@
 //! Each thread's associations, and those that belong to nobody.
 
 ghost use Rattle.std.specs.Prelude.{◌≡◌, ◌≢◌, ◌≤◌, ◌<◌, ◌+◌, ◌^◌, ◌↔◌, IsTrue, [], IfOk, OnOk, OnErr, IsOk, Some, None, is_some, true, false, option_map, ◌||◌};
-ghost use Rattle.xa_assoc.specs.Associations.{AssocList, active_of, has_seat, own_state, moved_of, Moves, Turns, Settles, Recounts, has_some, is_holder, is_active, has_room, Steps, start_plan, resume_plan, moved_plan, suspend_plan, end_plan, has_active, has_suspended, IsBare};
+ghost use Rattle.xa_assoc.specs.Associations.{AssocList, active_of, has_seat, own_state, moved_of, Moves, Turns, Settles, Recounts, has_some, is_holder, is_active, has_room, Steps, start_plan, resume_plan, moved_plan, suspend_plan, end_plan, has_active, has_suspended, IsBare, IsListed};
 
 use crate::held::{OfBranch, Seat};
 use crate::seats::{Seats, count, recount};
@@ -58,6 +58,13 @@ impl Associations {
             migrated: IndexMap::new(alloc),
             migrates,
         }
+    }
+
+    /// Each thread that holds associations is listed once, and a branch as suspended for migration only if it is.
+    pub fn are_listed_once(&self)
+        ensures { IsListed self.now }
+    {
+        let _ = self.active.len();
     }
 
     /// The branch that a thread is active in.

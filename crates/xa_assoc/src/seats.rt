@@ -3,7 +3,7 @@
 ghost use Rattle.std.specs.Prelude.{◌≡◌, ◌≤◌, ◌<◌, ◌^◌, OnOk, OnErr, IsOk, IsTrue, true, false, []};
 ghost use Rattle.std.specs.List.{list_any};
 ghost use Rattle.indexmap.specs.IndexMap.{spare};
-ghost use Rattle.xa_assoc.specs.Associations.{has_some};
+ghost use Rattle.xa_assoc.specs.Associations.{AreCounted, has_some};
 ghost use Rattle.xa_assoc.specs.Names.{same, same_seat};
 ghost use Rattle.xa_assoc.specs.Seats.{count_of, holds, Turns};
 
@@ -126,6 +126,7 @@ pub(crate) fn recount<K: Eq + Hash + Drop>(
     ensures err { OnErr result (counts.new.entries ≡ counts.old.entries) }
     ensures fewer { count ≤ count_of K.eq counts.old.entries key → IsOk result }
     ensures room { 0 < spare counts.old → IsOk result }
+    ensures counted { AreCounted counts.old.entries → AreCounted counts.new.entries }
 {
     if count == 0 {
         let _ = counts.swap_remove(&key);

@@ -23,7 +23,7 @@ pub struct States {
 impl States {
     ghost use Rattle.std.specs.Prelude.{◌≡◌, ◌≢◌, ◌≤◌, ◌||◌, not, length, IfOk, IfErr, OnErr, MatchResult, Err, Some, None, true, false};
     ghost use Rattle.xa_tables.specs.declared.call.Call.TheVariants as call;
-    ghost use Rattle.xa_assoc.specs.Associations.{active_of, start_plan, resume_plan, suspend_plan, end_plan};
+    ghost use Rattle.xa_assoc.specs.Associations.{IsListed, active_of, start_plan, resume_plan, suspend_plan, end_plan};
     ghost use Rattle.xa_branch.specs.Branches.{AreListedOnce, Finds, StandsAt, in_doubt};
     ghost use Rattle.xa_xid.specs.declared.xid.Xid.{Xid as AnyXid};
     ghost use Rattle.xa_assoc.specs.Reacting.{IsAt, resumed, suspend_call, end_call};
@@ -113,6 +113,13 @@ impl States {
         ensures { AreListedOnce self.now.branches.branches }
     {
         self.branches.are_listed_once();
+    }
+
+    /// Each thread that holds associations is listed once, and a branch as suspended for migration only if it is.
+    pub fn associations_are_listed_once(&self)
+        ensures { IsListed self.now.associations }
+    {
+        self.associations.are_listed_once();
     }
 
     /// The branches in doubt (in S3 and S5), in order of beginning.

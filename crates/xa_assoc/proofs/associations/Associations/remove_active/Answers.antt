@@ -41,4 +41,5 @@ invariant_of-self c =
       apart = search rules;
       kept = kept_removed (the_view c.self.inside) new c.args.thread c.self.invariant (search rules)
           (search rules) (search rules);
+      counted = c.self.invariant.counted;
     }

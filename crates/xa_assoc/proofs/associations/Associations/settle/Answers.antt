@@ -14,4 +14,5 @@ invariant_of-self c = record {
         migrates = c.self.inside.migrates;
       })) c.args.thread c.self.invariant
       (search rules) (search rules) (search rules);
+  counted = c.self.invariant.counted;
 }
