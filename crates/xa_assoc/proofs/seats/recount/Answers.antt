@@ -3,11 +3,11 @@ use Rattle.xa_assoc.specs.Associations.{AreCounted}
 use Rattle.xa_assoc.proofs.Listed.{inserted, removed}
 use Rattle.xa_assoc.proofs.seats.recount.Goals as goal
 
-pub returns-then-eq-clause-counted : goal.returns-then-eq-clause-counted
-returns-then-eq-clause-counted c = λ h.
+pub returns-then-count-eq0-clause-counted : goal.returns-then-count-eq0-clause-counted
+returns-then-count-eq0-clause-counted g c = λ h.
     subst AreCounted (sym c.swap_remove.ensures.entries) (removed _ _ h)
 
 pub returns-in_ok-insert-clause-counted : goal.returns-in_ok-insert-clause-counted
-returns-in_ok-insert-clause-counted c = λ h.
+returns-in_ok-insert-clause-counted g c = λ h.
     let some : 0 < c.args.count = search rules in
     subst AreCounted (sym c.in_ok-insert.ensures.entries) (inserted _ _ _ _ some h)
