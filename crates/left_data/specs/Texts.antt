@@ -1,5 +1,5 @@
 -- The lines of the data that managers hold.
-use Rattle.std.specs.Prelude.{ℕ, Bool, not, ◌&&◌, ◌==◌, nat_le, if◌then◌else◌, List, [], ◌∷◌, ◌++◌, codes}
+use Rattle.std.specs.Prelude.{ℕ, List, [], ◌∷◌, ◌++◌, codes}
 use Rattle.std.specs.List.{flat_map}
 use Rattle.std.specs.Fmt.{decimal}
 use Rattle.tree_model.specs.declared.names.Kind.{Kind}
@@ -8,19 +8,7 @@ use Rattle.tree_model.specs.declared.names.ProcessId.{ProcessId}
 use Rattle.tree_model.specs.declared.records.LogRecord.{LogRecord}
 use Rattle.tree_model.specs.declared.trees.TreeEntry.{TreeEntry}
 use Rattle.tree_model.specs.Store.{data_of}
-use Rattle.hex.specs.Hex.{encode_lower}
-
--- a byte stands as it is: a visible character of ASCII, and no backslash
-abbrev pub is_plain : ℕ → Bool
-is_plain b = nat_le 33 b && nat_le b 126 && not (b == 92)
-
--- a byte as it is, or as a backslash, an `x` and its two digits
-abbrev pub byte_text : ℕ → List ℕ
-byte_text b = if is_plain b then b ∷ [] else 92 ∷ (codes "x" ++ encode_lower (b ∷ []))
-
--- the bytes of a key or a value
-abbrev pub bytes_text : List ℕ → List ℕ
-bytes_text bs = flat_map byte_text bs
+use Rattle.run_notes.specs.Words.{bytes_text}
 
 -- the line of a key and its value at a process
 abbrev pub pair_line : ProcessId → List ℕ × List ℕ → List ℕ

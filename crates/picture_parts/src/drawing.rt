@@ -21,32 +21,14 @@ use report_io::{Failure, Status};
 use run_notes::Notes;
 use run_picture::{Scene, picture};
 use std::alloc::{AllocError, Global};
-use tree_engine::{Refusal, opened};
-use tree_model::{Entry, Event, LogRecord, ProcessId, StepError, Txn};
+use tree_engine::{Refusal, cause_of, opened, status_of};
+use tree_model::{Entry, Event, LogRecord, ProcessId, Txn};
 use tree_world::World;
 
 /// A picture and how its run ended, or why it is not drawn.
 pub type Picture = Result<(Vec<u8>, Status), PartFault>;
 
-/// How a run ended.
-fn status_of(refusal: Refusal) -> Status
-    ensures { result ≡ ending refusal }
-{
-    match refusal {
-        None => Status::Ended,
-        Some(_) => Status::Stopped,
-    }
-}
-
-/// Why an event was refused, if one was.
-fn cause_of(refusal: Refusal) -> Option<StepError> {
-    match refusal {
-        None => None,
-        Some((_, cause)) => Some(cause),
-    }
-}
-
-/// How many steps are made after N events; so many were made before them.
+/// How many steps are made after N events, if the first number of steps is made before them.
 fn count_at(start: usize, counts: &[usize], events: usize) -> usize
     ensures { result ≡ count_by start counts.now events }
 {
@@ -200,7 +182,7 @@ fn draw_range(
     Ok(Ok(draw_turns(alloc, run, &turns, &marks, &entries, &caption)?))
 }
 
-/// The picture of a part of a run over this root, which had so many steps before its events.
+/// The picture of a part of a run over this root, which had N steps before its events.
 fn draw_part(
     alloc: Global,
     run: &Run,

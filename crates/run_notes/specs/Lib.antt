@@ -1,1 +1,3 @@
+pub mod Managers
+pub mod Told
 pub mod Words

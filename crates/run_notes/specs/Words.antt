@@ -6,12 +6,6 @@ use Rattle.hex.specs.Hex.{encode_lower}
 use Rattle.tree_model.specs.declared.names.Case.{Case}
 use Rattle.tree_model.specs.declared.messages.Op.{Op}
 use Rattle.tree_model.specs.declared.messages.Op.TheVariants.{Put, Get, Delete}
-use Rattle.tree_model.specs.declared.messages.Message.{Message}
-use Rattle.tree_model.specs.declared.messages.Message.TheVariants.{Work, Prepare}
-use Rattle.tree_model.specs.declared.events.Happening.{Happening}
-use Rattle.tree_model.specs.declared.events.Happening.TheVariants.{Input as Handles, Restart, Trim}
-use Rattle.tree_model.specs.declared.events.Input.{Input}
-use Rattle.tree_model.specs.declared.events.Input.TheVariants.{Act as ActInput, Message as MessageInput}
 use Rattle.tree_model.specs.declared.records.Branch.{Branch}
 use Rattle.tree_model.specs.declared.records.Branch.TheVariants.{Case as CaseBranch, Foreign}
 use Rattle.tree_model.specs.Texts.{case_text}
@@ -43,11 +37,11 @@ read_text c k v = case_text c ++ codes " reads " ++ bytes_text k ++ codes ": " +
 abbrev pub no_text : Case → List ℕ → List ℕ
 no_text c reason = case_text c ++ codes " votes NO: " ++ reason
 
--- why one votes NO of which nothing is known
+-- why a case votes NO of which no branch is known
 abbrev pub unknown_text : Case → List ℕ
 unknown_text c = no_text c (codes "it knows no such branch: it was lost in a crash, or has ended")
 
--- why one votes NO that did so many of so many works
+-- why a case votes NO that did M of N works
 abbrev pub count_text : Case → ℕ → ℕ → List ℕ
 count_text c works done = no_text c (codes "of " ++ decimal works ++ codes " works " ++ decimal done ++ codes " came in order")
 
@@ -71,20 +65,3 @@ IsRead c (Delete _) w = ⊥
 -- these words say why a case votes NO
 abbrev pub IsNo : Case → List ℕ → Type 0
 IsNo c w = (reason : List ℕ) × (w ≡ no_text c reason)
-
--- these words are told of a message that came: of a work what its get read, and of a question for a vote why it is NO
-abbrev pub IsToldOf : Message → List ℕ → Type 0
-IsToldOf (Work c i op) w = IsRead c op w
-IsToldOf (Prepare c works) w = IsNo c w
-IsToldOf _ w = ⊥
-
--- the same of what a process handles
-abbrev pub IsToldOfInput : Input → List ℕ → Type 0
-IsToldOfInput (ActInput a) w = ⊥
-IsToldOfInput (MessageInput n m) w = IsToldOf m w
-
--- the same of what happens at one
-abbrev pub IsTold : Happening → List ℕ → Type 0
-IsTold (Handles i) w = IsToldOfInput i w
-IsTold (Restart kept) w = ⊥
-IsTold Trim w = ⊥

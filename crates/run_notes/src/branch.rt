@@ -1,5 +1,8 @@
 //! A branch of a manager, from its ticket to its end.
 
+ghost use Rattle.std.specs.Prelude.{◌≡◌, [], false, None, IfOk, OnOk};
+ghost use Rattle.run_notes.specs.Managers.{is_bad_op, is_full_for, op_key, op_writes, takes};
+
 use indexmap::IndexMap;
 use std::alloc::{AllocError, Global};
 use tree_model::{Branch as Name, Op, Write};
@@ -26,7 +29,7 @@ pub(crate) enum Spoiled {
 #[derive(Drop)]
 pub(crate) struct Branch {
     pub(crate) name: Name,
-    /// How many works were done, in order.
+    /// The number of works that were done, in order.
     pub(crate) done: u64,
     pub(crate) spoiled: Option<Spoiled>,
     pub(crate) has_promised: bool,
@@ -37,19 +40,28 @@ pub(crate) struct Branch {
 }
 
 /// The key of an operation.
-pub(crate) fn key_of(op: &Op) -> &[u8] {
+pub(crate) fn key_of(op: &Op) -> &[u8]
+    ensures { result.now ≡ op_key op.now }
+{
     match op {
         Op::Put(key, _) | Op::Get(key) | Op::Delete(key) => key.as_slice(),
     }
 }
 
 /// Whether an operation writes.
-pub(crate) fn writes(op: &Op) -> bool {
-    !matches!(op, Op::Get(_))
+pub(crate) fn writes(op: &Op) -> bool
+    ensures { result ≡ op_writes op.now }
+{
+    match op {
+        Op::Get(_) => false,
+        Op::Put(_, _) | Op::Delete(_) => true,
+    }
 }
 
 /// Whether no store does this operation, by the length of its key or of its value.
-pub(crate) fn is_too_long(op: &Op) -> bool {
+pub(crate) fn is_too_long(op: &Op) -> bool
+    ensures { result ≡ is_bad_op op.now }
+{
     let key = key_of(op);
     let is_long = match op {
         Op::Put(_, value) => value.len() > VALUE,
@@ -60,7 +72,14 @@ pub(crate) fn is_too_long(op: &Op) -> bool {
 
 impl Branch {
     /// A branch that has done nothing.
-    pub(crate) fn new(alloc: Global, name: Name) -> Branch {
+    pub(crate) fn new(alloc: Global, name: Name) -> Branch
+        ensures name { result.name ≡ name }
+        ensures done { result.done ≡ 0 }
+        ensures spoiled { result.spoiled ≡ None }
+        ensures promised { result.has_promised ≡ false }
+        ensures writes { result.writes.entries ≡ [] }
+        ensures keys { result.keys.items ≡ [] }
+    {
         Branch {
             name,
             done: 0,
@@ -90,12 +109,16 @@ impl Branch {
     }
 
     /// Whether it does the work with this number, unless that is refused.
-    pub(crate) fn takes(&self, index: u64) -> bool {
-        !self.has_promised && self.spoiled.is_none() && index == self.done.saturating_add(1)
+    pub(crate) fn takes(&self, index: u64) -> bool
+        ensures { result ≡ takes self.now index }
+    {
+        !self.has_promised && self.spoiled.is_none() && index.checked_sub(1) == Some(self.done)
     }
 
-    /// Whether it may not write this key, having written so many.
-    pub(crate) fn is_full_for(&self, key: &[u8]) -> bool {
+    /// Whether it may not write this key, because it has written 64 others.
+    pub(crate) fn is_full_for(&self, key: &[u8]) -> bool
+        ensures { result ≡ is_full_for self.now key.now }
+    {
         self.writes.len() >= KEYS && !self.writes.contains_key(key)
     }
 

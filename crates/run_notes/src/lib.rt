@@ -18,3 +18,4 @@ mod notes;
 mod words;
 
 pub use notes::{Notes, notes_of};
+pub use words::push_bytes;

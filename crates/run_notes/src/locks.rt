@@ -1,5 +1,8 @@
 //! Which branch holds which key.
 
+ghost use Rattle.std.specs.Prelude.{◌≡◌};
+ghost use Rattle.run_notes.specs.Managers.{at_key, blocker_by, holder_else, other, other_of};
+
 use indexmap::{IndexMap, IndexSet};
 use std::alloc::{AllocError, Global};
 use xa_xid::Xid;
@@ -20,19 +23,34 @@ impl Holders {
     }
 
     /// A branch other than this one that has read the key.
-    fn other_reader(&self, xid: &Xid) -> Option<Xid> {
+    fn other_reader(&self, xid: &Xid) -> Option<Xid>
+        ensures { result ≡ other_of xid.now self.now.readers.keys }
+    {
         match self.readers.get_index(0) {
-            Some(first) if first != xid => Some(*first),
-            _ => self.readers.get_index(1).copied(),
+            None => None,
+            Some(first) => {
+                if *first == *xid {
+                    self.readers.get_index(1).copied()
+                } else {
+                    Some(*first)
+                }
+            }
         }
     }
 
     /// A branch other than this one that keeps it from the key.
-    fn blocker(&self, xid: &Xid, is_written: bool) -> Option<Xid> {
-        match self.writer {
-            Some(writer) if writer != *xid => Some(writer),
-            _ if is_written => self.other_reader(xid),
-            _ => None,
+    fn blocker(&self, xid: &Xid, is_written: bool) -> Option<Xid>
+        ensures { result ≡ holder_else xid.now is_written self.now.writer self.now.readers.keys }
+    {
+        if let Some(writer) = self.writer {
+            if writer != *xid {
+                return Some(writer);
+            }
+        }
+        if is_written {
+            self.other_reader(xid)
+        } else {
+            None
         }
     }
 
@@ -51,7 +69,7 @@ impl Holders {
         Ok(())
     }
 
-    /// A branch lets the key go.
+    /// A branch releases the key.
     fn remove(&mut self, xid: &Xid) {
         if self.writer == Some(*xid) {
             self.writer = None;
@@ -81,8 +99,13 @@ impl Locks {
     }
 
     /// A branch other than this one that keeps it from a key.
-    pub(crate) fn blocker(&self, xid: &Xid, key: &[u8], is_written: bool) -> Option<Xid> {
-        self.keys.get(key)?.blocker(xid, is_written)
+    pub(crate) fn blocker(&self, xid: &Xid, key: &[u8], is_written: bool) -> Option<Xid>
+        ensures { result ≡ blocker_by xid.now is_written (at_key self.now.keys.entries key.now) }
+    {
+        match self.keys.get(key) {
+            None => None,
+            Some(holders) => holders.blocker(xid, is_written),
+        }
     }
 
     /// A branch takes a key that no other keeps from it. Whether it did not hold it before.
@@ -105,7 +128,7 @@ impl Locks {
         Ok(true)
     }
 
-    /// A branch lets a key go.
+    /// A branch releases a key.
     fn release_key(&mut self, xid: &Xid, key: &[u8]) {
         let Some(holders) = self.keys.get_mut(key) else {
             return;
@@ -116,14 +139,14 @@ impl Locks {
         }
     }
 
-    /// A branch lets these keys go.
+    /// A branch releases these keys.
     pub(crate) fn release(&mut self, xid: &Xid, keys: &[Vec<u8>]) {
         for key in keys {
             self.release_key(xid, key.as_slice());
         }
     }
 
-    /// No branch holds a key any more.
+    /// Every branch releases its keys.
     pub(crate) fn clear(&mut self) {
         self.keys.clear();
     }

@@ -1,7 +1,8 @@
 //! One manager: its pairs, its branches, and what a crash may take back.
 
-ghost use Rattle.std.specs.Prelude.{IfOk, IfSome};
-ghost use Rattle.run_notes.specs.Words.{IsNo, IsRead};
+ghost use Rattle.std.specs.Prelude.{◌≡◌, Some, IfOk, is_some, option_map};
+ghost use Rattle.tree_model.specs.declared.records.Branch.TheVariants.{Case as CaseBranch};
+ghost use Rattle.run_notes.specs.Managers.{branch_at, bytes_in, found_at, is_refused, told_of_op, told_of_work, why_no, xid_of};
 
 use crate::branch::{Branch, Spoiled, is_too_long, key_of, writes};
 use crate::locks::Locks;
@@ -81,7 +82,9 @@ impl Manager {
     }
 
     /// The XID of a case.
-    fn xid(&self, case: &Case) -> Xid {
+    fn xid(&self, case: &Case) -> Xid
+        ensures { result ≡ xid_of self.now case.now }
+    {
         name_xid(self.parent, Name::Case(*case))
     }
 
@@ -159,7 +162,7 @@ impl Manager {
         }
     }
 
-    /// Each branch holds what it wrote, and no more.
+    /// Each branch holds exactly the keys that it wrote.
     fn lock_again(&mut self) -> Result<(), AllocError> {
         self.locks.clear();
         for (xid, branch) in self.branches.iter_mut() {
@@ -189,7 +192,9 @@ impl Manager {
     }
 
     /// Ends a branch: which it was, if there was one.
-    fn end(&mut self, xid: &Xid) -> Option<Branch> {
+    fn end(&mut self, xid: &Xid) -> Option<Branch>
+        ensures { result ≡ branch_at self.old xid.now }
+    {
         let branch = self.branches.swap_remove(xid)?;
         self.locks.release(xid, branch.keys.as_slice());
         Some(branch)
@@ -206,7 +211,9 @@ impl Manager {
     }
 
     /// Why a branch is refused this operation, if it is.
-    fn refusal(&self, xid: &Xid, branch: &Branch, op: &Op) -> Result<Option<Spoiled>, AllocError> {
+    fn refusal(&self, xid: &Xid, branch: &Branch, op: &Op) -> Result<Option<Spoiled>, AllocError>
+        ensures { IfOk result (λ why. is_some why ≡ is_refused self.now xid.now branch.now op.now) }
+    {
         if is_too_long(op) {
             return Ok(Some(Spoiled::TooLong));
         }
@@ -223,11 +230,29 @@ impl Manager {
     }
 
     /// What a branch finds at a key: its own write, or else what is committed.
-    fn value<'a>(&'a self, branch: &'a Branch, key: &[u8]) -> Option<&'a [u8]> {
+    fn value<'a>(&'a self, branch: &'a Branch, key: &[u8]) -> Option<&'a [u8]>
+        ensures { option_map (λ v. v.now) result ≡ found_at self.now branch.now key.now }
+    {
         match branch.writes.get(key) {
             Some(Some(value)) => Some(value.as_slice()),
             Some(None) => None,
-            None => Some(self.pairs.get(key)?.as_slice()),
+            None => match self.pairs.get(key) {
+                None => None,
+                Some(value) => Some(value.as_slice()),
+            },
+        }
+    }
+
+    /// What is told of an operation that a branch of a case does.
+    fn told(&self, case: &Case, branch: &Branch, op: &Op) -> Result<Option<Vec<u8>>, AllocError>
+        ensures { IfOk result (λ said. bytes_in said ≡ told_of_op self.now case.now branch.now op.now) }
+    {
+        match op {
+            Op::Get(key) => {
+                let value = self.value(branch, key.as_slice());
+                Ok(Some(read_words(self.alloc, case, key.as_slice(), value)?))
+            }
+            Op::Put(_, _) | Op::Delete(_) => Ok(None),
         }
     }
 
@@ -238,7 +263,7 @@ impl Manager {
         index: u64,
         op: &Op,
     ) -> Result<Option<Vec<u8>>, AllocError>
-        ensures { IfOk result (λ said. IfSome said (λ words. IsRead case.now op.now words.items)) }
+        ensures { IfOk result (λ said. bytes_in said ≡ told_of_work self.old case.now index op.now) }
     {
         let xid = self.xid(case);
         let Some(branch) = self.branches.get(&xid) else {
@@ -247,19 +272,17 @@ impl Manager {
         if !branch.takes(index) {
             return Ok(None);
         }
-        let spoiled = self.refusal(&xid, branch, op)?;
-        let said = match op {
-            Op::Get(key) if spoiled.is_none() => {
-                let value = self.value(branch, key.as_slice());
-                Some(read_words(self.alloc, case, key.as_slice(), value)?)
+        match self.refusal(&xid, branch, op)? {
+            Some(spoiled) => {
+                self.spoil(&xid, spoiled);
+                Ok(None)
             }
-            _ => None,
-        };
-        match spoiled {
-            Some(spoiled) => self.spoil(&xid, spoiled),
-            None => self.does(&xid, index, op)?,
+            None => {
+                let said = self.told(case, branch, op)?;
+                self.does(&xid, index, op)?;
+                Ok(said)
+            }
         }
-        Ok(said)
     }
 
     /// A branch was refused a work.
@@ -288,7 +311,7 @@ impl Manager {
 
     /// A case that is asked for its vote after this number of works says NO, and ends: why.
     pub(crate) fn refuse(&mut self, case: &Case, works: u64) -> Result<Vec<u8>, AllocError>
-        ensures { IfOk result (λ words. IsNo case.now words.items) }
+        ensures { IfOk result (λ words. words.items ≡ why_no self.old case.now works) }
     {
         let xid = self.xid(case);
         let Some(branch) = self.end(&xid) else {
@@ -360,7 +383,7 @@ impl Manager {
         }
     }
 
-    /// A crash, which keeps so many of the records that are not forced. What has not promised is gone.
+    /// A crash, which keeps N of the records that are not forced. What has not promised is gone.
     pub(crate) fn restart(&mut self, kept: u64) -> Result<(), AllocError> {
         let lost = (self.deeds.len() as u64).saturating_sub(kept);
         for _ in 0..lost {

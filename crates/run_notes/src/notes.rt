@@ -1,7 +1,9 @@
 //! What is told of the steps of a run.
 
-ghost use Rattle.std.specs.Prelude.{IfOk, IfSome};
-ghost use Rattle.run_notes.specs.Words.{IsTold, IsToldOf};
+ghost use Rattle.std.specs.Prelude.{◌≡◌, [], IfOk, OnOk, map, unwrap_or};
+ghost use Rattle.std.specs.Map.{keys_of};
+ghost use Rattle.run_notes.specs.Managers.{bytes_in};
+ghost use Rattle.run_notes.specs.Told.{AddsManager, AreManagers, AreNotes, is_no as says_no, known, told, told_at, told_of_message, votes_no as has_no};
 
 use crate::manager::Manager;
 use indexmap::IndexMap;
@@ -33,23 +35,36 @@ fn given(reaction: &Reaction) -> Option<(Case, Ticket)> {
     None
 }
 
-/// What a step votes that is no promise.
-#[derive(Clone, Copy)]
-enum Vote {
-    No,
-    Read,
+/// Whether a message is the vote NO.
+fn is_no(message: &Message) -> bool
+    ensures { result ≡ says_no message.now }
+{
+    match message {
+        Message::No(_) => true,
+        _ => false,
+    }
 }
 
-/// The vote of a step, if it has one that is no promise.
-fn vote_in(reaction: &Reaction) -> Option<Vote> {
+/// Whether a reaction has the vote NO.
+fn votes_no(reaction: &Reaction) -> bool
+    ensures { result ≡ has_no reaction.now }
+{
+    let messages = reaction.messages.as_slice();
+    messages
+        .iter()
+        .filter(|envelope| is_no(&envelope.message))
+        .count()
+        != 0
+}
+
+/// Whether a reaction has the vote of a case that only read.
+fn votes_read(reaction: &Reaction) -> bool {
     for envelope in reaction.messages.as_slice() {
-        match envelope.message {
-            Message::No(_) => return Some(Vote::No),
-            Message::Read(_) => return Some(Vote::Read),
-            _ => continue,
+        if let Message::Read(_) = envelope.message {
+            return true;
         }
     }
-    None
+    false
 }
 
 /// A message comes to a manager, which reacts so. What is told of it.
@@ -58,7 +73,7 @@ fn hear(
     message: &Message,
     reaction: &Reaction,
 ) -> Result<Option<Vec<u8>>, AllocError>
-    ensures { IfOk result (λ said. IfSome said (λ words. IsToldOf message.now words.items)) }
+    ensures { IfOk result (λ said. bytes_in said ≡ told_of_message manager.old message.now reaction.now) }
 {
     match message {
         Message::Join(_) => {
@@ -68,14 +83,15 @@ fn hear(
             Ok(None)
         }
         Message::Work(case, index, op) => manager.work(case, *index, op),
-        Message::Prepare(case, works) => match vote_in(reaction) {
-            Some(Vote::No) => Ok(Some(manager.refuse(case, *works)?)),
-            Some(Vote::Read) => {
-                manager.end_active(case);
-                Ok(None)
+        Message::Prepare(case, works) => {
+            if votes_no(reaction) {
+                return Ok(Some(manager.refuse(case, *works)?));
             }
-            None => Ok(None),
-        },
+            if votes_read(reaction) {
+                manager.end_active(case);
+            }
+            Ok(None)
+        }
         Message::Abort(case) => {
             manager.end_active(case);
             Ok(None)
@@ -90,7 +106,7 @@ fn meet(
     happening: &Happening,
     reaction: &Reaction,
 ) -> Result<Option<Vec<u8>>, AllocError>
-    ensures { IfOk result (λ said. IfSome said (λ words. IsTold happening.now words.items)) }
+    ensures { IfOk result (λ said. bytes_in said ≡ told_at manager.old happening.now reaction.now) }
 {
     match happening {
         Happening::Input(Input::Message(_, message)) => hear(manager, message, reaction),
@@ -114,19 +130,57 @@ fn write_all(manager: &mut Manager, written: &[Logged]) -> Result<(), AllocError
     Ok(())
 }
 
+/// A manager takes the next step of its own. What is told of it.
+fn take_at(manager: &mut Manager, entry: &Entry) -> Result<Option<Vec<u8>>, AllocError>
+    ensures { IfOk result (λ said. bytes_in said
+        ≡ told_at manager.old entry.now.step.happening entry.now.reaction) }
+{
+    let said = meet(manager, &entry.step.happening, &entry.reaction)?;
+    write_all(manager, entry.reaction.written.as_slice())?;
+    Ok(said)
+}
+
+/// The records of the log at this place; none, if there is no such log.
+fn log_at(logs: &[Vec<LogRecord>], place: usize) -> &[LogRecord] {
+    match logs.get(place) {
+        None => &[],
+        Some(records) => records.as_slice(),
+    }
+}
+
+/// Adds the manager of an entry of a tree, if it is one, whose log has these records.
+fn add_manager(
+    alloc: Global,
+    managers: &mut IndexMap<ProcessId, Manager>,
+    entry: &TreeEntry,
+    records: &[LogRecord],
+) -> Result<(), AllocError>
+    ensures { OnOk result (AddsManager entry.now (keys_of managers.old.entries) (keys_of managers.new.entries)) }
+{
+    match entry.kind {
+        Kind::Coordinator => Ok(()),
+        Kind::Manager => {
+            let manager = Manager::new(alloc, entry.parent, records)?;
+            let _ = managers.insert(entry.id, manager)?;
+            Ok(())
+        }
+    }
+}
+
 impl Notes {
-    /// Of a tree that has just opened: its processes, and the records of the log of each, in the tree's order.
+    /// Of a tree that has just opened: its processes, and the records of the log of each, in the tree's order. A process
+    /// with no log among them has no records.
+    #[tactic(auto, using(crate::proofs::Knowing::managers_more))]
     pub fn new(
         alloc: Global,
         tree: &[TreeEntry],
         logs: &[Vec<LogRecord>],
-    ) -> Result<Notes, AllocError> {
+    ) -> Result<Notes, AllocError>
+        ensures { IfOk result (λ notes. AreManagers tree.now (known notes)) }
+    {
         let mut managers = IndexMap::new(alloc);
-        for (entry, records) in tree.iter().zip(logs.iter()) {
-            if entry.kind == Kind::Manager {
-                let manager = Manager::new(alloc, entry.parent, records.as_slice())?;
-                let _ = managers.insert(entry.id, manager)?;
-            }
+        for place in 0..tree.len() {
+            add_manager(alloc, &mut managers, &tree[place], log_at(logs, place))?;
         }
         Ok(Notes { managers })
     }
@@ -134,14 +188,24 @@ impl Notes {
     /// Takes the next step of the run, and says what is told of it, as bytes without a line feed, if anything is: why a
     /// manager votes NO, or what a get read.
     pub fn take(&mut self, entry: &Entry) -> Result<Option<Vec<u8>>, AllocError>
-        ensures { IfOk result (λ said. IfSome said (λ words. IsTold entry.now.step.happening words.items)) }
+        ensures told { IfOk result (λ said. bytes_in said ≡ told self.old entry.now) }
+        ensures known { known self.new ≡ known self.old }
     {
-        let Some(manager) = self.managers.get_mut(&entry.step.process) else {
-            return Ok(None);
-        };
-        let said = meet(manager, &entry.step.happening, &entry.reaction)?;
-        write_all(manager, entry.reaction.written.as_slice())?;
-        Ok(said)
+        match self.managers.get_mut(&entry.step.process) {
+            None => Ok(None),
+            Some(manager) => take_at(manager, entry),
+        }
+    }
+}
+
+/// Takes the next step of the run, and says what is told of it; no bytes, if nothing is.
+fn note_of(alloc: Global, notes: &mut Notes, entry: &Entry) -> Result<Vec<u8>, AllocError>
+    ensures note { IfOk result (λ words. words.items ≡ unwrap_or (told notes.old entry.now) []) }
+    ensures known { known notes.new ≡ known notes.old }
+{
+    match notes.take(entry)? {
+        Some(words) => Ok(words),
+        None => Ok(Vec::new(alloc)),
     }
 }
 
@@ -152,14 +216,13 @@ pub fn notes_of(
     tree: &[TreeEntry],
     logs: &[Vec<LogRecord>],
     entries: &[Entry],
-) -> Result<Vec<Vec<u8>>, AllocError> {
+) -> Result<Vec<Vec<u8>>, AllocError>
+    ensures { IfOk result (λ notes. AreNotes tree.now entries.now (map (λ words. words.items) notes.items)) }
+{
     let mut notes = Notes::new(alloc, tree, logs)?;
     let mut told = Vec::new(alloc);
     for entry in entries {
-        match notes.take(entry)? {
-            Some(words) => told.push(words)?,
-            None => told.push(Vec::new(alloc))?,
-        }
+        told.push(note_of(alloc, &mut notes, entry)?)?;
     }
     Ok(told)
 }

@@ -31,8 +31,9 @@ fn push_byte(alloc: Global, out: &mut Vec<u8>, byte: u8) -> Result<(), AllocErro
     push(out, &digits)
 }
 
-/// The bytes of a key or a value.
-fn push_bytes(alloc: Global, out: &mut Vec<u8>, bytes: &[u8]) -> Result<(), AllocError>
+/// Adds the bytes of a key or a value: a visible character of ASCII other than a backslash as it is, and each other byte
+/// as a backslash, an `x` and its two digits.
+pub fn push_bytes(alloc: Global, out: &mut Vec<u8>, bytes: &[u8]) -> Result<(), AllocError>
     ensures { OnOk result (out.new.items ≡ out.old.items ++ bytes_text bytes.now) }
 {
     for byte in bytes {
@@ -81,7 +82,7 @@ fn no_words(alloc: Global, case: &Case) -> Result<Vec<u8>, AllocError>
     Ok(out)
 }
 
-/// The same of one that is not known.
+/// Why a case votes NO of which no branch is known.
 pub(crate) fn unknown_words(alloc: Global, case: &Case) -> Result<Vec<u8>, AllocError>
     ensures { IfOk result (λ words. words.items ≡ unknown_text case.now) }
 {
@@ -93,7 +94,7 @@ pub(crate) fn unknown_words(alloc: Global, case: &Case) -> Result<Vec<u8>, Alloc
     Ok(out)
 }
 
-/// The same of one that did so many of so many works.
+/// Why a case votes NO that did M of N works.
 pub(crate) fn count_words(
     alloc: Global,
     case: &Case,
@@ -137,7 +138,7 @@ fn push_spoiled(alloc: Global, out: &mut Vec<u8>, spoiled: &Spoiled) -> Result<(
     }
 }
 
-/// The same of one that was refused a work.
+/// Why a case votes NO that was refused a work.
 pub(crate) fn spoiled_words(
     alloc: Global,
     case: &Case,

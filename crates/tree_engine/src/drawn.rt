@@ -1,6 +1,6 @@
 //! The picture of a run.
 
-ghost use Rattle.std.specs.Prelude.{◌≡◌, ◌⊎◌, ◌≤◌, ◌++◌, [], IfErr, IfOk, List, OnOk, length};
+ghost use Rattle.std.specs.Prelude.{◌≡◌, ◌⊎◌, ◌≤◌, ◌++◌, [], IfErr, IfOk, List, OnOk, length, option_map};
 ghost use Rattle.tree_model.specs.declared.events.Event.{Event as AnyEvent};
 ghost use Rattle.report_io.specs.Streams.{IsOfRun};
 ghost use Rattle.picture_rows.specs.Long.{IsLong};
@@ -60,8 +60,8 @@ fn make_turns(alloc: Global, run: &mut Run, events: &[Event]) -> Result<Vec<Turn
     Ok(turns)
 }
 
-/// How a run ended.
-fn status_of(refusal: Refusal) -> Status
+/// How a run ended: it stopped at an event that was refused, or came to the end of its script.
+pub fn status_of(refusal: Refusal) -> Status
     ensures { result ≡ ending refusal }
 {
     match refusal {
@@ -71,7 +71,9 @@ fn status_of(refusal: Refusal) -> Status
 }
 
 /// Why an event was refused, if one was.
-fn cause_of(refusal: Refusal) -> Option<StepError> {
+pub fn cause_of(refusal: Refusal) -> Option<StepError>
+    ensures { result ≡ option_map (λ r. r.1) refusal }
+{
     match refusal {
         None => None,
         Some((_, cause)) => Some(cause),

@@ -15,6 +15,7 @@ mod text;
 mod trace;
 mod tree;
 
+pub use drawn::{cause_of, status_of};
 pub use report_io::{Failure, Status};
 pub use run::{Refusal, Run, own_refusal};
 pub use trace::{push_opened, push_place, push_refused, trace_text};
