@@ -15,6 +15,7 @@ use Rattle.xa_xid.specs.declared.xid.Xid.{Xid}
 use Rattle.xa_xid.specs.Xids.{null_xid}
 use Rattle.xa_branch.specs.Names.{same}
 use Rattle.xa_branch.proofs.Names.{same_is, same_refl}
+use Rattle.xa_assoc.specs.Associations.{AreListedOnce}
 use Rattle.xa_assoc.specs.declared.states.States.{States}
 use Rattle.xa_assoc.specs.Answers.{Answers, Checked, Does, Refuses, Wanted}
 use Rattle.xa_assoc.specs.Ready.{is_closed}
@@ -29,7 +30,7 @@ use Rattle.judge_rules.specs.declared.replies.Reply.TheVariants as reply
 use Rattle.judge_rules.specs.Flags.{are_wrong, has}
 use Rattle.judge_rules.specs.Defects.{branch_defects, end_defects, finish_defects, has_no_end, is_bad_name, is_forget, is_off_row, start_defects}
 use Rattle.judge_rules.specs.Replies.{reply_of}
-use Rattle.judged_runs.specs.Deeds.{AreListedOnce, decision_of, on, rows_for}
+use Rattle.judged_runs.specs.Deeds.{decision_of, on, rows_for}
 use Rattle.judged_runs.specs.Names.{Numbers, lacks_forced, sort_of}
 use Rattle.judged_runs.proofs.Calls.{commit_goes, forget_goes, one_phase_goes, prepare_goes, rollback_goes}
 use Rattle.judged_runs.proofs.Checks.{bad_same, closed_same, or_one}

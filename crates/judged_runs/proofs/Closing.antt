@@ -17,7 +17,7 @@ use Rattle.xa_branch.specs.Names.{same}
 use Rattle.xa_branch.proofs.Names.{same_refl}
 use Rattle.xa_branch.specs.Branches.{BranchList, state_in}
 use Rattle.xa_assoc.specs.declared.states.States.{States}
-use Rattle.xa_assoc.specs.Associations.{AssocList, IsBare, is_holder, moved_of, own_state}
+use Rattle.xa_assoc.specs.Associations.{AreCounted, AssocList, IsBare, is_holder, moved_of, own_state}
 use Rattle.xa_assoc.specs.Answers.{Closed, Closes}
 use Rattle.xa_assoc.specs.Ready.{is_closed}
 use Rattle.xa_law.proofs.Reached.{bare_moved, bare_states}
@@ -43,7 +43,6 @@ use Rattle.judged_runs.proofs.Checks.{own_never}
 use Rattle.judged_runs.proofs.Scanning.{AreScans}
 use Rattle.judged_runs.proofs.Sights.{some_times}
 use Rattle.judged_runs.proofs.Steps.{by_test}
-use Rattle.judged_runs.specs.Deeds.{AreCounted}
 
 -- No association, to the tables and to the judge.
 

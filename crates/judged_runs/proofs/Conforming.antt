@@ -12,6 +12,7 @@ use Rattle.xa_xid.specs.declared.xid.Xid.{Xid}
 use Rattle.xa_branch.specs.Branches.{state_in}
 use Rattle.xa_branch.proofs.Placed.{AllIn}
 use Rattle.xa_branch.specs.Scans.{ScanList, has_scan, scan_of}
+use Rattle.xa_assoc.specs.Associations.{AreListedOnce}
 use Rattle.xa_assoc.specs.declared.states.States.{States}
 use Rattle.xa_assoc.specs.Answers.{Answers, IsNew, Recovers, Same}
 use Rattle.xa_assoc.specs.Ready.{is_closed}
@@ -34,7 +35,7 @@ use Rattle.judge_rules.specs.declared.calls.Function.TheVariants as function
 use Rattle.judge_rules.specs.Histories.{IsLegal, Leads as JudgeLeads}
 use Rattle.judge_rules.specs.Scans.{write_row}
 use Rattle.judge_rules.specs.Steps.{next}
-use Rattle.judged_runs.specs.Deeds.{AreListedOnce, Closed, Deed, Decided, Ended, Finished, Is, IsScan, Leads, Limited, Loses, NoMore, Opened, Recovered, Restarted, Started, StillKnown, Trimmed, Undecided, Unread, Unwritten, Wrote, decision_of, ends_branch, is_commit, none_lost, on, rows_for}
+use Rattle.judged_runs.specs.Deeds.{Closed, Deed, Decided, Ended, Finished, Is, IsScan, Leads, Limited, Loses, NoMore, Opened, Recovered, Restarted, Started, StillKnown, Trimmed, Undecided, Unread, Unwritten, Wrote, decision_of, ends_branch, is_commit, none_lost, on, rows_for}
 use Rattle.judged_runs.specs.Names.{Numbers, lacks_forced, value_number}
 use Rattle.judged_runs.proofs.Answering.{commit_steps, end_steps, forget_steps, prepare_steps, rollback_steps, start_steps}
 use Rattle.judged_runs.proofs.Closing.{close_goes}

@@ -17,7 +17,7 @@ use Rattle.xa_xid.specs.Xids.{null_xid}
 use Rattle.xa_branch.specs.Names.{same}
 use Rattle.xa_branch.specs.Branches.{state_in}
 use Rattle.xa_assoc.specs.declared.states.States.{States}
-use Rattle.xa_assoc.specs.Associations.{AssocList, Row, counts, end_plan, has_active as holds_active, has_seat, is_active as is_active_in, own_state, row}
+use Rattle.xa_assoc.specs.Associations.{AreListedOnce, AssocList, Row, counts, end_plan, has_active as holds_active, has_seat, is_active as is_active_in, own_state, row}
 use Rattle.xa_assoc.specs.Answers.{ByState, Ends, Reacts, Refuses, Same, Walks, left_state}
 use Rattle.xa_assoc.specs.Reacting.{end_call, left_by}
 use Rattle.xa_assoc.specs.Ready.{is_closed}
@@ -33,7 +33,7 @@ use Rattle.judge_rules.specs.declared.replies.Reply.TheVariants as reply
 use Rattle.judge_rules.specs.Flags.{has, wrong_at_end}
 use Rattle.judge_rules.specs.Defects.{end_defects, has_no_end, is_bad_name, is_spoiled_at, stands_spoiled}
 use Rattle.judge_rules.specs.Passes.{end_passes, end_spoiled}
-use Rattle.judged_runs.specs.Deeds.{AreListedOnce, on}
+use Rattle.judged_runs.specs.Deeds.{on}
 use Rattle.judged_runs.specs.Names.{Numbers, lacks_forced, sort_of}
 use Rattle.judged_runs.proofs.Branches.{kept_branches, stood_branches}
 use Rattle.judged_runs.proofs.Links.{Count, Tied, is_one, is_two, same_count, turned, unlinked_none}

@@ -17,7 +17,7 @@ use Rattle.xa_xid.specs.Xids.{null_xid}
 use Rattle.xa_branch.specs.Names.{same}
 use Rattle.xa_branch.specs.Branches.{state_in}
 use Rattle.xa_assoc.specs.declared.states.States.{States}
-use Rattle.xa_assoc.specs.Associations.{Row, active_of, has_room, has_seat, moved_of, own_state, row, start_plan}
+use Rattle.xa_assoc.specs.Associations.{AreListedOnce, Row, active_of, has_room, has_seat, moved_of, own_state, row, start_plan}
 use Rattle.xa_assoc.specs.Answers.{Does, Same, Walks, Wanted}
 use Rattle.xa_assoc.specs.Reacting.{by_state}
 use Rattle.xa_assoc.specs.Ready.{is_closed}
@@ -34,7 +34,7 @@ use Rattle.judge_rules.specs.Flags.{has, wrong_at_start}
 use Rattle.judge_rules.specs.Replies.{reply_of}
 use Rattle.judge_rules.specs.Defects.{has_no_start, is_bad_name, is_plain, is_spoiled_at, start_defects}
 use Rattle.judge_rules.specs.Passes.{entered, spoiled_passes, start_passes}
-use Rattle.judged_runs.specs.Deeds.{AreListedOnce, on}
+use Rattle.judged_runs.specs.Deeds.{on}
 use Rattle.judged_runs.specs.Names.{Numbers, lacks_forced, sort_of}
 use Rattle.judged_runs.proofs.Agreements.{no_start_by}
 use Rattle.judged_runs.proofs.Branches.{kept_branches}

@@ -17,7 +17,7 @@ use Rattle.xa_branch.proofs.Names.{same_is, same_refl}
 use Rattle.xa_assoc.specs.declared.held.Seat.{Seat}
 use Rattle.xa_assoc.specs.declared.states.States.{States}
 use Rattle.xa_assoc.specs.Names.{same_seat}
-use Rattle.xa_assoc.specs.Associations.{AssocList, has_active, has_seat, has_suspended, is_active, is_holder, moved_of, own_state}
+use Rattle.xa_assoc.specs.Associations.{AreListedOnce, AssocList, has_active, has_seat, has_suspended, is_active, is_holder, moved_of, own_state}
 use Rattle.xa_law.proofs.Reached.{IsKept}
 use Rattle.xa_assoc.specs.Answers.{Same}
 use Rattle.xa_assoc.specs.Ready.{is_closed}
@@ -27,7 +27,6 @@ use Rattle.judge_state.specs.declared.parts.Stand.{Stand}
 use Rattle.judge_state.specs.declared.parts.Stand.TheVariants as stand
 use Rattle.judge_state.specs.Parts.{is_named}
 use Rattle.judge_state.specs.Sights.{Sight}
-use Rattle.judged_runs.specs.Deeds.{AreListedOnce}
 use Rattle.judged_runs.specs.Names.{Numbers}
 use Rattle.xa_assoc.proofs.Sound.{is_active-T1, seat_is}
 use Rattle.judged_runs.proofs.Lists.{all_join, any_where, find_any, find_where}

@@ -18,7 +18,7 @@ use Rattle.xa_branch.specs.Names.{same}
 use Rattle.xa_branch.specs.Branches.{BranchList, state_in}
 use Rattle.xa_assoc.specs.declared.states.States.{States}
 use Rattle.std.specs.Map.{lookup}
-use Rattle.xa_assoc.specs.Associations.{AssocList, is_holder}
+use Rattle.xa_assoc.specs.Associations.{AreListedOnce, AssocList, is_holder}
 use Rattle.xa_assoc.specs.Answers.{Opened, Opens, Takes}
 use Rattle.xa_assoc.specs.Ready.{is_closed}
 use Rattle.xa_law.proofs.Reached.{bare_moved, empty_states}
@@ -47,7 +47,7 @@ use Rattle.judge_rules.specs.Steps.{decide_next, may_fail, next, next_by, open_p
 use Rattle.judged_runs.specs.Names.{Numbers, lacks_forced}
 use Rattle.judged_runs.proofs.Branches.{stood_branches}
 use Rattle.judged_runs.proofs.Finishing.{HasTables, quiet_free, unheld, unmoved_free}
-use Rattle.judged_runs.specs.Deeds.{AreListedOnce, decision_of, is_commit}
+use Rattle.judged_runs.specs.Deeds.{decision_of, is_commit}
 use Rattle.judged_runs.proofs.Flags.{AreRight, plain_async, plain_errs, plain_legal, plain_reads, plain_wrong}
 use Rattle.judged_runs.proofs.Links.{Tied, is_one, is_two}
 use Rattle.judged_runs.proofs.Losing.{AreLost, prepared_same}

@@ -14,12 +14,11 @@ use Rattle.xa_branch.proofs.Names.{same_is, same_refl, same_flips}
 use Rattle.xa_branch.proofs.Placed.{AllIn, GoneOr, all_placed}
 use Rattle.xa_assoc.specs.Names.{same_seat}
 use Rattle.xa_assoc.specs.declared.held.Seat.{Seat}
-use Rattle.xa_assoc.specs.Associations.{AssocList, Moves as AssocMoves, Turns, active_of, has_seat, has_some, holds_any, is_active, is_holder, listed_after, moved_of, own_state}
+use Rattle.xa_assoc.specs.Associations.{AreListedOnce, AssocList, Moves as AssocMoves, Turns, active_of, has_seat, has_some, holds_any, is_active, is_holder, listed_after, moved_of, own_state}
 use Rattle.xa_law.proofs.Reached.{moved_kept, seats_apart}
 use Rattle.judged_runs.proofs.Branches.{at_name}
 use Rattle.judged_runs.proofs.Doubting.{AreNamedOnce, named_placed}
 use Rattle.judged_runs.proofs.Mirrors.{IsBegun, IsOrderly, active_one, is_quiet, seat_state}
-use Rattle.judged_runs.specs.Deeds.{AreListedOnce}
 use Rattle.judged_runs.specs.Names.{Numbers}
 use Rattle.std.specs.Prelude.{◌⊎◌, is_some, nat_eq, ◌&&◌}
 

@@ -14,6 +14,7 @@ use Rattle.xa_branch.specs.Names.{same}
 use Rattle.xa_branch.specs.Branches.{state_in}
 use Rattle.xa_branch.specs.Scans.{ScanList, has_scan, scan_of}
 use Rattle.xa_branch.proofs.Placed.{AllIn}
+use Rattle.xa_assoc.specs.Associations.{AreListedOnce}
 use Rattle.xa_assoc.specs.declared.states.States.{States}
 use Rattle.xa_assoc.specs.Ready.{is_closed}
 use Rattle.xa_assoc.specs.Restored.{has_twice, state_left, states_left}
@@ -33,7 +34,7 @@ use Rattle.judge_rules.specs.declared.calls.Answer.TheVariants as answer
 use Rattle.judge_rules.specs.Falls.{may_return, maybe_back}
 use Rattle.judge_rules.specs.Passes.{one}
 use Rattle.judge_rules.specs.Steps.{restart_next}
-use Rattle.judged_runs.specs.Deeds.{AreListedOnce, Restarts, Returns}
+use Rattle.judged_runs.specs.Deeds.{Restarts, Returns}
 use Rattle.judged_runs.specs.Names.{Numbers, lacks_forced}
 use Rattle.judged_runs.proofs.Doubting.{AreNamedOnce}
 use Rattle.judged_runs.proofs.Links.{Tied, is_one, is_two}

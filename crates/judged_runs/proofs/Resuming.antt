@@ -17,7 +17,7 @@ use Rattle.xa_xid.specs.Xids.{null_xid}
 use Rattle.xa_branch.specs.Names.{same}
 use Rattle.xa_branch.specs.Branches.{state_in}
 use Rattle.xa_assoc.specs.declared.states.States.{States}
-use Rattle.xa_assoc.specs.Associations.{Row, active_of, has_room, has_seat, moved_of, moved_plan, own_state, resume_plan, row}
+use Rattle.xa_assoc.specs.Associations.{AreListedOnce, Row, active_of, has_room, has_seat, moved_of, moved_plan, own_state, resume_plan, row}
 use Rattle.xa_assoc.specs.Answers.{ByState, Reacts, Refuses, Resumes, Same, Walks}
 use Rattle.xa_assoc.specs.Reacting.{resumed}
 use Rattle.xa_assoc.specs.Ready.{is_closed}
@@ -32,7 +32,7 @@ use Rattle.judge_rules.specs.declared.replies.Reply.TheVariants as reply
 use Rattle.judge_rules.specs.Flags.{has, wrong_at_start}
 use Rattle.judge_rules.specs.Defects.{is_plain, is_spoiled_at}
 use Rattle.judge_rules.specs.Passes.{branch_passes, entered, spoiled_passes, start_passes}
-use Rattle.judged_runs.specs.Deeds.{AreListedOnce, on}
+use Rattle.judged_runs.specs.Deeds.{on}
 use Rattle.judged_runs.specs.Names.{Numbers, lacks_forced}
 use Rattle.judged_runs.proofs.Agreements.{no_start_by}
 use Rattle.judged_runs.proofs.Links.{is_one, is_two, linked_one, relinked_one, same_count, same_links, turned, unlinked_none}

@@ -35,6 +35,7 @@ use Rattle.tree_model.specs.Records.{same_bytes}
 use Rattle.log_rules.specs.order.Logs.{Whole, read_log}
 use Rattle.log_rules.specs.order.Orders.{SeenLog, left_by as in_doubt_by, nothing_seen}
 use Rattle.log_text.specs.Forms.{log_form}
+use Rattle.log_store.specs.Stores.{MoreFailures}
 use Rattle.rec_log.specs.Openings.{Opens as OpensLog}
 use Rattle.rec_log.specs.Sights.{LogState, left_by, records_of}
 use Rattle.kv_turns.specs.Turns.{decide_turn, heur_entry}
@@ -45,6 +46,7 @@ use Rattle.kv_store.specs.writes.Writes.{writes_of}
 use Rattle.manager_model.specs.Ends.{Broke, Failed, Finishes, Limited, Made, Makes as MakesRow, Refused, Unlisted, decided_behind, row_for}
 use Rattle.manager_model.specs.declared.errors.DecideError.{DecideError}
 use Rattle.manager_model.specs.declared.errors.DecideError.TheVariants as decide_error
+use Rattle.manager_model.specs.declared.errors.TrimError.TheVariants as trim_error
 use Rattle.kv_manager.specs.Resources.{sight_of}
 use Rattle.manager_model.specs.Restarting.{boot_record, marked_state}
 use Rattle.kv_manager.specs.Restarts.{Restarted}
@@ -57,6 +59,7 @@ use Rattle.kv_manager.proofs.Restarted.{restarted}
 use Rattle.kv_manager.proofs.Staying.{SameDoubts, recovers_doubts, same_doubts, works_doubts}
 use Rattle.kv_manager.proofs.Turns.{due_turn, leads}
 use Rattle.kv_manager.proofs.Resources.{finished, same_tables}
+use Rattle.report_io.specs.declared.status.Status.TheVariants.{Ended}
 use Rattle.judge_state.specs.declared.parts.Decision.{Decision}
 use Rattle.judge_rules.specs.declared.calls.Answer.{Answer as Judged}
 use Rattle.judge_rules.specs.declared.calls.Answer.TheVariants as judged
@@ -73,9 +76,9 @@ use Rattle.xa_engine.specs.declared.script.request.Request.TheVariants.{Open, Cl
 use Rattle.xa_engine.specs.declared.answer.Answer.{Answer}
 use Rattle.xa_engine.specs.declared.answer.Answer.TheVariants as answer
 use Rattle.xa_engine.specs.Makes.{Boots, CallsBranch, Decides, IsCode, IsRead, IsWritten, Joins, Makes, Moves, Scans, Trims, Works, kept_bytes}
-use Rattle.xa_engine.specs.Runs.{HasSoundLog, IsFresh}
-use Rattle.judged_runs.specs.Deeds.{AreCounted, Closed, Deed, Decided, Ended, Finished, Is, IsScan, Leads, Limited as LimitedDeed, Loses, NoMore, Opened, Recovered, Restarted as RestartedDeed, Returns, Started, StillKnown, Trimmed, Undecided, Unread, Unwritten, Wrote, decision_of, ends_branch, none_lost, on, rows_for}
-use Rattle.judged_runs.specs.Events.{AreEvents, IsEvent, LeadsCovered, LeadsJudged, Says, is_booted, is_covered, is_failure, is_judged, tells_failure, verb_of}
+use Rattle.xa_engine.specs.Runs.{IsFresh, IsReport, IsSoundManager, Leads as LeadsRun}
+use Rattle.judged_runs.specs.Deeds.{Closed, Deed, Decided, Ended, Finished, Is, IsScan, Leads, Limited as LimitedDeed, Loses, NoMore, Opened, Recovered, Restarted as RestartedDeed, Returns, Started, StillKnown, Trimmed, Undecided, Unread, Unwritten, Wrote, decision_of, ends_branch, none_lost, on, rows_for}
+use Rattle.judged_runs.specs.Events.{AreCovered, AreEvents, Conforms, IsEvent, Says, is_booted, is_covered, verb_of}
 use Rattle.judged_runs.specs.Names.{Numbers, lacks_forced, value_number}
 use Rattle.judged_runs.proofs.Conforming.{deeds_legal}
 use Rattle.judged_runs.proofs.Recorded.{IsRecorded, IsSaid, all_left, boot_recorded, lost_after, lost_before, lost_cases, more_recorded, stays_recorded, trim_recorded, turn_recorded, written_recorded}
@@ -88,16 +91,10 @@ known_in m x = decision_of (known_of m.store x).outcome
 same_known : (old new : KeySight) → new.decisions ≡ old.decisions → (y : Xid) → known_of new y ≡ known_of old y
 same_known old new e y = ap (λ (t : DecisionTable). decision_or (decision_in t y)) e
 
-no_failure : (c : Code) → c ≡ code.RmFail → is_failure c ≡ false → ⊥
-no_failure c e h = false≢true (sym h ∙ ap is_failure e)
-
--- a call that a failed manager refuses, where no failure is told
-by_works : (old new : KvSight) (c : Code) (X : Type 0) (Does : KeySight → KeySight → Type 0) → is_failure c ≡ false
-    → Calls old new (c ≡ code.RmFail) Does → (Does old.store new.store → X) → X
-by_works old new c X Does ok calls on_works = by old.log.sight.failed refl where
-  by : (b : Bool) → old.log.sight.failed ≡ b → X
-  by true e = absurd (no_failure c (calls.failed e).0 ok)
-  by false e = on_works (calls.works e)
+-- the device of a manager in memory does not fail
+quiet : (old new : KvSight) → old.log.sight.failures ≡ 0 → new.log.sight.failures ≡ 0
+    → MoreFailures old.log.sight.failures new.log.sight.failures → ⊥
+quiet old new was is more = omega (arith, was, is, more)
 
 behind_outcome : (c : Call) (k : Known) → (decided_behind c k).outcome ≡ k.outcome
 behind_outcome call.Commit k = refl
@@ -164,8 +161,15 @@ off_by_tests true b p q h = absurd cc
 off_by_tests false true p q h = absurd cc
 off_by_tests false false p q h = refl
 
-module _ (n : Numbers) (old new : KvSight) (e : Event) (counted : AreCounted old.store.tables.associations.moved)
-    (l : Xid → Bool) where
+module _ (n : Numbers) (old new : KvSight) (e : Event) (l : Xid → Bool) (r : IsRecorded old l) (sound : IsSoundManager old)
+    (after : IsSoundManager new) where
+  -- the device fails nowhere
+  breaks_none : MoreFailures old.log.sight.failures new.log.sight.failures → ⊥
+  breaks_none = quiet old new sound.device after.device
+
+  fails_none : old.log.sight.failed ≡ true → ⊥
+  fails_none f = false≢true (sym r.works ∙ f)
+
   abbrev Deed_by : (Xid → Bool) → Type 0
   Deed_by l' = Deed n old.store.tables new.store.tables (known_in old) (known_in new) l l' e
 
@@ -209,26 +213,26 @@ module _ (n : Numbers) (old new : KvSight) (e : Event) (counted : AreCounted old
   still : ((y : Xid) → known_of new.store y ≡ known_of old.store y) → StillKnown new.store.tables (known_in old) (known_in new)
   still h y q = ap (λ (k : Known). decision_of k.outcome) (h y)
 
-  open_deed : (flags : Flags) (migrates : Bool) (c : Code) → is_failure c ≡ false
-      → Moves old new c (λ a b. Opens a b flags.0 migrates c)
+  open_deed : (flags : Flags) (migrates : Bool) (c : Code) → Moves old new c (λ a b. Opens a b flags.0 migrates c)
       → Is e (asked.Function (function.Open flags)) (judged.Code c) → Deed_of
-  open_deed flags migrates c ok h is = by_works old new c Deed_of _ ok h
-      (λ m. Opened flags migrates c m.tables (still (same_known old.store new.store m.decisions)) no_more is)
+  open_deed flags migrates c h is =
+      let m = h.works r.works in
+      Opened flags migrates c m.tables (still (same_known old.store new.store m.decisions)) no_more is
 
   any_row : Wanted
   any_row c = (code.Ok, S0)
 
-  start_deed : (t : ℕ) (x : Xid) (flags : Flags) (c : Code) → is_failure c ≡ false
-      → Joins table_verb.Start old new t x flags.0 c
+  start_deed : (t : ℕ) (x : Xid) (flags : Flags) (c : Code) → Joins table_verb.Start old new t x flags.0 c
       → Is e (asked.Function (function.Branch verb.Start (on n t x flags))) (judged.Code c) → Deed_of
-  start_deed t x flags c ok h is = by_works old new c Deed_of _ ok (h any_row)
-      (λ m. Started any_row t x flags c m.tables (still (same_known old.store new.store m.decisions)) no_more is)
+  start_deed t x flags c h is =
+      let m = (h any_row).works r.works in
+      Started any_row t x flags c m.tables (still (same_known old.store new.store m.decisions)) no_more is
 
-  end_deed : (t : ℕ) (x : Xid) (flags : Flags) (c : Code) → is_failure c ≡ false
-      → Joins table_verb.End old new t x flags.0 c
+  end_deed : (t : ℕ) (x : Xid) (flags : Flags) (c : Code) → Joins table_verb.End old new t x flags.0 c
       → Is e (asked.Function (function.Branch verb.End (on n t x flags))) (judged.Code c) → Deed_of
-  end_deed t x flags c ok h is = by_works old new c Deed_of _ ok (h any_row)
-      (λ m. Ended any_row t x flags c m.tables (still (same_known old.store new.store m.decisions)) no_more is)
+  end_deed t x flags c h is =
+      let m = (h any_row).works r.works in
+      Ended any_row t x flags c m.tables (still (same_known old.store new.store m.decisions)) no_more is
 
   -- the row of a call that finishes a branch leaves what is known
   row_known : (x : Xid) (c : Call) → MakesRow (sight_of old) (sight_of new) x c (row_for (sight_of old) x c)
@@ -242,18 +246,18 @@ module _ (n : Numbers) (old new : KvSight) (e : Event) (counted : AreCounted old
     by false p = ap (λ (k : Known). decision_of k.outcome) (makes.others_decided y p)
 
   finish_deed : (v : BranchVerb) (w : Verb) (t : ℕ) (x : Xid) (flags : Flags) (c : Code) → ends_branch v w
-      → is_work_verb w ≡ false → is_failure c ≡ false
+      → is_work_verb w ≡ false
       → Is e (asked.Function (function.Branch v (on n t x flags))) (judged.Code c)
       → Finishes (sight_of old) (sight_of new) w x flags.0 c → Deed_ends
-  finish_deed v w t x flags c ends work ok is (Failed f q same) = absurd (no_failure c q ok)
-  finish_deed v w t x flags c ends work ok is (Refused f ready same) =
+  finish_deed v w t x flags c ends work is (Failed f q same) = absurd (fails_none f)
+  finish_deed v w t x flags c ends work is (Refused f ready same) =
       Finished v w (writes_of old.store.writes x) (known_of old.store x) t x flags c ends refl
       (refused_call (rows_for old.store.tables x (writes_of old.store.writes x) (known_of old.store x)) old.store.tables
       new.store.tables w t x flags.0 c work ready same.tables) (still same.rest.decided) (loses_same x same.tables) is
-  finish_deed v w t x flags c ends work ok is (Limited f spent q same) =
+  finish_deed v w t x flags c ends work is (Limited f spent q same) =
       LimitedDeed v t x flags same.tables (still same.rest.decided) (same_more same.tables)
       (record { calls = is.calls; says = is.says ∙ ap (λ z. judged.Code z) q })
-  finish_deed v w t x flags c ends work ok is (Unlisted f k ready none q same) =
+  finish_deed v w t x flags c ends work is (Unlisted f k ready none q same) =
       Finished v w (writes_of old.store.writes x) (known_of old.store x) t x flags c ends refl
       (finishing (rows_for old.store.tables x (writes_of old.store.writes x) (known_of old.store x)) old.store.tables
       new.store.tables w t x flags.0 k c work ready (λ listed. absurd (none listed))
@@ -261,35 +265,32 @@ module _ (n : Numbers) (old new : KvSight) (e : Event) (counted : AreCounted old
         q ∙ sym (off_is k (works_as w flags.0 k (passed old.store.tables w x flags.0 k ready).by_flags ∙ work)),
         same.tables,
       ))) (still same.rest.decided) (loses_same x same.tables) is
-  finish_deed v w t x flags c ends work ok is (Made f k ready q makes) =
+  finish_deed v w t x flags c ends work is (Made f k ready q makes) =
       Finished v w (writes_of old.store.writes x) (known_of old.store x) t x flags c ends refl
       (finishing (rows_for old.store.tables x (writes_of old.store.writes x) (known_of old.store x)) old.store.tables
       new.store.tables w t x flags.0 k c work ready (λ listed. (q, makes.tables)) (λ none. absurd (none makes.listed)))
       (row_known x k makes) (loses_by x makes.tables.branch.others) is
-  finish_deed v w t x flags c ends work ok is (Broke f k ready q fails) = absurd (no_failure c q ok)
+  finish_deed v w t x flags c ends work is (Broke f k ready q fails) = absurd (breaks_none fails.log.cause)
 
-  branch_deed : (f : BranchCall) (t : ℕ) (x : Xid) (flags : Flags) (c : Code) → is_failure c ≡ false
-      → CallsBranch f old new t x flags.0 c
+  branch_deed : (f : BranchCall) (t : ℕ) (x : Xid) (flags : Flags) (c : Code) → CallsBranch f old new t x flags.0 c
       → Is e (asked.Function (function.Branch (verb_of f) (on n t x flags))) (judged.Code c) → Deed_by (lost_call f l old new)
-  branch_deed Start t x flags c ok h is = start_deed t x flags c ok h is
-  branch_deed End t x flags c ok h is = end_deed t x flags c ok h is
-  branch_deed Prepare t x flags c ok h is = finish_deed verb.Prepare table_verb.Prepare t x flags c refl refl ok is
+  branch_deed Start t x flags c h is = start_deed t x flags c h is
+  branch_deed End t x flags c h is = end_deed t x flags c h is
+  branch_deed Prepare t x flags c h is = finish_deed verb.Prepare table_verb.Prepare t x flags c refl refl is
       (finished old new table_verb.Prepare x flags.0 c refl h)
-  branch_deed Commit t x flags c ok h is = finish_deed verb.Commit table_verb.Commit t x flags c refl refl ok is
+  branch_deed Commit t x flags c h is = finish_deed verb.Commit table_verb.Commit t x flags c refl refl is
       (finished old new table_verb.Commit x flags.0 c refl h)
-  branch_deed Rollback t x flags c ok h is = finish_deed verb.Rollback table_verb.Rollback t x flags c refl refl ok is
+  branch_deed Rollback t x flags c h is = finish_deed verb.Rollback table_verb.Rollback t x flags c refl refl is
       (finished old new table_verb.Rollback x flags.0 c refl h)
-  branch_deed Forget t x flags c ok h is = finish_deed verb.Forget table_verb.Forget t x flags c refl refl ok is
+  branch_deed Forget t x flags c h is = finish_deed verb.Forget table_verb.Forget t x flags c refl refl is
       (finished old new table_verb.Forget x flags.0 c refl h)
 
   -- refused work changes nothing
   refused_work : (refusal : Option WorkError) (w : WorkError) (X : Type 0) → RefusesWork old new refusal w
       → (Same old.store.tables new.store.tables → ((y : Xid) → known_of new.store y ≡ known_of old.store y) → X) → X
-  refused_work refusal w X h then_so = by old.log.sight.failed refl where
-    by : (b : Bool) → old.log.sight.failed ≡ b → X
-    by true q = let same = (h.failed q).1 in then_so same.tables (λ y. ap decision_or (same.decisions y))
-    by false q = let same = refused_same old.store new.store refusal w (h.works q) in
-        then_so same.tables (λ y. ap decision_or (same.decisions y))
+  refused_work refusal w X h then_so =
+      let same = refused_same old.store new.store refusal w (h.works r.works) in
+      then_so same.tables (λ y. ap decision_or (same.decisions y))
 
   read_deed : (t : ℕ) (k : List ℕ) (a : Answer) → is_covered (Work t (Get k)) a ≡ true → IsRead old new t k a
       → IsEvent n (Work t (Get k)) a e → Deed_of
@@ -305,18 +306,12 @@ module _ (n : Numbers) (old new : KvSight) (e : Event) (counted : AreCounted old
   read_deed t k (answer.NotTrimmed w) covered h is = absurd h
   read_deed t k (answer.NotDecided w) covered h is = absurd h
 
-  by_done : (X : Type 0) (Does : KeySight → KeySight → Type 0) → Calls old new ⊥ Does
-      → (Does old.store new.store → X) → X
-  by_done X Does calls on_works = by old.log.sight.failed refl where
-    by : (b : Bool) → old.log.sight.failed ≡ b → X
-    by true q = absurd ((calls.failed q).0)
-    by false q = on_works (calls.works q)
-
   write_deed : (t : ℕ) (k : List ℕ) (v : Option (List ℕ)) (a : Answer) → IsWritten old new t k v a
       → e.call ≡ asked.Put t (n.word k) (value_number n v) → Says n a e.answer → Deed_of
-  write_deed t k v answer.Done h calls says = by_done Deed_of _ h
-      (λ w. Wrote t k v (same_tables old.store.tables new.store.tables w.tables)
-      (still (same_known old.store new.store w.decisions)) no_more (record { calls = calls; says = says }))
+  write_deed t k v answer.Done h calls says =
+      let w = h.works r.works in
+      Wrote t k v (same_tables old.store.tables new.store.tables w.tables)
+      (still (same_known old.store new.store w.decisions)) no_more (record { calls = calls; says = says })
   write_deed t k v (answer.Refused w) h calls says = refused_work _ w Deed_of h.1
       (λ same known. Unwritten t k v same (still known) no_more (record { calls = calls; says = says }))
   write_deed t k v (answer.Code c) h calls says = absurd h
@@ -339,107 +334,107 @@ module _ (n : Numbers) (old new : KvSight) (e : Event) (counted : AreCounted old
   undecided x o w same is = Undecided x o same.tables (still (λ y. ap decision_or (same.decisions y))) no_more
       (record { calls = is.calls; says = is.says })
 
-  decide_deed : (x : Xid) (o : Outcome) (a : Answer) → tells_failure a ≡ false → Decides old new x o a
+  decide_deed : (x : Xid) (o : Outcome) (a : Answer) → Decides old new x o a
       → IsEvent n (Decide x o) a e → Deed_of
-  decide_deed x o answer.Done ok h is = Decided x o h.0.prepared h.0.tables
+  decide_deed x o answer.Done h is = Decided x o h.0.prepared h.0.tables
       (ap (λ (k : Known). decision_of k.outcome) h.0.decided)
       (λ y differs. ap (λ (k : Known). decision_of k.outcome) (h.0.others_decided y differs)) no_more
       (record { calls = is.calls; says = is.says })
-  decide_deed x o (answer.NotDecided decide_error.Memory) ok h is = absurd (h.0 refl)
-  decide_deed x o (answer.NotDecided decide_error.Device) ok h is = absurd (false≢true (sym ok))
-  decide_deed x o (answer.NotDecided decide_error.Failed) ok h is = absurd (false≢true (sym ok))
-  decide_deed x o (answer.NotDecided decide_error.NotInDoubt) ok h is = undecided x o decide_error.NotInDoubt h.2 is
-  decide_deed x o (answer.NotDecided decide_error.Exhausted) ok h is = undecided x o decide_error.Exhausted h.2 is
-  decide_deed x o (answer.Code c) ok h is = absurd h
-  decide_deed x o (answer.Given xs) ok h is = absurd h
-  decide_deed x o (answer.Found v) ok h is = absurd h
-  decide_deed x o (answer.Refused w) ok h is = absurd h
-  decide_deed x o (answer.Booted b) ok h is = absurd h
-  decide_deed x o (answer.NotBooted w) ok h is = absurd h
-  decide_deed x o (answer.Trimmed r) ok h is = absurd h
-  decide_deed x o (answer.NotTrimmed w) ok h is = absurd h
+  decide_deed x o (answer.NotDecided decide_error.Memory) h is = absurd (h.0 refl)
+  decide_deed x o (answer.NotDecided decide_error.Device) h is = absurd (breaks_none h.1.log.cause)
+  decide_deed x o (answer.NotDecided decide_error.Failed) h is = absurd (fails_none h.1.0)
+  decide_deed x o (answer.NotDecided decide_error.NotInDoubt) h is = undecided x o decide_error.NotInDoubt h.2 is
+  decide_deed x o (answer.NotDecided decide_error.Exhausted) h is = undecided x o decide_error.Exhausted h.2 is
+  decide_deed x o (answer.Code c) h is = absurd h
+  decide_deed x o (answer.Given xs) h is = absurd h
+  decide_deed x o (answer.Found v) h is = absurd h
+  decide_deed x o (answer.Refused w) h is = absurd h
+  decide_deed x o (answer.Booted b) h is = absurd h
+  decide_deed x o (answer.NotBooted w) h is = absurd h
+  decide_deed x o (answer.Trimmed r) h is = absurd h
+  decide_deed x o (answer.NotTrimmed w) h is = absurd h
 
-  trim_deed : (a : Answer) → tells_failure a ≡ false → Trims old new a → IsEvent n Trim a e → Deed_of
-  trim_deed (answer.Trimmed r) ok h is = Trimmed h.0.tables (still h.0.rest.decided) no_more
+  trim_deed : (a : Answer) → Trims old new a → IsEvent n Trim a e → Deed_of
+  trim_deed (answer.Trimmed r) h is = Trimmed h.0.tables (still h.0.rest.decided) no_more
       (record { calls = is.calls; says = is.says })
-  trim_deed (answer.NotTrimmed w) ok h is = absurd (false≢true (sym ok))
-  trim_deed (answer.Code c) ok h is = absurd h
-  trim_deed (answer.Given xs) ok h is = absurd h
-  trim_deed (answer.Found v) ok h is = absurd h
-  trim_deed answer.Done ok h is = absurd h
-  trim_deed (answer.Refused w) ok h is = absurd h
-  trim_deed (answer.Booted b) ok h is = absurd h
-  trim_deed (answer.NotBooted w) ok h is = absurd h
-  trim_deed (answer.NotDecided w) ok h is = absurd h
+  trim_deed (answer.NotTrimmed trim_error.Memory) h is = absurd (h.0 refl)
+  trim_deed (answer.NotTrimmed trim_error.Device) h is = absurd (breaks_none h.1.cause)
+  trim_deed (answer.NotTrimmed trim_error.Failed) h is = absurd (fails_none h.1.1)
+  trim_deed (answer.Code c) h is = absurd h
+  trim_deed (answer.Given xs) h is = absurd h
+  trim_deed (answer.Found v) h is = absurd h
+  trim_deed answer.Done h is = absurd h
+  trim_deed (answer.Refused w) h is = absurd h
+  trim_deed (answer.Booted b) h is = absurd h
+  trim_deed (answer.NotBooted w) h is = absurd h
+  trim_deed (answer.NotDecided w) h is = absurd h
 
-  open_by : (flags : Flags) (migrates : Bool) (a : Answer) → tells_failure a ≡ false → Makes old new (Open flags migrates) a
+  open_by : (flags : Flags) (migrates : Bool) (a : Answer) → Makes old new (Open flags migrates) a
       → IsEvent n (Open flags migrates) a e → Deed_of
-  open_by flags migrates (answer.Code c) ok h is =
-      open_deed flags migrates c ok h (record { calls = is.calls; says = is.says })
-  open_by flags migrates (answer.Given xs) ok h is = absurd h
-  open_by flags migrates (answer.Found v) ok h is = absurd h
-  open_by flags migrates answer.Done ok h is = absurd h
-  open_by flags migrates (answer.Refused w) ok h is = absurd h
-  open_by flags migrates (answer.Booted b) ok h is = absurd h
-  open_by flags migrates (answer.NotBooted w) ok h is = absurd h
-  open_by flags migrates (answer.Trimmed r) ok h is = absurd h
-  open_by flags migrates (answer.NotTrimmed w) ok h is = absurd h
-  open_by flags migrates (answer.NotDecided w) ok h is = absurd h
+  open_by flags migrates (answer.Code c) h is =
+      open_deed flags migrates c h (record { calls = is.calls; says = is.says })
+  open_by flags migrates (answer.Given xs) h is = absurd h
+  open_by flags migrates (answer.Found v) h is = absurd h
+  open_by flags migrates answer.Done h is = absurd h
+  open_by flags migrates (answer.Refused w) h is = absurd h
+  open_by flags migrates (answer.Booted b) h is = absurd h
+  open_by flags migrates (answer.NotBooted w) h is = absurd h
+  open_by flags migrates (answer.Trimmed r) h is = absurd h
+  open_by flags migrates (answer.NotTrimmed w) h is = absurd h
+  open_by flags migrates (answer.NotDecided w) h is = absurd h
 
-  close_by : (flags : Flags) (a : Answer) → tells_failure a ≡ false → Makes old new (Close flags) a
+  close_by : (flags : Flags) (a : Answer) → Makes old new (Close flags) a
       → IsEvent n (Close flags) a e → Deed_of
-  close_by flags (answer.Code c) ok h is = by_works old new c Deed_of _ ok h
-      (λ m. Closed flags c counted m.tables (still (same_known old.store new.store m.decisions)) no_more
-      (record { calls = is.calls; says = is.says }))
-  close_by flags (answer.Given xs) ok h is = absurd h
-  close_by flags (answer.Found v) ok h is = absurd h
-  close_by flags answer.Done ok h is = absurd h
-  close_by flags (answer.Refused w) ok h is = absurd h
-  close_by flags (answer.Booted b) ok h is = absurd h
-  close_by flags (answer.NotBooted w) ok h is = absurd h
-  close_by flags (answer.Trimmed r) ok h is = absurd h
-  close_by flags (answer.NotTrimmed w) ok h is = absurd h
-  close_by flags (answer.NotDecided w) ok h is = absurd h
+  close_by flags (answer.Code c) h is =
+      let m = h.works r.works in
+      Closed flags c sound.listed.counted m.tables (still (same_known old.store new.store m.decisions)) no_more
+      (record { calls = is.calls; says = is.says })
+  close_by flags (answer.Given xs) h is = absurd h
+  close_by flags (answer.Found v) h is = absurd h
+  close_by flags answer.Done h is = absurd h
+  close_by flags (answer.Refused w) h is = absurd h
+  close_by flags (answer.Booted b) h is = absurd h
+  close_by flags (answer.NotBooted w) h is = absurd h
+  close_by flags (answer.Trimmed r) h is = absurd h
+  close_by flags (answer.NotTrimmed w) h is = absurd h
+  close_by flags (answer.NotDecided w) h is = absurd h
 
-  branch_by : (f : BranchCall) (t : ℕ) (x : Xid) (flags : Flags) (a : Answer) → tells_failure a ≡ false
-      → Makes old new (Branch f t x flags) a → IsEvent n (Branch f t x flags) a e → Deed_by (lost_call f l old new)
-  branch_by f t x flags (answer.Code c) ok h is =
-      branch_deed f t x flags c ok h (record { calls = is.calls; says = is.says })
-  branch_by f t x flags (answer.Given xs) ok h is = absurd h
-  branch_by f t x flags (answer.Found v) ok h is = absurd h
-  branch_by f t x flags answer.Done ok h is = absurd h
-  branch_by f t x flags (answer.Refused w) ok h is = absurd h
-  branch_by f t x flags (answer.Booted b) ok h is = absurd h
-  branch_by f t x flags (answer.NotBooted w) ok h is = absurd h
-  branch_by f t x flags (answer.Trimmed r) ok h is = absurd h
-  branch_by f t x flags (answer.NotTrimmed w) ok h is = absurd h
-  branch_by f t x flags (answer.NotDecided w) ok h is = absurd h
+  branch_by : (f : BranchCall) (t : ℕ) (x : Xid) (flags : Flags) (a : Answer) → Makes old new (Branch f t x flags) a → IsEvent n (Branch f t x flags) a e → Deed_by (lost_call f l old new)
+  branch_by f t x flags (answer.Code c) h is =
+      branch_deed f t x flags c h (record { calls = is.calls; says = is.says })
+  branch_by f t x flags (answer.Given xs) h is = absurd h
+  branch_by f t x flags (answer.Found v) h is = absurd h
+  branch_by f t x flags answer.Done h is = absurd h
+  branch_by f t x flags (answer.Refused w) h is = absurd h
+  branch_by f t x flags (answer.Booted b) h is = absurd h
+  branch_by f t x flags (answer.NotBooted w) h is = absurd h
+  branch_by f t x flags (answer.Trimmed r) h is = absurd h
+  branch_by f t x flags (answer.NotTrimmed w) h is = absurd h
+  branch_by f t x flags (answer.NotDecided w) h is = absurd h
 
-  -- a recover, which a failed manager refuses
-  scans : (t count : ℕ) (flags : Flags) (r : Result (List Xid) Code) (a : Judged) → (r ≡ Err code.RmFail → ⊥)
-      → Calls old new (r ≡ Err code.RmFail) (λ before after. MovesTables before after
-      (λ b c. Recovers b c t count flags.0 r))
-      → IsScan n r a → Is e (asked.Function (function.Recover t count flags)) a → Deed_of
-  scans t count flags r a ok calls says is = by old.log.sight.failed refl where
-    by : (b : Bool) → old.log.sight.failed ≡ b → Deed_of
-    by true q = absurd (ok (calls.failed q).0)
-    by false q = let m = calls.works q in
-        Recovered t count flags r a m.tables says (still (same_known old.store new.store m.decisions)) no_more is
+  -- a recover
+  scans : (t count : ℕ) (flags : Flags) (q : Result (List Xid) Code) (a : Judged)
+      → Calls old new (q ≡ Err code.RmFail) (λ before after. MovesTables before after
+      (λ b c. Recovers b c t count flags.0 q))
+      → IsScan n q a → Is e (asked.Function (function.Recover t count flags)) a → Deed_of
+  scans t count flags q a calls says is =
+      let m = calls.works r.works in
+      Recovered t count flags q a m.tables says (still (same_known old.store new.store m.decisions)) no_more is
 
-  scan_deed : (t count : ℕ) (flags : Flags) (a : Answer) → tells_failure a ≡ false
-      → Makes old new (Recover t count flags) a → IsEvent n (Recover t count flags) a e → Deed_of
-  scan_deed t count flags (answer.Code c) ok h is = scans t count flags (Err c) (judged.Code c)
-      (λ q. let one : c ≡ code.RmFail = cc in no_failure c one ok) h refl (record { calls = is.calls; says = is.says })
-  scan_deed t count flags (answer.Given xs) ok h is = scans t count flags (Ok xs) e.answer
-      (λ q. absurd cc) h is.says (record { calls = is.calls; says = refl })
-  scan_deed t count flags (answer.Found v) ok h is = absurd h
-  scan_deed t count flags answer.Done ok h is = absurd h
-  scan_deed t count flags (answer.Refused w) ok h is = absurd h
-  scan_deed t count flags (answer.Booted b) ok h is = absurd h
-  scan_deed t count flags (answer.NotBooted w) ok h is = absurd h
-  scan_deed t count flags (answer.Trimmed r) ok h is = absurd h
-  scan_deed t count flags (answer.NotTrimmed w) ok h is = absurd h
-  scan_deed t count flags (answer.NotDecided w) ok h is = absurd h
+  scan_deed : (t count : ℕ) (flags : Flags) (a : Answer) → Makes old new (Recover t count flags) a
+      → IsEvent n (Recover t count flags) a e → Deed_of
+  scan_deed t count flags (answer.Code c) h is = scans t count flags (Err c) (judged.Code c) h refl
+      (record { calls = is.calls; says = is.says })
+  scan_deed t count flags (answer.Given xs) h is = scans t count flags (Ok xs) e.answer h is.says
+      (record { calls = is.calls; says = refl })
+  scan_deed t count flags (answer.Found v) h is = absurd h
+  scan_deed t count flags answer.Done h is = absurd h
+  scan_deed t count flags (answer.Refused w) h is = absurd h
+  scan_deed t count flags (answer.Booted b) h is = absurd h
+  scan_deed t count flags (answer.NotBooted w) h is = absurd h
+  scan_deed t count flags (answer.Trimmed r) h is = absurd h
+  scan_deed t count flags (answer.NotTrimmed w) h is = absurd h
+  scan_deed t count flags (answer.NotDecided w) h is = absurd h
 
   -- a restart
   restart_by : (cut : Bool) (keep : ℕ) (given : List Xid) → Restarted old new keep given
@@ -461,55 +456,49 @@ module _ (n : Numbers) (old new : KvSight) (e : Event) (counted : AreCounted old
         forgets = λ x q. false≢true q;
       }) is
 
-  restart_deed : (keep : Option ℕ) (a : Answer) → IsRecorded old l → HasSoundLog old → is_booted a ≡ true
-      → Boots old new keep a → IsEvent n (Restart keep) a e → Deed_by none_lost
-  restart_deed (Some k) (answer.Booted b) r log covered h is = restart_by true k h.1 h.2
+  restart_deed : (keep : Option ℕ) (a : Answer) → is_booted a ≡ true → Boots old new keep a → IsEvent n (Restart keep) a e → Deed_by none_lost
+  restart_deed (Some k) (answer.Booted b) covered h is = restart_by true k h.1 h.2
       (λ x. returns_left (state_of old.store x) (known_of old.store x) (marked_state (mark_at (left_by old.log.sight k) x))
       (decided_in (left_by old.log.sight k) x) (l x) (r.left k x))
       (λ x q. (subst (λ (s : BranchState). IsSaid (doubt_of s) (known_of old.store x)
       (marked_state (mark_at (left_by old.log.sight k) x)) (decided_in (left_by old.log.sight k) x) (l x)) q (r.left k x)).1)
       (record { calls = is.calls; says = is.says })
-  restart_deed None (answer.Booted b) r log covered h is = restart_by false (kept_bytes None) h.1 h.2
+  restart_deed None (answer.Booted b) covered h is = restart_by false (kept_bytes None) h.1 h.2
       (λ x. returns_whole (state_of old.store x) (marked_state (mark_at (left_by old.log.sight (kept_bytes None)) x)) false
-      (ap (λ ks. marked_state (mark_at ks x)) (all_left old log) ∙ r.now x))
-      (λ x q. ap (λ ks. (decided_in ks x).outcome) (all_left old log) ∙ r.decided x q)
+      (ap (λ ks. marked_state (mark_at ks x)) (all_left old sound.log) ∙ r.now x))
+      (λ x q. ap (λ ks. (decided_in ks x).outcome) (all_left old sound.log) ∙ r.decided x q)
       (record { calls = is.calls; says = is.says })
-  restart_deed keep (answer.Code c) r log covered h is = absurd (false≢true covered)
-  restart_deed keep (answer.Given xs) r log covered h is = absurd (false≢true covered)
-  restart_deed keep (answer.Found v) r log covered h is = absurd (false≢true covered)
-  restart_deed keep answer.Done r log covered h is = absurd (false≢true covered)
-  restart_deed keep (answer.Refused w) r log covered h is = absurd (false≢true covered)
-  restart_deed keep (answer.NotBooted w) r log covered h is = absurd (false≢true covered)
-  restart_deed keep (answer.Trimmed b) r log covered h is = absurd (false≢true covered)
-  restart_deed keep (answer.NotTrimmed w) r log covered h is = absurd (false≢true covered)
-  restart_deed keep (answer.NotDecided w) r log covered h is = absurd (false≢true covered)
+  restart_deed keep (answer.Code c) covered h is = absurd (false≢true covered)
+  restart_deed keep (answer.Given xs) covered h is = absurd (false≢true covered)
+  restart_deed keep (answer.Found v) covered h is = absurd (false≢true covered)
+  restart_deed keep answer.Done covered h is = absurd (false≢true covered)
+  restart_deed keep (answer.Refused w) covered h is = absurd (false≢true covered)
+  restart_deed keep (answer.NotBooted w) covered h is = absurd (false≢true covered)
+  restart_deed keep (answer.Trimmed b) covered h is = absurd (false≢true covered)
+  restart_deed keep (answer.NotTrimmed w) covered h is = absurd (false≢true covered)
+  restart_deed keep (answer.NotDecided w) covered h is = absurd (false≢true covered)
 
-  -- a request but a restart
-  pub deed_but : (r : Request) (a : Answer) → is_covered r a ≡ true → tells_failure a ≡ false → Makes old new r a
-      → IsEvent n r a e → Deed_by (lost_next r l old new)
-  deed_but (Open flags migrates) a covered ok h is = open_by flags migrates a ok h is
-  deed_but (Close flags) a covered ok h is = close_by flags a ok h is
-  deed_but (Branch f t x flags) a covered ok h is = branch_by f t x flags a ok h is
-  deed_but (Recover t count flags) a covered ok h is = scan_deed t count flags a ok h is
-  deed_but (Work t op) a covered ok h is = work_deed t op a covered h is
-  deed_but (Restart keep) a covered ok h is = absurd (false≢true covered)
-  deed_but Trim a covered ok h is = trim_deed a ok h is
-  deed_but (Decide x o) a covered ok h is = decide_deed x o a ok h is
-
-  pub deed_of : (r : Request) (a : Answer) → IsRecorded old l → HasSoundLog old → is_judged r a ≡ true
-      → tells_failure a ≡ false → Makes old new r a → IsEvent n r a e → Deed_by (lost_next r l old new)
-  deed_of (Open flags migrates) a r log covered ok h is = open_by flags migrates a ok h is
-  deed_of (Close flags) a r log covered ok h is = close_by flags a ok h is
-  deed_of (Branch f t x flags) a r log covered ok h is = branch_by f t x flags a ok h is
-  deed_of (Recover t count flags) a r log covered ok h is = scan_deed t count flags a ok h is
-  deed_of (Work t op) a r log covered ok h is = work_deed t op a covered h is
-  deed_of (Restart keep) a r log covered ok h is = restart_deed keep a r log covered h is
-  deed_of Trim a r log covered ok h is = trim_deed a ok h is
-  deed_of (Decide x o) a r log covered ok h is = decide_deed x o a ok h is
+  pub deed_of : (q : Request) (a : Answer) → is_covered q a ≡ true → Makes old new q a → IsEvent n q a e
+      → Deed_by (lost_next q l old new)
+  deed_of (Open flags migrates) a covered h is = open_by flags migrates a h is
+  deed_of (Close flags) a covered h is = close_by flags a h is
+  deed_of (Branch f t x flags) a covered h is = branch_by f t x flags a h is
+  deed_of (Recover t count flags) a covered h is = scan_deed t count flags a h is
+  deed_of (Work t op) a covered h is = work_deed t op a covered h is
+  deed_of (Restart keep) a covered h is = restart_deed keep a covered h is
+  deed_of Trim a covered h is = trim_deed a h is
+  deed_of (Decide x o) a covered h is = decide_deed x o a h is
 
 -- What a request makes of the log.
 
-module _ (old new : KvSight) (l : Xid → Bool) (r : IsRecorded old l) (log : HasSoundLog old) where
+module _ (old new : KvSight) (l : Xid → Bool) (r : IsRecorded old l) (sound : IsSoundManager old)
+    (after : IsSoundManager new) where
+  breaks_not : MoreFailures old.log.sight.failures new.log.sight.failures → ⊥
+  breaks_not = quiet old new sound.device after.device
+
+  fails_not : old.log.sight.failed ≡ true → ⊥
+  fails_not f = false≢true (sym r.works ∙ f)
+
   -- nothing changes but room
   same_recorded : SameManager old new → IsRecorded new l
   same_recorded same = stays_recorded old new l r same.log (same_doubts old.store.tables new.store.tables same.tables)
@@ -532,26 +521,25 @@ module _ (old new : KvSight) (l : Xid → Bool) (r : IsRecorded old l) (log : Ha
   work_recorded v t x flags c work h = moved_recorded _ _ (h (λ k. (code.Ok, S0)))
       (λ a b. works_doubts (λ k. (code.Ok, S0)) a b v t x flags c work)
 
-  finish_recorded : (v : Verb) (x : Xid) (flags : ℕ) (c : Code) → is_failure c ≡ false → KvFinishes old new v x flags c
+  finish_recorded : (v : Verb) (x : Xid) (flags : ℕ) (c : Code) → KvFinishes old new v x flags c
       → IsRecorded new (lost_after l old new)
-  finish_recorded v x flags c ok (KvFailed f q same) = absurd (no_failure c q ok)
-  finish_recorded v x flags c ok (KvRefused f off same) =
+  finish_recorded v x flags c (KvFailed f q same) = absurd (fails_not f)
+  finish_recorded v x flags c (KvRefused f off same) =
       more_recorded new l (lost_after l old new) (lost_before l old new) (same_recorded same)
-  finish_recorded v x flags c ok (KvTaken f due is takes) = by takes where
+  finish_recorded v x flags c (KvTaken f due is takes) = by takes where
     by : KvTakes old new x due.1 c → IsRecorded new (lost_after l old new)
     by (KvMade q makes) = turn_recorded old new l x due.0 due.1 r (due_turn old v x flags due.0 due.1 f is) makes
-    by (KvBroke q fails) = absurd (no_failure c q ok)
+    by (KvBroke q fails) = absurd (breaks_not fails.log.cause)
     by (KvSpent q commits none same) =
         more_recorded new l (lost_after l old new) (lost_before l old new) (same_recorded same)
 
-  call_recorded : (f : BranchCall) (t : ℕ) (x : Xid) (flags : ℕ) (c : Code) → is_failure c ≡ false
-      → CallsBranch f old new t x flags c → IsRecorded new (lost_call f l old new)
-  call_recorded Start t x flags c ok h = work_recorded table_verb.Start t x flags c refl h
-  call_recorded End t x flags c ok h = work_recorded table_verb.End t x flags c refl h
-  call_recorded Prepare t x flags c ok h = finish_recorded table_verb.Prepare x flags c ok h
-  call_recorded Commit t x flags c ok h = finish_recorded table_verb.Commit x flags c ok h
-  call_recorded Rollback t x flags c ok h = finish_recorded table_verb.Rollback x flags c ok h
-  call_recorded Forget t x flags c ok h = finish_recorded table_verb.Forget x flags c ok h
+  call_recorded : (f : BranchCall) (t : ℕ) (x : Xid) (flags : ℕ) (c : Code) → CallsBranch f old new t x flags c → IsRecorded new (lost_call f l old new)
+  call_recorded Start t x flags c h = work_recorded table_verb.Start t x flags c refl h
+  call_recorded End t x flags c h = work_recorded table_verb.End t x flags c refl h
+  call_recorded Prepare t x flags c h = finish_recorded table_verb.Prepare x flags c h
+  call_recorded Commit t x flags c h = finish_recorded table_verb.Commit x flags c h
+  call_recorded Rollback t x flags c h = finish_recorded table_verb.Rollback x flags c h
+  call_recorded Forget t x flags c h = finish_recorded table_verb.Forget x flags c h
 
   refused_recorded : (refusal : Option WorkError) (w : WorkError) → RefusesWork old new refusal w → IsRecorded new l
   refused_recorded refusal w h =
@@ -614,34 +602,36 @@ module _ (old new : KvSight) (l : Xid → Bool) (r : IsRecorded old l) (log : Ha
       makes.decisions.own (λ y apart. ap decision_or (makes.decisions.others y apart)) (λ q. absurd (false≢true (sym q)))
       (λ y h. h) (λ p q. absurd (let f : S5 ≡ S0 = sym makes.tables.branch.own ∙ q in cc))
 
-  decide_recorded : (x : Xid) (o : Outcome) (a : Answer) → tells_failure a ≡ false → Decides old new x o a → IsRecorded new l
-  decide_recorded x o answer.Done ok h = decided_recorded x o h.0.prepared h.1
-  decide_recorded x o (answer.NotDecided decide_error.Memory) ok h = absurd (h.0 refl)
-  decide_recorded x o (answer.NotDecided decide_error.Device) ok h = absurd (false≢true (sym ok))
-  decide_recorded x o (answer.NotDecided decide_error.Failed) ok h = absurd (false≢true (sym ok))
-  decide_recorded x o (answer.NotDecided decide_error.NotInDoubt) ok h = same_recorded h.2
-  decide_recorded x o (answer.NotDecided decide_error.Exhausted) ok h = same_recorded h.2
-  decide_recorded x o (answer.Code c) ok h = absurd h
-  decide_recorded x o (answer.Given xs) ok h = absurd h
-  decide_recorded x o (answer.Found v) ok h = absurd h
-  decide_recorded x o (answer.Refused w) ok h = absurd h
-  decide_recorded x o (answer.Booted b) ok h = absurd h
-  decide_recorded x o (answer.NotBooted w) ok h = absurd h
-  decide_recorded x o (answer.Trimmed b) ok h = absurd h
-  decide_recorded x o (answer.NotTrimmed w) ok h = absurd h
+  decide_recorded : (x : Xid) (o : Outcome) (a : Answer) → Decides old new x o a → IsRecorded new l
+  decide_recorded x o answer.Done h = decided_recorded x o h.0.prepared h.1
+  decide_recorded x o (answer.NotDecided decide_error.Memory) h = absurd (h.0 refl)
+  decide_recorded x o (answer.NotDecided decide_error.Device) h = absurd (breaks_not h.1.log.cause)
+  decide_recorded x o (answer.NotDecided decide_error.Failed) h = absurd (fails_not h.1.0)
+  decide_recorded x o (answer.NotDecided decide_error.NotInDoubt) h = same_recorded h.2
+  decide_recorded x o (answer.NotDecided decide_error.Exhausted) h = same_recorded h.2
+  decide_recorded x o (answer.Code c) h = absurd h
+  decide_recorded x o (answer.Given xs) h = absurd h
+  decide_recorded x o (answer.Found v) h = absurd h
+  decide_recorded x o (answer.Refused w) h = absurd h
+  decide_recorded x o (answer.Booted b) h = absurd h
+  decide_recorded x o (answer.NotBooted w) h = absurd h
+  decide_recorded x o (answer.Trimmed b) h = absurd h
+  decide_recorded x o (answer.NotTrimmed w) h = absurd h
 
-  trimmed_recorded : (a : Answer) → tells_failure a ≡ false → Trims old new a → IsRecorded new l
-  trimmed_recorded (answer.Trimmed b) ok h = trim_recorded old new l r log h.0.log
+  trimmed_recorded : (a : Answer) → Trims old new a → IsRecorded new l
+  trimmed_recorded (answer.Trimmed b) h = trim_recorded old new l r sound.log h.0.log
       (same_doubts old.store.tables new.store.tables h.0.tables) h.0.rest.decided
-  trimmed_recorded (answer.NotTrimmed w) ok h = absurd (false≢true (sym ok))
-  trimmed_recorded (answer.Code c) ok h = absurd h
-  trimmed_recorded (answer.Given xs) ok h = absurd h
-  trimmed_recorded (answer.Found v) ok h = absurd h
-  trimmed_recorded answer.Done ok h = absurd h
-  trimmed_recorded (answer.Refused w) ok h = absurd h
-  trimmed_recorded (answer.Booted b) ok h = absurd h
-  trimmed_recorded (answer.NotBooted w) ok h = absurd h
-  trimmed_recorded (answer.NotDecided w) ok h = absurd h
+  trimmed_recorded (answer.NotTrimmed trim_error.Memory) h = absurd (h.0 refl)
+  trimmed_recorded (answer.NotTrimmed trim_error.Device) h = absurd (breaks_not h.1.cause)
+  trimmed_recorded (answer.NotTrimmed trim_error.Failed) h = absurd (fails_not h.1.1)
+  trimmed_recorded (answer.Code c) h = absurd h
+  trimmed_recorded (answer.Given xs) h = absurd h
+  trimmed_recorded (answer.Found v) h = absurd h
+  trimmed_recorded answer.Done h = absurd h
+  trimmed_recorded (answer.Refused w) h = absurd h
+  trimmed_recorded (answer.Booted b) h = absurd h
+  trimmed_recorded (answer.NotBooted w) h = absurd h
+  trimmed_recorded (answer.NotDecided w) h = absurd h
 
   restarted_recorded : (keep : Option ℕ) (a : Answer) → is_booted a ≡ true → Boots old new keep a
       → IsRecorded new none_lost
@@ -661,18 +651,17 @@ module _ (old new : KvSight) (l : Xid → Bool) (r : IsRecorded old l) (log : Ha
   restarted_recorded keep (answer.NotDecided w) covered h = absurd (false≢true covered)
 
   -- the answer is a code
-  with_code : (X : Type 0) (P : Code → Type 0) (a : Answer) → tells_failure a ≡ false → IsCode P a
-      → ((c : Code) → is_failure c ≡ false → P c → X) → X
-  with_code X P (answer.Code c) ok h then_so = then_so c ok h
-  with_code X P (answer.Given xs) ok h then_so = absurd h
-  with_code X P (answer.Found v) ok h then_so = absurd h
-  with_code X P answer.Done ok h then_so = absurd h
-  with_code X P (answer.Refused w) ok h then_so = absurd h
-  with_code X P (answer.Booted b) ok h then_so = absurd h
-  with_code X P (answer.NotBooted w) ok h then_so = absurd h
-  with_code X P (answer.Trimmed b) ok h then_so = absurd h
-  with_code X P (answer.NotTrimmed w) ok h then_so = absurd h
-  with_code X P (answer.NotDecided w) ok h then_so = absurd h
+  with_code : (X : Type 0) (P : Code → Type 0) (a : Answer) → IsCode P a → ((c : Code) → P c → X) → X
+  with_code X P (answer.Code c) h then_so = then_so c h
+  with_code X P (answer.Given xs) h then_so = absurd h
+  with_code X P (answer.Found v) h then_so = absurd h
+  with_code X P answer.Done h then_so = absurd h
+  with_code X P (answer.Refused w) h then_so = absurd h
+  with_code X P (answer.Booted b) h then_so = absurd h
+  with_code X P (answer.NotBooted w) h then_so = absurd h
+  with_code X P (answer.Trimmed b) h then_so = absurd h
+  with_code X P (answer.NotTrimmed w) h then_so = absurd h
+  with_code X P (answer.NotDecided w) h then_so = absurd h
 
   scan_recorded : (t count flags : ℕ) (a : Answer) → Scans old new t count flags a → IsRecorded new l
   scan_recorded t count flags (answer.Code c) h = moved_recorded _ _ h (λ a b. recovers_doubts a b t count flags (Err c))
@@ -686,56 +675,46 @@ module _ (old new : KvSight) (l : Xid → Bool) (r : IsRecorded old l) (log : Ha
   scan_recorded t count flags (answer.NotTrimmed w) h = absurd h
   scan_recorded t count flags (answer.NotDecided w) h = absurd h
 
-  pub recorded_of : (q : Request) (a : Answer) → is_judged q a ≡ true → tells_failure a ≡ false → Makes old new q a
+  pub recorded_of : (q : Request) (a : Answer) → is_covered q a ≡ true → Makes old new q a
       → IsRecorded new (lost_next q l old new)
-  recorded_of (Open flags migrates) a covered ok h = with_code (IsRecorded new l) _ a ok h (λ c fine calls.
+  recorded_of (Open flags migrates) a covered h = with_code (IsRecorded new l) _ a h (λ c calls.
       moved_recorded _ _ calls (λ b d opens. branches_doubts b d (opens_one b d flags.0 migrates c opens)))
-  recorded_of (Close flags) a covered ok h = with_code (IsRecorded new l) _ a ok h (λ c fine calls.
+  recorded_of (Close flags) a covered h = with_code (IsRecorded new l) _ a h (λ c calls.
       moved_recorded _ _ calls (λ b d closes. branches_doubts b d (closes_one b d flags.0 c closes)))
-  recorded_of (Branch f t x flags) a covered ok h = with_code (IsRecorded new (lost_call f l old new)) _ a ok h
-      (λ c fine calls. call_recorded f t x flags.0 c fine calls)
-  recorded_of (Recover t count flags) a covered ok h = scan_recorded t count flags.0 a h
-  recorded_of (Work t op) a covered ok h = op_recorded t op a h
-  recorded_of (Restart keep) a covered ok h = restarted_recorded keep a covered h
-  recorded_of Trim a covered ok h = trimmed_recorded a ok h
-  recorded_of (Decide x o) a covered ok h = decide_recorded x o a ok h
+  recorded_of (Branch f t x flags) a covered h = with_code (IsRecorded new (lost_call f l old new)) _ a h
+      (λ c calls. call_recorded f t x flags.0 c calls)
+  recorded_of (Recover t count flags) a covered h = scan_recorded t count flags.0 a h
+  recorded_of (Work t op) a covered h = op_recorded t op a h
+  recorded_of (Restart keep) a covered h = restarted_recorded keep a covered h
+  recorded_of Trim a covered h = trimmed_recorded a h
+  recorded_of (Decide x o) a covered h = decide_recorded x o a h
 
 -- Whole runs.
 
-leads_of : (n : Numbers) (m k : KvSight) (l : Xid → Bool) (rs : List Request) (given : List Answer) (es : List Event)
-    → AreCounted m.store.tables.associations.moved → LeadsCovered m rs given k → AreEvents n rs given es
-    → Leads n m.store.tables (known_in m) l es
-leads_of n m k l [] [] [] counted h is = tt
-leads_of n m k l [] [] (e ∷ es) counted h is = absurd is
-leads_of n m k l [] (a ∷ given) es counted h is = absurd h
-leads_of n m k l (q ∷ rs) [] es counted h is = absurd h
-leads_of n m k l (q ∷ rs) (a ∷ given) [] counted h is = absurd is
-leads_of n m k l (q ∷ rs) (a ∷ given) (e ∷ es) counted h is = (
-  h.0.store.tables,
-  known_in h.0,
-  lost_next q l m h.0,
-  h.4.once,
-  deed_but n m h.0 e counted l q a h.2 h.3 h.1 is.0,
-  leads_of n h.0 k (lost_next q l m h.0) rs given es h.4.counted h.5 is.1,
-)
+first_sound : (m k : KvSight) (rs : List Request) (given : List Answer) → LeadsRun m rs given k → IsSoundManager m
+first_sound m k [] [] h = h.1
+first_sound m k [] (a ∷ given) h = absurd h
+first_sound m k (q ∷ rs) [] h = absurd h
+first_sound m k (q ∷ rs) (a ∷ given) h = h.1
 
--- with restarts
-judged_leads : (n : Numbers) (m k : KvSight) (l : Xid → Bool) (rs : List Request) (given : List Answer) (es : List Event)
-    → AreCounted m.store.tables.associations.moved → IsRecorded m l → LeadsJudged m rs given k → AreEvents n rs given es
+leads_of : (n : Numbers) (m k : KvSight) (l : Xid → Bool) (rs : List Request) (given : List Answer) (es : List Event)
+    → IsRecorded m l → LeadsRun m rs given k → AreCovered rs given → AreEvents n rs given es
     → Leads n m.store.tables (known_in m) l es
-judged_leads n m k l [] [] [] counted r h is = tt
-judged_leads n m k l [] [] (e ∷ es) counted r h is = absurd is
-judged_leads n m k l [] (a ∷ given) es counted r h is = absurd h
-judged_leads n m k l (q ∷ rs) [] es counted r h is = absurd h
-judged_leads n m k l (q ∷ rs) (a ∷ given) [] counted r h is = absurd is
-judged_leads n m k l (q ∷ rs) (a ∷ given) (e ∷ es) counted r h is = (
-  h.0.store.tables,
-  known_in h.0,
-  lost_next q l m h.0,
-  h.5.once,
-  deed_of n m h.0 e counted l q a r h.1 h.3 h.4 h.2 is.0,
-  judged_leads n h.0 k (lost_next q l m h.0) rs given es h.5.counted (recorded_of m h.0 l r h.1 q a h.3 h.4 h.2) h.6 is.1,
-)
+leads_of n m k l [] [] [] r h covered is = tt
+leads_of n m k l [] [] (e ∷ es) r h covered is = absurd is
+leads_of n m k l [] (a ∷ given) es r h covered is = absurd h
+leads_of n m k l (q ∷ rs) [] es r h covered is = absurd h
+leads_of n m k l (q ∷ rs) (a ∷ given) [] r h covered is = absurd is
+leads_of n m k l (q ∷ rs) (a ∷ given) (e ∷ es) r h covered is =
+    let after = first_sound h.0 k rs given h.3 in (
+      h.0.store.tables,
+      known_in h.0,
+      lost_next q l m h.0,
+      after.listed.once,
+      deed_of n m h.0 e l r h.1 after q a covered.0 h.2 is.0,
+      leads_of n h.0 k (lost_next q l m h.0) rs given es (recorded_of m h.0 l r h.1 after q a covered.0 h.2) h.3
+          covered.1 is.1,
+    )
 
 -- a new manager has new tables
 no_records : (log : LogState) → OpensLog (log_form (record { 0 = 1 }) Manager) [] 0 0 log → records_of log.sight.kept ≡ []
@@ -772,21 +751,17 @@ new_recorded m fresh =
     fresh.starts.unforced none
     (λ x e. absurd (let q : S0 ≡ S5 = sym (none x) ∙ e in cc))
 
-none_counted : (es : List (Xid × ℕ)) → length es ≡ 0 → AreCounted es
-none_counted [] h = tt
-none_counted (e ∷ es) h = absurd (omega arith)
-
 pub runs_legal : (n : Numbers) (m k : KvSight) (rs : List Request) (given : List Answer) (es : List Event) → IsFresh m
-    → LeadsCovered m rs given k → AreEvents n rs given es → IsLegal lacks_forced es
-runs_legal n m k rs given es fresh h is =
-    let new = new_tables m fresh in
-    deeds_legal n m.store.tables (known_in m) es new
-    (leads_of n m k none_lost rs given es (none_counted m.store.tables.associations.moved new.associations.moved) h is)
+    → LeadsRun m rs given k → AreCovered rs given → AreEvents n rs given es → IsLegal lacks_forced es
+runs_legal n m k rs given es fresh h covered is =
+    deeds_legal n m.store.tables (known_in m) es (new_tables m fresh)
+    (leads_of n m k none_lost rs given es (new_recorded m fresh) h covered is)
 
-pub restarts_legal : (n : Numbers) (m k : KvSight) (rs : List Request) (given : List Answer) (es : List Event) → IsFresh m
-    → LeadsJudged m rs given k → AreEvents n rs given es → IsLegal lacks_forced es
-restarts_legal n m k rs given es fresh h is =
-    let new = new_tables m fresh in
-    deeds_legal n m.store.tables (known_in m) es new
-    (judged_leads n m k none_lost rs given es (none_counted m.store.tables.associations.moved new.associations.moved)
-    (new_recorded m fresh) h is)
+pub report_legal : (input text : List ℕ) → IsReport Ended input text → Conforms input text
+report_legal input text h = record {
+  requests = h.0;
+  answers = h.2.runs.answers;
+  script = h.1;
+  report = h.2.runs.lines;
+  legal = λ n es covered is. runs_legal n h.2.old h.2.new h.0 h.2.runs.answers es h.2.fresh h.2.runs.leads covered is;
+}

@@ -10,12 +10,11 @@ use Rattle.xa_tables.specs.declared.states.AssocState.TheVariants.{T0, T1, T2, M
 use Rattle.xa_branch.proofs.Names.{same_refl}
 use Rattle.xa_branch.specs.Names.{same}
 use Rattle.std.specs.Option.{option_map_or}
-use Rattle.xa_assoc.specs.Associations.{AssocList, active_of, has_active, has_seat, has_suspended, is_active, moved_of, own_state}
+use Rattle.xa_assoc.specs.Associations.{AreListedOnce, AssocList, active_of, has_active, has_seat, has_suspended, is_active, moved_of, own_state}
 use Rattle.xa_assoc.specs.Answers.{is_held}
 use Rattle.xa_assoc.proofs.Sound.{is_active-T1}
 use Rattle.judge_state.specs.declared.parts.Link.{Link}
 use Rattle.judge_state.specs.Questions.{is_active_link}
-use Rattle.judged_runs.specs.Deeds.{AreListedOnce}
 use Rattle.judged_runs.specs.Names.{Numbers}
 use Rattle.judged_runs.proofs.Lists.{any_implied, any_pick, bool_same}
 use Rattle.judged_runs.proofs.Links.{IsNamed, Tied, is_one, is_two, times}

@@ -16,7 +16,7 @@ use Rattle.xa_xid.specs.Xids.{null_xid}
 use Rattle.xa_branch.specs.Names.{same}
 use Rattle.xa_branch.specs.Branches.{state_in}
 use Rattle.xa_assoc.specs.declared.states.States.{States}
-use Rattle.xa_assoc.specs.Associations.{Row, moved_of, suspend_plan, has_active as holds_active, has_seat, is_active as is_active_in, own_state, row}
+use Rattle.xa_assoc.specs.Associations.{AreListedOnce, Row, moved_of, suspend_plan, has_active as holds_active, has_seat, is_active as is_active_in, own_state, row}
 use Rattle.xa_assoc.specs.Answers.{ByState, Reacts, Refuses, Same, Suspends, Walks, left_state}
 use Rattle.xa_assoc.specs.Reacting.{left_by, suspend_call}
 use Rattle.xa_assoc.specs.Ready.{is_closed}
@@ -32,7 +32,7 @@ use Rattle.judge_rules.specs.Flags.{has, wrong_at_end}
 use Rattle.judge_rules.specs.Replies.{reply_of}
 use Rattle.judge_rules.specs.Defects.{end_defects, has_no_end, is_bad_name, is_spoiled_at}
 use Rattle.judge_rules.specs.Passes.{branch_passes, end_passes, end_spoiled, left}
-use Rattle.judged_runs.specs.Deeds.{AreListedOnce, on}
+use Rattle.judged_runs.specs.Deeds.{on}
 use Rattle.judged_runs.specs.Names.{Numbers, lacks_forced, sort_of}
 use Rattle.judged_runs.proofs.Branches.{kept_branches}
 use Rattle.judged_runs.proofs.Links.{Tied, is_one, is_two, relinked_two, same_count, turned, unlinked_none}

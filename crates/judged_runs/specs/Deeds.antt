@@ -1,6 +1,5 @@
 -- What happens at a key store, as its tables show it and as an event of the judge.
-use Rattle.std.specs.Prelude.{◌≡◌, ◌<◌, ◌⊎◌, ◌&&◌, ℕ, Bool, true, false, List, [], ◌∷◌, Option, Result, Ok, Err, map, nat_eq}
-use Rattle.std.specs.List.{AllByRecursion}
+use Rattle.std.specs.Prelude.{◌≡◌, ◌⊎◌, ◌&&◌, ℕ, Bool, true, false, List, [], ◌∷◌, Option, Result, Ok, Err, map}
 use Rattle.xa_codes.specs.declared.code.Code.{Code}
 use Rattle.xa_codes.specs.declared.code.Code.TheVariants as code
 use Rattle.xa_codes.specs.declared.flags.Flags.{Flags}
@@ -11,6 +10,7 @@ use Rattle.xa_tables.specs.declared.states.BranchState.TheVariants.{S0, S1, S2, 
 use Rattle.xa_xid.specs.declared.xid.Xid.{Xid}
 use Rattle.xa_branch.specs.Names.{same}
 use Rattle.xa_branch.specs.Branches.{state_in}
+use Rattle.xa_assoc.specs.Associations.{AreCounted, AreListedOnce}
 use Rattle.xa_assoc.specs.declared.states.States.{States}
 use Rattle.xa_assoc.specs.Answers.{Answers, Closes, Opens, Recovers, Same, Takes, Wanted}
 use Rattle.xa_assoc.specs.Restored.{Restored, has_twice}
@@ -31,15 +31,6 @@ use Rattle.judge_rules.specs.declared.calls.Event.{Event}
 use Rattle.judge_rules.specs.declared.calls.Function.TheVariants as function
 use Rattle.judge_rules.specs.declared.calls.On.{On}
 use Rattle.judged_runs.specs.Names.{Numbers, sort_of, value_number}
-
--- each thread that holds associations is listed once, as the keys of a map are
-abbrev pub AreListedOnce : List (ℕ × Option Xid) → Type 0
-AreListedOnce [] = Unit {0}
-AreListedOnce (e ∷ es) = AllByRecursion (λ f. nat_eq f.0 e.0 ≡ false) es × AreListedOnce es
-
--- a branch is listed as suspended for migration only where it is
-abbrev pub AreCounted : List (Xid × ℕ) → Type 0
-AreCounted es = AllByRecursion (λ e. 0 < e.1) es
 
 -- who calls on which branch, with which flags
 abbrev pub on : Numbers → ℕ → Xid → Flags → On

@@ -1,12 +1,7 @@
--- What a request of a script, with its answer, is to the judge; and which runs the law covers.
+-- What a request of a script, with its answer, is to the judge; and which of them the law covers.
 use Rattle.std.specs.Prelude.{◌≡◌, ℕ, Bool, true, false, List, [], ◌∷◌, is_some, map}
-use Rattle.xa_codes.specs.declared.code.Code.{Code}
-use Rattle.xa_codes.specs.declared.code.Code.TheVariants as code
 use Rattle.tree_model.specs.declared.messages.Op.{Op}
 use Rattle.tree_model.specs.declared.messages.Op.TheVariants.{Put, Get, Delete}
-use Rattle.manager_model.specs.declared.errors.DecideError.{DecideError}
-use Rattle.manager_model.specs.declared.errors.DecideError.TheVariants as decide_error
-use Rattle.kv_manager.specs.Sights.{KvSight}
 use Rattle.judge_rules.specs.declared.calls.Answer.{Answer as Judged}
 use Rattle.judge_rules.specs.declared.calls.Answer.TheVariants as judged
 use Rattle.judge_rules.specs.declared.calls.BranchVerb.{BranchVerb}
@@ -15,16 +10,17 @@ use Rattle.judge_rules.specs.declared.calls.Call.{Call}
 use Rattle.judge_rules.specs.declared.calls.Call.TheVariants as call
 use Rattle.judge_rules.specs.declared.calls.Event.{Event}
 use Rattle.judge_rules.specs.declared.calls.Function.TheVariants as function
+use Rattle.judge_rules.specs.Histories.{IsLegal}
 use Rattle.xa_engine.specs.declared.script.request.BranchCall.{BranchCall}
 use Rattle.xa_engine.specs.declared.script.request.BranchCall.TheVariants.{Start, End, Prepare, Commit, Rollback, Forget}
 use Rattle.xa_engine.specs.declared.script.request.Request.{Request}
 use Rattle.xa_engine.specs.declared.script.request.Request.TheVariants.{Open, Close, Branch, Recover, Work, Restart, Trim, Decide}
 use Rattle.xa_engine.specs.declared.answer.Answer.{Answer}
 use Rattle.xa_engine.specs.declared.answer.Answer.TheVariants as answer
-use Rattle.xa_engine.specs.Makes.{Makes}
-use Rattle.xa_engine.specs.Runs.{HasSoundLog}
-use Rattle.judged_runs.specs.Deeds.{AreCounted, AreListedOnce, IsGiven, is_commit, on}
-use Rattle.judged_runs.specs.Names.{Numbers, value_number}
+use Rattle.xa_engine.specs.Runs.{report_text}
+use Rattle.xa_engine.specs.script.Scripts.{IsScript}
+use Rattle.judged_runs.specs.Deeds.{IsGiven, is_commit, on}
+use Rattle.judged_runs.specs.Names.{Numbers, lacks_forced, value_number}
 
 -- the function of XA that a call on a branch is to the judge
 abbrev pub verb_of : BranchCall → BranchVerb
@@ -76,58 +72,29 @@ AreEvents n [] [] [] = Unit {0}
 AreEvents n (r ∷ rs) (a ∷ given) (e ∷ es) = IsEvent n r a e × AreEvents n rs given es
 AreEvents n _ _ _ = ⊥
 
--- the law covers each request but a restart, and each answer but what a read found
-abbrev pub is_covered : Request → Answer → Bool
-is_covered (Restart keep) a = false
-is_covered (Work t op) (answer.Found v) = false
-is_covered r a = true
-
--- a code says that the manager failed
-abbrev pub is_failure : Code → Bool
-is_failure code.RmFail = true
-is_failure _ = false
-
--- a decision was not taken as the device failed
-abbrev pub is_fault : DecideError → Bool
-is_fault decide_error.Device = true
-is_fault decide_error.Failed = true
-is_fault _ = false
-
--- an answer that comes where a device failed alone. The device of a script is memory, which does not fail
-abbrev pub tells_failure : Answer → Bool
-tells_failure (answer.Code c) = is_failure c
-tells_failure (answer.NotTrimmed e) = true
-tells_failure (answer.NotDecided e) = is_fault e
-tells_failure _ = false
-
--- a manager lists a thread once among those that hold associations, and a branch as suspended for migration only where it
--- is. The code keeps both in maps, from which it takes what counts nothing
-pub record IsListed (m : KvSight) : Type 0 where
-  pub once : AreListedOnce m.store.tables.associations.holders
-  pub counted : AreCounted m.store.tables.associations.moved
-
--- requests lead from a manager to another, each one covered, with an answer that tells no failure, and each manager lists so
-abbrev pub LeadsCovered : KvSight → List Request → List Answer → KvSight → Type 0
-LeadsCovered m [] [] k = m ≡ k
-LeadsCovered m (r ∷ rs) (a ∷ given) k = (next : KvSight) × Makes m next r a × (is_covered r a ≡ true)
-    × (tells_failure a ≡ false) × IsListed next × LeadsCovered next rs given k
-LeadsCovered m _ _ k = ⊥
-
--- Runs with restarts.
-
 -- a manager restarted
 abbrev pub is_booted : Answer → Bool
 is_booted (answer.Booted b) = true
 is_booted _ = false
 
--- the law of restarts covers restarts too, but none that is refused
-abbrev pub is_judged : Request → Answer → Bool
-is_judged (Restart keep) a = is_booted a
-is_judged r a = is_covered r a
+-- the law covers each request and its answer, but what a read found and a restart that is refused
+abbrev pub is_covered : Request → Answer → Bool
+is_covered (Restart keep) a = is_booted a
+is_covered (Work t op) (answer.Found v) = false
+is_covered r a = true
 
--- requests lead from a manager to another, restarts among them
-abbrev pub LeadsJudged : KvSight → List Request → List Answer → KvSight → Type 0
-LeadsJudged m [] [] k = m ≡ k
-LeadsJudged m (r ∷ rs) (a ∷ given) k = (next : KvSight) × HasSoundLog m × Makes m next r a × (is_judged r a ≡ true)
-    × (tells_failure a ≡ false) × IsListed next × LeadsJudged next rs given k
-LeadsJudged m _ _ k = ⊥
+-- the law covers requests with their answers, one for one
+abbrev pub AreCovered : List Request → List Answer → Type 0
+AreCovered [] [] = Unit {0}
+AreCovered (r ∷ rs) (a ∷ given) = (is_covered r a ≡ true) × AreCovered rs given
+AreCovered _ _ = ⊥
+
+-- what is written of a script conforms: the input spells requests, the text has their answers, and they are, their names
+-- numbered, events of a legal history, if the law covers them
+pub record Conforms (input text : List ℕ) : Type 0 where
+  pub requests : List Request
+  pub answers : List Answer
+  pub script : IsScript input requests
+  pub report : text ≡ report_text answers
+  pub legal : (n : Numbers) (es : List Event) → AreCovered requests answers → AreEvents n requests answers es
+      → IsLegal lacks_forced es

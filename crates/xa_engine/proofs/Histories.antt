@@ -397,7 +397,7 @@ record Run (m : KvSight) (rs : List Request) (given : List Answer) (n : KvSight)
   leads : LeadsMoves m.store.tables moves n.store.tables
 
 run_of : (m n : KvSight) (rs : List Request) (given : List Answer) → Leads m rs given n → Run m rs given n
-run_of m n [] [] e = record { moves = []; shown = tt; leads = ap (λ (s : KvSight). s.store.tables) e }
+run_of m n [] [] e = record { moves = []; shown = tt; leads = ap (λ (s : KvSight). s.store.tables) e.0 }
 run_of m n [] (a ∷ given) e = absurd e
 run_of m n (r ∷ rs) [] e = absurd e
 run_of m n (r ∷ rs) (a ∷ given) e =

@@ -13,21 +13,17 @@ use Rattle.xa_engine.specs.declared.script.request.Request.{Request}
 use Rattle.xa_engine.specs.declared.answer.Answer.{Answer}
 use Rattle.xa_engine.specs.Answers.{answer_text}
 use Rattle.xa_engine.specs.Makes.{CallsBranch, Joins, Makes}
-use Rattle.xa_engine.specs.Runs.{HasSoundLog, IsFresh, Leads, Reports, Runs}
+use Rattle.xa_engine.specs.Runs.{IsFresh, IsSoundManager, Leads, Reports, Runs}
 use Rattle.xa_engine.specs.script.Scripts.{IsFirstBadLine, SpellEach, call_lines}
 
 pub leads_more : (m k n : KvSight) (rs : List Request) (r : Request) (given : List Answer) (a : Answer)
-    → Leads m rs given k → HasSoundLog k → Makes k n r a → Leads m (rs ++ r ∷ []) (given ++ a ∷ []) n
-leads_more m k n [] r [] a e sound makes = (
-  n,
-  subst (λ (j : KvSight). HasSoundLog j) (sym e) sound,
-  subst (λ (j : KvSight). Makes j n r a) (sym e) makes,
-  refl,
-)
-leads_more m k n [] r (b ∷ given) a e sound makes = absurd e
-leads_more m k n (s ∷ rs) r [] a e sound makes = absurd e
-leads_more m k n (s ∷ rs) r (b ∷ given) a e sound makes =
-    (e.0, e.1, e.2, leads_more e.0 k n rs r given a e.3 sound makes)
+    → Leads m rs given k → Makes k n r a → IsSoundManager n → Leads m (rs ++ r ∷ []) (given ++ a ∷ []) n
+leads_more m k n [] r [] a e makes sound =
+    (n, e.1, subst (λ (j : KvSight). Makes j n r a) (sym e.0) makes, refl, sound)
+leads_more m k n [] r (b ∷ given) a e makes sound = absurd e
+leads_more m k n (s ∷ rs) r [] a e makes sound = absurd e
+leads_more m k n (s ∷ rs) r (b ∷ given) a e makes sound =
+    (e.0, e.1, e.2, leads_more e.0 k n rs r given a e.3 makes sound)
 
 pub text_more : (given : List Answer) (a : Answer)
     → flat_map answer_text (given ++ a ∷ []) ≡ flat_map answer_text given ++ answer_text a

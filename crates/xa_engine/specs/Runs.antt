@@ -4,6 +4,7 @@ use Rattle.std.specs.List.{AllByRecursion, flat_map}
 use Rattle.std.specs.Fmt.{decimal}
 use Rattle.report_io.specs.declared.status.Status.{Status}
 use Rattle.report_io.specs.declared.status.Status.TheVariants.{Ended, Refused, Stopped}
+use Rattle.xa_assoc.specs.Associations.{IsListed}
 use Rattle.tree_model.specs.declared.names.Kind.TheVariants.{Manager}
 use Rattle.log_rules.specs.sound.Sound.{IsSound}
 use Rattle.rec_log.specs.Sights.{left_by, records_of}
@@ -30,17 +31,24 @@ pub record HasSoundLog (m : KvSight) : Type 0 where
   pub fits : size < 2 ^ 64
   pub whole : left_by m.log.sight size ≡ records_of m.log.sight.kept
 
--- requests take a manager from one state to another, each with its answer, over a sound log before each
+-- what is true of each manager of a script: its log is sound; its device, which is memory, never failed; each thread that
+-- holds associations is listed once, and a branch as suspended for migration only if it is
+pub record IsSoundManager (m : KvSight) : Type 0 where
+  pub log : HasSoundLog m
+  pub device : m.log.sight.failures ≡ 0
+  pub listed : IsListed m.store.tables.associations
+
+-- requests take a manager from one state to another, each with its answer, and each manager on the way is sound
 abbrev pub Leads : KvSight → List Request → List Answer → KvSight → Type 0
-Leads m [] [] n = m ≡ n
-Leads m (r ∷ rs) (a ∷ rest) n = (k : KvSight) × HasSoundLog m × Makes m k r a × Leads k rs rest n
+Leads m [] [] n = (m ≡ n) × IsSoundManager m
+Leads m (r ∷ rs) (a ∷ rest) n = (k : KvSight) × IsSoundManager m × Makes m k r a × Leads k rs rest n
 Leads m _ _ n = ⊥
 
--- a request takes a manager with a sound log from one state to another, and the line of its answer is written
+-- a request takes a manager from one state to another, which is sound, and the line of its answer is written
 pub record Steps (old new : KvSight) (request : Request) (before behind : List ℕ) : Type 0 where
   pub answer : Answer
-  pub sound : HasSoundLog old
   pub makes : Makes old new request answer
+  pub sound : IsSoundManager new
   pub line : behind ≡ before ++ answer_text answer
 
 -- the answers, one a line, and the last line

@@ -6,7 +6,7 @@ ghost use Rattle.report_io.specs.Streams.{IsInput, WritesFront};
 ghost use Rattle.report_io.specs.declared.status.Status.{Status as AnyStatus};
 ghost use Rattle.xa_engine.specs.declared.script.request.Request.{Request as AnyRequest};
 ghost use Rattle.xa_engine.specs.script.Scripts.{IsFirstBadLine, SpellEach, call_lines};
-ghost use Rattle.xa_engine.specs.Runs.{HasSoundLog, IsFresh, IsReport, Reports, Runs, Steps, fault_text};
+ghost use Rattle.xa_engine.specs.Runs.{HasSoundLog, IsFresh, IsReport, IsSoundManager, Reports, Runs, Steps, fault_text};
 
 use crate::answer::push_answer;
 use crate::calls::{Manager, make};
@@ -126,6 +126,7 @@ fn run(
         × Runs manager.old manager.new requests text.items)
         (λ number. IsFirstBadLine (map (λ s. s.now) lines.now) number)) }
 {
+    is_sound(manager);
     let mut out = Vec::new(alloc);
     for (i, line) in lines.iter().enumerate() {
         if says_nothing(line) {
@@ -149,6 +150,15 @@ fn log_is_sound(manager: &Manager)
     let _size = manager.log_size();
 }
 
+/// Its log is sound, its device never failed, and its associations are listed once.
+fn is_sound(manager: &Manager)
+    ensures { IsSoundManager manager.now }
+{
+    log_is_sound(manager);
+    manager.never_failed();
+    manager.associations_are_listed_once();
+}
+
 /// Makes a request, and adds the line of its answer.
 fn step(
     alloc: Global,
@@ -158,7 +168,7 @@ fn step(
 ) -> Result<(), AllocError>
     ensures { OnOk result (Steps manager.old manager.new request.now out.old.items out.new.items) }
 {
-    log_is_sound(manager);
     let answer = make(manager, request)?;
+    is_sound(manager);
     push_answer(alloc, out, &answer)
 }

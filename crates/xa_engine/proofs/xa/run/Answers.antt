@@ -9,7 +9,7 @@ use Rattle.xa_engine.proofs.script.Lines.{skips, goes_on, ends, spelled, unspell
 use Rattle.xa_engine.proofs.xa.run.Goals as goal
 
 pub loop-i-init : goal.loop-i-init
-loop-i-init c = ([], [], tt, refl, c.new-out.ensures.items)
+loop-i-init c = ([], [], tt, (refl, c.is_sound.ensures), c.new-out.ensures.items)
 
 pub loop-i-preserved-then-says_nothing : goal.loop-i-preserved-then-says_nothing
 loop-i-preserved-then-says_nothing c =
@@ -33,7 +33,7 @@ loop-i-preserved c =
           (spelled c.args.lines.now c.loop-i.i _ c.in-Some.request c.in-Some.is
           c.in_ok-request.ensures.found) inv.2,
       leads_more c.args.manager.now c.loop-i.manager c.step.new.manager inv.0 c.in-Some.request inv.1
-          made.answer inv.3 made.sound made.makes,
+          made.answer inv.3 made.makes made.sound,
       made.line ∙ ap (λ t. t ++ answer_text made.answer) inv.4 ∙ sym (text_more inv.1 made.answer),
     )
 

@@ -1,0 +1,5 @@
+use Rattle.judged_runs.proofs.Runs.{report_legal}
+use Rattle.judged_runs.proofs.law.reports_conform.Goals as goal
+
+pub returns : goal.returns
+returns c = report_legal
