@@ -1,4 +1,5 @@
 pub mod Marking
+pub mod Tailing
 pub mod Telling
 pub mod Answering
 pub mod Framing

@@ -28,7 +28,7 @@ module _ (start : WorldState) (events : List Event) (k : ℕ) (e : Event) (rest 
     (next : drop k events ≡ e ∷ rest) (mid : WorldState) (counts : List ℕ)
     (so_far : Counts start (take k events) mid counts) (now : WorldState) (then : List ℕ)
     (is : then ≡ counts ++ length now.entries ∷ []) where
-  -- an event more
+  -- one more event
   pub counted_more : Applies mid e now → Counts start (take (k + 1) events) now then
   counted_more made =
       let more : Counts start (take k events ++ e ∷ []) now (counts ++ length now.entries ∷ []) =

@@ -1,5 +1,5 @@
 -- Which steps of a run are of a transaction.
-use Rattle.std.specs.Prelude.{Bool, true, false, not, ◌==◌, ◌&&◌, ◌||◌, leb, ltb, Option, Some, None, List, [], ◌∷◌, ◌++◌, count_by, fold, length}
+use Rattle.std.specs.Prelude.{◌≡◌, ⊤, Bool, true, false, not, ◌==◌, ◌&&◌, ◌||◌, leb, ltb, Option, Some, None, List, [], ◌∷◌, ◌++◌, count_by, fold, length}
 use Rattle.tree_model.specs.declared.events.Act.{Act}
 use Rattle.tree_model.specs.declared.events.Act.TheVariants as act
 use Rattle.tree_model.specs.declared.events.Entry.{Entry}
@@ -95,6 +95,26 @@ took_part t p before = not (count_by (λ m. is_of_at t p m.entry) before == 0)
 unfoldable pub is_shown : Choice → List Marked → Entry → Bool
 is_shown (OfTxn t) before e = is_of t e || (is_restart e.step.happening && took_part t e.step.process before)
 is_shown (Between from to) before e = leb from (length before) && ltb (length before) to
+
+-- What is kept while the steps are gone over: the processes that took part so far, so that no restart looks back.
+
+-- a process is one of these
+abbrev pub is_among : ProcessId → List ProcessId → Bool
+is_among p ps = not (count_by (λ q. same_process q p) ps == 0)
+
+-- a process is one of the second ones if it is one of the first or this one
+abbrev pub AddsPart : ProcessId → List ProcessId → List ProcessId → Type 0
+AddsPart q old new = (p : ProcessId) → is_among p new ≡ (is_among p old || same_process q p)
+
+-- a process is one of the second ones if it is one of the first or takes part in this step
+abbrev pub AddsParts : Choice → Entry → List ProcessId → List ProcessId → Type 0
+AddsParts (OfTxn t) e old new = (p : ProcessId) → is_among p new ≡ (is_among p old || is_of_at t p e)
+AddsParts (Between from to) e old new = ⊤
+
+-- these processes are those that took part in the transaction in these steps, if the steps of one are drawn
+abbrev pub TookPart : Choice → List Marked → List ProcessId → Type 0
+TookPart (OfTxn t) before ps = (p : ProcessId) → is_among p ps ≡ took_part t p before
+TookPart (Between from to) before ps = ⊤
 
 -- a step after others, marked
 abbrev pub with_mark : Choice → List Marked → Entry → List Marked

@@ -57,7 +57,7 @@ pub record Numbered : Type 0 where
   pub drawn : ℕ
   pub numbers : List ℕ
 
--- with a message more, which is drawn or not
+-- with one more message, which is drawn or not
 abbrev pub with_message : Numbered → Bool → Numbered
 with_message s b = record {
   drawn = if b then s.drawn + 1 else s.drawn;
@@ -83,7 +83,7 @@ pub record TailState : Type 0 where
   pub own : ℕ
   pub all : List Bool
 
--- with a record more, which is forced or not, and drawn or not: a forced one leaves none that a crash may take
+-- with one more record, which is forced or not, and drawn or not: a forced one leaves none that a crash may take
 abbrev pub with_record : Bool → Bool → TailState → TailState
 with_record true true t = record { own = 0; all = [] }
 with_record true false t = record { own = t.own; all = [] }
@@ -104,35 +104,43 @@ begun_by shown happening.Trim t = with_record true shown t
 abbrev pub with_step : Option Txn → TailState → Marked → TailState
 with_step only t m = with_records only m.shown (begun_by m.shown m.entry.step.happening t) m.entry.reaction.written
 
--- with a step more, if it is of this process
+-- with one more step, if it is of this process
 unfoldable pub with_step_at : Option Txn → ProcessId → TailState → Marked → TailState
 with_step_at only p t m = if same_process m.entry.step.process p then with_step only t m else t
 
+-- there are none
+abbrev pub no_tail : TailState
+no_tail = record { own = 0; all = [] }
+
 -- those of a process after these steps
 unfoldable pub tail_at : Option Txn → ProcessId → List Marked → TailState
-tail_at only p ms = fold (with_step_at only p) (record { own = 0; all = [] }) ms
+tail_at only p ms = fold (with_step_at only p) no_tail ms
 
--- a crash that leaves N of them leaves so many of those that are drawn
+-- how many of those that are drawn a crash leaves that leaves N of all
 abbrev pub own_left : TailState → ℕ → ℕ
 own_left t kept = t.own - count_by (λ b. b) (drop kept t.all)
 
--- A step as it is drawn, where messages have these numbers and these steps were before.
-abbrev pub drawn_happening : Option Txn → List ℕ → List Marked → ProcessId → Happening → Happening
-drawn_happening only numbers before p (happening.Input (input.Act a)) = happening.Input (input.Act a)
-drawn_happening only numbers before p (happening.Input (input.Message n m)) =
+-- A step as it is drawn, if messages have these numbers, and a crash of its process may take these records.
+abbrev pub drawn_happening : List ℕ → TailState → Happening → Happening
+drawn_happening numbers tail (happening.Input (input.Act a)) = happening.Input (input.Act a)
+drawn_happening numbers tail (happening.Input (input.Message n m)) =
     happening.Input (input.Message (number_in numbers n) m)
-drawn_happening only numbers before p (happening.Restart k) = happening.Restart (own_left (tail_at only p before) k)
-drawn_happening only numbers before p happening.Trim = happening.Trim
+drawn_happening numbers tail (happening.Restart k) = happening.Restart (own_left tail k)
+drawn_happening numbers tail happening.Trim = happening.Trim
 
-unfoldable pub drawn_entry : Option Txn → List ℕ → List Marked → Entry → Entry
-drawn_entry only numbers before e = record {
+unfoldable pub drawn_entry : Option Txn → List ℕ → TailState → Entry → Entry
+drawn_entry only numbers tail e = record {
   step = record {
     process = e.step.process;
-    happening = drawn_happening only numbers before e.step.process e.step.happening;
+    happening = drawn_happening numbers tail e.step.happening;
     fault = e.step.fault;
   };
   reaction = cut only e.reaction;
 }
+
+-- a step as it is drawn after these
+abbrev pub drawn_after : Option Txn → List ℕ → List Marked → Entry → Entry
+drawn_after only numbers before e = drawn_entry only numbers (tail_at only e.step.process before) e
 
 -- steps that were gone over, and those of them that are drawn, as they are drawn
 pub record Drawn : Type 0 where
@@ -142,7 +150,7 @@ pub record Drawn : Type 0 where
 abbrev pub with_drawn : Option Txn → List ℕ → Drawn → Marked → Drawn
 with_drawn only numbers d m = record {
   before = d.before ++ m ∷ [];
-  entries = if m.shown then d.entries ++ drawn_entry only numbers d.before m.entry ∷ [] else d.entries;
+  entries = if m.shown then d.entries ++ drawn_after only numbers d.before m.entry ∷ [] else d.entries;
 }
 
 abbrev pub drawn_by : Option Txn → List ℕ → List Marked → Drawn

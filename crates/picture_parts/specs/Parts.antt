@@ -33,7 +33,7 @@ pub record Ruled : Type 0 where
   pub from : ℕ
   pub events : ℕ
 
--- with an event more, after which N steps are made
+-- with one more event, after which N steps are made
 abbrev pub with_event : List Marked → Ruled → ℕ → Ruled
 with_event ms r n = record {
   from = n;
@@ -43,11 +43,11 @@ with_event ms r n = record {
 abbrev pub ruled_by : List Marked → List ℕ → Ruled
 ruled_by ms counts = fold (with_event ms) (record { from = 0; events = 0 }) counts
 
--- of the events after which so many steps are made, how many made one that is drawn
+-- if these are the numbers of steps that are made after each event, how many events made a step that is drawn
 unfoldable pub events_shown : List Marked → List ℕ → ℕ
 events_shown ms counts = (ruled_by ms counts).events
 
--- how many steps are made after N events, if so many were made before them
+-- how many steps are made after N events, if the first number of steps was made before them
 abbrev pub count_at : ℕ → List ℕ → ℕ → ℕ
 count_at start counts n = if n == 0 then start else unwrap_or (slice_get counts (n - 1)) 0
 
@@ -73,8 +73,8 @@ abbrev pub part_of : Part → ProcessId → ℕ → List Entry → List ℕ → 
 part_of (Case t) root start es counts = drawn_from (Some (at_root root t)) (marks_of_case root t es)
 part_of (Events r) root start es counts = drawn_from None (marks_of_events start counts r es)
 
--- the text is the picture of a part of a run that has this root, made so many steps before its events, these steps in all,
--- and so many after each event
+-- the text is the picture of a part of a run that has this root: it made the first number of steps before its events, these
+-- steps in all, and the numbers of steps after each event
 pub record IsDrawn (part : Part) (root : ProcessId) (start : ℕ) (es : List Entry) (counts : List ℕ) (text : List ℕ)
     : Type 0 where
   pub has : HasPart part root es counts

@@ -1,8 +1,9 @@
 //! Which steps of a run are of a transaction.
 
-ghost use Rattle.std.specs.Prelude.{◌≡◌, IfOk};
+ghost use Rattle.std.specs.Prelude.{◌≡◌, ◌&&◌, ◌||◌, IfOk, OnOk};
+ghost use Rattle.tree_model.specs.Names.{same_process};
 ghost use Rattle.tree_world.specs.Worlds.{state};
-ghost use Rattle.picture_parts.specs.Belonging.{act_is_of, is_of as is_by, is_of_at as is_by_at, is_restart as restarts, is_shown, is_txn as is_txn_by, marks_of as marks_by, message_case, message_is_of, names as names_by, record_is_of, took_part as took_part_by};
+ghost use Rattle.picture_parts.specs.Belonging.{AddsPart, AddsParts, TookPart, act_is_of, is_among as is_among_by, is_of as is_by, is_restart as restarts, is_shown, is_txn as is_txn_by, marks_of as marks_by, message_case, message_is_of, names as names_by, record_is_of, with_mark};
 
 use log_store::MemoryStore;
 use std::alloc::{AllocError, Global};
@@ -107,14 +108,6 @@ pub(crate) fn is_of(txn: &Txn, entry: &Entry) -> bool
             != 0
 }
 
-/// Whether a step of this process is of a transaction.
-#[tactic(auto, unfolding(crate::specs::Belonging::is_of_at, tree_model::specs::Names::same_process))]
-fn is_of_at(txn: &Txn, process: ProcessId, entry: &Entry) -> bool
-    ensures { result ≡ is_by_at txn.now process entry.now }
-{
-    entry.step.process == process && is_of(txn, entry)
-}
-
 /// A step of a run, and whether it is drawn.
 #[derive(Drop)]
 pub struct Marked {
@@ -131,15 +124,29 @@ pub(crate) enum Choice {
     Between(usize, usize),
 }
 
-/// Whether a process took part in a transaction in these steps.
-fn took_part(txn: &Txn, process: ProcessId, before: &[Marked]) -> bool
-    ensures { result ≡ took_part_by txn.now process before.now }
+/// Whether a process is one of these.
+fn is_among(process: ProcessId, parts: &[ProcessId]) -> bool
+    ensures { result ≡ is_among_by process parts.now }
 {
-    before
-        .iter()
-        .filter(|marked| is_of_at(txn, process, &marked.entry))
-        .count()
-        != 0
+    parts.iter().filter(|part| is_same(**part, process)).count() != 0
+}
+
+/// Whether two processes are one.
+#[tactic(auto, unfolding(tree_model::specs::Names::same_process))]
+fn is_same(part: ProcessId, process: ProcessId) -> bool
+    ensures { result ≡ same_process part process }
+{
+    part == process
+}
+
+/// Adds a process to those that took part, if it is not one of them.
+fn add_part(parts: &mut Vec<ProcessId>, process: ProcessId) -> Result<(), AllocError>
+    ensures { OnOk result (AddsPart process parts.old.items parts.new.items) }
+{
+    if !is_among(process, parts) {
+        parts.push(process)?;
+    }
+    Ok(())
 }
 
 /// Whether a step is a restart.
@@ -153,21 +160,60 @@ fn is_restart(happening: &Happening) -> bool
     }
 }
 
+/// Whether a step is drawn of a transaction in which these processes took part before.
+fn shows_txn(txn: &Txn, parts: &[ProcessId], entry: &Entry) -> bool
+    ensures { result ≡ (is_by txn.now entry.now || (restarts entry.now.step.happening
+        && is_among_by entry.now.step.process parts.now)) }
+{
+    is_of(txn, entry) || is_restart(&entry.step.happening) && is_among(entry.step.process, parts)
+}
+
 impl Choice {
-    /// Whether the step after these is drawn.
+    /// Whether the step after these is drawn, in which these processes took part.
     #[tactic(auto, unfolding(crate::specs::Belonging::is_shown))]
-    fn shows(&self, before: &[Marked], entry: &Entry) -> bool
+    fn shows(&self, before: &[Marked], parts: &[ProcessId], entry: &Entry) -> bool
+        requires { TookPart self.now before.now parts.now }
         ensures { result ≡ is_shown self.now before.now entry.now }
     {
         match self {
-            Choice::OfTxn(txn) => {
-                is_of(txn, entry)
-                    || is_restart(&entry.step.happening)
-                        && took_part(txn, entry.step.process, before)
-            }
+            Choice::OfTxn(txn) => shows_txn(txn, parts, entry),
             Choice::Between(from, to) => *from <= before.len() && before.len() < *to,
         }
     }
+
+    /// Adds the process of a step to those that took part, if it takes part in it.
+    #[tactic(auto, unfolding(crate::specs::Belonging::is_of_at))]
+    fn add_parts(&self, parts: &mut Vec<ProcessId>, entry: &Entry) -> Result<(), AllocError>
+        ensures { OnOk result (AddsParts self.now entry.now parts.old.items parts.new.items) }
+    {
+        match self {
+            Choice::OfTxn(txn) => {
+                if is_of(txn, entry) {
+                    return add_part(parts, entry.step.process);
+                }
+                Ok(())
+            }
+            Choice::Between(_, _) => Ok(()),
+        }
+    }
+}
+
+/// Adds a step to those before it, in which these processes took part, with whether it is drawn.
+#[tactic(auto, using(crate::proofs::Marking::parts_more))]
+fn push_mark(
+    choice: &Choice,
+    marks: &mut Vec<Marked>,
+    parts: &mut Vec<ProcessId>,
+    entry: Entry,
+) -> Result<(), AllocError>
+    requires { TookPart choice.now marks.old.items parts.old.items }
+    ensures marked { OnOk result (marks.new.items ≡ with_mark choice.now marks.old.items entry) }
+    ensures took { OnOk result (TookPart choice.now marks.new.items parts.new.items) }
+{
+    let shown = choice.shows(marks, parts, &entry);
+    choice.add_parts(parts, &entry)?;
+    marks.push(Marked { entry, shown })?;
+    Ok(())
 }
 
 /// The steps of a run, each with whether it is drawn.
@@ -180,12 +226,12 @@ pub(crate) fn marks_of(
     ensures { IfOk result (λ marks. marks.items ≡ marks_by choice.now (state world.now).entries) }
 {
     let mut marks = Vec::new(alloc);
+    let mut parts = Vec::new(alloc);
     for place in 0..world.made() {
         let Some(entry) = world.entry(place)? else {
             return Ok(marks);
         };
-        let shown = choice.shows(&marks, &entry);
-        marks.push(Marked { entry, shown })?;
+        push_mark(choice, &mut marks, &mut parts, entry)?;
     }
     Ok(marks)
 }

@@ -1,18 +1,19 @@
 //! The records of a process that a crash may take.
 
-ghost use Rattle.std.specs.Prelude.{◌≡◌, [], IfOk, OnOk};
-ghost use Rattle.picture_parts.specs.Cut.{begun_by, own_left, record_stays as stays_by, tail_at, with_record, with_records, with_step, with_step_at};
-ghost use Rattle.picture_parts.specs.Tails.{seen};
+ghost use Rattle.std.specs.Prelude.{◌≡◌, [], OnOk};
+ghost use Rattle.picture_parts.specs.Cut.{begun_by, own_left, record_stays as stays_by, with_record, with_records, with_step};
+ghost use Rattle.picture_parts.specs.Tails.{AddsStep, KeepsTails, seen, tail_in};
 
 use crate::belonging::Marked;
+use indexmap::IndexMap;
 use report_io::Failure;
-use std::alloc::Global;
+use std::alloc::{AllocError, Global};
 use tree_model::{Happening, Logged, ProcessId, Subject, Txn};
 
 /// Of the records of a process that a crash may take: of each, whether it is drawn; and how many of those that are drawn a
 /// crash could take, if the process had no others.
 #[derive(Drop)]
-pub(crate) struct Tail {
+struct Tail {
     own: u64,
     all: Vec<bool>,
 }
@@ -42,7 +43,7 @@ impl Tail {
         }
     }
 
-    /// A record more, which is forced or not, and drawn or not.
+    /// One more record, which is forced or not, and drawn or not.
     fn add(&mut self, forced: bool, drawn: bool) -> Result<(), Failure>
         ensures { OnOk result (seen self.new ≡ with_record forced drawn (seen self.old)) }
     {
@@ -63,7 +64,7 @@ impl Tail {
         Ok(())
     }
 
-    /// The records of a step that is drawn or not.
+    /// Adds the records of a step that is drawn or not.
     fn add_all(&mut self, only: Option<Txn>, shown: bool, written: &[Logged]) -> Result<(), Failure>
         ensures { OnOk result (seen self.new ≡ with_records only shown (seen self.old) written.now) }
     {
@@ -92,42 +93,8 @@ impl Tail {
         self.add_all(only, marked.shown, marked.entry.reaction.written.as_slice())
     }
 
-    /// A step, if it is of this process.
-    #[tactic(auto, unfolding(crate::specs::Cut::with_step_at, tree_model::specs::Names::same_process))]
-    fn add_at(
-        &mut self,
-        only: Option<Txn>,
-        process: ProcessId,
-        marked: &Marked,
-    ) -> Result<(), Failure>
-        ensures { OnOk result (seen self.new ≡ with_step_at only process (seen self.old) marked.now) }
-    {
-        if marked.entry.step.process == process {
-            self.add_step(only, marked)
-        } else {
-            Ok(())
-        }
-    }
-
-    /// That of a process after these steps.
-    #[tactic(auto, unfolding(crate::specs::Cut::tail_at))]
-    pub(crate) fn of(
-        alloc: Global,
-        only: Option<Txn>,
-        process: ProcessId,
-        before: &[Marked],
-    ) -> Result<Tail, Failure>
-        ensures { IfOk result (λ tail. seen tail ≡ tail_at only process before.now) }
-    {
-        let mut tail = Tail::new(alloc);
-        for marked in before {
-            tail.add_at(only, process, marked)?;
-        }
-        Ok(tail)
-    }
-
     /// Of the records that are drawn, how many a crash leaves that leaves N of all.
-    pub(crate) fn own_left(&self, kept: u64) -> u64
+    fn own_left(&self, kept: u64) -> u64
         ensures { result ≡ own_left (seen self.now) kept }
     {
         let from = match usize::try_from(kept) {
@@ -136,5 +103,67 @@ impl Tail {
         };
         let taken = self.all[from..].iter().filter(|drawn| **drawn).count() as u64;
         self.own.saturating_sub(taken)
+    }
+}
+
+/// The records of each process that a crash may take. They are kept while steps are gone over, so that no crash looks back.
+#[derive(Drop)]
+pub(crate) struct Tails {
+    alloc: Global,
+    tails: IndexMap<ProcessId, Tail>,
+}
+
+impl Tails {
+    /// Those before all steps.
+    pub(crate) fn new(alloc: Global) -> Tails
+        ensures { result.tails.entries ≡ [] }
+    {
+        Tails {
+            alloc,
+            tails: IndexMap::new(alloc),
+        }
+    }
+
+    /// Takes out what is kept of a process.
+    #[tactic(auto, unfolding(tree_model::specs::Names::same_process))]
+    fn remove(&mut self, process: ProcessId) -> Tail
+        ensures own { seen result ≡ tail_in self.old.tails.entries process }
+        ensures others { KeepsTails process self.old.tails.entries self.new.tails.entries }
+    {
+        match self.tails.swap_remove(&process) {
+            None => Tail::new(self.alloc),
+            Some(tail) => tail,
+        }
+    }
+
+    /// Keeps this of a process.
+    #[tactic(auto, unfolding(tree_model::specs::Names::same_process))]
+    fn insert(&mut self, process: ProcessId, tail: Tail) -> Result<(), AllocError>
+        ensures own { OnOk result (tail_in self.new.tails.entries process ≡ seen tail) }
+        ensures others { OnOk result (KeepsTails process self.old.tails.entries self.new.tails.entries) }
+    {
+        let _ = self.tails.insert(process, tail)?;
+        Ok(())
+    }
+
+    /// Adds a step.
+    pub(crate) fn add(&mut self, only: Option<Txn>, marked: &Marked) -> Result<(), Failure>
+        ensures { OnOk result (AddsStep only marked.now self.old.tails.entries self.new.tails.entries) }
+    {
+        let process = marked.entry.step.process;
+        let mut tail = self.remove(process);
+        tail.add_step(only, marked)?;
+        self.insert(process, tail)?;
+        Ok(())
+    }
+
+    /// Of the records of a process that are drawn, how many a crash leaves that leaves N of all.
+    pub(crate) fn own_left(&self, process: ProcessId, kept: u64) -> u64
+        ensures { result ≡ own_left (tail_in self.now.tails.entries process) kept }
+    {
+        match self.tails.get(&process) {
+            None => 0,
+            Some(tail) => tail.own_left(kept),
+        }
     }
 }

@@ -2,9 +2,10 @@
 
 ghost use Rattle.std.specs.Prelude.{◌≡◌, ◌+◌, ◌++◌, ◌∷◌, [], if◌then◌else◌, IfOk, OnOk, filter};
 ghost use Rattle.picture_parts.specs.Cut.{cut as cut_by, drawn_entry as drawn_by, drawn_from as drawn_part, drawn_happening, drawn_messages, drawn_sent, message_stays as message_by, number_in, numbers_of as numbers_by, record_stays as record_by};
+ghost use Rattle.picture_parts.specs.Tails.{tail_in};
 
 use crate::belonging::{Marked, is_message_of};
-use crate::counting::{Tail, record_stays};
+use crate::counting::{Tails, record_stays};
 use report_io::Failure;
 use std::alloc::{AllocError, Global};
 use tree_model::{
@@ -140,16 +141,16 @@ fn number_of(numbers: &[u64], number: u64) -> u64
     }
 }
 
-/// What happens in a step, as it is drawn.
+/// What happens in a step of a process, as it is drawn.
 fn happening_of(
     alloc: Global,
-    only: Option<Txn>,
     numbers: &[u64],
-    before: &[Marked],
+    tails: &Tails,
     process: ProcessId,
     happening: &Happening,
-) -> Result<Happening, Failure>
-    ensures { IfOk result (λ drawn. drawn ≡ drawn_happening only numbers.now before.now process happening.now) }
+) -> Result<Happening, AllocError>
+    ensures { IfOk result (λ drawn. drawn
+        ≡ drawn_happening numbers.now (tail_in tails.now.tails.entries process) happening.now) }
 {
     Ok(match happening {
         Happening::Input(Input::Act(act)) => Happening::Input(Input::Act(act.copied(alloc)?)),
@@ -157,27 +158,25 @@ fn happening_of(
             let message = message.copied(alloc)?;
             Happening::Input(Input::Message(number_of(numbers, *number), message))
         }
-        Happening::Restart(kept) => {
-            let tail = Tail::of(alloc, only, process, before)?;
-            Happening::Restart(tail.own_left(*kept))
-        }
+        Happening::Restart(kept) => Happening::Restart(tails.own_left(process, *kept)),
         Happening::Trim => Happening::Trim,
     })
 }
 
-/// A step as it is drawn, after these.
+/// A step as it is drawn, before which a crash could take these records.
 #[tactic(auto, unfolding(crate::specs::Cut::drawn_entry))]
 fn entry_of(
     alloc: Global,
     only: Option<Txn>,
     numbers: &[u64],
-    before: &[Marked],
+    tails: &Tails,
     entry: &Entry,
-) -> Result<Entry, Failure>
-    ensures { IfOk result (λ drawn. drawn ≡ drawn_by only numbers.now before.now entry.now) }
+) -> Result<Entry, AllocError>
+    ensures { IfOk result (λ drawn. drawn ≡ drawn_by only numbers.now
+        (tail_in tails.now.tails.entries entry.now.step.process) entry.now) }
 {
     let process = entry.step.process;
-    let happening = happening_of(alloc, only, numbers, before, process, &entry.step.happening)?;
+    let happening = happening_of(alloc, numbers, tails, process, &entry.step.happening)?;
     let reaction = cut(alloc, only, &entry.reaction)?;
     Ok(Entry {
         step: Step {
@@ -189,6 +188,24 @@ fn entry_of(
     })
 }
 
+/// Adds a step as it is drawn, if it is, before which a crash could take these records.
+fn push_entry(
+    alloc: Global,
+    drawn: &mut Vec<Entry>,
+    only: Option<Txn>,
+    numbers: &[u64],
+    tails: &Tails,
+    marked: &Marked,
+) -> Result<(), AllocError>
+    ensures { OnOk result (drawn.new.items ≡ (if marked.now.shown then drawn.old.items ++ drawn_by only numbers.now
+        (tail_in tails.now.tails.entries marked.now.entry.step.process) marked.now.entry ∷ [] else drawn.old.items)) }
+{
+    if marked.shown {
+        drawn.push(entry_of(alloc, only, numbers, tails, &marked.entry)?)?;
+    }
+    Ok(())
+}
+
 /// The steps that are drawn of a run, as they are drawn: what is of one transaction, if only that is drawn, or all.
 #[tactic(auto, unfolding(crate::specs::Cut::drawn_from))]
 pub fn drawn_from(alloc: Global, only: Option<Txn>, marks: &[Marked]) -> Result<Vec<Entry>, Failure>
@@ -196,10 +213,10 @@ pub fn drawn_from(alloc: Global, only: Option<Txn>, marks: &[Marked]) -> Result<
 {
     let numbers = numbers_of(alloc, &sent_of(alloc, only, marks)?)?;
     let mut drawn = Vec::new(alloc);
-    for (place, marked) in marks.iter().enumerate() {
-        if marked.shown {
-            drawn.push(entry_of(alloc, only, &numbers, &marks[..place], &marked.entry)?)?;
-        }
+    let mut tails = Tails::new(alloc);
+    for marked in marks {
+        push_entry(alloc, &mut drawn, only, &numbers, &tails, marked)?;
+        tails.add(only, marked)?;
     }
     Ok(drawn)
 }
