@@ -19,7 +19,7 @@ use Rattle.xa_engine.specs.script.Scripts.{IsFirstBadLine, SpellEach, call_lines
 pub leads_more : (m k n : KvSight) (rs : List Request) (r : Request) (given : List Answer) (a : Answer)
     → Leads m rs given k → Makes k n r a → IsSoundManager n → Leads m (rs ++ r ∷ []) (given ++ a ∷ []) n
 leads_more m k n [] r [] a e makes sound =
-    (n, e.1, subst (λ (j : KvSight). Makes j n r a) (sym e.0) makes, refl, sound)
+    (n, e.1, subst (λ (j : KvSight). Makes j n r a) (sym e.0) makes, (refl, sound))
 leads_more m k n [] r (b ∷ given) a e makes sound = absurd e
 leads_more m k n (s ∷ rs) r [] a e makes sound = absurd e
 leads_more m k n (s ∷ rs) r (b ∷ given) a e makes sound =
