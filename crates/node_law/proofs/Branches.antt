@@ -79,7 +79,7 @@ second_false : (a b : Bool) → (a || b) ≡ false → b ≡ false
 second_false true b h = absurd (cc)
 second_false false b h = h
 
-entry_log : (tree : List TreeEntry) → IsTree tree → (q : ProcessId) (e : TreeEntry)
+pub entry_log : (tree : List TreeEntry) → IsTree tree → (q : ProcessId) (e : TreeEntry)
     → find (λ x. same_process x.id q) tree ≡ Some e → kind_of_role (role_of tree q) ≡ e.kind
 unfolding has_wrong_roots
 entry_log tree t q e found =

@@ -130,7 +130,7 @@ module _ (c : CoreState) (bytes : List ℕ) (h : FindsLog c bytes) where
   found_body : body bytes ≡ take n (body h.text)
   found_body = ap body is_front ∙ body_taken (h.forced + keep) h.text long
 
-  begins : take 5 bytes ≡ header Second
+  pub begins : take 5 bytes ≡ header Second
   begins = ap (take 5) is_front ∙ front_begins (h.forced + keep) h.text (header Second) long l.is_log.begins
 
   -- its records are those that the process kept of its log, and that stand whole there

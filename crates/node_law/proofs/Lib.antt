@@ -10,3 +10,5 @@ pub mod Sending
 pub mod Repeats
 pub mod Branches
 pub mod AtHome
+pub mod Refusals
+pub mod Audits

@@ -4,6 +4,8 @@ use Rattle.tree_model.specs.declared.trees.TreeEntry.{TreeEntry}
 use Rattle.tree_model.specs.Trees.{IsTree}
 use Rattle.tree_model.specs.World.{Made, World, opened_world}
 use Rattle.core_law.specs.worlds.Worlds.{WorldState}
+use Rattle.core_law.specs.worlds.Modelled.{IsModelledTree}
+use Rattle.core_law.specs.worlds.Runs.{IsOpened}
 use Rattle.core_law.specs.worlds.Ties.{FollowsBehindFaults, entered_of}
 use Rattle.core_law.proofs.worlds.Events.{GoesOnIn, then_on, waits}
 use Rattle.core_law.proofs.worlds.Journals.{opened_behind_faults}
@@ -49,12 +51,17 @@ module _ (tree : List TreeEntry) (is_tree : IsTree tree) where
 pub steps_so : StepsGoOn
 steps_so s t es w is_tree f step = (node_on s.tree is_tree s t es w refl f step).goes_on_so
 
-pub nodes_so : NodesAreRuns
-nodes_so tree s t is_tree opened steps =
+-- it is a tree whose state stands for a run
+pub modelled_so : (tree : List TreeEntry) (s t : WorldState) → IsTree tree → IsOpened s tree → NodeSteps s t
+    → IsModelledTree t
+modelled_so tree s t is_tree opened steps =
     let start = opened_behind_faults tree s opened in
     let end = nodes_on tree is_tree s [] opened_world opened.tree_is start t steps in
     let on = end.goes_on_so in
-    keeps_headline t (record {
+    record {
       is_tree = subst IsTree (sym end.tree_stays) is_tree;
       run = record { moves = on.later ++ []; world = on.world; follows = on.follows };
-    })
+    }
+
+pub nodes_so : NodesAreRuns
+nodes_so tree s t is_tree opened steps = keeps_headline t (modelled_so tree s t is_tree opened steps)

@@ -1,5 +1,6 @@
 //! The laws. The functions do nothing: each one's contract is a law.
 
+ghost use Rattle.node_law.specs.Audits.{NodesAreAuditedTruly};
 ghost use Rattle.node_law.specs.Branches.{BranchesAreTold};
 ghost use Rattle.node_law.specs.Files.{StoresLeaveFiles};
 ghost use Rattle.node_law.specs.Nodes.{
@@ -12,6 +13,7 @@ ghost use Rattle.node_law.specs.Nodes.{
   SentMaySpeak,
   StepsGoOn,
 };
+ghost use Rattle.node_law.specs.Refusals.{NewFilesAreTakenUp, NodesAreNeverRefused, OwnFilesAreTakenUp};
 
 use file_store::{FileStore, LogFile};
 use log_store::LogStore;
@@ -73,4 +75,21 @@ pub fn own_files_are_at_home()
 /// wrote, and wherever a crash or an end cut it off.
 pub fn own_files_are_read<L: LogStore>()
     ensures { OwnFilesAreRead L.bytes L.forced L.failures }
+{}
+
+/// Whichever nodes of a tree end and start, the next node of a process takes up the file that the one before it left: `start`
+/// fails over it only for memory, for a device that failed, or where numbers are used up: no boot below 2^63 is left, or a
+/// manager's data count 2^63 commits. It is not called damaged, of the first format, another's, or unfit otherwise. So is
+/// a file that holds no record yet, as one that was just made.
+pub fn nodes_are_never_refused<L: LogStore>()
+    ensures nodes { NodesAreNeverRefused L.bytes L.forced L.failures }
+    ensures states { OwnFilesAreTakenUp L.bytes L.forced L.failures }
+    ensures new { NewFilesAreTakenUp L.bytes L.forced L.failures }
+{}
+
+/// Whichever nodes of a tree end and start, the tree comes to a run of which the headline holds; and where no process is
+/// failed at last, and its file holds all that it keeps, as after an end in order, the audit of the files is true of that
+/// run. Nodes that were killed before, and devices that failed, are no matter.
+pub fn nodes_are_audited_truly()
+    ensures { NodesAreAuditedTruly }
 {}
