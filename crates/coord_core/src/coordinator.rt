@@ -17,6 +17,7 @@ ghost use Rattle.coord_core.specs.Meets.{FindsAt, FindsLive};
 
 use coord_rows::Seat;
 use coord_table::Cases;
+use inquire_core::Remembered;
 use log_store::{LogStore, MemoryStore};
 use rec_log::RecLog;
 use std::alloc::{AllocError, Global};
@@ -25,6 +26,13 @@ use tree_model::{Case, LogRecord, ProcessId, Standing, Ticket, Tree, Txn};
 
 /// The largest number of a transaction and of a ticket.
 const LAST_NUMBER: u64 = (1 << 63) - 1;
+
+/// The front of a log as a restart remembers it: how many bytes it has, and what its records say.
+#[derive(Drop)]
+pub(crate) struct Front {
+    pub(crate) size: usize,
+    pub(crate) remembered: Remembered,
+}
 
 /// A coordinator: the root of a tree, which has no parent, or a coordinator below it. It keeps its log, its
 /// boot, how many transactions it began and how many tickets it gave in this boot, and its live cases.
@@ -39,10 +47,13 @@ pub struct Coordinator<L: LogStore> {
     pub(crate) begun: u64,
     pub(crate) given: u64,
     pub(crate) cases: Cases,
+    /// What its last restart remembers of the log, if no trim came since: the next one reads on from there.
+    pub(crate) front: Option<Front>,
 }
 
 impl<L: LogStore> Model for Coordinator<L> {
     ghost use Rattle.coord_core.specs.States.{CoordinatorValue, IsCoordinator};
+    ghost use Rattle.coord_core.specs.Fronts.{IsRemembered};
 
     ghost Value = { CoordinatorValue };
 
@@ -66,7 +77,16 @@ impl<L: LogStore> Model for Coordinator<L> {
       begun = c.begun;
       given = c.given;
       slots = c.cases;
-    }) };
+    }) × IsRemembered (record {
+      me = c.me;
+      parent = c.parent;
+      tree = c.tree;
+      log = c.log;
+      boot = c.boot;
+      begun = c.begun;
+      given = c.given;
+      slots = c.cases;
+    }) c.front };
 }
 
 impl<L: LogStore> Coordinator<L> {
