@@ -1,1 +1,2 @@
+pub mod Ringing
 pub mod Wholes

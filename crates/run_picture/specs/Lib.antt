@@ -1,2 +1,3 @@
 pub mod Pictures
 pub mod Layers
+pub mod Rings

@@ -12,7 +12,7 @@ use crate::room::is_call;
 use crate::sheet::{Draft, Sheet};
 use picture_rows::{Arrow, Mark, Rows, Seat, StepRows, Stretch, Stub, place_of};
 use picture_shapes::{
-    Bar, Dot, EventRule, Frame, Label, Look, Note, Patch, Shape, Spot, Square, Stroke, Tip, Tone,
+    Bar, Dot, EventRule, Frame, Label, Look, Patch, Shape, Spot, Square, Stroke, Tip, Tone,
     push_word, width_of,
 };
 use picture_words::{
@@ -415,24 +415,6 @@ impl Drawing {
                 _ => {}
             }
             self.draw_step(place, entry, *rows)?;
-        }
-        Ok(())
-    }
-
-    /// A ring around each step of which something is told.
-    pub(crate) fn draw_notes(&mut self, scene: &Scene, plan: &Plan) -> Result<(), AllocError> {
-        let steps = scene.entries.iter().zip(plan.rows.steps.iter());
-        for ((entry, rows), words) in steps.zip(scene.notes.iter()) {
-            if words.is_empty() {
-                continue;
-            }
-            let mut title = Vec::new(self.alloc);
-            title.extend_from_slice(words.as_slice())?;
-            self.sheet.marks.push(Shape::Note(Note {
-                title,
-                x: self.frame.x_of(place_of(&plan.seats, entry.step.process)),
-                y: self.frame.y_of(rows.first),
-            }))?;
         }
         Ok(())
     }

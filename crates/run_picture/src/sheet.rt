@@ -1,7 +1,7 @@
 //! A sheet on which shapes are laid, one layer over the other.
 
-ghost use Rattle.std.specs.Prelude.{◌≡◌, ◌++◌, IfOk, OnOk};
-ghost use Rattle.run_picture.specs.Layers.{below_text, between_text};
+ghost use Rattle.std.specs.Prelude.{◌≡◌, ◌≤◌, ◌++◌, IfOk, OnOk, length};
+ghost use Rattle.run_picture.specs.Layers.{after_rings, before_rings, below_text};
 ghost use Rattle.picture_shapes.specs.Svg.{shapes_text};
 
 use picture_shapes::{
@@ -164,13 +164,30 @@ impl Sheet {
         push_shapes(out, &self.bars)
     }
 
-    /// The text of the layers between the arrows and the marks of records.
-    pub(crate) fn push_between(&self, out: &mut Vec<u8>) -> Result<(), AllocError>
-        ensures { OnOk result (out.new.items ≡ out.old.items ++ between_text self.now) }
+    /// The text of the layers between the arrows and the rings: the first N small marks are below the rings.
+    fn push_before_rings(&self, out: &mut Vec<u8>, below: usize) -> Result<(), AllocError>
+        requires { below ≤ length self.now.marks.items }
+        ensures { OnOk result (out.new.items ≡ out.old.items ++ before_rings self.now below) }
     {
         push_shapes(out, &self.lines)?;
         push_shapes(out, &self.boxes)?;
-        push_shapes(out, &self.marks)
+        push_shapes(out, &self.marks[..below])
+    }
+
+    /// The text of the layers between the arrows and the marks of records, these rings among them.
+    pub(crate) fn push_between(
+        &self,
+        out: &mut Vec<u8>,
+        below: usize,
+        rings: &[Shape],
+    ) -> Result<(), AllocError>
+        requires { below ≤ length self.now.marks.items }
+        ensures { OnOk result (out.new.items ≡ out.old.items ++ before_rings self.now below
+            ++ shapes_text rings.now ++ after_rings self.now below) }
+    {
+        self.push_before_rings(out, below)?;
+        push_shapes(out, rings)?;
+        push_shapes(out, &self.marks[below..])
     }
 
     /// The text of the words, which lie above all.

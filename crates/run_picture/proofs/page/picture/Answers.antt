@@ -1,3 +1,4 @@
+use Rattle.run_picture.proofs.Ringing.{ringed}
 use Rattle.run_picture.proofs.Wholes.{pictured}
 use Rattle.run_picture.proofs.page.picture.Goals as goal
 
@@ -6,5 +7,9 @@ returns-clause-text c =
     pictured _ _ _ _ _ _ _ _ _ _ _ _ _ _ _ c.in_ok-plan.ensures.arrows
     c.in_ok-plan.ensures.marks c.in_ok-plan.ensures.messages
     c.deref-2.ensures.value c.deref-3.ensures.value c.deref-4.ensures.value
-    c.deref-6.ensures.value c.deref-7.ensures.value
+    c.deref-6.ensures.value c.deref-8.ensures.value
     c.in_ok-strokes.ensures c.in_ok-squares.ensures c.in_ok-text.ensures
+
+pub returns-clause-rings : goal.returns-clause-rings
+returns-clause-rings c =
+    ringed _ _ _ _ _ _ _ _ _ _ c.deref-7.ensures.value c.in_ok-rings.ensures c.in_ok-text.ensures
