@@ -5,3 +5,4 @@ pub mod Opened
 pub mod Restarted
 pub mod Kept
 pub mod Begun
+pub mod Fronts

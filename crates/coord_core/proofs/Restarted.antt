@@ -12,8 +12,9 @@ use Rattle.tree_model.specs.SameViews.{SameView}
 use Rattle.log_text.specs.Made.{frame_record}
 use Rattle.log_rules.specs.sound.Sound.{IsSound}
 use Rattle.log_rules.specs.trim.Trims.{front_of_trim}
-use Rattle.rec_log.specs.Sights.{LogState, NotRestarted as LogNotRestarted, NotRewritten, Restarts as LogRestarts, left_by, records_of}
-use Rattle.rec_log.specs.Trimming.{Trimmed, trim_of}
+use Rattle.rec_log.specs.Sights.{LogSight, LogState, NotRestarted as LogNotRestarted, NotRewritten, Restarts as LogRestarts, Rewritten, left_by, records_of}
+use Rattle.rec_log.proofs.Trims.{settled_trimmed, settled_untrimmed}
+use Rattle.rec_log.specs.Trimming.{IsSettled, Trimmed, data_by, own_data, trim_of}
 use Rattle.rec_log.specs.declared.log.LogError.{LogError}
 use Rattle.rec_log.specs.declared.log.LogError.TheVariants as log_error
 use Rattle.log_text.specs.Forms.{log_form}
@@ -212,3 +213,21 @@ not_trimmed v log log_error.Device breaks =
       cause = breaks.cause;
       place = refl;
     }
+
+-- A trim that leaves the log as it is.
+
+-- the log of a coordinator has no data
+pub no_own_data : (s : LogSight) → s.form.kind ≡ Coordinator → own_data s ≡ []
+no_own_data s kind = ap (λ k. data_by k (records_of s.kept)) kind
+
+pub trimmed_again : (old new : LogState) (count : ℕ) → old.sight.form.kind ≡ Coordinator → IsSettled old count
+    → Rewritten old new (records_of old.sight.kept) → Trimmed old new [] count
+trimmed_again old new count kind s r =
+    subst (λ rs. Trimmed old new rs count) (no_own_data old.sight kind) (settled_trimmed old new count s r)
+
+pub untrimmed_again : (old new : LogState) (count : ℕ) (e : LogError) → old.sight.form.kind ≡ Coordinator
+    → IsSettled old count → NotRewritten old new (records_of old.sight.kept) e
+    → NotRewritten old new (trim_of old []) e
+untrimmed_again old new count e kind s r =
+    subst (λ rs. NotRewritten old new (trim_of old rs) e) (no_own_data old.sight kind)
+    (settled_untrimmed old new count e s r)

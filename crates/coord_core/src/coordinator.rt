@@ -9,7 +9,7 @@ ghost use Rattle.coord_table.specs.Takes.{IsAt};
 ghost use Rattle.tree_model.specs.declared.names.Kind.TheVariants as kind;
 ghost use Rattle.std.specs.List.{AllByRecursion};
 ghost use Rattle.log_rules.specs.sound.Sound.{IsSound};
-ghost use Rattle.rec_log.specs.Sights.{ReadsAs, left_by, records_of, whole_within};
+ghost use Rattle.rec_log.specs.Sights.{ReadsAs, left_by, log_state, records_of, whole_within};
 ghost use Rattle.core_model.specs.States.{HasNumbers};
 ghost use Rattle.core_model.specs.Turns.{kept_records};
 ghost use Rattle.coord_core.specs.States.{state};
@@ -17,6 +17,7 @@ ghost use Rattle.coord_core.specs.Meets.{FindsAt, FindsLive};
 
 use coord_rows::Seat;
 use coord_table::Cases;
+use inquire_core::Remembered;
 use log_store::{LogStore, MemoryStore};
 use rec_log::RecLog;
 use std::alloc::{AllocError, Global};
@@ -25,6 +26,13 @@ use tree_model::{Case, LogRecord, ProcessId, Standing, Ticket, Tree, Txn};
 
 /// The largest number of a transaction and of a ticket.
 const LAST_NUMBER: u64 = (1 << 63) - 1;
+
+/// The front of a log as a restart remembers it: how many bytes it has, and what its records say.
+#[derive(Drop)]
+pub(crate) struct Front {
+    pub(crate) size: usize,
+    pub(crate) remembered: Remembered,
+}
 
 /// A coordinator: the root of a tree, which has no parent, or a coordinator below it. It keeps its log, its
 /// boot, how many transactions it began and how many tickets it gave in this boot, and its live cases.
@@ -39,10 +47,13 @@ pub struct Coordinator<L: LogStore> {
     pub(crate) begun: u64,
     pub(crate) given: u64,
     pub(crate) cases: Cases,
+    /// What its last restart remembers of the log, if no trim came since: the next one reads on from there.
+    pub(crate) front: Option<Front>,
 }
 
 impl<L: LogStore> Model for Coordinator<L> {
     ghost use Rattle.coord_core.specs.States.{CoordinatorValue, IsCoordinator};
+    ghost use Rattle.coord_core.specs.Fronts.{IsRemembered};
 
     ghost Value = { CoordinatorValue };
 
@@ -66,7 +77,16 @@ impl<L: LogStore> Model for Coordinator<L> {
       begun = c.begun;
       given = c.given;
       slots = c.cases;
-    }) };
+    }) × IsRemembered (record {
+      me = c.me;
+      parent = c.parent;
+      tree = c.tree;
+      log = c.log;
+      boot = c.boot;
+      begun = c.begun;
+      given = c.given;
+      slots = c.cases;
+    }) c.front };
 }
 
 impl<L: LogStore> Coordinator<L> {
@@ -127,6 +147,14 @@ impl<L: LogStore> Coordinator<L> {
         ensures { result ≡ (state self.now).log.failed }
     {
         self.log.failed()
+    }
+
+    /// The store under its log, to be read.
+    pub fn store(&self) -> &L
+        ensures { (log_state (log_form self.now.me kind.Coordinator) (L.bytes result.now) (L.forced result.now)
+            (L.failures result.now) (L.room result.now) (state self.now).log.failed).sight ≡ (state self.now).log }
+    {
+        self.log.store()
     }
 
     /// The bytes of its log, as a list made again. After a failure of the device a torn frame may stand at

@@ -61,6 +61,7 @@ impl<L: LogStore + Drop> Coordinator<L> {
                 begun: 0,
                 given: 0,
                 cases: Cases::new(alloc),
+                front: None,
             }),
             Err(error) => Err((error, log)),
         }

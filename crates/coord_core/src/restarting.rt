@@ -1,19 +1,24 @@
 //! A coordinator's restart, and its trim.
 
 ghost use Rattle.log_text.specs.Forms.{log_form};
-ghost use Rattle.std.specs.Prelude.{◌≡◌, ℕ, IfErr, IfOk};
+ghost use Rattle.std.specs.Prelude.{◌≡◌, ℕ, [], false, IfErr, IfOk, OnOk};
 ghost use Rattle.tree_model.specs.declared.names.Kind.TheVariants as kind;
-ghost use Rattle.rec_log.specs.Sights.{left_by, log_state, records_of};
+ghost use Rattle.rec_log.specs.Sights.{NotRewritten, left_by, log_state, records_of};
+ghost use Rattle.rec_log.specs.Trimming.{IsSettled, Trimmed, trim_of};
 ghost use Rattle.core_model.specs.States.{CoreState};
 ghost use Rattle.core_model.specs.Restarting.{LeftSo, NotRestarted, NotTrimmed, Restarts, Trims};
 ghost use Rattle.coord_core.specs.Reopened.{NotReopened, error_of_restart, reopen_number};
-ghost use Rattle.coord_core.specs.States.{error_of, role_below, state};
+ghost use Rattle.coord_core.specs.Fronts.{IsRemembered};
+ghost use Rattle.coord_core.specs.States.{error_of, place_of, role_below, state};
+ghost use Rattle.inquire_core.specs.Remembered.{Remembers};
+ghost use Rattle.tree_model.specs.LogNames.{own_records};
 
-use crate::coordinator::Coordinator;
+use crate::coordinator::{Coordinator, Front};
 use coord_table::{Cases, rebuild};
+use inquire_core::Remembered;
 use log_store::LogStore;
 use rec_log::{LogError, RecLog};
-use std::alloc::Global;
+use std::alloc::{AllocError, Global};
 use thiserror::Error;
 use tree_model::{ProcessId, Reaction, StepError, Tree};
 
@@ -66,11 +71,44 @@ fn reopen_error(error: StepError) -> ReopenError
     }
 }
 
+/// Trims a coordinator's log again that a trim leaves as it is: it is put in its own place, and not read.
+fn trim_again<L: LogStore>(log: &mut RecLog<L>, count: usize, alloc: Global) -> Result<(), LogError>
+    requires works { log.old.sight.failed ≡ false }
+    requires coordinators { log.old.sight.form.kind ≡ kind.Coordinator }
+    requires settled { IsSettled log.old count }
+    ensures form { log.new.sight.form ≡ log.old.sight.form }
+    ensures ok { OnOk result (Trimmed log.old log.new [] count) }
+    ensures err { IfErr result (λ e. NotRewritten log.old log.new (trim_of log.old []) e) }
+{
+    log.put_again(alloc)
+}
+
 impl<L: LogStore> Coordinator<L> {
+    /// What the records say that a crash leaves that keeps N of the log's unforced bytes. It reads on from the front
+    /// that is remembered. If none is, or it cannot be read on from, it goes through all records once.
+    fn left(&self, front: Option<Front>, keep: usize) -> Result<Remembered, AllocError>
+        requires { IsRemembered self.now front }
+        ensures { IfOk result (Remembers (own_records (place_of self.now) (left_by self.now.log.sight keep))) }
+    {
+        if let Some(front) = front {
+            let Front {
+                size,
+                mut remembered,
+            } = front;
+            let records = self.log.kept_after(size, keep, self.alloc)?;
+            if remembered.read_on(self.me, self.parent, &self.tree, &records)? {
+                return Ok(remembered);
+            }
+        }
+        let records = self.log.kept(keep, self.alloc)?;
+        Remembered::of(self.alloc, self.me, self.parent, &self.tree, &records)
+    }
+
     /// Restarts after a crash that keeps N of the log's unforced bytes: what is left of the log is
     /// read, Opened with the next boot is appended, and an Abort record of each case that collected votes
     /// after a record, all of it forced by one write. Decisions go out again, and cases in doubt ask. All
-    /// memory is taken before the crash, and the records are gone through once. Memory: nothing changed.
+    /// memory is taken before the crash. The records are gone through that came after its last restart, or all of them
+    /// after a trim. Memory: nothing changed.
     /// Exhausted: no log holds what it would append, since 2^63 - 1 boots are used up, or an Abort would name
     /// more than 255 tickets; nothing changed. Device: the crash took place and the device failed under it; the coordinator has failed until it is
     /// restarted.
@@ -78,8 +116,9 @@ impl<L: LogStore> Coordinator<L> {
         ensures ok { IfOk result (Restarts (state self.old) keep (state self.new)) }
         ensures err { IfErr result (NotRestarted (state self.old) keep (state self.new)) }
     {
-        let records = self.log.kept(keep, self.alloc)?;
-        let rebuilt = rebuild(self.alloc, self.me, self.parent, &self.tree, &records)?;
+        let front = self.front.take();
+        let remembered = self.left(front, keep)?;
+        let rebuilt = rebuild(self.alloc, self.me, self.parent, remembered)?;
         if let Err(error) = self.log.restart(keep, &rebuilt.frames, self.alloc) {
             return Err(step_error(error));
         }
@@ -87,18 +126,29 @@ impl<L: LogStore> Coordinator<L> {
         self.begun = 0;
         self.given = 0;
         self.cases = rebuilt.cases;
+        self.front = Some(Front {
+            size: self.log.size(),
+            remembered: rebuilt.remembered,
+        });
         Ok(rebuilt.reaction)
     }
 
     /// Trims its log: the last Opened and the records of the cases that are not forgotten stay, forced by
-    /// one write. Gives how many they are. Failed, Memory: nothing changed. Device: the log stands as it was
-    /// or trimmed, and the coordinator has failed until it is restarted.
+    /// one write. Gives how many they are. A log that its last trim left as it was is not read. Failed, Memory: nothing
+    /// changed. Device: the log stands as it was or trimmed, and the coordinator has failed until it is restarted.
     pub fn trim(&mut self) -> Result<u64, StepError>
         ensures ok { IfOk result (Trims (state self.old) (state self.new)) }
         ensures err { IfErr result (NotTrimmed (state self.old) (state self.new)) }
     {
         if self.log.failed() {
             return Err(StepError::Failed);
+        }
+        self.front = None;
+        if let Some(count) = self.log.trimmed() {
+            return match trim_again(&mut self.log, count, self.alloc) {
+                Ok(()) => Ok(count as u64),
+                Err(error) => Err(step_error(error)),
+            };
         }
         match self.log.trim(&[], self.alloc) {
             Ok(count) => Ok(count as u64),
@@ -137,6 +187,7 @@ impl<L: LogStore + Drop> Coordinator<L> {
             begun: 0,
             given: 0,
             cases: Cases::new(alloc),
+            front: None,
         };
         let keep = coordinator.log.size();
         match coordinator.restart(keep) {

@@ -139,7 +139,7 @@ module _ (me : ProcessId) (parent : Option ProcessId) (tree : List TreeEntry) wh
   own_reopens rs own = ap (list_all (is_own_record here)) (reopens_role parent rs)
       ∙ own_aborts rs (cases_in rs) (own_cases_in rs own)
 
-  own_append : (ls ks : List LogRecord) → own_records here (ls ++ ks)
+  pub own_append : (ls ks : List LogRecord) → own_records here (ls ++ ks)
       ≡ own_records here ls ++ own_records here ks
   unfolding own_records
   own_append ls ks = flat_map-append (λ l. own_by here l (record_case l.entry)) ls ks

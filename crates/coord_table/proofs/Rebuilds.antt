@@ -1,5 +1,5 @@
 -- What a restart makes of the records of a log.
-use Rattle.std.proofs.Common.{◌≡◌, ◌∙◌, List, ◌++◌, Option, Some, None, map, unwrap_or, refl, sym, ap, subst, arith}
+use Rattle.std.proofs.Common.{◌≡◌, ◌∙◌, Bool, true, false, List, [], ◌++◌, Option, Some, None, map, unwrap_or, refl, sym, ap, subst, arith}
 use Rattle.std.proofs.lemmas.List.Folds.{flat_map-map}
 use Rattle.std.specs.List.{flat_map}
 use Rattle.std.specs.Map.{lookup}
@@ -25,21 +25,29 @@ use Rattle.core_model.specs.Restarting.{recorded_view_at}
 use Rattle.coord_table.specs.declared.rebuilding.Rebuilt.{Rebuilt}
 use Rattle.inquire_core.specs.Summaries.{Summary, no_records, summary_of, view_of}
 use Rattle.inquire_core.specs.Plans.{NotPlanned}
-use Rattle.inquire_core.specs.Readings.{ReadLog, place_below, reading_of, role_below, same}
+use Rattle.inquire_core.specs.Readings.{place_below, reading_of, role_below, same}
+use Rattle.inquire_core.specs.Remembered.{LogMemory, Remembers, entries_of}
 use Rattle.coord_table.specs.Restores.{NotRebuilt, Rebuilds, RestoresAll, read_again, resumed_of, view_found}
 use Rattle.inquire_core.proofs.Summaries.{view_recorded}
 use Rattle.inquire_core.proofs.CaseTables.{entry_by}
 use Rattle.inquire_core.proofs.Readings.{each_alike, view_is}
+use Rattle.inquire_core.proofs.Remembering.{found_kept, found_out, no_view, nothing_lost}
 use Rattle.coord_table.proofs.OwnCases.{parent_again, read_again_is, reopens_role}
 
--- the view that the table says is the one that the records say
-found_view : (rs : List Record) (c : Case) → view_found
-    (lookup (same c) (reading_of rs).table) ≡ recorded_view rs c
-found_view rs c = by_found (lookup (same c) (reading_of rs).table) ∙ view_is rs c
+-- the view that is remembered is the one that the records say
+found_view : (rs : List Record) (m : LogMemory) → Remembers rs m → (c : Case)
+    → view_found (lookup (same c) m.said.table) ≡ recorded_view rs c
+found_view rs m k c = ap (λ t. view_found (lookup (same c) t)) k.table ∙ by_test (k.keeps c) refl
   where
     by_found : (o : Option Summary) → view_found o ≡ view_of (unwrap_or o no_records)
     by_found None = refl
     by_found (Some s) = refl
+
+    by_test : (b : Bool) → k.keeps c ≡ b
+        → view_found (lookup (same c) (entries_of k.keeps (reading_of rs).table)) ≡ recorded_view rs c
+    by_test true kept = ap view_found (found_kept k.keeps c kept (reading_of rs).table)
+        ∙ by_found (lookup (same c) (reading_of rs).table) ∙ view_is rs c
+    by_test false out = ap view_found (found_out k.keeps c out (reading_of rs).table) ∙ sym (no_view rs m k c out)
 
 viewed_at : (parent : Option ProcessId) (rs : List Record) (c : Case)
     → recorded_view rs c ≡ recorded_view_at (role_below parent) rs c
@@ -56,19 +64,28 @@ resumes_role : (me : ProcessId) (parent : Option ProcessId) (rs : List Record)
 resumes_role me None rs = refl
 resumes_role me (Some p) rs = refl
 
-resumes_so : (me : ProcessId) (parent : Option ProcessId) (rs : List Record)
-    → flat_map (resumed_of me parent) (reading_of rs).table ≡ resumes (role_below parent) me rs
-resumes_so me parent rs =
-    flat_map-map (resumed_of me parent) (entry_by (summary_of rs)) (cases_in rs)
+-- a case that is left out sends nothing
+no_resume : (me : ProcessId) (parent : Option ProcessId) (rs : List Record) (m : LogMemory) (k : Remembers rs m)
+    (c : Case) → k.keeps c ≡ false → resumed_of me parent (c, summary_of rs c) ≡ []
+no_resume me parent rs m k c out =
+    ap (λ (v : CoordinatorView). resumes_by (record { me = me; parent = parent; own = c }) v v.standing)
+    (sym (view_recorded rs c) ∙ no_view rs m k c out)
+
+resumes_so : (me : ProcessId) (parent : Option ProcessId) (rs : List Record) (m : LogMemory) → Remembers rs m
+    → flat_map (resumed_of me parent) m.said.table ≡ resumes (role_below parent) me rs
+resumes_so me parent rs m k =
+    ap (flat_map (resumed_of me parent)) k.table
+    ∙ nothing_lost (resumed_of me parent) k.keeps (summary_of rs) (no_resume me parent rs m k) (cases_in rs)
+    ∙ flat_map-map (resumed_of me parent) (entry_by (summary_of rs)) (cases_in rs)
     ∙ each_alike (λ c. resumed_of me parent (entry_by (summary_of rs) c)) (coordinator_resumes me parent rs)
     (resumes_of me parent rs) (cases_in rs)
     ∙ resumes_role me parent rs
 
 module _ (me : ProcessId) (parent : Option ProcessId) (tree : List TreeEntry) (ls : List LogRecord)
-    (new : List Record) (behind : ReadLog)
+    (new : List Record) (behind : LogMemory)
     (appends : new ≡ coordinator_reopens (own_records (place_below me parent tree) ls))
-    (reads : behind ≡ reading_of (own_records (place_below me parent tree) ls
-    ++ coordinator_reopens (own_records (place_below me parent tree) ls))) where
+    (reads : Remembers (own_records (place_below me parent tree) ls
+    ++ coordinator_reopens (own_records (place_below me parent tree) ls)) behind) where
   -- where the process sits
   abbrev here : Place
   here = place_below me parent tree
@@ -80,25 +97,25 @@ module _ (me : ProcessId) (parent : Option ProcessId) (tree : List TreeEntry) (l
   new_so : new ≡ reopens (role_below parent) mine
   new_so = appends ∙ sym (reopens_role parent mine)
 
-  behind_so : behind ≡ reading_of (read_again here ls)
-  behind_so = reads ∙ ap reading_of (ap (λ rs. mine ++ rs) (sym (reopens_role parent mine))
-      ∙ sym (read_again_is me parent tree ls))
+  behind_so : Remembers (read_again here ls) behind
+  behind_so = subst (λ rs. Remembers rs behind) (ap (λ rs. mine ++ rs) (sym (reopens_role parent mine))
+      ∙ sym (read_again_is me parent tree ls)) reads
 
-  pub rebuilds : (r : Rebuilt) (written : List Logged) (messages : List Envelope) → r.boot ≡ behind.boot
+  pub rebuilds : (r : Rebuilt) (written : List Logged) (messages : List Envelope) → r.boot ≡ behind.said.boot
       → map frame_record r.frames.items ≡ map (in_log parent) new
       → AreRecords Coordinator (map frame_record r.frames.items)
-      → written ≡ map logged_of (forced_all new) → RestoresAll me parent behind r.cases messages
+      → written ≡ map logged_of (forced_all new) → RestoresAll me parent behind.said r.cases messages
       → r.reaction ≡ record { begun = None; written = written; told = None; messages = messages; kept = None }
+      → ((rs : List Record) → Remembers rs behind → Remembers rs r.remembered)
       → Rebuilds here ls r
-  rebuilds r written messages boot spells sound shows restores reaction =
+  rebuilds r written messages boot spells sound shows restores reaction forgets =
       record {
-        boot = boot ∙ ap (λ (s : ReadLog). s.boot) behind_so;
+        boot = boot ∙ behind_so.boot;
         frames = spells ∙ ap (map (in_log parent)) new_so
             ∙ ap (λ p. map (in_log p) (reopens (role_below parent) mine)) (sym (parent_again parent));
         sound = sound;
         views = λ c.
-            restores.views c ∙ ap (λ (s : ReadLog). view_found (lookup (same c) s.table)) behind_so
-            ∙ found_view (read_again here ls) c
+            restores.views c ∙ found_view (read_again here ls) behind behind_so c
             ∙ viewed_at parent (read_again here ls) c;
         tickets = restores.tickets;
         entries = restores.entries;
@@ -108,11 +125,11 @@ module _ (me : ProcessId) (parent : Option ProcessId) (tree : List TreeEntry) (l
               begun = None;
               written = (shows ∙ ap (λ rs. map logged_of (forced_all rs)) new_so) i;
               told = None;
-              messages = (restores.messages ∙ ap (λ (s : ReadLog). flat_map (resumed_of me parent) s.table)
-                  behind_so ∙ resumes_so me parent (read_again here ls)
+              messages = (restores.messages ∙ resumes_so me parent (read_again here ls) behind behind_so
                   ∙ ap (resumes (role_below parent) me) (read_again_is me parent tree ls)) i;
               kept = None;
             });
+        remembers = forgets (read_again here ls) behind_so;
       }
 
 -- What cannot be rebuilt.

@@ -28,6 +28,7 @@ use Rattle.coord_table.specs.declared.held.Held.{Held}
 use Rattle.coord_table.specs.Cases.{Slots, ticket_in, view_in}
 use Rattle.inquire_core.specs.Summaries.{Summary, view_of}
 use Rattle.inquire_core.specs.Readings.{ReadLog, same}
+use Rattle.inquire_core.specs.Remembered.{Remembers}
 use Rattle.coord_table.specs.declared.rebuilding.Rebuilt.{Rebuilt}
 
 -- Cases.
@@ -78,8 +79,8 @@ appended_to place ls = map (in_log (parent_of place.role)) (reopens place.role (
 abbrev pub read_again : Place → List LogRecord → List Record
 read_again place ls = own_records place (ls ++ appended_to place ls)
 
--- what a restart makes of these records of a log: the boot, the frames that it appends, the live cases, and
--- what it shows
+-- what a restart makes of these records of a log: the boot, the frames that it appends, the live cases, what it
+-- shows, and what it remembers of them and of those that it appends
 pub record Rebuilds (place : Place) (ls : List LogRecord) (r : Rebuilt) : Type 0 where
   pub boot : r.boot ≡ boot_of (read_again place ls)
   pub frames : map frame_record r.frames.items ≡ appended_to place ls
@@ -88,6 +89,7 @@ pub record Rebuilds (place : Place) (ls : List LogRecord) (r : Rebuilt) : Type 0
   pub tickets : (d : Case) → ticket_in r.cases d ≡ None
   pub entries : (k : ℕ) (p : Case × Held) → entry_at r.cases k ≡ Some p → IsRestored p
   pub shown : r.reaction ≡ reaction_of (reopening place.role place.me (own_records place ls))
+  pub remembers : Remembers (read_again place ls) r.remembered
 
 -- why nothing is made of them: memory was refused, or a record that a restart appends can stand in no log
 abbrev pub NotRebuilt : Place → List LogRecord → StepError → Type 0

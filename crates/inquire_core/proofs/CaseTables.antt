@@ -25,10 +25,10 @@ is_same c d h = (case_tells c d).0 h
 itself : (c : Case) → same_case c c ≡ true
 itself c = (case_tells c c).1 refl
 
-true_not_false : true ≡ false → ⊥
+pub true_not_false : true ≡ false → ⊥
 true_not_false q = absurd (cc)
 
-apart_of : (b : Bool) → (b ≡ true → ⊥) → b ≡ false
+pub apart_of : (b : Bool) → (b ≡ true → ⊥) → b ≡ false
 apart_of true h = absurd (h refl)
 apart_of false h = refl
 
@@ -182,7 +182,7 @@ change false s t h = absurd (cc)
 module _ {A : Type 0} (none : A) (after : A → Record → A) (say : List Record → Case → A)
     (says : IsSaying none after say) where
   -- what is said of a case of which the record is not
-  other_stays : (rs : List Record) (r : Record) (o : Option Case) (c : Case) → record_case r ≡ o
+  pub other_stays : (rs : List Record) (r : Record) (o : Option Case) (c : Case) → record_case r ≡ o
       → is_case c o ≡ false → say (rs ++ r ∷ []) c ≡ say rs c
   other_stays rs r o c is not_of = says.more rs c r
       ∙ no_change (is_of c r) _ _ (ap (is_case c) is ∙ not_of)

@@ -3,3 +3,4 @@ pub mod CaseTables
 pub mod Readings
 pub mod Inquiries
 pub mod Progress
+pub mod Remembering

@@ -13,21 +13,21 @@ use Rattle.tree_model.specs.Records.{boot_after, boot_of, cases_in, record_case}
 use Rattle.tree_model.specs.Restarts.{aborts_collecting, coordinator_reopens, recorded_view, restart_abort}
 use Rattle.tree_model.specs.Standings.{CoordinatorView, known_view}
 use Rattle.inquire_core.specs.Summaries.{Summary, no_records, restored_view, standing_of, summary_after, summary_of, view_of}
-use Rattle.inquire_core.specs.Readings.{ReadLog, abort_by, abort_of, noted, noted_by, nothing_read, reading_of, reopened_by, standing_in, summary_in, view_in}
+use Rattle.inquire_core.specs.Readings.{abort_by, abort_of, noted, noted_by, nothing_read, reading_of, reopened_by, standing_in, summary_in, view_in}
 use Rattle.inquire_core.proofs.CaseTables.{IsSaying, entry_by, next_table, one_then, said, same_table}
 use Rattle.inquire_core.proofs.Summaries.{summary_more, summary_nothing, view_recorded}
 
 -- What the records of a log say of each case.
 
-says : IsSaying no_records summary_after summary_of
+pub says : IsSaying no_records summary_after summary_of
 says = record { nothing = summary_nothing; more = summary_more }
 
-table_more : (rs : List Record) (r : Record) (o : Option Case) → record_case r ≡ o
+pub table_more : (rs : List Record) (r : Record) (o : Option Case) → record_case r ≡ o
     → noted_by (reading_of rs).table r o ≡ (reading_of (rs ++ r ∷ [])).table
 table_more rs r None is = same_table no_records summary_after summary_of says rs r is
 table_more rs r (Some d) is = next_table no_records summary_after summary_of says rs r d is
 
-boot_more : (rs : List Record) (r : Record) → boot_of (rs ++ r ∷ []) ≡ boot_after (boot_of rs) r
+pub boot_more : (rs : List Record) (r : Record) → boot_of (rs ++ r ∷ []) ≡ boot_after (boot_of rs) r
 unfolding boot_of
 boot_more rs r = fold-append boot_after 0 rs (r ∷ [])
 
@@ -101,16 +101,3 @@ pub standing_is : (rs : List Record) (c : Case)
     → standing_in (reading_of rs).table c ≡ (recorded_view rs c).standing
 standing_is rs c = standing_known (standing_of (summary_in (reading_of rs).table c))
     (summary_in (reading_of rs).table c) ∙ ap (λ (v : CoordinatorView). v.standing) (view_is rs c)
-
--- A plan.
-
--- what is read after what a restart appends
-pub planned : (rs new : List Record) (reading behind : ReadLog) → reading ≡ reading_of rs
-    → new ≡ reopened_by reading → behind ≡ fold noted reading new
-    → (new ≡ coordinator_reopens rs) × (behind ≡ reading_of (rs ++ coordinator_reopens rs))
-planned rs new reading behind reads opens notes =
-    let appends : new ≡ coordinator_reopens rs = opens ∙ ap reopened_by reads ∙ reopens_so rs in (
-      appends,
-      notes ∙ ap (λ s. fold noted s new) reads ∙ read_more rs new
-          ∙ ap (λ more. reading_of (rs ++ more)) appends,
-    )

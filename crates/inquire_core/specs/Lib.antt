@@ -4,3 +4,4 @@ pub mod Plans
 pub mod Answers
 pub mod Progress
 pub mod Numbered
+pub mod Remembered

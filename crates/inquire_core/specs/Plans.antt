@@ -4,13 +4,13 @@ use Rattle.tree_model.specs.declared.events.StepError.{StepError}
 use Rattle.tree_model.specs.declared.events.StepError.TheVariants.{Exhausted, Memory}
 use Rattle.tree_model.specs.declared.records.Record.{Record}
 use Rattle.tree_model.specs.Restarts.{coordinator_reopens}
-use Rattle.inquire_core.specs.Readings.{reading_of}
+use Rattle.inquire_core.specs.Remembered.{Remembers}
 use Rattle.inquire_core.specs.declared.planning.RestartPlan.{RestartPlan}
 
--- what a restart with these records appends, and what all of them then say
+-- what a restart with these records appends, and that it is remembered what all of them then say
 pub record IsPlan (rs : List Record) (p : RestartPlan) : Type 0 where
   pub appended : p.appended.items ≡ coordinator_reopens rs
-  pub reading : p.reading ≡ reading_of (rs ++ coordinator_reopens rs)
+  pub remembered : Remembers (rs ++ coordinator_reopens rs) p.remembered
 
 -- why no restart was planned after this boot: memory was refused, or there is no next boot
 abbrev pub NotPlanned : ℕ → StepError → Type 0

@@ -6,6 +6,7 @@
 //! ```text
 //! recorded     what the records of one case say, noted record by record: where it stands, and whom they name
 //! reading      one pass over the records of a log: the boot, and each case in order of its first record
+//! remembered   what a restart remembers of its log, to read on from there
 //! planning     what a restart appends, and what the log then says
 //! answers      what an inquiry gets, by where its case stands
 //! standings    where one case stands, found without memory
@@ -20,6 +21,7 @@ mod numbers;
 mod planning;
 mod reading;
 mod recorded;
+mod remembered;
 mod reports;
 mod standings;
 
@@ -28,5 +30,6 @@ pub use numbers::are_numbered;
 pub use planning::{RestartPlan, plan};
 pub use reading::{Reading, is_own};
 pub use recorded::{Recorded, Stage};
+pub use remembered::Remembered;
 pub use reports::is_reported;
 pub use standings::standing;

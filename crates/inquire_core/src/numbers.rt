@@ -8,7 +8,7 @@ use tree_model::{Case, LogRecord, Record};
 
 /// The boot in which the case was numbered: that which gave its ticket, or where it has none that which began
 /// its transaction.
-fn numbered_in(case: &Case) -> u64
+pub(crate) fn numbered_in(case: &Case) -> u64
     ensures { result ≡ numbered_in case.now }
 {
     match case.ticket {

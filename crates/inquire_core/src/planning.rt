@@ -1,25 +1,26 @@
 //! What a restart makes of the records that a crash leaves.
 
-ghost use Rattle.std.specs.Prelude.{◌≡◌, ◌<◌, ◌+◌, ◌^◌, ◌++◌, IfErr, IfOk, OnOk};
-ghost use Rattle.tree_model.specs.LogNames.{own_records};
+ghost use Rattle.std.specs.Prelude.{◌≡◌, ◌<◌, ◌+◌, ◌^◌, ◌++◌, IfErr, IfOk, List, OnOk};
+ghost use Rattle.tree_model.specs.declared.records.Record.{Record as AnyRecord};
 ghost use Rattle.tree_model.specs.Records.{boot_of};
 ghost use Rattle.inquire_core.specs.Plans.{IsPlan, NotPlanned};
-ghost use Rattle.inquire_core.specs.Readings.{abort_of, place_below, reopened_by};
+ghost use Rattle.inquire_core.specs.Readings.{abort_of, reopened_by};
+ghost use Rattle.inquire_core.specs.Remembered.{Remembers};
 
 use crate::reading::Reading;
 use crate::recorded::Recorded;
+use crate::remembered::Remembered;
 use std::alloc::{AllocError, Global};
-use tree_model::{Case, LogRecord, ProcessId, Record, Standing, StepError, Tree};
+use tree_model::{Case, Record, Standing, StepError};
 
 /// The largest boot.
 const LAST_BOOT: u64 = (1 << 63) - 1;
 
-/// What a restart appends to a log, and what all records of the log then say: each of its cases with where
-/// it stands, in order of their first records.
+/// What a restart appends to a log, and what all records of the log then say.
 #[derive(Drop)]
 pub struct RestartPlan {
     pub appended: Vec<Record>,
-    pub reading: Reading,
+    pub remembered: Remembered,
 }
 
 /// An Abort record of a case that collected votes, which names all that any of its records names.
@@ -54,23 +55,20 @@ fn reopens(alloc: Global, reading: &Reading) -> Result<Vec<Record>, AllocError>
     Ok(records)
 }
 
-/// What a restart of the coordinator `me` below this parent makes of the records of its log. It goes through
-/// them once. Exhausted: the next boot would be 2^63 or more.
-pub fn plan(
-    alloc: Global,
-    me: ProcessId,
-    parent: Option<ProcessId>,
-    tree: &Tree,
-    records: &[LogRecord],
-) -> Result<RestartPlan, StepError>
-    ensures ok { IfOk result (IsPlan (own_records (place_below me parent tree.now) records.now)) }
-    ensures err { IfErr result (NotPlanned (boot_of (own_records (place_below me parent tree.now) records.now))) }
+/// What a restart makes of the records of a log of which this is remembered. Exhausted: the next boot would be 2^63 or
+/// more.
+pub fn plan(alloc: Global, remembered: Remembered) -> Result<RestartPlan, StepError>
+    ensures ok { IfOk result (λ plan. (rs : List AnyRecord) → Remembers rs remembered → IsPlan rs plan) }
+    ensures err { IfErr result (λ e. (rs : List AnyRecord) → Remembers rs remembered → NotPlanned (boot_of rs) e) }
 {
-    let mut reading = Reading::of(alloc, me, parent, tree, records)?;
-    if reading.boot >= LAST_BOOT {
+    let mut remembered = remembered;
+    if remembered.reading.boot >= LAST_BOOT {
         return Err(StepError::Exhausted);
     }
-    let appended = reopens(alloc, &reading)?;
-    reading.note_all(&appended)?;
-    Ok(RestartPlan { appended, reading })
+    let appended = reopens(alloc, &remembered.reading)?;
+    remembered.reading.note_all(&appended)?;
+    Ok(RestartPlan {
+        appended,
+        remembered,
+    })
 }

@@ -12,11 +12,12 @@ use Rattle.tree_model.specs.declared.records.Record.TheVariants.{Opened, Collect
 use Rattle.tree_model.specs.Restarts.{is_open}
 use Rattle.tree_model.specs.Store.{Data, base_records, pair_record, writes_of as promised_of, data_of}
 use Rattle.log_rules.specs.sound.Sound.{IsSound, IsSoundEntry}
-use Rattle.rec_log.specs.Sights.{Kept, LogState, NotRewritten, records_of}
+use Rattle.rec_log.specs.Sights.{Kept, LogSight, LogState, NotRewritten, Rewritten, records_of}
+use Rattle.rec_log.proofs.Trims.{settled_trimmed, settled_untrimmed}
 use Rattle.rec_log.specs.declared.log.LogError.{LogError}
 use Rattle.rec_log.specs.declared.log.LogError.TheVariants.{Device, Memory}
 use Rattle.kv_manager.proofs.Restoring.{kept_alike}
-use Rattle.rec_log.specs.Trimming.{Trimmed}
+use Rattle.rec_log.specs.Trimming.{IsSettled, Trimmed, data_by, own_data}
 use Rattle.rec_log.specs.Trimming as rec_log
 use Rattle.kv_store.specs.Pairs.{ArePairsOf, keys_rise}
 use Rattle.kv_store.proofs.Pairs.{same_pairs}
@@ -229,3 +230,24 @@ kept_untrimmed s log rs Device kept works sound of broke = record {
   ];
   stands = λ no_more. absurd (let never : true ≡ false = sym broke.failed ∙ no_more in cc);
 }
+
+-- A trim that leaves the log as it is.
+
+-- the data of a manager's log
+abbrev pub data_in : LogSight → List LogRecord
+data_in s = map unnamed (base_records (data_of (records_of s.kept)))
+
+pub own_is_data : (s : LogSight) → s.form.kind ≡ Manager → own_data s ≡ data_in s
+own_is_data s kind = ap (λ k. data_by k (records_of s.kept)) kind
+
+pub trimmed_again : (old new : LogState) (count : ℕ) → old.sight.form.kind ≡ Manager → IsSettled old count
+    → Rewritten old new (records_of old.sight.kept) → Trimmed old new (data_in old.sight) count
+trimmed_again old new count kind s r =
+    subst (λ rs. Trimmed old new rs count) (own_is_data old.sight kind) (settled_trimmed old new count s r)
+
+pub untrimmed_again : (old new : LogState) (count : ℕ) (e : LogError) → old.sight.form.kind ≡ Manager
+    → IsSettled old count → NotRewritten old new (records_of old.sight.kept) e
+    → NotRewritten old new (rec_log.trim_of old (data_in old.sight)) e
+untrimmed_again old new count e kind s r =
+    subst (λ rs. NotRewritten old new (rec_log.trim_of old rs) e) (own_is_data old.sight kind)
+    (settled_untrimmed old new count e s r)

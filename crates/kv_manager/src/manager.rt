@@ -147,6 +147,14 @@ impl<L: LogStore> KvManager<L> {
         self.log.records(self.alloc)
     }
 
+    /// The store under its log, to be read.
+    pub fn store(&self) -> &L
+        ensures { (log_state self.now.log.sight.form (L.bytes result.now) (L.forced result.now) (L.failures result.now)
+            (L.room result.now) self.now.log.sight.failed).sight ≡ self.now.log.sight }
+    {
+        self.log.store()
+    }
+
     /// The records that a crash would leave which keeps N bytes after the forced front, as a list
     /// made again.
     pub fn left(&self, keep: usize) -> Result<Vec<LogRecord>, AllocError>

@@ -1,10 +1,11 @@
 //! A manager's trim.
 
-ghost use Rattle.std.specs.Prelude.{◌≡◌, IfErr, IfOk, false, map};
+ghost use Rattle.std.specs.Prelude.{◌≡◌, IfErr, IfOk, OnOk, false, map};
 ghost use Rattle.tree_model.specs.declared.names.Kind.TheVariants as kind;
 ghost use Rattle.tree_model.specs.Store.{base_records, data_of};
 ghost use Rattle.log_text.specs.Made.{frame_record};
-ghost use Rattle.rec_log.specs.Sights.{AreRecords, records_of};
+ghost use Rattle.rec_log.specs.Sights.{AreRecords, NotRewritten, records_of};
+ghost use Rattle.rec_log.specs.Trimming.{IsSettled, Trimmed, trim_of};
 ghost use Rattle.tree_model.specs.LogNames.{unnamed};
 ghost use Rattle.kv_manager.specs.Resources.{sight_of, trim_error};
 ghost use Rattle.manager_model.specs.Trimming.{NotTrimmed, Trims};
@@ -14,8 +15,8 @@ use kv_core::base_frames;
 use log_store::LogStore;
 use log_text::Frame;
 use manager_model::TrimError;
-use rec_log::LogError;
-use std::alloc::AllocError;
+use rec_log::{LogError, RecLog};
+use std::alloc::{AllocError, Global};
 
 /// Why a manager's log was not trimmed, where it was not written.
 fn trim_error(error: LogError) -> TrimError
@@ -25,6 +26,20 @@ fn trim_error(error: LogError) -> TrimError
         LogError::Memory => TrimError::Memory,
         LogError::Device => TrimError::Device,
     }
+}
+
+/// Trims a manager's log again that a trim leaves as it is: it is put in its own place, and not read.
+fn trim_again<L: LogStore>(log: &mut RecLog<L>, count: usize, alloc: Global) -> Result<(), LogError>
+    requires works { log.old.sight.failed ≡ false }
+    requires managers { log.old.sight.form.kind ≡ kind.Manager }
+    requires settled { IsSettled log.old count }
+    ensures form { log.new.sight.form ≡ log.old.sight.form }
+    ensures ok { OnOk result (Trimmed log.old log.new
+        (map unnamed (base_records (data_of (records_of log.old.sight.kept)))) count) }
+    ensures err { IfErr result (λ e. NotRewritten log.old log.new
+        (trim_of log.old (map unnamed (base_records (data_of (records_of log.old.sight.kept))))) e) }
+{
+    log.put_again(alloc)
 }
 
 impl<L: LogStore> KvManager<L> {
@@ -43,7 +58,8 @@ impl<L: LogStore> KvManager<L> {
 
     /// Trims its log: the last Opened and the records of the branches that are not forgotten stay, and
     /// after them the data, keys rising, forced by one write. Gives how many records remain. Its own
-    /// records are never refused. Failed, Memory: nothing changed. Device: the log stands as it was or
+    /// records are never refused. A log that its last trim left as it was is put in its own place, and neither
+    /// it nor the data are read. Failed, Memory: nothing changed. Device: the log stands as it was or
     /// trimmed, and the manager has failed until a restart.
     pub fn trim(&mut self) -> Result<usize, TrimError>
         ensures ok { IfOk result (Trims (sight_of self.old) (sight_of self.new)) }
@@ -53,8 +69,14 @@ impl<L: LogStore> KvManager<L> {
         if self.has_failed() {
             return Err(TrimError::Failed);
         }
-        let frames = self.data_frames()?;
         self.records_are_sound();
+        if let Some(count) = self.log.trimmed() {
+            return match trim_again(&mut self.log, count, self.alloc) {
+                Ok(()) => Ok(count),
+                Err(error) => Err(trim_error(error)),
+            };
+        }
+        let frames = self.data_frames()?;
         match self.log.trim(&frames, self.alloc) {
             Ok(count) => Ok(count),
             Err(error) => Err(trim_error(error)),

@@ -1,5 +1,5 @@
 -- The frames of the records that stay in a trim.
-use Rattle.std.proofs.Common.{◌≡◌, ◌≤◌, ◌+◌, ◌-◌, ℕ, suc, Bool, true, false, if◌then◌else◌, List, [], ◌∷◌, ◌++◌, length, take, Option, Some, None, fold, refl, sym, ap, subst, ◌∙◌, arith, append-nil, append_assoc, length-append}
+use Rattle.std.proofs.Common.{◌≡◌, ◌≤◌, ◌+◌, ◌-◌, ℕ, suc, Bool, true, false, if◌then◌else◌, List, [], ◌∷◌, ◌++◌, length, take, Option, Some, None, IfSome, fold, refl, sym, ap, subst, ◌∙◌, arith, append-nil, append_assoc, length-append}
 use Rattle.std.proofs.Math.Seq.{take-append_seam}
 use Rattle.log_text.specs.declared.form.LogForm.{LogForm}
 use Rattle.tree_model.specs.declared.records.LogRecord.{LogRecord}
@@ -16,9 +16,10 @@ use Rattle.log_rules.proofs.trim.Marked.{marked_is, opens_is}
 use Rattle.log_rules.specs.trim.Trims.{front_of_trim, last_opened, opened_after}
 use Rattle.log_rules.proofs.trim.Picks.{picks_what_stays}
 use Rattle.rec_log.specs.Texts.{and_records, is_whole, records_by, records_in, whole_by, whole_if}
-use Rattle.rec_log.specs.Sights.{AreRecords, LogState, NotRewritten, Rewritten, body, log_state, records_of}
-use Rattle.rec_log.specs.Trimming.{BeginsWith, Holds, Spells, Trimmed, opened_count, trim_of}
+use Rattle.rec_log.specs.Sights.{AreRecords, IsLogText, LogState, NotRewritten, Rewritten, body, log_state, records_of}
+use Rattle.rec_log.specs.Trimming.{BeginsWith, Holds, IsSettled, IsTrimmed, Spells, StayWhole, Trimmed, own_data, data_by, opened_count, trim_of}
 use Rattle.rec_log.specs.declared.log.LogError.{LogError}
+use Rattle.rec_log.proofs.Known.{log_is_long}
 use Rattle.rec_log.proofs.Turns.{records_stand}
 use Rattle.rec_log.proofs.Frames.{no_records, nothing_whole, step, step_whole}
 use Rattle.rec_log.proofs.Openings.{frame_at}
@@ -292,7 +293,7 @@ text_of_trim p text kept ls rs e s are =
 
 -- A log that was trimmed.
 
-kept_is : (p : LogForm) (text bytes : List ℕ) (forced failures room : ℕ) (failed : Bool) (s : LogState)
+pub kept_is : (p : LogForm) (text bytes : List ℕ) (forced failures room : ℕ) (failed : Bool) (s : LogState)
     → log_state p text forced failures room failed ≡ s → bytes ≡ body text
     → records_in p 0 bytes ≡ records_of s.sight.kept
 kept_is p text bytes forced failures room failed s view e =
@@ -325,3 +326,97 @@ pub not_trimmed : (seen old new : LogState) (ls rs : List LogRecord) (e : LogErr
     → ls ≡ trim_of old rs → NotRewritten seen new ls e → NotRewritten old new (trim_of old rs) e
 not_trimmed seen old new ls rs e view is r =
     subst (λ s. NotRewritten s new (trim_of old rs) e) view (subst (λ ms. NotRewritten seen new ms e) is r)
+
+-- A trim that leaves the log as it is.
+
+-- the log is what a trim leaves of it
+pub settled : (p : LogForm) (text : List ℕ) (forced failures room count : ℕ) (failed : Bool) (s : LogState)
+    → log_state p text forced failures room failed ≡ s → IsTrimmed p text (Some count) → IsSettled s count
+settled p text forced failures room count failed s view t =
+    let stands = kept_is p text (body text) forced failures room failed s view refl in
+    record {
+      stays = subst (λ (f : LogForm). front_of_trim (records_of s.sight.kept)
+          ++ data_by f.kind (records_of s.sight.kept) ≡ records_of s.sight.kept)
+          (ap (λ (z : LogState). z.sight.form) view) (subst (StayWhole p.kind) stands t.0);
+      counted = t.1 ∙ ap length stands;
+    }
+
+-- so it is, if a count is told
+pub settled_if : (p : LogForm) (text : List ℕ) (forced failures room : ℕ) (failed : Bool) (s : LogState) (o : Option ℕ)
+    → log_state p text forced failures room failed ≡ s → IsTrimmed p text o → IfSome o (λ count. IsSettled s count)
+settled_if p text forced failures room failed s None view t = tt
+settled_if p text forced failures room failed s (Some count) view t =
+    settled p text forced failures room count failed s view t
+
+-- the log's own bytes are a log
+pub own_text : (p : LogForm) (text bytes : List ℕ) (forced : ℕ) (failed : Bool) → IsLogText p text forced failed
+    → failed ≡ false → bytes ≡ text → Spells p bytes (records_in p 0 (body bytes))
+own_text p text bytes forced failed is works e =
+    subst (λ b. Spells p b (records_in p 0 (body b))) (sym e) (record {
+      begins = is.begins;
+      long = log_is_long p text forced failed is;
+      holds = record { whole = is.whole works; read = refl };
+    })
+
+-- the log's own bytes were put in its place
+pub trimmed_again : (p q : LogForm) (text text' asked : List ℕ) (forced' failures' room' : ℕ)
+    (failed' : Bool) (o : Option ℕ) (old new : LogState)
+    → log_state q text' forced' failures' room' failed' ≡ new → q ≡ p → asked ≡ text
+    → Rewritten old new (records_in p 0 (body asked)) → IsTrimmed p text o → IsTrimmed q text' o
+trimmed_again p q text text' asked forced' failures' room' failed' None old new view form e r t = tt
+trimmed_again p q text text' asked forced' failures' room' failed' (Some count) old new view form e r t =
+    let stands = kept_is q text' (body text') forced' failures' room' failed' new view refl in
+    let made : records_of new.sight.kept ≡ records_in p 0 (body asked) =
+    (λ i. r.forced i ++ r.unforced i) ∙ append-nil (records_in p 0 (body asked)) in
+    let same : records_in p 0 (body text) ≡ records_in q 0 (body text') =
+    ap (λ b. records_in p 0 (body b)) (sym e) ∙ sym made ∙ sym stands in (
+      subst (λ (f : LogForm). StayWhole f.kind (records_in q 0 (body text'))) (sym form)
+          (subst (StayWhole p.kind) same t.0),
+      t.1 ∙ ap length same,
+    )
+
+-- a trim left the log as it was
+pub trim_left : (p : LogForm) (text asked : List ℕ) (forced failures room count : ℕ) (failed : Bool) (old : LogState)
+    (rs : List LogRecord) → log_state p text forced failures room failed ≡ old → asked ≡ text
+    → rs ≡ own_data old.sight → records_in p 0 (body asked) ≡ trim_of old rs → count ≡ length (trim_of old rs)
+    → IsTrimmed p text (Some count)
+trim_left p text asked forced failures room count failed old rs view e own read c =
+    let stands = kept_is p text (body text) forced failures room failed old view refl in
+    let now : trim_of old rs ≡ records_in p 0 (body text) = sym read ∙ ap (λ b. records_in p 0 (body b)) e in
+    let kept : records_of old.sight.kept ≡ records_in p 0 (body text) = sym stands in
+    let whole : front_of_trim (records_of old.sight.kept) ++ data_by old.sight.form.kind (records_of old.sight.kept)
+    ≡ records_of old.sight.kept =
+    ap (λ ls. front_of_trim (records_of old.sight.kept) ++ ls) (sym own) ∙ now ∙ stands in (
+      subst (StayWhole p.kind) kept (subst (λ (f : LogForm). StayWhole f.kind (records_of old.sight.kept))
+          (sym (ap (λ (z : LogState). z.sight.form) view)) whole),
+      c ∙ ap length now,
+    )
+
+-- a trim put this text in the log's place: if there is a count, the text is what stood there
+pub trim_counts : (p q : LogForm) (text text' one other asked : List ℕ) (forced failures room forced' failures' room' count : ℕ)
+    (failed failed' : Bool) (o : Option ℕ) (old new : LogState) (rs : List LogRecord)
+    → log_state p text forced failures room failed ≡ old
+    → log_state q text' forced' failures' room' failed' ≡ new → q ≡ p → asked ≡ one → other ≡ text
+    → rs ≡ own_data old.sight → records_in p 0 (body asked) ≡ trim_of old rs → count ≡ length (trim_of old rs)
+    → Rewritten old new (records_in p 0 (body asked)) → IfSome o (λ n. (n ≡ count) × (one ≡ other))
+    → IsTrimmed q text' o
+trim_counts p q text text' one other asked forced failures room forced' failures' room' count failed failed' None old new rs
+    was is form is_one is_other own read c r h = tt
+trim_counts p q text text' one other asked forced failures room forced' failures' room' count failed failed' (Some n) old new
+    rs was is form is_one is_other own read c r h =
+    let same : asked ≡ text = is_one ∙ h.1 ∙ is_other in
+    trimmed_again p q text text' asked forced' failures' room' failed' (Some n) old new is form same r
+    (trim_left p text asked forced failures room n failed old rs was same own read (h.0 ∙ c))
+
+-- a log that is what a trim leaves of it was put in its own place: so it was trimmed
+pub settled_trimmed : (old new : LogState) (count : ℕ) → IsSettled old count
+    → Rewritten old new (records_of old.sight.kept) → Trimmed old new (own_data old.sight) count
+settled_trimmed old new count s r = record {
+  log = subst (Rewritten old new) (sym s.stays) r;
+  counted = s.counted ∙ ap length (sym s.stays);
+}
+
+-- or it was not
+pub settled_untrimmed : (old new : LogState) (count : ℕ) (e : LogError) → IsSettled old count
+    → NotRewritten old new (records_of old.sight.kept) e → NotRewritten old new (trim_of old (own_data old.sight)) e
+settled_untrimmed old new count e s r = subst (λ ls. NotRewritten old new ls e) (sym s.stays) r

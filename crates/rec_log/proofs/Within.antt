@@ -1,8 +1,8 @@
 -- The records of a front of the bytes are those that stand whole within it.
-use Rattle.std.proofs.Common.{◌≡◌, ◌≤◌, ◌<◌, ◌+◌, ◌-◌, ℕ, zero, suc, Bool, true, false, List, [], ◌∷◌, ◌++◌, length, take, drop, Option, Some, None, refl, sym, ap, ◌∙◌, arith, nat_le, if◌then◌else◌, take-append-drop, length-append, length-drop}
+use Rattle.std.proofs.Common.{◌≡◌, ◌≤◌, ◌<◌, ◌+◌, ◌-◌, ℕ, zero, suc, Bool, true, false, List, [], ◌∷◌, ◌++◌, length, min, take, drop, Option, Some, None, refl, sym, ap, ◌∙◌, arith, nat_le, if◌then◌else◌, append_assoc, drop-drop, take-append-drop, length-append, length-drop}
 use Rattle.std.proofs.lemmas.Bool.Decides.{nat_tests}
 use Rattle.std.proofs.lemmas.List.{length-take-le, take-append-le}
-use Rattle.std.proofs.Math.Seq.{take-append-add}
+use Rattle.std.proofs.Math.Seq.{drop-append_seam, take-append-add}
 use Rattle.log_text.specs.declared.form.LogForm.{LogForm}
 use Rattle.tree_model.specs.declared.records.LogRecord.{LogRecord}
 use Rattle.byteorder.specs.Endian.{big_bytes}
@@ -14,7 +14,7 @@ use Rattle.log_text.specs.Payloads.{payload_text, record_text}
 use Rattle.log_text.proofs.Owned.{same_size}
 use Rattle.log_text.specs.Reading.{read_record}
 use Rattle.rec_log.specs.Texts.{and_records, is_whole, records_in, size_by, size_if, whole_by, whole_if, whole_size}
-use Rattle.rec_log.specs.Sights.{LogState, body, front, left_by, log_state, record_size, whole_within}
+use Rattle.rec_log.specs.Sights.{IsFront, LogState, body, frames_size, front, left_by, log_state, record_size, records_of, whole_within}
 use Rattle.rec_log.proofs.Frames.{frame_more, front_of, is_behind, no_bytes, no_frame, shorter, step, step_whole}
 use Rattle.rec_log.proofs.Openings.{Frame, frame_at}
 use Rattle.rec_log.proofs.RecordSizes.{read_long}
@@ -161,10 +161,6 @@ records_taken p second n xs = records_taken_in p second (suc (length xs)) n xs (
 
 -- The whole frames of records are as long as these records.
 
-unfoldable total : List LogRecord → ℕ
-total [] = 0
-total (l ∷ ls) = record_size l + total ls
-
 passed_size : (p : LogForm) (k : ℕ) (xs : List ℕ) → whole_size p k xs ≡ whole_size p 0 (drop k xs)
 unfolding whole_size
 passed_size p zero xs = refl
@@ -187,24 +183,24 @@ no_size p [] e = refl
 no_size p (b ∷ bs) e = ap (λ o. size_by p o (λ n. whole_size p n bs)) e
 
 abbrev Sized : LogForm → List ℕ → Type 0
-Sized p xs = whole_size p 0 xs ≡ total (records_in p 0 xs)
+Sized p xs = whole_size p 0 xs ≡ frames_size (records_in p 0 xs)
 
 sized_frame : (p : LogForm) → p.format ≡ Second → (xs : List ℕ) (c : Cut) (o : Option LogRecord) → first_frame p.format xs ≡ Some c
     → read_record p c.0 c.1 ≡ o → Sized p c.2 → Sized p xs
-unfolding total
+unfolding frames_size
 sized_frame p second xs c None e r f =
     step_size p xs c e ∙ ap (λ o. size_if o (suc (size_bytes p.format) + length c.1 + whole_size p 0 c.2)) r
-    ∙ sym (ap total (step p xs c e ∙ ap (λ o. and_records o (records_in p 0 c.2)) r))
+    ∙ sym (ap frames_size (step p xs c e ∙ ap (λ o. and_records o (records_in p 0 c.2)) r))
 sized_frame p second xs c (Some l) e r f =
-    let size : suc (size_bytes p.format) + length c.1 + whole_size p 0 c.2 ≡ record_size l + total (records_in p 0 c.2) =
+    let size : suc (size_bytes p.format) + length c.1 + whole_size p 0 c.2 ≡ record_size l + frames_size (records_in p 0 c.2) =
     omega (arith, f, own_size p l, frame_size p second l, read_long p c.0 c.1 l r) in
     step_size p xs c e ∙ ap (λ o. size_if o (suc (size_bytes p.format) + length c.1 + whole_size p 0 c.2)) r ∙ size
-    ∙ sym (ap total (step p xs c e ∙ ap (λ o. and_records o (records_in p 0 c.2)) r))
+    ∙ sym (ap frames_size (step p xs c e ∙ ap (λ o. and_records o (records_in p 0 c.2)) r))
 
 sized_by : (p : LogForm) → p.format ≡ Second → (xs : List ℕ) (o : Option Cut) → first_frame p.format xs ≡ o
     → ((c : Cut) → length c.2 < length xs → Sized p c.2) → Sized p xs
-unfolding total
-sized_by p second xs None e f = no_size p xs e ∙ sym (ap total (no_frame p xs e))
+unfolding frames_size
+sized_by p second xs None e f = no_size p xs e ∙ sym (ap frames_size (no_frame p xs e))
 sized_by p second xs (Some c) e f =
     sized_frame p second xs c (read_record p c.0 c.1) e refl (f c (shorter p.format xs c e))
 
@@ -212,7 +208,7 @@ sized_in : (p : LogForm) → p.format ≡ Second → (most : ℕ) (xs : List ℕ
 sized_in p second zero xs h = absurd (omega arith)
 sized_in p second (suc most) xs h = sized_by p second xs (first_frame p.format xs) refl (λ c less. sized_in p second most c.2 (omega arith))
 
-sized : (p : LogForm) → p.format ≡ Second → (xs : List ℕ) → Sized p xs
+pub sized : (p : LogForm) → p.format ≡ Second → (xs : List ℕ) → Sized p xs
 sized p second xs = sized_in p second (suc (length xs)) xs (omega arith)
 
 -- Whole frames are as long as all their bytes.
@@ -255,32 +251,32 @@ whole_is_full p xs w = omega (arith, full_in p (suc (length xs)) xs (omega arith
 more_by : (n k : ℕ) (l : LogRecord) (ls : List LogRecord) (b : Bool) → nat_le (record_size l) n ≡ b
     → (whole_within ((n - record_size l) + k) ls
     ≡ whole_within (n - record_size l) ls
-    ++ whole_within ((n - record_size l) - total (whole_within (n - record_size l) ls) + k)
+    ++ whole_within ((n - record_size l) - frames_size (whole_within (n - record_size l) ls) + k)
     (drop (length (whole_within (n - record_size l) ls)) ls))
     → whole_within (n + k) (l ∷ ls) ≡ whole_within n (l ∷ ls)
-    ++ whole_within (n - total (whole_within n (l ∷ ls)) + k)
+    ++ whole_within (n - frames_size (whole_within n (l ∷ ls)) + k)
     (drop (length (whole_within n (l ∷ ls))) (l ∷ ls))
-unfolding total
+unfolding frames_size
 more_by n k l ls true b f =
     let le : record_size l ≤ n = grind (arith, nat_tests) in
     let m = n - record_size l in
     let w = whole_within m ls in
     let now : whole_within n (l ∷ ls) ≡ l ∷ w = within_one n l ls le in
     let sum : n + k - record_size l ≡ m + k = omega arith in
-    let left : m - total w + k ≡ n - (record_size l + total w) + k = omega arith in
+    let left : m - frames_size w + k ≡ n - (record_size l + frames_size w) + k = omega arith in
     within_one (n + k) l ls (omega arith) ∙ ap (λ t. l ∷ t)
     (ap (λ t. whole_within t ls) sum ∙ f ∙ ap (λ t. w ++ whole_within t (drop (length w) ls)) left)
-    ∙ sym (ap (λ t. t ++ whole_within (n - total t + k) (drop (length t) (l ∷ ls))) now)
+    ∙ sym (ap (λ t. t ++ whole_within (n - frames_size t + k) (drop (length t) (l ∷ ls))) now)
 more_by n k l ls false b f =
     let now : whole_within n (l ∷ ls) ≡ [] = within_no n l ls (grind (arith, nat_tests)) in
     let nothing : n + k ≡ n - 0 + k = omega arith in
     ap (λ m. whole_within m (l ∷ ls)) nothing
-    ∙ sym (ap (λ t. t ++ whole_within (n - total t + k) (drop (length t) (l ∷ ls))) now)
+    ∙ sym (ap (λ t. t ++ whole_within (n - frames_size t + k) (drop (length t) (l ∷ ls))) now)
 
 within_more : (n k : ℕ) (ls : List LogRecord)
     → whole_within (n + k) ls ≡ whole_within n ls
-    ++ whole_within (n - total (whole_within n ls) + k) (drop (length (whole_within n ls)) ls)
-unfolding whole_within total
+    ++ whole_within (n - frames_size (whole_within n ls) + k) (drop (length (whole_within n ls)) ls)
+unfolding whole_within frames_size
 within_more n k [] = refl
 within_more n k (l ∷ ls) = more_by n k l ls (nat_le (record_size l) n) refl
     (within_more (n - record_size l) k ls)
@@ -300,11 +296,11 @@ left_records p text forced keep failures room failed second h le =
     let long : length (front text forced) ≡ n =
     length-take-le n (body text) (omega (arith, length-drop 5 text)) in
     let F = records_in p 0 (front text forced) in
-    let behind : n - total F ≡ length (front text forced) - whole_size p 0 (front text forced) =
+    let behind : n - frames_size F ≡ length (front text forced) - whole_size p 0 (front text forced) =
     omega (arith, long, sized p second (front text forced)) in
     ap (records_in p 0) (body_taken (forced + keep) text (omega arith) ∙ ap (λ k. take k (body text)) sum)
     ∙ records_taken p second (n + keep) (body text)
-    ∙ within_more n keep all ∙ ap (λ t. t ++ whole_within (n - total t + keep) (drop (length t) all))
+    ∙ within_more n keep all ∙ ap (λ t. t ++ whole_within (n - frames_size t + keep) (drop (length t) all))
     (sym now)
     ∙ ap (λ t. F ++ whole_within (t + keep) (drop (length F) all)) behind
 
@@ -314,3 +310,102 @@ pub left_of_view : (p : LogForm) (text : List ℕ) (forced keep failures room : 
     → ls ≡ records_in p 0 (body (take (forced + keep) text)) → ls ≡ left_by s.sight keep
 left_of_view p text forced keep failures room failed s ls view second h le e =
     e ∙ left_records p text forced keep failures room failed second h le ∙ ap (λ z. left_by z.sight keep) view
+
+-- The records behind the first ones.
+
+drop_within : (n : ℕ) (xs : List ℕ) → drop (min n (length xs)) xs ≡ drop n xs
+drop_within zero xs =
+    let none : min 0 (length xs) ≡ 0 = omega arith in
+    ap (λ m. drop m xs) none
+drop_within (suc n) [] =
+    let none : min (suc n) 0 ≡ 0 = omega arith in
+    ap (λ m. drop m []) none
+drop_within (suc n) (x ∷ xs) =
+    let one : min (suc n) (suc (length xs)) ≡ suc (min n (length xs)) = omega arith in
+    ap (λ m. drop m (x ∷ xs)) one ∙ drop_within n xs
+
+no_first : (l : LogRecord) (ls : List LogRecord) → [] ≡ l ∷ ls → ⊥
+no_first l ls e = absurd (cc)
+
+record Parts (l m : LogRecord) (ls ms : List LogRecord) : Type 0 where
+  pub head : l ≡ m
+  pub tail : ls ≡ ms
+
+parts : (l m : LogRecord) (ls ms : List LogRecord) → l ∷ ls ≡ m ∷ ms → Parts l m ls ms
+parts l m ls ms e = record { head = cc; tail = cc }
+
+behind_first : (p : LogForm) → p.format ≡ Second → (l : LogRecord) (ls more : List LogRecord) (xs : List ℕ) (c : Cut)
+    (o : Option LogRecord) → first_frame p.format xs ≡ Some c → read_record p c.0 c.1 ≡ o
+    → records_in p 0 xs ≡ l ∷ (ls ++ more)
+    → (records_in p 0 c.2 ≡ ls ++ more
+    → records_in p 0 c.2 ≡ ls ++ records_in p 0 (drop (frames_size ls) c.2))
+    → records_in p 0 xs ≡ l ∷ (ls ++ records_in p 0 (drop (frames_size (l ∷ ls)) xs))
+unfolding frames_size
+behind_first p second l ls more xs c None e r is f =
+    absurd (no_first l (ls ++ more) (sym (step p xs c e ∙ ap (λ o. and_records o (records_in p 0 c.2)) r) ∙ is))
+behind_first p second l ls more xs c (Some m) e r is f =
+    let a = frame_at p.format xs c e in
+    let read : records_in p 0 xs ≡ m ∷ records_in p 0 c.2 =
+    step p xs c e ∙ ap (λ o. and_records o (records_in p 0 c.2)) r in
+    let both = parts m l (records_in p 0 c.2) (ls ++ more) (sym read ∙ is) in
+    let long : record_size l ≡ length a.frame =
+    ap record_size (sym both.head) ∙ frame_long p second xs c m a r in
+    let left : drop (record_size l) xs ≡ c.2 =
+    ap (λ n. drop n xs) long ∙ ap (drop (length a.frame)) a.split ∙ drop-append_seam a.frame c.2 in
+    let rest : drop (frames_size ls) c.2 ≡ drop (record_size l + frames_size ls) xs =
+    ap (drop (frames_size ls)) (sym left) ∙ drop-drop (frames_size ls) (record_size l) xs in
+    read ∙ (λ i. both.head i ∷ f both.tail i) ∙ ap (λ ys. l ∷ (ls ++ records_in p 0 ys)) rest
+
+behind_by : (p : LogForm) → p.format ≡ Second → (l : LogRecord) (ls more : List LogRecord) (xs : List ℕ)
+    (o : Option Cut) → first_frame p.format xs ≡ o → records_in p 0 xs ≡ l ∷ (ls ++ more)
+    → ((c : Cut) → records_in p 0 c.2 ≡ ls ++ more
+    → records_in p 0 c.2 ≡ ls ++ records_in p 0 (drop (frames_size ls) c.2))
+    → records_in p 0 xs ≡ l ∷ (ls ++ records_in p 0 (drop (frames_size (l ∷ ls)) xs))
+behind_by p second l ls more xs None e is f = absurd (no_first l (ls ++ more) (sym (no_frame p xs e) ∙ is))
+behind_by p second l ls more xs (Some c) e is f =
+    behind_first p second l ls more xs c (read_record p c.0 c.1) e refl is (f c)
+
+-- what is read behind the frames of the first records
+pub records_behind : (p : LogForm) → p.format ≡ Second → (first more : List LogRecord) (xs : List ℕ)
+    → records_in p 0 xs ≡ first ++ more
+    → records_in p 0 xs ≡ first ++ records_in p 0 (drop (frames_size first) xs)
+unfolding frames_size
+records_behind p second [] more xs is = refl
+records_behind p second (l ∷ ls) more xs is =
+    behind_by p second l ls more xs (first_frame p.format xs) refl is
+    (λ c h. records_behind p second ls more c.2 h)
+
+-- what a crash leaves behind the first records
+pub left_behind_front : (p : LogForm) (text left : List ℕ) (forced keep size cut failures room : ℕ) (failed : Bool)
+    (s : LogState) (ls : List LogRecord)
+    → log_state p text forced failures room failed ≡ s → p.format ≡ Second → 5 ≤ forced → forced ≤ length text
+    → left ≡ take (forced + keep) text → cut ≡ min size (length left) → ls ≡ records_in p 0 (drop cut left)
+    → (first : List LogRecord) → IsFront s.sight size first → first ++ ls ≡ left_by s.sight keep
+left_behind_front p text left forced keep size cut failures room failed s ls view second h le e m r first f =
+    let all : records_in p 0 (body left) ≡ left_by s.sight keep =
+    left_of_view p text forced keep failures room failed s (records_in p 0 (body left)) view second h le
+    (ap (λ t. records_in p 0 (body t)) e) in
+    let more : List LogRecord = whole_within (s.sight.behind + keep) s.sight.kept.unforced in
+    let parts : records_in p 0 (body left) ≡ first ++ (f.rest ++ more) =
+    all ∙ ap (λ ks. ks ++ more) (sym f.split) ∙ append_assoc first f.rest more in
+    let cut_is : drop cut left ≡ drop (frames_size first) (body left) =
+    ap (λ n. drop n left) m ∙ drop_within size left ∙ ap (λ n. drop n left) f.sized
+    ∙ sym (drop-drop (frames_size first) 5 left) in
+    ap (λ ks. first ++ ks) (r ∙ ap (records_in p 0) cut_is)
+    ∙ sym (records_behind p second first (f.rest ++ more) (body left) parts) ∙ all
+
+-- How long a whole log is.
+
+pub log_long : (p : LogForm) (text : List ℕ) (forced failures room : ℕ) (failed : Bool) (s : LogState)
+    → log_state p text forced failures room failed ≡ s → p.format ≡ Second → 5 ≤ length text
+    → is_whole p 0 (body text) ≡ true → records_in p 0 (body text) ≡ records_of s.sight.kept
+    → length text ≡ 5 + frames_size (records_of s.sight.kept)
+log_long p text forced failures room failed s view second long whole stands =
+    omega (
+      arith,
+      long,
+      length-drop 5 text,
+      full_in p (suc (length (body text))) (body text) (omega arith) whole,
+      sized p second (body text),
+      ap frames_size stands,
+    )

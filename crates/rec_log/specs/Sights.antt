@@ -141,6 +141,17 @@ whole_within n (l ∷ ls) = if nat_le (record_size l) n then l ∷ whole_within 
 abbrev pub left_by : LogSight → ℕ → List LogRecord
 left_by s keep = s.kept.forced ++ whole_within (s.behind + keep) s.kept.unforced
 
+-- how many bytes the frames of these records are
+unfoldable pub frames_size : List LogRecord → ℕ
+frames_size [] = 0
+frames_size (l ∷ ls) = record_size l + frames_size ls
+
+-- these records are the first ones of the log, all of them forced, and the header and their frames are so many bytes
+pub record IsFront (s : LogSight) (size : ℕ) (first : List LogRecord) : Type 0 where
+  pub rest : List LogRecord
+  pub split : first ++ rest ≡ s.kept.forced
+  pub sized : size ≡ 5 + frames_size first
+
 -- the log with these records after its own, not forced
 abbrev pub longer : LogSight → List LogRecord → LogSight
 longer s ls = record s { kept = record { forced = s.kept.forced; unforced = s.kept.unforced ++ ls } }

@@ -1,20 +1,21 @@
 //! A log as its records.
 
-ghost use Rattle.std.specs.Prelude.{◌≡◌, ◌≤◌, ◌<◌, ◌+◌, ◌++◌, ◌∷◌, ◌⊎◌, [], true, false, IfOk, IfErr, OnOk, drop, length, map, take};
+ghost use Rattle.std.specs.Prelude.{◌≡◌, ◌≤◌, ◌<◌, ◌+◌, ◌++◌, ◌∷◌, ◌⊎◌, [], true, false, IfOk, IfErr, IfSome, OnOk, List, drop, length, map, take};
 ghost use Rattle.std.specs.List.{AllByRecursion};
 ghost use Rattle.log_rules.specs.sound.Sound.{IsSound};
 ghost use Rattle.log_text.specs.Forms.{header, log_form};
 ghost use Rattle.log_text.specs.Made.{frame_record};
 ghost use Rattle.log_text.specs.Payloads.{record_size, record_text, records_text};
-ghost use Rattle.rec_log.specs.Sights.{Appended, AreRecords, Breaks, EndsSound, Forced, IsKnown, IsRecord, NotRestarted, NotRewritten, ReadsAs, Restarts, Rewritten, Sounds, body, left_by, log_state, records_of, whole_within};
+ghost use Rattle.rec_log.specs.Sights.{Appended, AreRecords, Breaks, EndsSound, Forced, IsFront, IsKnown, IsRecord, NotRestarted, NotRewritten, ReadsAs, Restarts, Rewritten, Sounds, body, frames_size, left_by, log_state, records_of, whole_within};
 ghost use Rattle.log_store.specs.Stores.{AppendBreaks, Appends, MemoryRefuses, Replaces};
 ghost use Rattle.rec_log.specs.Openings.{IsFound, IsRefused, NotOpened, Opens, Settles, is_old};
 ghost use Rattle.rec_log.specs.Errors.{log_error_number};
+ghost use Rattle.tree_model.specs.declared.records.LogRecord.{LogRecord as AnyRecord};
 ghost use Rattle.rec_log.specs.Restarting.{BreaksLeft, PutsLeft, WritesLeft};
 ghost use Rattle.rec_log.specs.Texts.{records_in};
-ghost use Rattle.rec_log.specs.Trimming.{Spells, Trimmed, trim_of};
+ghost use Rattle.rec_log.specs.Trimming.{IsSettled, Spells, Trimmed, own_data, trim_of};
 
-use crate::opening::{Found, OpenError, find, is_old};
+use crate::opening::{Found, OpenError, find, is_old, is_same};
 use crate::trimming::{TrimmedText, trimmed_text};
 use log_store::{LogStore, MemoryStore, StoreError};
 use log_text::{Frame, HEADER_SIZE, LogForm, LogFormat, ReadFault, first_frame, read_record};
@@ -55,10 +56,13 @@ pub struct RecLog<L: LogStore> {
     /// looks for the end of the last whole record after them alone.
     known: usize,
     failed: bool,
+    /// How many records stand, if the last trim left the log as it was and nothing was written since: so will the next.
+    trimmed: Option<usize>,
 }
 
 impl<L: LogStore> Model for RecLog<L> {
     ghost use Rattle.rec_log.specs.Sights.{IsKnown, IsLogText, LogState, log_state};
+    ghost use Rattle.rec_log.specs.Trimming.{IsTrimmed};
 
     ghost Value = { LogState };
 
@@ -66,7 +70,8 @@ impl<L: LogStore> Model for RecLog<L> {
         (L.room l.store) l.failed };
 
     ghost invariant = { λ l. IsLogText l.form (L.bytes l.store) (L.forced l.store) l.failed
-        × IsKnown l.form (L.bytes l.store) (L.forced l.store) l.known };
+        × IsKnown l.form (L.bytes l.store) (L.forced l.store) l.known
+        × IsTrimmed l.form (L.bytes l.store) l.trimmed };
 }
 
 /// The bytes after the header.
@@ -319,6 +324,18 @@ fn settled_as<L: LogStore + Drop>(
     }
 }
 
+/// The count of the records of a text, if the text is these bytes.
+#[tactic(auto, using(crate::proofs::Settling::same_bytes_is))]
+fn settled_count(text: &[u8], bytes: &[u8], count: usize) -> Option<usize>
+    ensures { IfSome result (λ n. (n ≡ count) × (text.now ≡ bytes.now)) }
+{
+    if is_same(text, bytes) {
+        Some(count)
+    } else {
+        None
+    }
+}
+
 /// How many bytes are known to be whole records and forced, if the first `size` are whole records and the first `forced`
 /// are forced.
 fn known_of(size: usize, forced: usize) -> usize
@@ -352,6 +369,7 @@ impl<L: LogStore + Drop> RecLog<L> {
             store,
             known,
             failed: false,
+            trimmed: None,
         })
     }
 }
@@ -371,6 +389,14 @@ impl<L: LogStore> RecLog<L> {
     {
         let RecLog { store, .. } = self;
         store
+    }
+
+    /// The store under the log, to be read.
+    pub fn store(&self) -> &L
+        ensures { log_state self.now.sight.form (L.bytes result.now) (L.forced result.now) (L.failures result.now)
+            (L.room result.now) self.now.sight.failed ≡ self.now }
+    {
+        &self.store
     }
 
     /// Makes room for N bytes of frames. A refusal changes nothing.
@@ -394,6 +420,7 @@ impl<L: LogStore> RecLog<L> {
         ensures err { IfErr result (λ e. (e ≡ LogError.Device)
             × Breaks self.old self.new (frame_record frame.now ∷ [])) }
     {
+        self.trimmed = None;
         if let Err(_) = append_frame(&mut self.store, self.form, frame) {
             self.failed = true;
             return Err(LogError::Device);
@@ -427,7 +454,9 @@ impl<L: LogStore> RecLog<L> {
 
     /// How many bytes it has. A crash that keeps N after the forced front keeps every record.
     pub fn size(&self) -> usize
-        ensures { left_by self.now.sight result ≡ records_of self.now.sight.kept }
+        ensures keeps { left_by self.now.sight result ≡ records_of self.now.sight.kept }
+        ensures whole { self.now.sight.failed ≡ false
+            → result ≡ 5 + frames_size (records_of self.now.sight.kept) }
     {
         self.store.bytes().len()
     }
@@ -447,6 +476,21 @@ impl<L: LogStore> RecLog<L> {
         let forced = self.store.forced();
         let left = left_by(self.store.bytes(), forced, keep);
         records_in(self.form, body(left), alloc)
+    }
+
+    /// Of the records that a crash would leave that keeps N bytes after the forced front, those after the first ones, if the
+    /// header and the first ones, all of them forced, are `size` bytes.
+    pub fn kept_after(
+        &self,
+        size: usize,
+        keep: usize,
+        alloc: Global,
+    ) -> Result<Vec<LogRecord>, AllocError>
+        ensures { IfOk result (λ records. (first : List AnyRecord) → IsFront self.now.sight size first
+            → first ++ records.items ≡ left_by self.now.sight keep) }
+    {
+        let left = left_by(self.store.bytes(), self.store.forced(), keep);
+        records_behind(self.form, left, size.min(left.len()), alloc)
     }
 
     /// How many of the records after the forced ones a crash would leave that keeps N bytes after
@@ -488,6 +532,7 @@ impl<L: LogStore> RecLog<L> {
         if let Err(_) = self.store.reserve(left.text.len()) {
             return Err(LogError::Memory);
         }
+        self.trimmed = None;
         self.store.crash(keep);
         match write_left(&mut self.store, left.is_torn, &left.text) {
             Ok(()) => {
@@ -532,6 +577,7 @@ impl<L: LogStore> RecLog<L> {
         if let Err(_) = self.store.reserve(text.len()) {
             return Err(LogError::Memory);
         }
+        self.trimmed = None;
         if let Err(_) = self.store.replace(text) {
             self.known = HEADER_SIZE;
             self.failed = true;
@@ -541,13 +587,42 @@ impl<L: LogStore> RecLog<L> {
         Ok(())
     }
 
-    /// Puts the records that stay in a trim in place of all that stand, and these after them, forced by one
-    /// `replace`: the last Opened, the records of the cases and branches that are not forgotten, and these.
-    /// Gives how many they are. All memory is taken before. Memory: nothing changed. Device: the log stands
-    /// as it was or trimmed, and the log has failed.
+    /// How many records stand, if a trim would leave the log as it is: the last one did, and nothing was written since.
+    pub fn trimmed(&self) -> Option<usize>
+        ensures { IfSome result (λ count. IsSettled self.now count) }
+    {
+        self.trimmed
+    }
+
+    /// Puts all that stands in its own place, by one `replace`, and reads nothing. Memory: nothing changed. Device: the
+    /// log stands as it was, and has failed.
+    pub fn put_again(&mut self, alloc: Global) -> Result<(), LogError>
+        requires works { self.old.sight.failed ≡ false }
+        ensures form { self.new.sight.form ≡ self.old.sight.form }
+        ensures ok { OnOk result (Rewritten self.old self.new (records_of self.old.sight.kept)) }
+        ensures err { IfErr result (λ e. NotRewritten self.old self.new (records_of self.old.sight.kept) e) }
+    {
+        let Ok(text) = Vec::from_slice(alloc, self.store.bytes()) else {
+            return Err(LogError::Memory);
+        };
+        let trimmed = self.trimmed;
+        match self.put(&text) {
+            Ok(()) => {
+                self.trimmed = trimmed;
+                Ok(())
+            }
+            Err(error) => Err(error),
+        }
+    }
+
+    /// Puts the records that stay in a trim in place of all that stand, and those of the data after them, forced by one
+    /// `replace`: the last Opened, the records of the cases and branches that are not forgotten, and these. Gives how
+    /// many they are. All memory is taken before. Memory: nothing changed. Device: the log stands as it was or trimmed,
+    /// and the log has failed.
     pub fn trim(&mut self, behind: &[Frame], alloc: Global) -> Result<usize, LogError>
         requires works { self.old.sight.failed ≡ false }
         requires sound { AreRecords self.old.sight.form.kind (map frame_record behind.now) }
+        requires own { map frame_record behind.now ≡ own_data self.old.sight }
         ensures form { self.new.sight.form ≡ self.old.sight.form }
         ensures ok { IfOk result (λ count. Trimmed self.old self.new (map frame_record behind.now) count) }
         ensures err { IfErr result (λ e. NotRewritten self.old self.new
@@ -559,8 +634,12 @@ impl<L: LogStore> RecLog<L> {
             Err(_) => return Err(LogError::Memory),
         };
         let TrimmedText { text, count } = trimmed;
+        let settled = settled_count(&text, bytes, count);
         match self.put(&text) {
-            Ok(()) => Ok(count),
+            Ok(()) => {
+                self.trimmed = settled;
+                Ok(count)
+            }
             Err(error) => Err(error),
         }
     }

@@ -121,7 +121,7 @@ pub fn find(form: LogForm, bytes: &[u8], alloc: Global) -> Result<Found, OpenErr
 }
 
 #[tactic(auto, using(crate::proofs::Keys::same_bytes_is_equality))]
-fn is_same(one: &[u8], other: &[u8]) -> bool
+pub(crate) fn is_same(one: &[u8], other: &[u8]) -> bool
     ensures { result ≡ same_bytes one.now other.now }
 {
     one == other

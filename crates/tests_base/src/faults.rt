@@ -37,7 +37,9 @@ fn failing_log(call: StoreCall, alloc: Global) -> Result<RecLog<FaultStore>, Fai
 }
 
 /// Whether a trim answers that the device failed.
-fn trim_fails(log: &mut RecLog<FaultStore>, alloc: Global) -> bool {
+fn trim_fails(log: &mut RecLog<FaultStore>, alloc: Global) -> bool
+    requires { log.old.sight.form.kind ≡ Coordinator }
+{
     !log.failed() && log.trim(&[], alloc) == Err(LogError::Device) && log.failed()
 }
 

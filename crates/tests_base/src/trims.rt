@@ -74,6 +74,7 @@ fn forced(log: &mut RecLog<MemoryStore>) -> bool
 
 /// How many records a trim leaves.
 fn trimmed(log: &mut RecLog<MemoryStore>, alloc: Global) -> Option<usize>
+    requires { log.old.sight.form.kind ≡ Coordinator }
     ensures { log.new.sight.form ≡ log.old.sight.form }
 {
     if log.failed() {

@@ -90,6 +90,16 @@ impl<L: LogStore> Node<L> {
         }
     }
 
+    /// The store under its log, to be read.
+    pub fn store(&self) -> &L
+        ensures { HoldsLog L.bytes L.forced L.failures (core_of self.now) result.now }
+    {
+        match self {
+            Node::Coordinator(coordinator) => store_of_coordinator(coordinator),
+            Node::Manager(manager) => store_of_manager(manager),
+        }
+    }
+
     /// Handles an input. The refusals of the reaction table, as `StepError` says them, change nothing, nor
     /// does Memory, nor Exhausted: numbers that the input wants are used up. Device: the device failed under the
     /// record of the input, which stands or not, and the process answers Failed until its restart.
@@ -168,6 +178,20 @@ fn manager_store<L: LogStore + Drop>(manager: Subordinate<KvManager<L>>) -> L
     ensures { HoldsLog L.bytes L.forced L.failures (manager_state sight_of manager) result }
 {
     manager.into_manager().into_store()
+}
+
+/// The store under a coordinator's log, to be read.
+fn store_of_coordinator<L: LogStore>(coordinator: &Coordinator<L>) -> &L
+    ensures { HoldsLog L.bytes L.forced L.failures (coordinator_state coordinator.now) result.now }
+{
+    coordinator.store()
+}
+
+/// The store under a manager's log, to be read.
+fn store_of_manager<L: LogStore>(manager: &Subordinate<KvManager<L>>) -> &L
+    ensures { HoldsLog L.bytes L.forced L.failures (manager_state sight_of manager.now) result.now }
+{
+    manager.manager().store()
 }
 
 /// The bytes of a coordinator's log.

@@ -1,16 +1,15 @@
-use Rattle.std.proofs.Common.{◌∙◌, ap}
+use Rattle.std.proofs.Common.{◌∙◌, ap, subst, sym}
 use Rattle.std.specs.List.{fold}
-use Rattle.tree_model.specs.LogNames.{own_records}
-use Rattle.inquire_core.specs.Readings.{noted, place_below}
-use Rattle.inquire_core.proofs.Readings.{planned}
+use Rattle.inquire_core.specs.Readings.{noted}
+use Rattle.inquire_core.specs.Remembered.{LogMemory, Remembers}
+use Rattle.inquire_core.proofs.Remembering.{planned}
 use Rattle.inquire_core.proofs.planning.plan.Goals as goal
 
 pub returns-clause-ok : goal.returns-clause-ok
-returns-clause-ok c =
-    let mine = own_records (place_below c.args.me c.args.parent c.args.tree.now) c.args.records.now in
+returns-clause-ok c = λ rs k.
+    let m : LogMemory = record { said = c.remembered.inside.reading; reached = c.remembered.inside.reached } in
     let both =
-    planned mine c.in_ok-appended.appended.items c.in_ok-reading.reading c.note_all.new.self
-    (c.in_ok-reading.ensures {u = tt})
+    planned rs c.in_ok-appended.appended.items m c.note_all.new.self (subst (Remembers rs) (sym c.remembered.view_is) k)
     (c.in_ok-appended.ensures {u = tt}) (c.in_ok-note_all.ensures {u = tt}
-    ∙ ap (fold noted c.in_ok-reading.reading) c.deref.ensures.value) in
-    record { appended = both.0; reading = both.1 }
+    ∙ ap (fold noted m.said) c.deref.ensures.value) in
+    record { appended = both.0; remembered = both.1 }

@@ -1,4 +1,4 @@
-use Rattle.std.proofs.Common.{rules, ap, ◌≡◌, ◌∙◌, IfErr, true, subst, sym}
+use Rattle.std.proofs.Common.{rules, ap, ◌≡◌, ◌∙◌, IfErr, true, refl, subst, sym}
 use Rattle.tree_model.specs.declared.events.Input.{Input}
 use Rattle.tree_model.specs.Records.{is_reported}
 use Rattle.tree_model.specs.CoordinatorRows.{unknown_forget}
@@ -15,6 +15,7 @@ use Rattle.coord_core.specs.Turned.{Stopped, Turned, WritesDown, framed_of}
 use Rattle.coord_core.proofs.Made.{clear_breaks, clear_untaken, cleared_turn, seat_for}
 use Rattle.coord_core.proofs.Restarted.{same_log}
 use Rattle.coord_table.proofs.Framed.{made_error}
+use Rattle.coord_core.proofs.Fronts.{remembered_broken, remembered_written}
 use Rattle.coord_core.proofs.Kept.{written_form}
 use Rattle.coord_core.proofs.coordinator.Coordinator.clears.Goals as goal
 
@@ -83,24 +84,50 @@ returns-clause-ok g c =
 
 pub invariant_of-self-in-Err : goal.invariant_of-self-in-Err
 invariant_of-self-in-Err g c =
+    let v : CoordinatorValue = record {
+      me = c.self.inside.me;
+      parent = c.self.inside.parent;
+      tree = c.self.inside.tree;
+      log = c.self.inside.log;
+      boot = c.self.inside.boot;
+      begun = c.self.inside.begun;
+      given = c.self.inside.given;
+      slots = c.self.inside.cases;
+    } in
     let breaks : Breaks c.make_room.new.log c.write_down.new.log
-    (framed_of c.in_ok-effect.effect.written) = search rules in
-    record {
-      form = breaks.form ∙ ap (λ (s : LogSight). s.form) c.make_room.ensures.stays ∙ c.self.invariant.form;
-      active = c.self.invariant.active;
-      given = c.self.invariant.given;
-    }
+    (framed_of c.in_ok-effect.effect.written) = search rules in (
+      record {
+        form = breaks.form ∙ ap (λ (s : LogSight). s.form) c.make_room.ensures.stays ∙ c.self.invariant.0.form;
+        active = c.self.invariant.0.active;
+        given = c.self.invariant.0.given;
+      },
+      remembered_broken v (record v { log = c.write_down.new.log }) c.self.inside.front c.make_room.new.log
+          (framed_of c.in_ok-effect.effect.written) refl c.make_room.ensures.stays breaks c.self.invariant.1,
+    )
 
 pub invariant_of-self-3 : goal.invariant_of-self-3
 invariant_of-self-3 g c =
+    let v : CoordinatorValue = record {
+      me = c.self.inside.me;
+      parent = c.self.inside.parent;
+      tree = c.self.inside.tree;
+      log = c.self.inside.log;
+      boot = c.self.inside.boot;
+      begun = c.self.inside.begun;
+      given = c.self.inside.given;
+      slots = c.self.inside.cases;
+    } in
     let writes : WritesDown c.make_room.new.log c.write_down.new.log
-    c.in_ok-effect.effect.written = search rules in
-    record {
-      form = written_form c.make_room.new.log c.write_down.new.log c.in_ok-effect.effect.written writes
-          ∙ ap (λ (s : LogSight). s.form) c.make_room.ensures.stays ∙ c.self.invariant.form;
-      active = c.self.invariant.active;
-      given = c.self.invariant.given;
-    }
+    c.in_ok-effect.effect.written = search rules in (
+      record {
+        form = written_form c.make_room.new.log c.write_down.new.log c.in_ok-effect.effect.written writes
+            ∙ ap (λ (s : LogSight). s.form) c.make_room.ensures.stays ∙ c.self.invariant.0.form;
+        active = c.self.invariant.0.active;
+        given = c.self.invariant.0.given;
+      },
+      remembered_written v (record v { log = c.write_down.new.log }) c.self.inside.front c.make_room.new.log
+          c.in_ok-effect.effect.written refl c.make_room.ensures.stays writes c.self.invariant.1,
+    )
 
 pub returns-in_err-effect-clause-err : goal.returns-in_err-effect-clause-err
 returns-in_err-effect-clause-err g c =

@@ -1,9 +1,10 @@
-use Rattle.std.proofs.Common.{◌+◌, subst}
+use Rattle.std.proofs.Common.{◌+◌, refl, subst}
 use Rattle.tree_model.specs.declared.events.Input.{Input}
 use Rattle.coord_core.specs.declared.turn.Turn.TheVariants.{Issues}
 use Rattle.coord_core.specs.States.{CoordinatorValue, own_ticket, state}
 use Rattle.coord_core.specs.Meets.{meant}
 use Rattle.coord_core.specs.Turned.{Turned}
+use Rattle.coord_core.proofs.Fronts.{remembered_still}
 use Rattle.coord_core.proofs.Kept.{fresh_ticket, given_active, given_after}
 use Rattle.coord_core.proofs.Made.{issued_turn}
 use Rattle.coord_core.proofs.coordinator.Coordinator.issues.Goals as goal
@@ -20,7 +21,7 @@ give-requires-clause-fresh g c =
       given = c.self.inside.given;
       slots = c.self.inside.cases;
     } in
-    fresh_ticket v c.self.invariant
+    fresh_ticket v c.self.invariant.0
 
 pub returns-clause-ok : goal.returns-clause-ok
 returns-clause-ok g c =
@@ -52,9 +53,13 @@ invariant_of-self-2 g c =
       given = c.self.inside.given;
       slots = c.self.inside.cases;
     } in
-    let gives = c.in_ok-give.ensures.ok in
-    record {
-      form = c.self.invariant.form;
-      active = given_active v.slots c.give.new.self c.args.case (own_ticket v (v.given + 1)) c.self.invariant.active gives;
-      given = given_after v c.give.new.self c.args.case c.self.invariant gives.ticket gives.tickets;
-    }
+    let gives = c.in_ok-give.ensures.ok in (
+      record {
+        form = c.self.invariant.0.form;
+        active = given_active v.slots c.give.new.self c.args.case (own_ticket v (v.given + 1)) c.self.invariant.0.active
+            gives;
+        given = given_after v c.give.new.self c.args.case c.self.invariant.0 gives.ticket gives.tickets;
+      },
+      remembered_still v (record v { given = v.given + 1; slots = c.give.new.self }) c.self.inside.front refl refl
+          c.self.invariant.1,
+    )

@@ -8,6 +8,8 @@ returns-in-Ok-clause-ok g c =
     c.requires.works c.in-Ok.ensures.ok c.new.ensures
 
 pub invariant_of-result : goal.invariant_of-result
-invariant_of-result g c =
-    opened_keeps c.args.me c.args.parent c.args.tree c.args.log c.write_opened.new.log c.new.result c.requires.form
-    c.in-Ok.ensures.ok c.new.ensures
+invariant_of-result g c = (
+  opened_keeps c.args.me c.args.parent c.args.tree c.args.log c.write_opened.new.log c.new.result c.requires.form
+      c.in-Ok.ensures.ok c.new.ensures,
+  tt,
+)

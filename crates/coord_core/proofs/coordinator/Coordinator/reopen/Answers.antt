@@ -22,14 +22,16 @@ returns-in-Err-clause-err g c =
     c.size-keep.ensures c.into_log.ensures c.in-Err.ensures.err)
 
 pub invariant_of-coordinator : goal.invariant_of-coordinator
-invariant_of-coordinator g c =
-    none_given_yet (record {
-      me = c.args.me;
-      parent = c.args.parent;
-      tree = c.args.tree;
-      log = c.args.log;
-      boot = 0;
-      begun = 0;
-      given = 0;
-      slots = c.new.result;
-    }) c.requires c.new.ensures
+invariant_of-coordinator g c = (
+  none_given_yet (record {
+    me = c.args.me;
+    parent = c.args.parent;
+    tree = c.args.tree;
+    log = c.args.log;
+    boot = 0;
+    begun = 0;
+    given = 0;
+    slots = c.new.result;
+  }) c.requires c.new.ensures,
+  tt,
+)

@@ -1,19 +1,24 @@
-use Rattle.std.proofs.Common.{◌∙◌, IfErr, map, subst}
+use Rattle.std.proofs.Common.{◌∙◌, IfErr, List, map, refl, subst}
+use Rattle.tree_model.specs.declared.records.LogRecord.{LogRecord}
 use Rattle.log_text.specs.Made.{frame_record}
-use Rattle.rec_log.specs.Sights.{Restarts as LogRestarts}
+use Rattle.rec_log.specs.Sights.{Restarts as LogRestarts, left_by}
 use Rattle.core_model.specs.Restarting.{NotRestarted, Restarts}
-use Rattle.coord_core.specs.States.{CoordinatorValue, state}
+use Rattle.coord_table.specs.Restores.{Rebuilds}
+use Rattle.coord_core.specs.States.{CoordinatorValue, place_of, state}
+use Rattle.coord_core.proofs.Fronts.{remembered_restarted}
 use Rattle.coord_core.proofs.Restarted.{is_coordinator, not_rebuilt, rebuilt_as, restarts}
 use Rattle.coord_table.proofs.Framed.{made_error}
 use Rattle.coord_core.proofs.coordinator.Coordinator.restart.Goals as goal
 
 pub invariant_of-self : goal.invariant_of-self
-invariant_of-self g c =
-    record {
-      form = c.restart.ensures.form ∙ c.self.invariant.form;
-      active = c.self.invariant.active;
-      given = c.self.invariant.given;
-    }
+invariant_of-self g c = (
+  record {
+    form = c.restart.ensures.form ∙ c.self.invariant.0.form;
+    active = c.self.invariant.0.active;
+    given = c.self.invariant.0.given;
+  },
+  tt,
+)
 
 pub invariant_of-self-2 : goal.invariant_of-self-2
 invariant_of-self-2 g c =
@@ -27,8 +32,18 @@ invariant_of-self-2 g c =
       given = c.self.inside.given;
       slots = c.self.inside.cases;
     } in
-    is_coordinator v c.deref.result.now c.in_ok-rebuilt.rebuilt c.restart.new.self
-    c.in_ok-rebuilt.ensures.ok (c.restart.ensures.form ∙ c.self.invariant.form)
+    let ls : List LogRecord = left_by v.log.sight c.args.keep in
+    let rebuilds : Rebuilds (place_of v) ls c.in_ok-rebuilt.rebuilt =
+    c.in_ok-rebuilt.ensures.ok v.tree ls (c.in_ok-remembered.ensures {u = tt}) in
+    let restarted : LogRestarts c.self.inside.log c.restart.new.self c.args.keep
+    (map frame_record c.in_ok-rebuilt.rebuilt.frames.items) =
+    subst (λ frames. LogRestarts c.self.inside.log c.restart.new.self c.args.keep (map frame_record frames))
+    c.deref.ensures.value c.in_default.ensures.ok in (
+      is_coordinator v ls c.in_ok-rebuilt.rebuilt c.restart.new.self rebuilds
+          (c.restart.ensures.form ∙ c.self.invariant.0.form),
+      remembered_restarted v c.args.keep c.in_ok-rebuilt.rebuilt c.restart.new.self c.size.result rebuilds restarted
+          (c.size.ensures.whole restarted.works),
+    )
 
 pub returns-clause-ok : goal.returns-clause-ok
 returns-clause-ok g c =
@@ -45,12 +60,14 @@ returns-clause-ok g c =
     let restarted : LogRestarts c.self.inside.log c.restart.new.self c.args.keep
     (map frame_record c.in_ok-rebuilt.rebuilt.frames.items) =
     subst (λ frames. LogRestarts c.self.inside.log c.restart.new.self c.args.keep (map frame_record frames))
-    c.deref-2.ensures.value c.in_default.ensures.ok in
+    c.deref.ensures.value c.in_default.ensures.ok in
+    let ls : List LogRecord = left_by v.log.sight c.args.keep in
+    let rebuilds : Rebuilds (place_of v) ls c.in_ok-rebuilt.rebuilt =
+    c.in_ok-rebuilt.ensures.ok v.tree ls (c.in_ok-remembered.ensures {u = tt}) in
     subst (λ (w : CoordinatorValue). Restarts (state w) c.args.keep (state (rebuilt_as v c.restart.new.self
     c.in_ok-rebuilt.rebuilt)) c.in_ok-rebuilt.rebuilt.reaction) c.self.view_is
-    (restarts v c.args.keep c.deref.result.now
-    c.in_ok-rebuilt.rebuilt c.restart.new.self (c.deref.ensures.value ∙ c.in_ok-records.ensures {u = tt})
-    c.in_ok-rebuilt.ensures.ok c.self.invariant.form restarted)
+    (restarts v c.args.keep ls c.in_ok-rebuilt.rebuilt c.restart.new.self refl rebuilds c.self.invariant.0.form
+    restarted)
 
 pub returns-in_err-rebuilt-clause-err : goal.returns-in_err-rebuilt-clause-err
 returns-in_err-rebuilt-clause-err g c =
@@ -68,5 +85,5 @@ returns-in_err-rebuilt-clause-err g c =
     (NotRestarted (state w) c.args.keep (state w))) c.self.view_is
     (made_error (NotRestarted (state v) c.args.keep (state v)) c.in_err-rebuilt.field-0.0
     c.from_residual-in_err-rebuilt.result c.from_residual-in_err-rebuilt.ensures.1
-    (not_rebuilt v c.args.keep c.deref.result.now c.in_err-rebuilt.field-0.0
-    (c.deref.ensures.value ∙ c.in_ok-records.ensures {u = tt}) c.in_err-rebuilt.ensures.err))
+    (not_rebuilt v c.args.keep (left_by v.log.sight c.args.keep) c.in_err-rebuilt.field-0.0 refl
+    (c.in_err-rebuilt.ensures.err v.tree (left_by v.log.sight c.args.keep) (c.in_ok-remembered.ensures {u = tt}))))

@@ -1,4 +1,4 @@
-use Rattle.std.proofs.Common.{rules, ap, IfErr, subst, sym, ◌∙◌}
+use Rattle.std.proofs.Common.{rules, ap, IfErr, refl, subst, sym, ◌∙◌}
 use Rattle.tree_model.specs.declared.events.Input.{Input}
 use Rattle.rec_log.specs.Sights.{Breaks, LogSight}
 use Rattle.core_model.specs.States.{SameCore}
@@ -14,6 +14,7 @@ use Rattle.coord_core.specs.States.{CoordinatorValue, state}
 use Rattle.coord_core.specs.Meets.{RetiresAs, met}
 use Rattle.coord_core.specs.Turned.{Stopped, Turned, WritesDown, framed_of}
 use Rattle.coord_core.proofs.Made.{row_breaks, row_turn, row_untaken, same_cases, seat_for}
+use Rattle.coord_core.proofs.Fronts.{remembered_broken, remembered_written}
 use Rattle.coord_core.proofs.Kept.{active_before, written_form}
 use Rattle.coord_core.proofs.coordinator.Coordinator.takes.Goals as goal
 
@@ -87,13 +88,17 @@ invariant_of-self-in-Err g c =
     subst (λ s. TakesRowOf v.slots c.take.new.cases s c.args.asked c.in_ok-effect.effect)
     c.seat-seat.ensures c.in_ok-effect.ensures.ok in
     let breaks : Breaks c.make_room.new.log c.write_down.new.log
-    (framed_of c.in_ok-effect.effect.written) = search rules in
-    record {
-      form = breaks.form ∙ ap (λ (s : LogSight). s.form) c.make_room.ensures.stays ∙ c.self.invariant.form;
-      active = takes.given;
-      given = λ d n is. c.self.invariant.given d n
-          (active_before v.slots c.take.new.cases (is_retiring c.args.asked) c.args.case d _ (takes.tickets d) is);
-    }
+    (framed_of c.in_ok-effect.effect.written) = search rules in (
+      record {
+        form = breaks.form ∙ ap (λ (s : LogSight). s.form) c.make_room.ensures.stays ∙ c.self.invariant.0.form;
+        active = takes.given;
+        given = λ d n is. c.self.invariant.0.given d n
+            (active_before v.slots c.take.new.cases (is_retiring c.args.asked) c.args.case d _ (takes.tickets d) is);
+      },
+      remembered_broken v (record v { log = c.write_down.new.log; slots = c.take.new.cases }) c.self.inside.front
+          c.make_room.new.log (framed_of c.in_ok-effect.effect.written) refl c.make_room.ensures.stays breaks
+          c.self.invariant.1,
+    )
 
 pub invariant_of-self-3 : goal.invariant_of-self-3
 invariant_of-self-3 g c =
@@ -112,14 +117,17 @@ invariant_of-self-3 g c =
     subst (λ s. TakesRowOf v.slots c.take.new.cases s c.args.asked c.in_ok-effect.effect)
     c.seat-seat.ensures c.in_ok-effect.ensures.ok in
     let writes : WritesDown c.make_room.new.log c.write_down.new.log
-    c.in_ok-effect.effect.written = search rules in
-    record {
-      form = written_form c.make_room.new.log c.write_down.new.log c.in_ok-effect.effect.written writes
-          ∙ ap (λ (s : LogSight). s.form) c.make_room.ensures.stays ∙ c.self.invariant.form;
-      active = takes.given;
-      given = λ d n is. c.self.invariant.given d n
-          (active_before v.slots c.take.new.cases (is_retiring c.args.asked) c.args.case d _ (takes.tickets d) is);
-    }
+    c.in_ok-effect.effect.written = search rules in (
+      record {
+        form = written_form c.make_room.new.log c.write_down.new.log c.in_ok-effect.effect.written writes
+            ∙ ap (λ (s : LogSight). s.form) c.make_room.ensures.stays ∙ c.self.invariant.0.form;
+        active = takes.given;
+        given = λ d n is. c.self.invariant.0.given d n
+            (active_before v.slots c.take.new.cases (is_retiring c.args.asked) c.args.case d _ (takes.tickets d) is);
+      },
+      remembered_written v (record v { log = c.write_down.new.log; slots = c.take.new.cases }) c.self.inside.front
+          c.make_room.new.log c.in_ok-effect.effect.written refl c.make_room.ensures.stays writes c.self.invariant.1,
+    )
 
 pub returns-in_err-effect-clause-err : goal.returns-in_err-effect-clause-err
 returns-in_err-effect-clause-err g c =

@@ -42,6 +42,7 @@ invariant_of-self-in_default g c =
       text_goes_on _ _ _ _ _ _ _ works is_record c.self.invariant.0 within text
           a.forced_stays,
       known_more _ _ _ _ _ _ _ c.self.invariant.1 within text (omega (arith, a.forced_stays)),
+      tt,
     )
 
 pub returns-clause-ok : goal.returns-clause-ok

@@ -25,6 +25,7 @@ invariant_of-result g c =
       log,
       known_either form bytes forced size known (log_is_long _ _ _ _ log) s.header_forced s.whole
           (ap length c.bytes-2.ensures) either,
+      tt,
     )
 
 pub returns-clause-ok : goal.returns-clause-ok

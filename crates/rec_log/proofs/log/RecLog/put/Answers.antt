@@ -29,6 +29,7 @@ invariant_of-self-in-Err-replace g c =
     let text = text_either _ _ _ c.args.text.now _ _ _ _ c.self.invariant.0 spells came in (
       text,
       known_header _ _ _ _ text.header_forced refl,
+      tt,
     )
 
 pub invariant_of-self-2 : goal.invariant_of-self-2
@@ -41,6 +42,7 @@ invariant_of-self-2 g c =
       known_all _ _ _ _ (log_is_long _ _ _ _ log)
           (ap (λ t. is_whole c.self.inside.form 0 (body t)) ok.text_stands ∙ spells.holds.whole)
           (ap length (sym ok.text_stands)) (omega (arith, ok.all, ap length ok.text_stands)),
+      tt,
     )
 
 pub returns-clause-ok : goal.returns-clause-ok

@@ -37,6 +37,7 @@ invariant_of-self-in-Ok-write_left g c =
       settled,
       known_all _ _ _ _ (log_is_long _ _ _ _ settled) (settled.whole refl)
           (ap length c.bytes-in-Ok-write_left.ensures) (omega (arith, ok.all)),
+      tt,
     )
 
 pub returns-in-Ok-write_left-clause-ok : goal.returns-in-Ok-write_left-clause-ok
@@ -109,6 +110,7 @@ invariant_of-self-in-Err-write_left g c =
     (g.met.L.LogStore.front c.self.inside.store) rs _ _ are broke in (
       t,
       known_header _ _ _ _ t.header_forced refl,
+      tt,
     )
 
 pub returns-clause-err : goal.returns-clause-err
