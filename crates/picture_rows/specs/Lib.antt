@@ -1,3 +1,4 @@
 pub mod Rising
 pub mod Whole
 pub mod Long
+pub mod Ways

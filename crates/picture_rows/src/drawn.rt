@@ -1,6 +1,8 @@
 //! What is drawn of a run: its arrows, its stubs and its marks.
 
-ghost use Rattle.std.specs.Prelude.{◌≡◌, ◌++◌, IfOk, OnOk, is_some, length, map, option_map, option_to_list};
+ghost use Rattle.std.specs.Prelude.{◌≡◌, ◌-◌, ◌++◌, IfOk, IfSome, OnOk, get_or, is_some, length, map, option_map, option_to_list, slice_get};
+ghost use Rattle.picture_rows.specs.declared.fates.Fate.{Fate as AnyFate};
+ghost use Rattle.picture_rows.specs.Ways.{first_record as first_record_row, place_of_step, rows_in, spot_of, spots_from, spots_in, way_to, ways_in};
 ghost use Rattle.picture_rows.specs.declared.drawn.Arrow.{Arrow as AnyArrow};
 ghost use Rattle.picture_rows.specs.declared.drawn.Mark.{Mark as AnyMark};
 ghost use Rattle.picture_rows.specs.Whole.{deliveries, delivery, is_known, records_in};
@@ -11,18 +13,24 @@ use crate::seats::{Seat, place_of};
 use std::alloc::{AllocError, Global};
 use tree_model::{Entry, Happening, Logged};
 
-/// A message that was delivered: from the row that it left to the row of the step that it made.
+/// From its sender's place, at the row that it left, to its receiver's, at the row of the step that it made.
 #[derive(Clone, Copy)]
-pub struct Arrow {
-    pub number: u64,
+pub struct Way {
     pub from: u32,
     pub left: u32,
     pub to: u32,
     pub row: u32,
-    /// It was delivered before.
-    pub again: bool,
     /// It left more than N steps before.
     pub far: bool,
+}
+
+/// A message that was delivered.
+#[derive(Clone, Copy)]
+pub struct Arrow {
+    pub number: u64,
+    pub way: Way,
+    /// It was delivered before.
+    pub again: bool,
 }
 
 /// A message at the step that sent it, which is never delivered, or only much later: from the row that it left
@@ -49,7 +57,9 @@ pub struct Mark {
 }
 
 /// The rows of a step.
-fn rows_at(rows: &[StepRows], step: usize) -> StepRows {
+fn rows_at(rows: &[StepRows], step: usize) -> StepRows
+    ensures { result ≡ rows_in rows.now step }
+{
     match rows.get(step) {
         None => StepRows {
             first: 0,
@@ -61,7 +71,9 @@ fn rows_at(rows: &[StepRows], step: usize) -> StepRows {
 }
 
 /// The place of the process of a step.
-fn place_at(seats: &[Seat], entries: &[Entry], step: usize) -> u32 {
+fn place_at(seats: &[Seat], entries: &[Entry], step: usize) -> u32
+    ensures { result ≡ place_of_step seats.now (slice_get entries.now step) }
+{
     match entries.get(step) {
         None => 0,
         Some(entry) => place_of(seats, entry.step.process),
@@ -70,7 +82,8 @@ fn place_at(seats: &[Seat], entries: &[Entry], step: usize) -> u32 {
 
 /// The fate of a message.
 fn fate_of(fates: &[Fate], number: u64) -> Option<Fate>
-    ensures { is_some result ≡ is_known (length fates.now) number }
+    ensures known { is_some result ≡ is_known (length fates.now) number }
+    ensures sent { IfSome result (λ fate. fate.sent ≡ get_or (map (λ (f : AnyFate). f.sent) fates.now) (number - 1) 0) }
 {
     if number == 0 || number > fates.len() as u64 {
         return None;
@@ -87,7 +100,10 @@ fn arrow_of(
     step: usize,
     entry: &Entry,
 ) -> Option<Arrow>
-    ensures { option_map (λ (a : AnyArrow). a.number) result ≡ delivery (length fates.now) entry.now }
+    ensures number { option_map (λ (a : AnyArrow). a.number) result ≡ delivery (length fates.now) entry.now }
+    ensures way { option_map (λ (a : AnyArrow). a.way) result
+        ≡ option_map (way_to seats.now rows.now (map (λ (f : AnyFate). f.sent) fates.now) entries.now step entry.now)
+        (delivery (length (map (λ (f : AnyFate). f.sent) fates.now)) entry.now) }
 {
     let Some(number) = heard_by(entry) else {
         return None;
@@ -97,20 +113,25 @@ fn arrow_of(
     };
     Some(Arrow {
         number,
-        from: place_at(seats, entries, fate.sent),
-        left: rows_at(rows, fate.sent).last,
-        to: place_of(seats, entry.step.process),
-        row: rows_at(rows, step).first,
+        way: Way {
+            from: place_at(seats, entries, fate.sent),
+            left: rows_at(rows, fate.sent).last,
+            to: place_of(seats, entry.step.process),
+            row: rows_at(rows, step).first,
+            far: step.saturating_sub(fate.sent) > LONG as usize,
+        },
         again: fate.heard != Some(step),
-        far: step.saturating_sub(fate.sent) > LONG as usize,
     })
 }
 
 /// Adds an arrow, if there is one.
 fn push_arrow(arrows: &mut Vec<Arrow>, found: Option<Arrow>) -> Result<(), AllocError>
-    ensures { OnOk result (map (λ (a : AnyArrow). a.number) arrows.new.items
+    ensures number { OnOk result (map (λ (a : AnyArrow). a.number) arrows.new.items
         ≡ map (λ (a : AnyArrow). a.number) arrows.old.items
         ++ option_to_list (option_map (λ (a : AnyArrow). a.number) found)) }
+    ensures way { OnOk result (map (λ (a : AnyArrow). a.way) arrows.new.items
+        ≡ map (λ (a : AnyArrow). a.way) arrows.old.items
+        ++ option_to_list (option_map (λ (a : AnyArrow). a.way) found)) }
 {
     if let Some(arrow) = found {
         arrows.push(arrow)?;
@@ -119,7 +140,7 @@ fn push_arrow(arrows: &mut Vec<Arrow>, found: Option<Arrow>) -> Result<(), Alloc
 }
 
 /// The arrows of a run, one for each delivery, in the order of the steps.
-#[tactic(auto, unfolding(crate::specs::Whole::deliveries))]
+#[tactic(auto, unfolding(crate::specs::Whole::deliveries), using(crate::proofs::Ways::no_ways, crate::proofs::Ways::ways_more))]
 pub fn arrows(
     alloc: Global,
     seats: &[Seat],
@@ -127,8 +148,10 @@ pub fn arrows(
     fates: &[Fate],
     rows: &[StepRows],
 ) -> Result<Vec<Arrow>, AllocError>
-    ensures { IfOk result (λ arrows. map (λ a. a.number) arrows.items
+    ensures numbers { IfOk result (λ arrows. map (λ a. a.number) arrows.items
         ≡ deliveries (length fates.now) entries.now) }
+    ensures ways { IfOk result (λ arrows. map (λ a. a.way) arrows.items
+        ≡ ways_in seats.now rows.now (map (λ (f : AnyFate). f.sent) fates.now) entries.now) }
 {
     let mut arrows = Vec::new(alloc);
     for (step, entry) in entries.iter().enumerate() {
@@ -184,7 +207,9 @@ fn is_right(seats: &[Seat], entries: &[Entry], fates: &[Fate], entry: &Entry) ->
 }
 
 /// The row of the first record of a step: that of its cause, but below a crash.
-fn first_record(entry: &Entry, rows: StepRows) -> u32 {
+fn first_record(entry: &Entry, rows: StepRows) -> u32
+    ensures { result ≡ first_record_row entry.now.step.happening rows.first }
+{
     match entry.step.happening {
         Happening::Restart(_) => rows.first.saturating_add(1),
         _ => rows.first,
@@ -199,8 +224,10 @@ fn push_marks(
     right: bool,
     written: &[Logged],
 ) -> Result<(), AllocError>
-    ensures { OnOk result (map (λ (m : AnyMark). m.logged) marks.new.items
+    ensures logged { OnOk result (map (λ (m : AnyMark). m.logged) marks.new.items
         ≡ map (λ (m : AnyMark). m.logged) marks.old.items ++ written.now) }
+    ensures spots { OnOk result (map spot_of marks.new.items
+        ≡ map spot_of marks.old.items ++ spots_from place row written.now) }
 {
     let mut row = row;
     for logged in written {
@@ -216,7 +243,7 @@ fn push_marks(
 }
 
 /// The marks of a run's records, one for each, in the order of the run.
-#[tactic(auto, unfolding(crate::specs::Whole::records_in))]
+#[tactic(auto, unfolding(crate::specs::Whole::records_in), using(crate::proofs::Ways::no_spots, crate::proofs::Ways::spots_more))]
 pub fn marks(
     alloc: Global,
     seats: &[Seat],
@@ -224,7 +251,8 @@ pub fn marks(
     fates: &[Fate],
     rows: &[StepRows],
 ) -> Result<Vec<Mark>, AllocError>
-    ensures { IfOk result (λ marks. map (λ m. m.logged) marks.items ≡ records_in entries.now) }
+    ensures logged { IfOk result (λ marks. map (λ m. m.logged) marks.items ≡ records_in entries.now) }
+    ensures spots { IfOk result (λ marks. map spot_of marks.items ≡ spots_in seats.now rows.now entries.now) }
 {
     let mut marks = Vec::new(alloc);
     for (step, entry) in entries.iter().enumerate() {

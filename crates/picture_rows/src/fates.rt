@@ -1,6 +1,8 @@
 //! What becomes of each message.
 
-ghost use Rattle.std.specs.Prelude.{◌≡◌, ◌+◌, ◌++◌, IfOk, OnOk, length};
+ghost use Rattle.std.specs.Prelude.{◌≡◌, ◌++◌, IfOk, OnOk, length, map, replicate};
+ghost use Rattle.picture_rows.specs.declared.fates.Fate.{Fate as AnyFate};
+ghost use Rattle.picture_rows.specs.Ways.{senders};
 ghost use Rattle.picture_rows.specs.Whole.{heard_in, sent_in};
 
 use std::alloc::{AllocError, Global};
@@ -24,7 +26,9 @@ pub fn heard_by(entry: &Entry) -> Option<u64>
 }
 
 /// The message with this number is delivered by this step, if by none before.
-fn hear(fates: &mut [Fate], number: u64, step: usize) {
+fn hear(fates: &mut [Fate], number: u64, step: usize)
+    ensures { map (λ (f : AnyFate). f.sent) fates.new ≡ map (λ (f : AnyFate). f.sent) fates.old }
+{
     if number == 0 || number > fates.len() as u64 {
         return;
     }
@@ -36,7 +40,8 @@ fn hear(fates: &mut [Fate], number: u64, step: usize) {
 
 /// N messages are sent by a step.
 fn send(fates: &mut Vec<Fate>, step: usize, count: usize) -> Result<(), AllocError>
-    ensures { OnOk result (length fates.new.items ≡ length fates.old.items + count) }
+    ensures { OnOk result (map (λ (f : AnyFate). f.sent) fates.new.items
+        ≡ map (λ (f : AnyFate). f.sent) fates.old.items ++ replicate count step) }
 {
     for _ in 0..count {
         fates.push(Fate {
@@ -49,7 +54,7 @@ fn send(fates: &mut Vec<Fate>, step: usize, count: usize) -> Result<(), AllocErr
 
 /// A step delivers a message or none.
 fn hear_step(fates: &mut Vec<Fate>, step: usize, entry: &Entry)
-    ensures { length fates.new.items ≡ length fates.old.items }
+    ensures { map (λ (f : AnyFate). f.sent) fates.new.items ≡ map (λ (f : AnyFate). f.sent) fates.old.items }
 {
     if let Some(number) = heard_by(entry) {
         hear(fates.as_mut_slice(), number, step);
@@ -57,9 +62,10 @@ fn hear_step(fates: &mut Vec<Fate>, step: usize, entry: &Entry)
 }
 
 /// What becomes of the messages of a run, in the order of their numbers, from 1.
-#[tactic(auto, unfolding(crate::specs::Whole::sent_in))]
+#[tactic(auto, using(crate::proofs::Ways::no_senders, crate::proofs::Ways::fates_more))]
 pub fn fates_of(alloc: Global, entries: &[Entry]) -> Result<Vec<Fate>, AllocError>
-    ensures { IfOk result (λ fates. length fates.items ≡ length (sent_in entries.now)) }
+    ensures all { IfOk result (λ fates. length fates.items ≡ length (sent_in entries.now)) }
+    ensures sent { IfOk result (λ fates. map (λ f. f.sent) fates.items ≡ senders entries.now) }
 {
     let mut fates = Vec::new(alloc);
     for (step, entry) in entries.iter().enumerate() {

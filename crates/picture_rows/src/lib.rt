@@ -12,7 +12,7 @@ mod seats;
 mod standings;
 mod stretches;
 
-pub use drawn::{Arrow, Mark, Stub, arrows, marks, stubs};
+pub use drawn::{Arrow, Mark, Stub, Way, arrows, marks, stubs};
 pub use error::PictureError;
 pub use fates::{Fate, fates_of, heard_by, messages_of};
 pub use rows::{LONG, Rows, Rule, StepRows, Turn, rows_of};

@@ -1,7 +1,7 @@
 //! The rows of a run's steps.
 
-ghost use Rattle.std.specs.Prelude.{◌≡◌, ◌+◌, ◌^◌, ◌<◌, ◌≤◌, IfErr, IfOk, OnOk, length};
-ghost use Rattle.picture_rows.specs.Rising.{HasRows, IsNext, RiseTo};
+ghost use Rattle.std.specs.Prelude.{◌≡◌, ◌+◌, ◌^◌, ◌<◌, ◌≤◌, IfErr, IfOk, OnOk, is_some, length};
+ghost use Rattle.picture_rows.specs.Rising.{ForEach, GoesOver, HasRows, IsNext, OneMore, RiseTo};
 ghost use Rattle.picture_rows.specs.Long.{most_rows, rows_with};
 
 use crate::error::PictureError;
@@ -161,6 +161,7 @@ impl Steps<'_> {
     /// The rows of the next step, if there is one. TooLong: there are 2^32 rows.
     fn next(&mut self, count: &mut Count) -> Result<Option<StepRows>, PictureError>
         ensures rows { IfOk result (λ found. IsNext count.old.row count.new.row found) }
+        ensures made { IfOk result (λ found. GoesOver self.old self.new (is_some found)) }
         ensures few { OnOk result (rows_with count.new self.new ≤ rows_with count.old self.old) }
         ensures err { IfErr result (λ e. e ≡ PictureError.TooLong → 2 ^ 32 ≤ rows_with count.old self.old) }
     {
@@ -195,6 +196,7 @@ fn add_step(
 ) -> Result<bool, PictureError>
     ensures rise { OnOk result (RiseTo 1 rows.old.steps.items count.old.row
         → RiseTo 1 rows.new.steps.items count.new.row) }
+    ensures each { OnOk result (OneMore steps.old steps.new rows.old.steps.items rows.new.steps.items) }
     ensures few { OnOk result (rows_with count.new steps.new ≤ rows_with count.old steps.old) }
     ensures err { IfErr result (λ e. e ≡ PictureError.TooLong → 2 ^ 32 ≤ rows_with count.old steps.old) }
 {
@@ -247,6 +249,8 @@ fn event_rows(
 ) -> Result<(), PictureError>
     ensures rise { OnOk result (RiseTo 1 rows.old.steps.items count.old.row
         → RiseTo 1 rows.new.steps.items count.new.row) }
+    ensures each { OnOk result (ForEach steps.old rows.old.steps.items → ForEach steps.new rows.new.steps.items) }
+    ensures same { OnOk result (steps.new.entries ≡ steps.old.entries) }
     ensures few { OnOk result (rows_with count.new steps.new ≤ rows_with count.old steps.old + 2) }
     ensures err { IfErr result (λ e. e ≡ PictureError.TooLong → 2 ^ 32 ≤ rows_with count.old steps.old + 2) }
 {
@@ -260,7 +264,7 @@ fn event_rows(
     add_idle(event, is_ruled, turn.refused, count, rows)
 }
 
-/// The rows of a run of these events and steps. TooLong: there are 2^32 rows; at most two are drawn for each
+/// The rows of a run of these events and steps; steps after the last event have no rule. TooLong: there are 2^32 rows; at most two are drawn for each
 /// event, one for each record and each message, and four more for each step.
 pub fn rows_of(
     alloc: Global,
@@ -270,6 +274,7 @@ pub fn rows_of(
     mismatches: &[Mismatch],
 ) -> Result<Rows, PictureError>
     ensures rise { IfOk result (λ rows. RiseTo 1 rows.steps.items rows.end) }
+    ensures each { IfOk result (λ rows. length rows.steps.items ≡ length entries.now) }
     ensures err { IfErr result (λ e. e ≡ PictureError.TooLong
         → 2 ^ 32 ≤ most_rows (length turns.now) entries.now) }
 {
@@ -295,6 +300,9 @@ pub fn rows_of(
     };
     for (event, turn) in turns.iter().enumerate() {
         event_rows(event, turn, &mut steps, &mut count, &mut rows)?;
+    }
+    for _ in steps.made..entries.len() {
+        add_step(turns.len(), true, &mut steps, &mut count, &mut rows)?;
     }
     rows.end = count.row;
     rows.rulers = count.rulers;

@@ -1,6 +1,9 @@
 //! The places of the processes, side by side.
 
-ghost use Rattle.std.specs.Prelude.{◌≡◌, ◌^◌, ◌≤◌, IfErr, IfOk, OnOk, length};
+ghost use Rattle.std.specs.Prelude.{◌≡◌, ◌^◌, ◌≤◌, IfErr, IfOk, OnOk, find, length};
+ghost use Rattle.std.specs.Option.{option_copied};
+ghost use Rattle.tree_model.specs.Names.{same_process};
+ghost use Rattle.picture_rows.specs.Ways.{SitFrom, place_in};
 
 use crate::error::PictureError;
 use std::alloc::Global;
@@ -24,6 +27,7 @@ pub struct Seat {
 
 /// Seats the children of a process, each with those below it after it, where N levels are left, but no
 /// more processes than the tree lists. TooLong: it lists 2^32 processes.
+#[tactic(auto, using(crate::proofs::Ways::sit_more))]
 fn sit_below(
     tree: &[TreeEntry],
     parent: Option<ProcessId>,
@@ -32,6 +36,7 @@ fn sit_below(
     seats: &mut Vec<Seat>,
 ) -> Result<(), PictureError>
     requires { length seats.old.items ≤ length tree.now }
+    ensures order { OnOk result (SitFrom 0 seats.old.items → SitFrom 0 seats.new.items) }
     ensures few { OnOk result (length seats.new.items ≤ length tree.now) }
     ensures err { IfErr result (λ e. e ≡ PictureError.TooLong → 2 ^ 32 ≤ length tree.now) }
 {
@@ -59,6 +64,7 @@ fn sit_below(
 /// The processes of a tree that lists each once, depth first, the children of each in the order of the tree.
 /// TooLong: it lists 2^32 processes.
 pub fn seats_of(alloc: Global, tree: &[TreeEntry]) -> Result<Vec<Seat>, PictureError>
+    ensures order { IfOk result (λ seats. SitFrom 0 seats.items) }
     ensures few { IfOk result (λ seats. length seats.items ≤ length tree.now) }
     ensures err { IfErr result (λ e. e ≡ PictureError.TooLong → 2 ^ 32 ≤ length tree.now) }
 {
@@ -67,9 +73,19 @@ pub fn seats_of(alloc: Global, tree: &[TreeEntry]) -> Result<Vec<Seat>, PictureE
     Ok(seats)
 }
 
+/// The seat of a process, if it has one.
+#[tactic(auto, unfolding(tree_model::specs::Names::same_process))]
+fn seat_of(seats: &[Seat], process: ProcessId) -> Option<&Seat>
+    ensures { option_copied result ≡ find (λ s. same_process s.process process) seats.now }
+{
+    seats.iter().find(|seat| seat.process == process)
+}
+
 /// The place of a process; the root's, where it has none.
-pub fn place_of(seats: &[Seat], process: ProcessId) -> u32 {
-    match seats.iter().find(|seat| seat.process == process) {
+pub fn place_of(seats: &[Seat], process: ProcessId) -> u32
+    ensures { result ≡ place_in seats.now process }
+{
+    match seat_of(seats, process) {
         None => 0,
         Some(seat) => seat.place,
     }

@@ -1,6 +1,7 @@
 //! Where rows and places are, in pixels.
 
-ghost use Rattle.std.specs.Prelude.{◌^◌, ◌<◌, ◌≤◌};
+ghost use Rattle.std.specs.Prelude.{◌≡◌, ◌-◌, ◌^◌, ◌<◌, ◌≤◌, min};
+ghost use Rattle.picture_shapes.specs.Grids.{line_at, row_at};
 
 /// The height of a row.
 pub const ROW: u64 = 30;
@@ -43,14 +44,25 @@ impl Room {
     }
 }
 
-/// How many processes a picture has, how many levels, for how many characters there is room, and how many entries its
-/// legend has.
+/// Where the lines of processes and the rows are.
+#[derive(Clone, Copy)]
+pub struct Grid {
+    /// The line of the root.
+    pub root: u32,
+    /// From each line to the next.
+    pub gap: u32,
+    /// The middle of the first row.
+    pub top: u32,
+}
+
+/// How many processes a picture has, for how many characters there is room, how many entries its legend has, and where
+/// its lines and rows are.
 #[derive(Clone, Copy)]
 pub struct Frame {
     pub processes: u32,
-    pub levels: u32,
     pub room: Room,
     pub keys: u64,
+    pub grid: Grid,
 }
 
 /// How wide N characters are: 7.25 for each.
@@ -58,20 +70,56 @@ pub fn width_of(characters: usize) -> u64 {
     (characters as u64).saturating_mul(29) / 4
 }
 
+/// Where the application's line is, with this room.
+fn application_in(room: Room) -> u64 {
+    width_of(room.events).saturating_add(70)
+}
+
+/// N pixels, of which a picture with room for so many characters as `WIDE` has less than 2^32.
+fn pixels(number: u64) -> u32
+    ensures { result ≡ min number (2 ^ 32 - 1) }
+{
+    match u32::try_from(number) {
+        Ok(number) => number,
+        Err(_) => u32::MAX,
+    }
+}
+
 impl Frame {
+    /// A picture of N processes on so many levels, with this room, and so many entries in its legend.
+    pub fn new(processes: u32, levels: u32, room: Room, keys: u64) -> Frame
+        ensures { 0 < result.grid.gap }
+    {
+        let application = application_in(room);
+        let root = application
+            .saturating_add(width_of(room.calls))
+            .saturating_add(32);
+        let mut frame = Frame {
+            processes,
+            room,
+            keys,
+            grid: Grid {
+                root: pixels(root),
+                gap: pixels(width_of(room.messages).saturating_add(46)),
+                top: 0,
+            },
+        };
+        frame.grid.top = pixels(frame.level(levels) + 30);
+        frame
+    }
+
     /// Where the application's line is.
     pub fn application(self) -> u64 {
-        width_of(self.room.events).saturating_add(70)
+        application_in(self.room)
     }
 
     /// The line of the process at this place.
-    pub fn x_of(self, place: u32) -> u64 {
-        let root = self
-            .application()
-            .saturating_add(width_of(self.room.calls))
-            .saturating_add(32);
-        let gap = width_of(self.room.messages).saturating_add(46);
-        root.saturating_add(gap.saturating_mul(u64::from(place)))
+    #[tactic(auto, using(crate::proofs::Grids::fits))]
+    pub fn x_of(self, place: u32) -> u64
+        ensures at { result ≡ line_at self.grid place }
+        ensures within { result ≤ 2 ^ 64 - 2 ^ 32 }
+    {
+        u64::from(self.grid.root) + u64::from(self.grid.gap) * u64::from(place)
     }
 
     pub fn width(self) -> u64 {
@@ -102,7 +150,9 @@ impl Frame {
     }
 
     /// The middle of a row.
-    pub fn y_of(self, row: u32) -> u64 {
-        self.level(self.levels) + 30 + ROW * u64::from(row)
+    pub fn y_of(self, row: u32) -> u64
+        ensures { result ≡ row_at self.grid row }
+    {
+        u64::from(self.grid.top) + ROW * u64::from(row)
     }
 }

@@ -13,7 +13,7 @@ mod strokes;
 mod svg;
 mod words;
 
-pub use frame::{Frame, ROW, Room, WIDE, width_of};
+pub use frame::{Frame, Grid, ROW, Room, WIDE, width_of};
 pub use head::{Summary, keys_of, push_head};
 pub use shapes::{
     Bar, Dot, EventRule, Joint, Label, Life, Look, Note, Patch, Path, Plate, Ring, Shape, Spot,

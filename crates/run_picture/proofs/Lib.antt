@@ -1,1 +1,3 @@
+pub mod Along
+pub mod Ringing
 pub mod Wholes

@@ -1,2 +1,5 @@
+pub mod Along
+pub mod Plans
 pub mod Pictures
 pub mod Layers
+pub mod Rings

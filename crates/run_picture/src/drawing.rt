@@ -5,14 +5,16 @@ ghost use Rattle.picture_rows.specs.declared.drawn.Arrow.{Arrow as AnyArrow};
 ghost use Rattle.picture_rows.specs.declared.drawn.Mark.{Mark as AnyMark};
 ghost use Rattle.picture_shapes.specs.declared.shapes.Stroke.{Stroke as AnyStroke};
 ghost use Rattle.picture_words.specs.Labels.{title_in};
-ghost use Rattle.run_picture.specs.Pictures.{record_key, square_key};
+ghost use Rattle.picture_rows.specs.Ways.{spot_of};
+ghost use Rattle.run_picture.specs.Along.{RunAlong, RunsAlong};
+ghost use Rattle.run_picture.specs.Pictures.{spot_key, square_key};
 
 use crate::plan::{Plan, Scene};
 use crate::room::is_call;
 use crate::sheet::{Draft, Sheet};
 use picture_rows::{Arrow, Mark, Rows, Seat, StepRows, Stretch, Stub, place_of};
 use picture_shapes::{
-    Bar, Dot, EventRule, Frame, Label, Look, Note, Patch, Shape, Spot, Square, Stroke, Tip, Tone,
+    Bar, Dot, EventRule, Frame, Label, Look, Patch, Shape, Spot, Square, Stroke, Tip, Tone,
     push_word, width_of,
 };
 use picture_words::{
@@ -57,7 +59,9 @@ impl Drawing {
         at: (u64, u64),
         right: bool,
         body: Vec<u8>,
-    ) -> Result<(), AllocError> {
+    ) -> Result<(), AllocError>
+        ensures { self.new.frame ≡ self.old.frame }
+    {
         let size = width_of(body.len());
         self.sheet.write(Label {
             tone,
@@ -107,7 +111,9 @@ impl Drawing {
 
     /// The line of a message that was delivered; its words are laid.
     fn draw_arrow(&mut self, messages: &[Envelope], arrow: &Arrow) -> Result<Stroke, AllocError>
-        ensures { IfOk result (λ stroke. stroke.title.items ≡ title_in messages.now arrow.now.number) }
+        ensures title { IfOk result (λ stroke. stroke.title.items ≡ title_in messages.now arrow.now.number) }
+        ensures along { IfOk result (RunsAlong self.old.frame.grid arrow.now.way) }
+        ensures frame { self.new.frame ≡ self.old.frame }
     {
         let title = message_title(self.alloc, arrow.number, messages)?;
         let number = number_label(self.alloc, arrow.number)?;
@@ -126,15 +132,15 @@ impl Drawing {
         let draft = Draft {
             tone,
             title,
-            x: self.frame.x_of(arrow.from),
-            y: self.frame.y_of(arrow.left),
-            to_x: self.frame.x_of(arrow.to),
-            to_y: self.frame.y_of(arrow.row),
+            x: self.frame.x_of(arrow.way.from),
+            y: self.frame.y_of(arrow.way.left),
+            to_x: self.frame.x_of(arrow.way.to),
+            to_y: self.frame.y_of(arrow.way.row),
             label,
             number,
             tip: Tip::Head,
             again: arrow.again,
-            far: arrow.far,
+            far: arrow.way.far,
         };
         self.sheet.draw(self.alloc, draft)
     }
@@ -145,8 +151,11 @@ impl Drawing {
         messages: &[Envelope],
         arrows: &[Arrow],
     ) -> Result<Vec<Stroke>, AllocError>
-        ensures { IfOk result (λ strokes. map (λ (s : AnyStroke). s.title.items) strokes.items
+        ensures titles { IfOk result (λ strokes. map (λ (s : AnyStroke). s.title.items) strokes.items
             ≡ map (λ (a : AnyArrow). title_in messages.now a.number) arrows.now) }
+        ensures along { IfOk result (λ strokes. RunAlong self.old.frame.grid
+            (map (λ (a : AnyArrow). a.way) arrows.now) strokes.items) }
+        ensures frame { self.new.frame ≡ self.old.frame }
     {
         let mut strokes = Vec::new(self.alloc);
         for arrow in arrows {
@@ -194,7 +203,8 @@ impl Drawing {
 
     /// The mark of a record, which a crash takes or not; its words are laid.
     fn draw_mark(&mut self, mark: &Mark, lost: bool) -> Result<Square, AllocError>
-        ensures { IfOk result (λ square. square_key square ≡ record_key mark.now.logged) }
+        ensures key { IfOk result (λ square. square_key square ≡ spot_key self.old.frame.grid (spot_of mark.now)) }
+        ensures frame { self.new.frame ≡ self.old.frame }
     {
         let (x, y) = (self.frame.x_of(mark.place), self.frame.y_of(mark.row));
         let words = shortened(
@@ -232,8 +242,9 @@ impl Drawing {
         marks: &[Mark],
         lost: &[bool],
     ) -> Result<Vec<Square>, AllocError>
-        ensures { IfOk result (λ squares. map square_key squares.items
-            ≡ map (λ (m : AnyMark). record_key m.logged) marks.now) }
+        ensures keys { IfOk result (λ squares. map square_key squares.items
+            ≡ map (λ (m : AnyMark). spot_key self.old.frame.grid (spot_of m)) marks.now) }
+        ensures frame { self.new.frame ≡ self.old.frame }
     {
         let mut squares = Vec::new(self.alloc);
         for mark in marks {
@@ -244,7 +255,9 @@ impl Drawing {
     }
 
     /// The mark of the Opened with which each process began.
-    pub(crate) fn draw_openings(&mut self, seats: &[Seat]) -> Result<(), AllocError> {
+    pub(crate) fn draw_openings(&mut self, seats: &[Seat]) -> Result<(), AllocError>
+        ensures { self.new.frame ≡ self.old.frame }
+    {
         for seat in seats {
             let mark = Mark {
                 place: seat.place,
@@ -415,24 +428,6 @@ impl Drawing {
                 _ => {}
             }
             self.draw_step(place, entry, *rows)?;
-        }
-        Ok(())
-    }
-
-    /// A ring around each step of which something is told.
-    pub(crate) fn draw_notes(&mut self, scene: &Scene, plan: &Plan) -> Result<(), AllocError> {
-        let steps = scene.entries.iter().zip(plan.rows.steps.iter());
-        for ((entry, rows), words) in steps.zip(scene.notes.iter()) {
-            if words.is_empty() {
-                continue;
-            }
-            let mut title = Vec::new(self.alloc);
-            title.extend_from_slice(words.as_slice())?;
-            self.sheet.marks.push(Shape::Note(Note {
-                title,
-                x: self.frame.x_of(place_of(&plan.seats, entry.step.process)),
-                y: self.frame.y_of(rows.first),
-            }))?;
         }
         Ok(())
     }

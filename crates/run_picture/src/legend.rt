@@ -32,7 +32,7 @@ fn with_messages(mut signs: Signs, plan: &Plan) -> Signs {
     for arrow in &plan.arrows {
         signs.message = true;
         signs.again = signs.again || arrow.again;
-        signs.far = signs.far || arrow.far;
+        signs.far = signs.far || arrow.way.far;
         signs = with_message(signs, plan, arrow.number);
     }
     for stub in &plan.stubs {

@@ -9,6 +9,7 @@ mod endings;
 mod legend;
 mod page;
 mod plan;
+mod rings;
 mod room;
 mod sheet;
 mod tree;

@@ -1,27 +1,30 @@
 //! A whole picture.
 
-ghost use Rattle.std.specs.Prelude.{◌≡◌, ◌++◌, ◌^◌, ◌≤◌, IfErr, IfOk, OnOk, codes, length};
+ghost use Rattle.std.specs.Prelude.{◌≡◌, ◌++◌, ◌^◌, ◌<◌, ◌≤◌, IfErr, IfOk, OnOk, codes, length};
 ghost use Rattle.picture_rows.specs.Long.{IsLong};
 ghost use Rattle.picture_shapes.specs.Svg.{shapes_text, squares_text, strokes_text};
-ghost use Rattle.run_picture.specs.Layers.{below_text, between_text};
+ghost use Rattle.run_picture.specs.Layers.{after_rings, before_rings, below_text};
 ghost use Rattle.run_picture.specs.Pictures.{IsPicture};
+ghost use Rattle.run_picture.specs.Rings.{HasRings};
 
 use crate::drawing::Drawing;
 use crate::endings::draw_refusal;
 use crate::legend::signs_of;
 use crate::plan::{Plan, Scene, plan_of};
+use crate::rings::rings_of;
 use crate::room::room_of;
 use crate::sheet::Sheet;
 use crate::tree::draw_tree;
 use picture_rows::{PictureError, Seat, place_of};
 use picture_shapes::{
-    Frame, Room, Signs, Square, Stroke, Summary, keys_of, push_head, push_squares, push_strokes,
+    Frame, Room, Shape, Signs, Square, Stroke, Summary, keys_of, push_head, push_squares,
+    push_strokes,
 };
 use std::alloc::{AllocError, Global};
 use trace_lines::push;
 
-/// Draws all of a run but its tree, its arrows and its marks.
-fn draw_run(drawing: &mut Drawing, scene: &Scene, plan: &Plan) -> Result<(), AllocError> {
+/// Draws all of a run but its tree, its arrows, its rings and its marks: how many small marks are below the rings.
+fn draw_run(drawing: &mut Drawing, scene: &Scene, plan: &Plan) -> Result<usize, AllocError> {
     drawing.draw_rules(scene, &plan.rows)?;
     for row in &plan.rows.rulers {
         drawing.draw_ruler(&plan.seats, *row)?;
@@ -33,14 +36,14 @@ fn draw_run(drawing: &mut Drawing, scene: &Scene, plan: &Plan) -> Result<(), All
         drawing.draw_stretch(&plan.seats, stretch)?;
     }
     drawing.draw_steps(scene, plan)?;
-    drawing.draw_notes(scene, plan)?;
+    let below = drawing.sheet.marks.len();
     drawing.draw_crashes(scene, plan)?;
     drawing.draw_mismatches(scene, plan)?;
     draw_refusal(drawing, scene, plan)?;
     for ending in &plan.history.endings {
         drawing.draw_ending(ending, plan.rows.end)?;
     }
-    Ok(())
+    Ok(below)
 }
 
 /// How many levels a tree has.
@@ -116,16 +119,20 @@ fn text_of(
     head: Vec<u8>,
     sheet: &Sheet,
     strokes: &[Stroke],
+    below: usize,
+    rings: &[Shape],
     squares: &[Square],
 ) -> Result<Vec<u8>, AllocError>
+    requires { below ≤ length sheet.now.marks.items }
     ensures { IfOk result (λ text. text.items ≡ (head.items ++ below_text sheet.now)
-        ++ strokes_text strokes.now ++ between_text sheet.now ++ squares_text squares.now
-        ++ (shapes_text sheet.now.words.items ++ codes "</svg>\n")) }
+        ++ strokes_text strokes.now
+        ++ (before_rings sheet.now below ++ shapes_text rings.now ++ after_rings sheet.now below)
+        ++ squares_text squares.now ++ (shapes_text sheet.now.words.items ++ codes "</svg>\n")) }
 {
     let mut out = head;
     sheet.push_below(&mut out)?;
     push_strokes(&mut out, strokes)?;
-    sheet.push_between(&mut out)?;
+    sheet.push_between(&mut out, below, rings)?;
     push_squares(&mut out, squares)?;
     push_end(&mut out, sheet)?;
     Ok(out)
@@ -142,6 +149,7 @@ fn push_end(out: &mut Vec<u8>, sheet: &Sheet) -> Result<(), AllocError>
 
 /// A sheet for a plan, with so much room, and N entries in its legend. TooLong: it has 2^32 processes.
 fn drawing_of(alloc: Global, plan: &Plan, room: Room, keys: u64) -> Result<Drawing, PictureError>
+    ensures apart { IfOk result (λ drawing. 0 < drawing.frame.grid.gap) }
     ensures err { IfErr result (λ _. 2 ^ 32 ≤ length plan.now.seats.items) }
 {
     let Ok(processes) = u32::try_from(plan.seats.len()) else {
@@ -149,12 +157,7 @@ fn drawing_of(alloc: Global, plan: &Plan, room: Room, keys: u64) -> Result<Drawi
     };
     Ok(Drawing {
         alloc,
-        frame: Frame {
-            processes,
-            levels: count_levels(&plan.seats),
-            room,
-            keys,
-        },
+        frame: Frame::new(processes, count_levels(&plan.seats), room, keys),
         sheet: Sheet::new(alloc),
     })
 }
@@ -163,6 +166,7 @@ fn drawing_of(alloc: Global, plan: &Plan, room: Room, keys: u64) -> Result<Drawi
 /// and each record a mark. TooLong: it has 2^32 rows or more, or its tree 2^32 processes.
 pub fn picture(alloc: Global, scene: &Scene) -> Result<Vec<u8>, PictureError>
     ensures text { IfOk result (λ text. IsPicture scene.now.entries.now text.items) }
+    ensures rings { IfOk result (λ text. HasRings scene.now.notes.now text.items) }
     ensures err { IfErr result (λ e. e ≡ PictureError.TooLong
         → IsLong scene.now.tree.now (length scene.now.turns.now) scene.now.entries.now) }
 {
@@ -173,9 +177,11 @@ pub fn picture(alloc: Global, scene: &Scene) -> Result<Vec<u8>, PictureError>
     drawing.draw_openings(&plan.seats)?;
     let strokes = drawing.draw_arrows(&plan.messages, &plan.arrows)?;
     let squares = drawing.draw_marks(&plan.marks, &plan.history.lost)?;
-    draw_run(&mut drawing, scene, &plan)?;
+    let below = draw_run(&mut drawing, scene, &plan)?;
     draw_lines(&mut drawing, scene, &plan)?;
+    let rings = rings_of(alloc, drawing.frame, scene, &plan)?;
     let head = head_of(alloc, drawing.frame, scene, &plan, &signs)?;
-    let text = text_of(head, &drawing.sheet, &strokes, &squares)?;
+    let below = below.min(drawing.sheet.marks.len());
+    let text = text_of(head, &drawing.sheet, &strokes, below, &rings, &squares)?;
     Ok(text)
 }

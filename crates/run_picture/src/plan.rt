@@ -2,9 +2,9 @@
 
 ghost use Rattle.std.specs.Prelude.{◌≡◌, ◌≤◌, IfErr, IfOk, length, map};
 ghost use Rattle.picture_rows.specs.declared.drawn.Arrow.{Arrow as AnyArrow};
-ghost use Rattle.picture_rows.specs.declared.drawn.Mark.{Mark as AnyMark};
-ghost use Rattle.picture_rows.specs.Whole.{deliveries, records_in, sent_in};
+ghost use Rattle.picture_rows.specs.Whole.{deliveries, sent_in};
 ghost use Rattle.picture_rows.specs.Long.{IsLong};
+ghost use Rattle.run_picture.specs.Plans.{IsPlaced};
 
 use picture_rows::{
     Arrow, History, Mark, PictureError, Rows, Seat, Stretch, Stub, Turn, arrows, fates_of,
@@ -44,8 +44,7 @@ pub(crate) struct Plan {
 pub(crate) fn plan_of(alloc: Global, scene: &Scene) -> Result<Plan, PictureError>
     ensures arrows { IfOk result (λ plan. map (λ (a : AnyArrow). a.number) plan.arrows.items
         ≡ deliveries (length (sent_in scene.now.entries.now)) scene.now.entries.now) }
-    ensures marks { IfOk result (λ plan. map (λ (m : AnyMark). m.logged) plan.marks.items
-        ≡ records_in scene.now.entries.now) }
+    ensures places { IfOk result (IsPlaced scene.now.entries.now) }
     ensures messages { IfOk result (λ plan. plan.messages.items ≡ sent_in scene.now.entries.now) }
     ensures seats { IfOk result (λ plan. length plan.seats.items ≤ length scene.now.tree.now) }
     ensures err { IfErr result (λ e. e ≡ PictureError.TooLong

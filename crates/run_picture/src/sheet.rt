@@ -1,7 +1,8 @@
 //! A sheet on which shapes are laid, one layer over the other.
 
-ghost use Rattle.std.specs.Prelude.{◌≡◌, ◌++◌, IfOk, OnOk};
-ghost use Rattle.run_picture.specs.Layers.{below_text, between_text};
+ghost use Rattle.std.specs.Prelude.{◌≡◌, ◌≤◌, ◌+◌, ◌-◌, ◌^◌, ◌++◌, if◌then◌else◌, false, min, nat_lt, IfOk, OnOk, length};
+ghost use Rattle.run_picture.specs.Along.{IsDrawn, tip_of};
+ghost use Rattle.run_picture.specs.Layers.{after_rings, before_rings, below_text};
 ghost use Rattle.picture_shapes.specs.Svg.{shapes_text};
 
 use picture_shapes::{
@@ -41,7 +42,9 @@ pub(crate) struct Draft {
 }
 
 /// So far ahead, in the direction of an arrow.
-fn ahead(x: u64, by: u64, right: bool) -> u64 {
+fn ahead(x: u64, by: u64, right: bool) -> u64
+    ensures { result ≡ (if right then min (x + by) (2 ^ 64 - 1) else x - by) }
+{
     if right {
         x.saturating_add(by)
     } else {
@@ -50,13 +53,18 @@ fn ahead(x: u64, by: u64, right: bool) -> u64 {
 }
 
 /// So far after.
-fn behind(x: u64, by: u64, right: bool) -> u64 {
+fn behind(x: u64, by: u64, right: bool) -> u64
+    ensures { result ≡ (if right then x - by else min (x + by) (2 ^ 64 - 1)) }
+{
     ahead(x, by, !right)
 }
 
-/// The path of an arrow whose level part, with its tip, is so long.
-fn path_of(x: u64, y: u64, to_x: u64, to_y: u64, level: u64) -> Path {
-    let right = to_x > x;
+/// The path of an arrow to the right or to the left whose level part, with its tip, is so long.
+fn path_of(x: u64, y: u64, to_x: u64, to_y: u64, level: u64, right: bool) -> Path
+    ensures begins { (result.x ≡ x) × (result.y ≡ y) }
+    ensures lands { result.level ≡ to_y }
+    ensures tip { result.tip ≡ tip_of to_x right }
+{
     let way = x.abs_diff(to_x);
     let land = behind(to_x, level.min(way.saturating_sub(14)), right);
     let run = land.abs_diff(x);
@@ -76,15 +84,20 @@ fn path_of(x: u64, y: u64, to_x: u64, to_y: u64, level: u64) -> Path {
 
 impl Draft {
     /// Its path, where its words are so wide.
-    fn path(&self, size: u64) -> Path {
+    fn path(&self, size: u64) -> Path
+        ensures begins { self.now.far ≡ false → (result.x ≡ self.now.x) × (result.y ≡ self.now.y) }
+        ensures lands { result.level ≡ self.now.to_y }
+        ensures tip { result.tip ≡ tip_of self.now.to_x (nat_lt self.now.x self.now.to_x) }
+    {
         let level = size.saturating_add(24);
-        let whole = path_of(self.x, self.y, self.to_x, self.to_y, level);
+        let right = self.to_x > self.x;
+        let whole = path_of(self.x, self.y, self.to_x, self.to_y, level, right);
         if !self.far {
             return whole;
         }
-        let x = behind(whole.corner, 14, self.to_x > self.x);
+        let x = behind(whole.corner, 14, right);
         let y = self.to_y.saturating_sub(ROW / 2);
-        path_of(x, y, self.to_x, self.to_y, level)
+        path_of(x, y, self.to_x, self.to_y, level, right)
     }
 }
 
@@ -110,7 +123,8 @@ impl Sheet {
 
     /// Draws an arrow: its words above the level part of it, and its line, which is answered.
     pub(crate) fn draw(&mut self, alloc: Global, draft: Draft) -> Result<Stroke, AllocError>
-        ensures { IfOk result (λ stroke. stroke.title ≡ draft.title) }
+        ensures title { IfOk result (λ stroke. stroke.title ≡ draft.title) }
+        ensures drawn { IfOk result (IsDrawn draft) }
     {
         let right = draft.to_x > draft.x;
         let size = width_of(draft.number.len().saturating_add(draft.label.len()));
@@ -164,13 +178,30 @@ impl Sheet {
         push_shapes(out, &self.bars)
     }
 
-    /// The text of the layers between the arrows and the marks of records.
-    pub(crate) fn push_between(&self, out: &mut Vec<u8>) -> Result<(), AllocError>
-        ensures { OnOk result (out.new.items ≡ out.old.items ++ between_text self.now) }
+    /// The text of the layers between the arrows and the rings: the first N small marks are below the rings.
+    fn push_before_rings(&self, out: &mut Vec<u8>, below: usize) -> Result<(), AllocError>
+        requires { below ≤ length self.now.marks.items }
+        ensures { OnOk result (out.new.items ≡ out.old.items ++ before_rings self.now below) }
     {
         push_shapes(out, &self.lines)?;
         push_shapes(out, &self.boxes)?;
-        push_shapes(out, &self.marks)
+        push_shapes(out, &self.marks[..below])
+    }
+
+    /// The text of the layers between the arrows and the marks of records, these rings among them.
+    pub(crate) fn push_between(
+        &self,
+        out: &mut Vec<u8>,
+        below: usize,
+        rings: &[Shape],
+    ) -> Result<(), AllocError>
+        requires { below ≤ length self.now.marks.items }
+        ensures { OnOk result (out.new.items ≡ out.old.items ++ before_rings self.now below
+            ++ shapes_text rings.now ++ after_rings self.now below) }
+    {
+        self.push_before_rings(out, below)?;
+        push_shapes(out, rings)?;
+        push_shapes(out, &self.marks[below..])
     }
 
     /// The text of the words, which lie above all.

@@ -1,6 +1,7 @@
-use Rattle.std.proofs.Common.{◌≡◌, length, take}
-use Rattle.picture_rows.specs.Whole.{sent_in}
+use Rattle.std.proofs.Common.{◌≡◌, map, take}
+use Rattle.picture_rows.specs.declared.fates.Fate.{Fate}
+use Rattle.picture_rows.specs.Ways.{senders}
 use Rattle.picture_rows.proofs.fates.fates_of.Given as goal
 
 abbrev pub invariant-loop-step : goal.invariant-loop-step
-invariant-loop-step l = length l.fates.items ≡ length (sent_in (take l.step l.entries))
+invariant-loop-step l = map (λ (f : Fate). f.sent) l.fates.items ≡ senders (take l.step l.entries)

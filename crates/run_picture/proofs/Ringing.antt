@@ -1,0 +1,55 @@
+-- The rings of a picture, one after another.
+use Rattle.std.proofs.Common.{◌≡◌, ◌∙◌, ap, sym, refl, arith, false, ℕ, ◌+◌, ◌<◌, ◌==◌, if◌then◌else◌, Some, List, [], ◌∷◌, ◌++◌, get_or, length, map, take}
+use Rattle.std.proofs.lemmas.Grind.{common_steps, flat_map-append}
+use Rattle.std.proofs.lemmas.List.{append-nil, append_assoc, map-append, take_more}
+use Rattle.std.specs.Global.{Vec}
+use Rattle.picture_shapes.specs.declared.shapes.Note.{Note}
+use Rattle.picture_shapes.specs.declared.shapes.Shape.{Shape}
+use Rattle.picture_shapes.specs.declared.shapes.Shape.TheVariants as shape
+use Rattle.picture_shapes.specs.Svg.{shapes_text}
+use Rattle.run_picture.specs.Rings.{HasRings, ring_words, told, told_of}
+
+-- a step of which nothing is told
+pub no_ring : (rs : List Shape) (ws : List ℕ) → length ws ≡ 0
+    → map ring_words rs ≡ map ring_words rs ++ map Some (told_of ws)
+no_ring rs ws none = grind (arith, none, append-nil (map ring_words rs))
+
+-- a step of which something is told
+pub a_ring : (old new : List Shape) (n : Note) (ws : List ℕ) → (length ws == 0) ≡ false
+    → new ≡ old ++ shape.Note n ∷ [] → n.title.items ≡ ws
+    → map ring_words new ≡ map ring_words old ++ map Some (told_of ws)
+a_ring old new n ws some push title =
+    ap (λ rs. map ring_words rs) push ∙ map-append ring_words old (shape.Note n ∷ [])
+    ∙ ap (λ w. map ring_words old ++ Some w ∷ []) title
+    ∙ sym (ap (λ b. map ring_words old ++ map Some (if b then [] else ws ∷ [])) some)
+
+-- the rings of one more step
+pub rings_more : (notes : List (Vec ℕ)) (k : ℕ) (v : Vec ℕ) (old new : List Shape) → k < length notes
+    → v ≡ get_or notes k v → map ring_words old ≡ map Some (told (take k notes))
+    → map ring_words new ≡ map ring_words old ++ map Some (told_of v.items)
+    → map ring_words new ≡ map Some (told (take (k + 1) notes))
+rings_more notes k v old new there at were is =
+    let all : take (k + 1) notes ≡ take k notes ++ v ∷ [] =
+    take_more notes k v there ∙ ap (λ x. take k notes ++ x ∷ []) (sym at) in
+    let said : told (take (k + 1) notes) ≡ told (take k notes) ++ told (v ∷ []) =
+    ap (λ xs. told xs) all ∙ flat_map-append (λ (w : Vec ℕ). told_of w.items) (take k notes) (v ∷ []) in
+    let one : told (v ∷ []) ≡ told_of v.items = append-nil (told_of v.items) in
+    is ∙ ap (λ xs. xs ++ map Some (told_of v.items)) were
+    ∙ ap (λ xs. map Some (told (take k notes)) ++ map Some xs) (sym one)
+    ∙ sym (map-append Some (told (take k notes)) (told (v ∷ []))) ∙ ap (λ xs. map Some xs) (sym said)
+
+joined : (a c s d e f : List ℕ)
+    → ((a ++ ((c ++ s) ++ d)) ++ e) ++ f ≡ ((a ++ c) ++ s) ++ ((d ++ e) ++ f)
+joined a c s d e f = simp append_assoc refl
+
+-- a text of these layers has the rings
+pub ringed : (notes : List (Vec ℕ)) (rings rs : List Shape) (a c d e f text : List ℕ) → rs ≡ rings
+    → map ring_words rings ≡ map Some (told notes)
+    → text ≡ a ++ (c ++ shapes_text rs ++ d) ++ e ++ f → HasRings notes text
+ringed notes rings rs a c d e f text same words is = record {
+  front = a ++ c;
+  rings = rs;
+  rest = d ++ e ++ f;
+  words = ap (λ xs. map ring_words xs) same ∙ words;
+  layer = is ∙ joined a c (shapes_text rs) d e f;
+}

@@ -1,0 +1,32 @@
+use Rattle.std.proofs.Common.{◌≡◌, ◌∙◌, ap, subst, false, get_or}
+use Rattle.std.proofs.lemmas.List.{get_or_default}
+use Rattle.picture_rows.specs.declared.drawn.Arrow.{Arrow}
+use Rattle.picture_shapes.specs.declared.frame.Frame.{Frame}
+use Rattle.run_picture.specs.Along.{RunsAlong}
+use Rattle.run_picture.proofs.Along.{along_more, titles_more}
+use Rattle.run_picture.proofs.drawing.Drawing.draw_arrows.Goals as goal
+
+pub loop-arrow-preserved : goal.loop-arrow-preserved
+loop-arrow-preserved c =
+    let drawn = c.args.arrows.now in
+    let k = c.loop-arrow.arrow-index in
+    let there = c.loop-arrow-test.true in
+    let none : Arrow = record {
+      number = 0;
+      way = record { from = 0; left = 0; to = 0; row = 0; far = false };
+      again = false;
+    } in
+    let a : Arrow = get_or drawn k none in
+    let at : a ≡ get_or drawn k a = get_or_default drawn k none a there in
+    let stroke = c.in_ok-draw_arrow.field-0 in
+    let same = ap (λ (f : Frame). f.grid) c.loop-arrow.invariant.frame in
+    record {
+      titles = titles_more c.args.messages.now drawn k a c.loop-arrow.strokes.items c.push.new.self.items stroke there
+          at c.in_ok-push.ensures.items c.in_ok-draw_arrow.ensures.title
+          c.loop-arrow.invariant.titles;
+      along = along_more c.args.self.now.frame.grid drawn k a c.loop-arrow.strokes.items c.push.new.self.items stroke there
+          at c.in_ok-push.ensures.items
+          (subst (λ g. RunsAlong g a.way stroke) same c.in_ok-draw_arrow.ensures.along)
+          c.loop-arrow.invariant.along;
+      frame = c.draw_arrow.ensures.frame ∙ c.loop-arrow.invariant.frame;
+    }
