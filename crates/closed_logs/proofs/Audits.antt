@@ -51,16 +51,16 @@ read_at texts s q (x ∷ es) e are found = by_test (same_process x.id q) (read_a
 
 module _ (tree : List TreeEntry) (t : IsTree tree) (journal : List (ℕ × Entry)) (logs : List (List LogRecord))
     (c : IsClosed tree journal logs) (texts : List ProcessLog) (are : AreReadAs texts tree logs) where
-  s : WorldState
+  abbrev s : WorldState
   s = c.state
 
-  es : List Made
+  abbrev es : List Made
   es = c.modelled.moves
 
-  w : World
+  abbrev w : World
   w = c.modelled.world
 
-  f : Follows es w s
+  abbrev f : Follows es w s
   f = c.modelled.follows
 
   by_all : FollowsBy journal_of es w s
