@@ -1,29 +1,11 @@
-//! Lines that are at hand: the node is given all of them before one of them is told of.
+//! Lines that the node was given, and that nobody is told of yet.
 
-ghost use Rattle.std.specs.Prelude.{◌≡◌, ◌++◌, ◌≤◌, [], length, take, IfErr, IfOk, OnErr, OnOk};
-ghost use Rattle.std.specs.Io.KnownBytes.{Appends};
-ghost use Rattle.report_io.specs.Streams.{WritesFront};
-ghost use Rattle.node_engine.specs.Answers.{NodeState, state_of};
-ghost use Rattle.node_engine.specs.Runs.{Known};
-ghost use Rattle.desk_engine.specs.Groups.{
-  BroughtUp,
-  GatherBreaks,
-  Gathers,
-  GathersTo,
-  group_told as told_in,
-};
-ghost use Rattle.desk_engine.specs.Turns.{IsHeldBack};
+ghost use Rattle.std.specs.Prelude.{◌≡◌, ◌++◌, ◌≤◌, [], length, take, OnErr, OnOk};
 
-use crate::line::{given_of, next_line, seen_of, tell_line};
-use crate::telling::{bring_up, write_text};
+use crate::line::seen_of;
 use input_lines::Line;
-use log_store::LogStore;
-use node_desk::{Waits, Ways};
-use node_engine::{Ended, NodeFailure, Serving, Witness};
-use node_lines::asks_end;
-use staged_store::Backing;
+use node_engine::Witness;
 use std::alloc::{AllocError, Global};
-use std::io::Write;
 
 /// A line, and where what is told of it ends.
 #[derive(Drop)]
@@ -36,13 +18,15 @@ struct Heard {
 #[derive(Drop)]
 pub(crate) struct Group {
     lines: Vec<Heard>,
-    told: Vec<u8>,
+    pub(crate) told: Vec<u8>,
     /// How much of that rests on what is safe already.
-    safe: usize,
+    pub(crate) safe: usize,
     ghost within: { safe ≤ length told.items },
 }
 
 impl Group {
+    ghost use Rattle.desk_engine.specs.Groups.{group_told as told_in};
+
     /// No line.
     pub(crate) fn new(alloc: Global) -> Group
         ensures { told_in result ≡ [] }
@@ -55,7 +39,7 @@ impl Group {
     }
 
     /// Adds a line and what is told of it, and whether all that was made up to it is safe.
-    fn push(&mut self, line: Line, told: &[u8], is_safe: bool) -> Result<(), AllocError>
+    pub(crate) fn push(&mut self, line: Line, told: &[u8], is_safe: bool) -> Result<(), AllocError>
         ensures ok { OnOk result (told_in self.new ≡ told_in self.old ++ told.now) }
         ensures err { OnErr result (told_in self.new ≡ told_in self.old) }
     {
@@ -69,7 +53,7 @@ impl Group {
     }
 
     /// What is told of the lines that rest on what is safe already.
-    fn safe_front(&self) -> &[u8]
+    pub(crate) fn safe_front(&self) -> &[u8]
         ensures { result.now ≡ take self.now.safe (told_in self.now) }
     {
         let (front, _) = self.told.split_at(self.safe);
@@ -77,7 +61,7 @@ impl Group {
     }
 
     /// Shows a witness the lines of which all is told, if so much is.
-    fn show<N: Witness>(&self, size: usize, witness: &mut N) {
+    pub(crate) fn show<N: Witness>(&self, size: usize, witness: &mut N) {
         let mut start = 0;
         for heard in &self.lines {
             if heard.end > size {
@@ -89,85 +73,4 @@ impl Group {
             start = heard.end;
         }
     }
-}
-
-/// Takes a line of the input, but one that asks the node to end; says so where it does, or where there is none.
-fn take_line<R: Waits, L: LogStore, B: Backing<L>>(
-    alloc: Global,
-    serving: &mut Serving<L>,
-    backing: &B,
-    ways: Ways,
-    reader: &mut R,
-    group: &mut Group,
-) -> Result<Option<Ended>, NodeFailure>
-    ensures leads { IfOk result (λ ended. (first : NodeState) (left : Known)
-        → Gathers ways first (state_of serving.old) left (R.remaining reader.old) (told_in group.old)
-        → GathersTo ended ways first (state_of serving.new) left (R.remaining reader.new) (told_in group.new)) }
-    ensures breaks { IfErr result (λ e. (first : NodeState) (left : Known)
-        → Gathers ways first (state_of serving.old) left (R.remaining reader.old) (told_in group.old)
-        → GatherBreaks ways first (state_of serving.new) left (told_in group.new) e) }
-{
-    let line = next_line(alloc, reader)?;
-    if line.is_none() {
-        return Ok(Some(Ended::Input));
-    }
-    let given = given_of(&line);
-    if asks_end(given) {
-        return Ok(Some(Ended::Asked));
-    }
-    let told = tell_line(alloc, serving, ways, given)?;
-    let is_safe = backing.is_up_to(serving.node().store());
-    group.push(line, &told, is_safe)?;
-    Ok(None)
-}
-
-/// Takes the next line of the input, and those that are at hand after it.
-pub(crate) fn gather<R: Waits, L: LogStore, B: Backing<L>>(
-    alloc: Global,
-    serving: &mut Serving<L>,
-    backing: &B,
-    ways: Ways,
-    reader: &mut R,
-    group: &mut Group,
-) -> Result<Option<Ended>, NodeFailure>
-    requires { told_in group.old ≡ [] }
-    ensures leads { IfOk result (λ ended. GathersTo ended ways (state_of serving.old) (state_of serving.new)
-        (R.remaining reader.old) (R.remaining reader.new) (told_in group.new)) }
-    ensures breaks { IfErr result (GatherBreaks ways (state_of serving.old) (state_of serving.new)
-        (R.remaining reader.old) (told_in group.new)) }
-{
-    for _ in 0..u64::MAX {
-        if let Some(ended) = take_line(alloc, serving, backing, ways, reader, group)? {
-            return Ok(Some(ended));
-        }
-        if !reader.is_at_hand() {
-            return Ok(None);
-        }
-    }
-    Ok(None)
-}
-
-/// Has what the lines of a group rest on made safe, and then tells of them. If it cannot be made safe, those are told of
-/// that rest on what was safe before.
-pub(crate) fn tell_group<W: Write, L: LogStore, N: Witness, B: Backing<L>>(
-    serving: &Serving<L>,
-    backing: &mut B,
-    writer: &mut W,
-    witness: &mut N,
-    group: &Group,
-) -> Result<(), NodeFailure>
-    ensures ok { OnOk result (Appends (W.contents writer.old) (W.contents writer.new) (told_in group.now)) }
-    ensures safe { OnOk result
-        (BroughtUp B.brings L.bytes L.forced L.failures backing.old backing.new (state_of serving.now)) }
-    ensures err { IfErr result (λ e. IsHeldBack e
-        × WritesFront (W.contents writer.old) (W.contents writer.new) (told_in group.now)) }
-{
-    if let Err(failure) = bring_up(serving, backing) {
-        write_text(writer, group.safe_front())?;
-        group.show(group.safe, witness);
-        return Err(failure);
-    }
-    write_text(writer, &group.told)?;
-    group.show(group.told.len(), witness);
-    Ok(())
 }

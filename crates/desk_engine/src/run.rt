@@ -8,7 +8,8 @@ ghost use Rattle.node_desk.specs.declared.watch.Ways.{Ways as AnyWays};
 ghost use Rattle.desk_engine.specs.Weaves.{Breaks, BreaksOff, Ends, EndsWoven, LeadsTo, StopsFirst, Woven};
 
 use crate::ended::finish;
-use crate::group::{Group, gather, tell_group};
+use crate::gathering::{gather, tell_group};
+use crate::group::Group;
 use crate::round::{ask_again, trim};
 use crate::telling::{bring_up, write_text};
 use log_store::LogStore;

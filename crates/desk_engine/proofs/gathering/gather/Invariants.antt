@@ -1,6 +1,6 @@
 use Rattle.node_engine.specs.Answers.{state_of}
 use Rattle.desk_engine.specs.Groups.{Gathers}
-use Rattle.desk_engine.proofs.group.gather.Given as goal
+use Rattle.desk_engine.proofs.gathering.gather.Given as goal
 
 -- the lines so far were gathered
 abbrev pub invariant-loop : goal.invariant-loop

@@ -7,7 +7,7 @@ use Rattle.node_engine.specs.Runs.{Known}
 use Rattle.desk_engine.specs.Turns.{LeavesLine, TellsLine, line_untold}
 use Rattle.desk_engine.specs.Groups.{GatherBreaks, Gathers}
 use Rattle.desk_engine.proofs.Weaving.{asks_end, line_gathered, line_left, line_unread, passed_on}
-use Rattle.desk_engine.proofs.group.take_line.Goals as goal
+use Rattle.desk_engine.proofs.gathering.take_line.Goals as goal
 
 pub returns-in_err-line-clause-breaks : goal.returns-in_err-line-clause-breaks
 returns-in_err-line-clause-breaks g c =

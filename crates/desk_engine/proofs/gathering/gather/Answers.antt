@@ -3,7 +3,7 @@ use Rattle.node_engine.specs.declared.failure.NodeFailure.{NodeFailure}
 use Rattle.node_engine.specs.Answers.{state_of}
 use Rattle.desk_engine.specs.Groups.{GatherBreaks, GathersTo}
 use Rattle.desk_engine.proofs.Weaving.{gathers_none, passed_on}
-use Rattle.desk_engine.proofs.group.gather.Goals as goal
+use Rattle.desk_engine.proofs.gathering.gather.Goals as goal
 
 pub returns-in_err-take_line-clause-breaks : goal.returns-in_err-take_line-clause-breaks
 returns-in_err-take_line-clause-breaks g c =
