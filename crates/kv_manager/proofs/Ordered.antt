@@ -18,7 +18,6 @@ use Rattle.kv_turns.specs.Turns.{applies, entry_record}
 use Rattle.kv_core.specs.Stores.{IsTidy, state_of}
 use Rattle.kv_core.specs.Replays.{seen_of}
 use Rattle.kv_core.proofs.Lawful.{lawful_of}
-use Rattle.kv_manager.specs.Restarts.{opened}
 use Rattle.kv_manager.specs.Sights.{IsKept, IsLogged, KvSight, doubt_of}
 use Rattle.kv_manager.specs.Turns.{IsDueTurn}
 use Rattle.kv_manager.proofs.Marks.{agrees_of, state_by}

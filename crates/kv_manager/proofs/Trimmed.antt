@@ -1,5 +1,5 @@
 -- A manager after a trim of its log.
-use Rattle.std.proofs.Common.{◌≡◌, ◌∙◌, ℕ, Bool, true, false, Option, Some, None, is_some, List, [], ◌∷◌, ◌++◌, map, refl, sym, ap, subst, inl, inr}
+use Rattle.std.proofs.Common.{◌≡◌, ◌∙◌, ℕ, Bool, true, false, Option, Some, None, is_some, Result, Ok, Err, OnOk, IfErr, List, [], ◌∷◌, ◌++◌, map, refl, sym, ap, subst, inl, inr}
 use Rattle.std.proofs.lemmas.List.{append-nil}
 use Rattle.std.specs.List.{AllByRecursion}
 use Rattle.xa_xid.specs.declared.xid.Xid.{Xid}
@@ -251,3 +251,14 @@ pub untrimmed_again : (old new : LogState) (count : ℕ) (e : LogError) → old.
 untrimmed_again old new count e kind s r =
     subst (λ rs. NotRewritten old new (rec_log.trim_of old rs) e) (own_is_data old.sight kind)
     (settled_untrimmed old new count e s r)
+
+-- whichever the answer is, the manager stands, or has failed
+pub kept_again : {A : Type 0} (r : Result A LogError) (s : KvSight) (log : LogState) (n : ℕ) → IsKept s
+    → s.log.sight.failed ≡ false → AllByRecursion (IsSound Manager) (records_of s.log.sight.kept)
+    → OnOk r (Trimmed s.log log (data_in s.log.sight) n)
+    → IfErr r (λ e. NotRewritten s.log log (rec_log.trim_of s.log (data_in s.log.sight)) e)
+    → IsKept (record s { log = log })
+kept_again (Ok a) s log n kept works sound made why =
+    kept_trimmed s log (data_in s.log.sight) n kept works sound refl made
+kept_again (Err e) s log n kept works sound made why =
+    kept_untrimmed s log (data_in s.log.sight) e kept works sound refl why

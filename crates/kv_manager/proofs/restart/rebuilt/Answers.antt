@@ -1,4 +1,4 @@
-use Rattle.std.proofs.Common.{◌∙◌, Some, ap, inr, refl, sym, subst}
+use Rattle.std.proofs.Common.{◌∙◌, ap, inr, refl, sym, subst}
 use Rattle.kv_core.specs.Replays.{Leaves}
 use Rattle.kv_core.specs.declared.replayed.Replayed.{Replayed}
 use Rattle.xa_assoc.specs.Restored.{Restored}

@@ -1,4 +1,4 @@
-use Rattle.std.proofs.Common.{◌≡◌, ◌∙◌, rules, false, map, refl, sym, ap, subst}
+use Rattle.std.proofs.Common.{◌≡◌, ◌∙◌, rules, false, map, sym, ap, subst}
 use Rattle.std.specs.List.{AllByRecursion}
 use Rattle.tree_model.specs.declared.names.Kind.TheVariants.{Manager}
 use Rattle.tree_model.specs.Store.{base_records}
@@ -8,7 +8,7 @@ use Rattle.rec_log.specs.Sights.{NotRewritten, records_of}
 use Rattle.rec_log.specs.Trimming.{Trimmed, trim_of}
 use Rattle.tree_model.specs.LogNames.{unnamed}
 use Rattle.kv_manager.specs.Sights.{KvSight, logged}
-use Rattle.kv_manager.proofs.Trimmed.{AreOfData, data_in, kept_trimmed, kept_untrimmed, own_is_data}
+use Rattle.kv_manager.proofs.Trimmed.{AreOfData, kept_again, kept_trimmed, kept_untrimmed, own_is_data}
 use Rattle.kv_manager.proofs.manager.KvManager.trim.Goals as goal
 
 pub trim_again-requires-clause-managers : goal.trim_again-requires-clause-managers
@@ -22,26 +22,11 @@ invariant_of-self g c =
       boot = c.self.inside.boot;
     } in
     let works : s.log.sight.failed ≡ false = search rules in
-    let made : Trimmed s.log c.trim_again.new.log (data_in s.log.sight) c.in-Some.count = search rules in
     let sound : AllByRecursion (IsSound Manager) (records_of s.log.sight.kept) =
     subst (λ (v : KvSight). AllByRecursion (IsSound Manager) (records_of v.log.sight.kept))
     (sym c.self.view_is) c.records_are_sound.ensures in
-    kept_trimmed s c.trim_again.new.log (data_in s.log.sight) c.in-Some.count c.self.invariant works sound refl made
-
-pub invariant_of-self-2 : goal.invariant_of-self-2
-invariant_of-self-2 g c =
-    let s : KvSight = record {
-      store = c.self.inside.store;
-      log = c.self.inside.log;
-      boot = c.self.inside.boot;
-    } in
-    let works : s.log.sight.failed ≡ false = search rules in
-    let why : NotRewritten s.log c.trim_again.new.log (trim_of s.log (data_in s.log.sight)) c.in-Err.error =
-    search rules in
-    let sound : AllByRecursion (IsSound Manager) (records_of s.log.sight.kept) =
-    subst (λ (v : KvSight). AllByRecursion (IsSound Manager) (records_of v.log.sight.kept))
-    (sym c.self.view_is) c.records_are_sound.ensures in
-    kept_untrimmed s c.trim_again.new.log (data_in s.log.sight) c.in-Err.error c.self.invariant works sound refl why
+    kept_again c.trim_again.result s c.trim_again.new.log c.in-Some.count c.self.invariant works sound
+    c.trim_again.ensures.ok c.trim_again.ensures.err
 
 pub trim-requires-clause-own : goal.trim-requires-clause-own
 trim-requires-clause-own g c =
@@ -49,8 +34,8 @@ trim-requires-clause-own g c =
     ∙ ap (λ (v : KvSight). map unnamed (base_records (logged v))) (sym c.self.view_is)
     ∙ sym (own_is_data c.self.inside.log.sight c.self.invariant.kind)
 
-pub invariant_of-self-3 : goal.invariant_of-self-3
-invariant_of-self-3 g c =
+pub invariant_of-self-in-Ok-trim : goal.invariant_of-self-in-Ok-trim
+invariant_of-self-in-Ok-trim g c =
     let s : KvSight = record {
       store = c.self.inside.store;
       log = c.self.inside.log;
@@ -68,8 +53,8 @@ invariant_of-self-3 g c =
     kept_trimmed s c.trim.new.self (map frame_record c.deref.result.now) c.in-Ok-trim.count
     c.self.invariant works sound spell made
 
-pub invariant_of-self-4 : goal.invariant_of-self-4
-invariant_of-self-4 g c =
+pub invariant_of-self-2 : goal.invariant_of-self-2
+invariant_of-self-2 g c =
     let s : KvSight = record {
       store = c.self.inside.store;
       log = c.self.inside.log;
