@@ -1,5 +1,5 @@
 -- Stores go on, and a file that is brought up holds what was promised.
-use Rattle.std.proofs.Common.{◌≡◌, ◌∙◌, ◌≤◌, ◌⊎◌, inl, inr, ℕ, List, ◌∷◌, ◌++◌, length, take, drop, refl, sym, ap, subst, arith, le_refl, take-append-drop, length-take-le, take_all, take-take}
+use Rattle.std.proofs.Common.{◌≡◌, ◌∙◌, ◌⊎◌, inl, inr, ℕ, List, ◌∷◌, ◌++◌, Result, Ok, Err, OnOk, length, take, drop, refl, sym, ap, subst, arith, le_refl, take-append-drop, length-take-le, take_all, take-take}
 use Rattle.std.specs.List.{concat}
 use Rattle.file_blocks.proofs.Kept.{kept}
 use Rattle.file_store.specs.declared.store.FileStore.{FileStore}
@@ -8,8 +8,13 @@ use Rattle.file_store.specs.Stores.{file_bytes, file_forced}
 use Rattle.staged_store.specs.declared.backing.FileBacking.{FileBacking}
 use Rattle.staged_store.specs.declared.staged.StagedStore.{StagedStore}
 use Rattle.staged_store.specs.Staged.{Continues, Grows, StoresContinue, promised}
-use Rattle.staged_store.specs.Crashes.{Between, GroupsStandOrNot}
-use Rattle.staged_store.specs.Backings.{AddsPromised, Asks, Holds, PutsPromised, asks_block, asks_file, asks_nothing}
+use Rattle.staged_store.specs.Crashes.{GroupsStandOrNot}
+use Rattle.staged_store.specs.Backings.{AddsPromised, Asks, Holds, asks_block, asks_file, asks_nothing}
+
+-- two facts of an Ok
+pub both_on_ok : {A E : Type 0} (r : Result A E) (P Q R : Type 0) → (P → Q → R) → OnOk r P → OnOk r Q → OnOk r R
+both_on_ok (Ok a) P Q R f p q = f p q
+both_on_ok (Err e) P Q R f p q = tt
 
 -- Stores.
 
