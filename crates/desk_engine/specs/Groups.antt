@@ -47,8 +47,8 @@ pub record GatherBreaks (w : Ways) (old new : NodeState) (left : Known) (told : 
   pub gathers : Gathers w old mid left at told
   pub leaves : Leaves w mid new why
 
--- the backing was brought up to a store that holds the log of the node
-abbrev pub BroughtUp : {B L : Type 0} → (B → B → L → Type 0) → (L → List ℕ) → (L → ℕ) → (L → ℕ) → B → B → NodeState
-    → Type 0
-BroughtUp {L = L} brings bytes forced failures old new s =
-    (store : L) × HoldsLog bytes forced failures s.core store × brings old new store
+module _ {B L : Type 0} where
+  -- the backing was brought up to a store that holds the log of the node
+  abbrev pub BroughtUp : (B → B → L → Type 0) → (L → List ℕ) → (L → ℕ) → (L → ℕ) → B → B → NodeState → Type 0
+  BroughtUp brings bytes forced failures old new s =
+      (store : L) × HoldsLog bytes forced failures s.core store × brings old new store
