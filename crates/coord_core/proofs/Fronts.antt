@@ -2,10 +2,9 @@
 use Rattle.std.proofs.Common.{◌≡◌, ◌≤◌, ◌∙◌, ◌+◌, ℕ, Bool, true, false, if◌then◌else◌, Option, Some, None, List, [], ◌∷◌, ◌++◌, length, map, take, refl, sym, ap, subst, append_assoc, append-nil, arith}
 use Rattle.tree_model.specs.declared.records.LogRecord.{LogRecord}
 use Rattle.tree_model.specs.LogNames.{own_records}
-use Rattle.tree_model.specs.Nodes.{Place}
+use Rattle.tree_model.specs.Nodes.{Place, is_any_forced}
 use Rattle.log_text.specs.Made.{frame_record}
 use Rattle.rec_log.specs.Sights.{Breaks, IsFront, LogSight, LogState, Restarts as LogRestarts, frames_size, left_by, records_of}
-use Rattle.core_model.specs.States.{is_any_forced}
 use Rattle.inquire_core.specs.Remembered.{LogMemory, Remembers}
 use Rattle.coord_effects.specs.declared.effect.Framed.{Framed}
 use Rattle.coord_effects.specs.Rows.{written_of}

@@ -13,7 +13,7 @@ use Rattle.core_law.specs.worlds.Worlds.{Applies, Settles, WorldState, least_ope
 use Rattle.left_logs.proofs.Unfailed.{NoneFailed}
 
 -- in no step of these entries a device failed
-unfoldable WholeSteps : List Entry → Type 0
+unfoldable pub WholeSteps : List Entry → Type 0
 WholeSteps [] = Unit {0}
 WholeSteps (x ∷ xs) = (x.step.fault ≡ None) × WholeSteps xs
 
@@ -35,7 +35,7 @@ one_more old new q happening reaction h is =
     subst WholeSteps (sym is) (more_steps old (step_entry q happening reaction ∷ []) h (refl, tt))
 
 -- the steps of a state
-abbrev IsWhole : WorldState → Type 0
+abbrev pub IsWhole : WorldState → Type 0
 IsWhole w = WholeSteps w.entries
 
 settled_by : (old new : WorldState) (again : WorldState → Type 0) (o : Option ℕ)
@@ -52,7 +52,7 @@ settled (suc n) old new h made =
     settled_by old new (λ mid. Settles n mid new) (least_open 1 old.delivered)
     (λ mid g rest. settled n mid new g rest) h made
 
-applied : (old new : WorldState) (e : Event) → IsWhole old → Applies old e new → IsWhole new
+pub applied : (old new : WorldState) (e : Event) → IsWhole old → Applies old e new → IsWhole new
 applied old new (Act a) h made = one_more old.entries new.entries _ _ _ h made.enters.entries
 applied old new (Deliver k) h made = one_more old.entries new.entries _ _ _ h made.steps.enters.entries
 applied old new Settle h made = settled 10000 old new h made
@@ -63,11 +63,11 @@ led : (old new : WorldState) (events : List Event) → IsWhole old → Leads old
 led old new [] h is = subst IsWhole (sym is) h
 led old new (e ∷ events) h made = led made.0 new events (applied old made.0 e h made.1) made.2
 
-opened : (tree : List TreeEntry) (start : WorldState) → IsOpened start tree → IsWhole start
+pub opened : (tree : List TreeEntry) (start : WorldState) → IsOpened start tree → IsWhole start
 unfolding WholeSteps
 opened tree start opens = subst WholeSteps (sym opens.entries) tt
 
-moves_whole : (es : List Made) → WholeSteps (journal_of es) → NoneFailed es
+pub moves_whole : (es : List Made) → WholeSteps (journal_of es) → NoneFailed es
 unfolding WholeSteps NoneFailed journal_of
 moves_whole [] h = tt
 moves_whole (e ∷ es) h =

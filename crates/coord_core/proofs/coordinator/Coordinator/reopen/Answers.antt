@@ -19,7 +19,7 @@ returns-in-Err-clause-err g c =
     } in
     subst (NotReopened (place_of v) c.args.log.sight c.into_log.result.sight) (sym c.reopen_error.ensures)
     (not_reopened v c.restart.new.self c.size-keep.result c.in-Err.error c.into_log.result
-    c.size-keep.ensures c.into_log.ensures c.in-Err.ensures.err)
+    c.size-keep.ensures.keeps c.into_log.ensures c.in-Err.ensures.err)
 
 pub invariant_of-coordinator : goal.invariant_of-coordinator
 invariant_of-coordinator g c = (
