@@ -140,8 +140,7 @@ fn take_turns<R: Waits, W: Write, L: LogStore, N: Witness, B: Backing<L>>(
         (stand (R.remaining reader.new) (W.contents writer.new) (state_of serving.new)) e) }
 {
     for _ in 0..u64::MAX {
-        let ended = take_turn(alloc, serving, backing, watch, reader, writer, witness)?;
-        if let Some(ended) = ended {
+        if let Some(ended) = take_turn(alloc, serving, backing, watch, reader, writer, witness)? {
             return Ok(ended);
         }
     }
@@ -224,7 +223,16 @@ pub fn run_desk<R: Waits, W: Write, L: LogStore + Drop, N: Witness, B: Backing<L
         (stand (R.remaining reader.old) (W.contents writer.old) (state_of serving)) opening.now
         (R.remaining reader.new) (W.contents writer.new)) }
 {
-    match serve(alloc, &mut serving, backing, opening, watch, reader, writer, witness) {
+    match serve(
+        alloc,
+        &mut serving,
+        backing,
+        opening,
+        watch,
+        reader,
+        writer,
+        witness,
+    ) {
         Ok(by) => finish(alloc, serving, backing, by, writer, witness),
         Err(failure) => {
             let_go(serving);
