@@ -1,4 +1,4 @@
-use Rattle.std.proofs.Common.{◌∙◌, ◌≡◌, ℕ, List, ◌++◌, ap, refl, subst, sym}
+use Rattle.std.proofs.Common.{◌∙◌, ℕ, List, ◌++◌, ap, refl, subst, sym}
 use Rattle.script_words.specs.Steps.{same}
 use Rattle.node_lines.specs.Asked.{end_word}
 use Rattle.node_engine.specs.declared.failure.NodeFailure.TheVariants.{Memory}
