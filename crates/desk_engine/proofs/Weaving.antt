@@ -1,7 +1,7 @@
 -- What a desk has woven, turn by turn.
-use Rattle.std.proofs.Common.{◌≡◌, ◌∙◌, ◌+◌, ◌≤◌, ◌<◌, inl, inr, length, take, zero, suc, ℕ, Bool, true, false, Some, None, Result, Ok, Err, List, [], ◌∷◌, ◌++◌, refl, sym, ap, subst, append_assoc, true≢false, arith}
+use Rattle.std.proofs.Common.{◌≡◌, ◌∙◌, ◌+◌, ◌≤◌, ◌<◌, inl, inr, length, take, zero, suc, ℕ, Bool, true, false, Option, Some, None, Result, Ok, Err, List, [], ◌∷◌, ◌++◌, refl, sym, ap, subst, append_assoc, true≢false, arith}
 use Rattle.std.specs.Result.{IsErrAnd}
-use Rattle.std.specs.Prelude.{◌⊎◌, IfErr, ◌==◌, ◌&&◌, OnSome, if◌then◌else◌, nat_lt, not}
+use Rattle.std.specs.Prelude.{◌⊎◌, IfErr, IfOk, ◌==◌, ◌&&◌, OnSome, if◌then◌else◌, nat_lt, not}
 use Rattle.std.specs.List.{flat_map}
 use Rattle.std.specs.Io.KnownBytes.{Appends, Consumes, IsAtEnd}
 use Rattle.std.proofs.lemmas.List.{append-nil, length-take-le, nil_from_length, take_all}
@@ -16,12 +16,13 @@ use Rattle.node_lines.specs.Asked.{end_word}
 use Rattle.node_desk.specs.declared.watch.Ways.{Ways}
 use Rattle.node_desk.specs.Words.{ask_line, messages_in, trim_line}
 use Rattle.node_engine.specs.declared.failure.NodeFailure.{NodeFailure}
-use Rattle.node_engine.specs.declared.failure.NodeFailure.TheVariants.{Write}
+use Rattle.node_engine.specs.declared.run.Ended.{Ended}
 use Rattle.node_engine.specs.declared.run.Ended.TheVariants.{Input, Asked as EndAsked}
 use Rattle.node_engine.specs.Answers.{AnswersLine, NodeState, Shows, TakesLine}
 use Rattle.node_engine.specs.Runs.{Known, ReadsAll, Stand, stand}
-use Rattle.desk_engine.specs.Turns.{AreFirst, AskedAbout, Asks, LeavesLine, LeavesOwn, Line, Makes, Round, RoundBreaks, TellsLine, Trims, Turn, cases_at, given, given_by, leaves_ask, leaves_line, leaves_nothing, leaves_trim, line_in, nothing_line, round_partly, round_untold}
-use Rattle.desk_engine.specs.Weaves.{Breaks, Ends, Weaves, Woven, bytes_taken, partly, untold}
+use Rattle.desk_engine.specs.Turns.{AreFirst, AskedAbout, Asks, IsHeldBack, LeavesLine, LeavesOwn, Line, Makes, Round, RoundBreaks, TellsLine, Trims, Turn, cases_at, given, given_by, leaves_ask, leaves_line, leaves_nothing, leaves_trim, line_in, nothing_line, round_partly, round_untold}
+use Rattle.desk_engine.specs.Weaves.{Breaks, LeadsTo, Weaves, Woven, bytes_taken, partly, untold}
+use Rattle.desk_engine.specs.Groups.{GatherBreaks, Gathers, GathersTo}
 
 -- a failure that is passed on
 pub passed_on : {A E : Type 0} (r : Result A E) (e : E) (P : E → Type 0) → IsErrAnd r (λ x. x ≡ e) → P e → IfErr r P
@@ -89,6 +90,26 @@ taken_on : (ts : List Turn) (t : Turn)
 taken_on ts t = sym (flat_map-append bytes_taken ts (t ∷ [])
     ∙ ap (λ (x : List ℕ). flat_map bytes_taken ts ++ x) (append-nil (bytes_taken t)))
 
+-- one turn alone
+one_weaves : (w : Ways) (old new : NodeState) (t : Turn) (text : List ℕ) → Makes w t old new text
+    → Weaves w old (t ∷ []) new text
+one_weaves w old new t text makes = (new, text, [], makes, (refl, refl), sym (append-nil text))
+
+-- many turns more
+weaves_append : (w : Ways) (old mid new : NodeState) (ts us : List Turn) (text more : List ℕ) → Weaves w old ts mid text
+    → Weaves w mid us new more → Weaves w old (ts ++ us) new (text ++ more)
+weaves_append w old mid new [] us text more h k =
+    subst (λ (t : List ℕ). Weaves w old us new (t ++ more)) (sym h.1)
+    (subst (λ (s : NodeState). Weaves w s us new more) h.0 k)
+weaves_append w old mid new (u ∷ ts) us text more (at, first, rest, makes, weaves, is) k = (
+  at,
+  first,
+  rest ++ more,
+  makes,
+  weaves_append w at mid new ts us rest more weaves k,
+  ap (λ (x : List ℕ). x ++ more) is ∙ append_assoc first rest more,
+)
+
 module _ (w : Ways) (start : Stand) (opening : Reaction) (before now : Stand) where
   pub woven_more : (t : Turn) (text : List ℕ) → Consumes before.left now.left (bytes_taken t)
       → Makes w t before.state now.state text → Appends before.held now.held text
@@ -106,19 +127,22 @@ module _ (w : Ways) (start : Stand) (opening : Reaction) (before now : Stand) wh
         (appends_on start.held before.held now.held (h.first ++ h.rest) text h.written written);
   }
 
-  -- the reader has nothing left
-  woven_still : now.state ≡ before.state → now.held ≡ before.held → Consumes before.left now.left []
-      → Woven w start opening before → Woven w start opening now
-  woven_still state held took h = record {
+  -- lines were gathered, and what is to be told of them is written
+  pub woven_gathered : (told : List ℕ) → Gathers w before.state now.state before.left now.left told
+      → Appends before.held now.held told → Woven w start opening before → Woven w start opening now
+  woven_gathered told g written h = record {
     opened = h.opened;
     first = h.first;
     shows = h.shows;
-    turns = h.turns;
-    rest = h.rest;
-    weaves = subst (λ (s : NodeState). Weaves w h.opened h.turns s h.rest) (sym state) h.weaves;
-    took = subst (λ (x : List ℕ). Consumes start.left now.left x) (append-nil (flat_map bytes_taken h.turns))
-        (consumes_on start.left before.left now.left (flat_map bytes_taken h.turns) [] h.took took);
-    written = subst (λ (k : Known). Appends start.held k (h.first ++ h.rest)) (sym held) h.written;
+    turns = h.turns ++ g.turns;
+    rest = h.rest ++ told;
+    weaves = weaves_append w h.opened before.state now.state h.turns g.turns h.rest told h.weaves g.weaves;
+    took = subst (λ (x : List ℕ). Consumes start.left now.left x)
+        (sym (flat_map-append bytes_taken h.turns g.turns))
+        (consumes_on start.left before.left now.left (flat_map bytes_taken h.turns) (flat_map bytes_taken g.turns) h.took
+        g.took);
+    written = subst (λ (x : List ℕ). Appends start.held now.held x) (append_assoc h.first h.rest told)
+        (appends_on start.held before.held now.held (h.first ++ h.rest) told h.written written);
   }
 
 -- a process that has just told what it did
@@ -191,8 +215,35 @@ all_read (Some x) None c xs h end k = absurd h
 all_read (Some x) (Some y) None xs h end k = absurd k
 all_read (Some x) (Some y) (Some z) xs h end k = ap (λ (t : List ℕ). Some t) end
 
-module _ (w : Ways) (start : Stand) (opening : Reaction) (before now : Stand) (kept : List ℕ) (fed : Bool)
-    (reads : Reads before.left now.left kept fed) (h : Woven w start opening before) where
+-- Groups of lines.
+
+-- none yet
+pub gathers_none : (w : Ways) (s : NodeState) (left : Known) (told : List ℕ) → told ≡ [] → Gathers w s s left left told
+gathers_none w s left told is = record { turns = []; weaves = (refl, is); took = nothing_taken left }
+
+-- one more
+gathers_more : (w : Ways) (first old new : NodeState) (left at now : Known) (told more : List ℕ) (t : Turn)
+    → Gathers w first old left at told → Makes w t old new more → Consumes at now (bytes_taken t)
+    → Gathers w first new left now (told ++ more)
+gathers_more w first old new left at now told more t g makes took = record {
+  turns = g.turns ++ t ∷ [];
+  weaves = weaves_on w first old new g.turns told t more g.weaves makes;
+  took = subst (λ (x : List ℕ). Consumes left now x) (taken_on g.turns t)
+      (consumes_on left at now (flat_map bytes_taken g.turns) (bytes_taken t) g.took took);
+}
+
+-- the reader has nothing left
+gathers_still : (w : Ways) (first old : NodeState) (left at now : Known) (told : List ℕ) → Gathers w first old left at told
+    → Consumes at now [] → Gathers w first old left now told
+gathers_still w first old left at now told g took = record {
+  turns = g.turns;
+  weaves = g.weaves;
+  took = subst (λ (x : List ℕ). Consumes left now x) (append-nil (flat_map bytes_taken g.turns))
+      (consumes_on left at now (flat_map bytes_taken g.turns) [] g.took took);
+}
+
+module _ (w : Ways) (first old : NodeState) (left at now : Known) (told kept : List ℕ) (fed : Bool)
+    (reads : Reads at now kept fed) (g : Gathers w first old left at told) where
   given_is : given_by kept fed ≡ given reads.piece
   given_is = given_kept reads.piece kept fed reads.keeps.front reads.keeps.fed
 
@@ -204,86 +255,145 @@ module _ (w : Ways) (start : Stand) (opening : Reaction) (before now : Stand) (k
       ap (λ (f : List ℕ). f ++ feed reads.piece.fed) front ∙ ap feed unfed
 
   -- the input has no line any more
-  pub none_left : is_none_left kept fed ≡ true → now.state ≡ before.state → now.held ≡ before.held
-      → Ends Input w start opening now
-  none_left none state held =
-      let took = subst (λ (x : List ℕ). Consumes before.left now.left x) (none_in none) reads.next.took in
+  pub none_left : is_none_left kept fed ≡ true → GathersTo (Some Input) w first old left now told
+  none_left none =
+      let took = subst (λ (x : List ℕ). Consumes at now x) (none_in none) reads.next.took in
       let unfed = sym reads.keeps.fed ∙ is_false fed (and_right (length kept == 0) (not fed) none) in (
-        woven_still w start opening before now state held took h,
-        all_read start.left before.left now.left (flat_map bytes_taken h.turns) h.took (reads.next.last unfed) took,
+        gathers_still w first old left at now told g took,
+        all_read left at now (flat_map bytes_taken g.turns) g.took (reads.next.last unfed) took,
       )
 
   -- the line asks the node to end
-  pub asks_end : same (given_by kept fed) end_word ≡ true → now.state ≡ before.state → now.held ≡ before.held
-      → Ends EndAsked w start opening now
-  asks_end asks state held = record {
-    before = before;
-    woven = h;
+  pub asks_end : same (given_by kept fed) end_word ≡ true → GathersTo (Some EndAsked) w first old left now told
+  asks_end asks = record {
+    at = at;
+    gathers = g;
     piece = reads.piece;
     asks = subst (λ (l : List ℕ). same l end_word ≡ true) given_is asks;
     took = reads.next.took;
-    state = state;
-    held = held;
   }
 
-  made : (told : List ℕ) → same (given_by kept fed) end_word ≡ false
-      → TellsLine w (given_by kept fed) before.state now.state told → Makes w (Line reads.piece) before.state now.state told
-  made told on tells = record {
+  made : (new : NodeState) (more : List ℕ) → same (given_by kept fed) end_word ≡ false
+      → TellsLine w (given_by kept fed) old new more → Makes w (Line reads.piece) old new more
+  made new more on tells = record {
     no_feed = reads.next.no_feed;
     goes_on = subst (λ (l : List ℕ). same l end_word ≡ false) given_is on;
-    tells = subst (λ (l : List ℕ). TellsLine w l before.state now.state told) given_is tells;
+    tells = subst (λ (l : List ℕ). TellsLine w l old new more) given_is tells;
   }
 
-  -- the line is answered, and that is written
-  pub line_told : (told : List ℕ) → same (given_by kept fed) end_word ≡ false
-      → TellsLine w (given_by kept fed) before.state now.state told → Appends before.held now.held told
-      → Woven w start opening now
-  line_told told on tells written =
-      woven_more w start opening before now (Line reads.piece) told reads.next.took (made told on tells) written h
+  -- the line is made
+  pub line_gathered : (new : NodeState) (more : List ℕ) → same (given_by kept fed) end_word ≡ false
+      → TellsLine w (given_by kept fed) old new more → Gathers w first new left now (told ++ more)
+  line_gathered new more on tells =
+      gathers_more w first old new left at now told more (Line reads.piece) g (made new more on tells) reads.next.took
 
-  -- a front of it is
-  pub line_cut : (told : List ℕ) → same (given_by kept fed) end_word ≡ false
-      → TellsLine w (given_by kept fed) before.state now.state told → (why : NodeFailure) → why ≡ Write
-      → WritesFront before.held now.held told → Breaks w start opening now why
-  line_cut told on tells why is front = partly before h (Line reads.piece) told (made told on tells) front is
-
-  -- nothing is
-  pub line_left : (why : NodeFailure) → LeavesLine w (given_by kept fed) before.state now.state why
-      → now.held ≡ before.held → Breaks w start opening now why
-  line_left why leaves held =
-      untold before h
-      (leaves_line reads.piece (subst (λ (l : List ℕ). LeavesLine w l before.state now.state why) given_is leaves)) held
+  -- it is left
+  pub line_left : (new : NodeState) (why : NodeFailure) → LeavesLine w (given_by kept fed) old new why
+      → GatherBreaks w first new left told why
+  line_left new why leaves = record {
+    mid = old;
+    at = at;
+    gathers = g;
+    leaves = leaves_line reads.piece (subst (λ (l : List ℕ). LeavesLine w l old new why) given_is leaves);
+  }
 
 -- no line is read
-pub line_unread : (w : Ways) (start : Stand) (opening : Reaction) (before now : Stand) (why : NodeFailure)
-    → now.state ≡ before.state → now.held ≡ before.held → Woven w start opening before
-    → Breaks w start opening now why
-line_unread w start opening before now why state held h = untold before h (leaves_nothing state) held
+pub line_unread : (w : Ways) (first old : NodeState) (left at : Known) (told : List ℕ) (why : NodeFailure)
+    → Gathers w first old left at told → GatherBreaks w first old left told why
+line_unread w first old left at told why g = record { mid = old; at = at; gathers = g; leaves = leaves_nothing refl }
 
--- The same, where a failure is passed on.
+-- What is told of a group.
 
-module _ {A : Type 0} (r : Result A NodeFailure) (why : NodeFailure) (w : Ways) (before now : Stand)
-    (failed : IsErrAnd r (λ e. e ≡ why)) where
+reads_all_on : (a b c : Known) (xs : List ℕ) → Consumes a b xs → ReadsAll b c → ReadsAll a c
+reads_all_on None b c xs h k = tt
+reads_all_on (Some x) None c xs h k = absurd h
+reads_all_on (Some x) (Some y) c xs h k = k
+
+module _ (w : Ways) (before now : Stand) (told : List ℕ) where
+  abbrev LeadsAfter : Option Ended → Type 0
+  LeadsAfter ended = (start : Stand) → (opening : Reaction) → Woven w start opening before → LeadsTo ended w start opening now
+
   abbrev BreaksAfter : NodeFailure → Type 0
   BreaksAfter e = (start : Stand) → (opening : Reaction) → Woven w start opening before → Breaks w start opening now e
 
-  pub if_unread : now.state ≡ before.state → now.held ≡ before.held → IfErr r BreaksAfter
-  if_unread state held =
-      passed_on r why BreaksAfter failed
-      (λ start opening h. line_unread w start opening before now why state held h)
+  abbrev HasGathered : Option Ended → Type 0
+  HasGathered ended = GathersTo ended w before.state now.state before.left now.left told
 
-  pub if_left : (kept : List ℕ) (fed : Bool) → Reads before.left now.left kept fed
-      → LeavesLine w (given_by kept fed) before.state now.state why → now.held ≡ before.held → IfErr r BreaksAfter
-  if_left kept fed reads leaves held =
-      passed_on r why BreaksAfter failed
-      (λ start opening h. line_left w start opening before now kept fed reads h why leaves held)
+  ended_leads : (o : Option Ended) → HasGathered o → Appends before.held now.held told → LeadsAfter o
+  ended_leads None g written = λ start opening h. woven_gathered w start opening before now told g written h
+  ended_leads (Some Input) g written = λ start opening h. (
+    woven_gathered w start opening before now told g.0 written h,
+    reads_all_on start.left before.left now.left (flat_map bytes_taken h.turns) h.took g.1,
+  )
+  ended_leads (Some EndAsked) g written = λ start opening h. record {
+    before = stand g.at now.held now.state;
+    woven = woven_gathered w start opening before (stand g.at now.held now.state) told g.gathers written h;
+    piece = g.piece;
+    asks = g.asks;
+    took = g.took;
+    state = refl;
+    held = refl;
+  }
 
-  pub if_cut : (kept : List ℕ) (fed : Bool) → Reads before.left now.left kept fed → (told : List ℕ)
-      → same (given_by kept fed) end_word ≡ false → TellsLine w (given_by kept fed) before.state now.state told
-      → why ≡ Write → WritesFront before.held now.held told → IfErr r BreaksAfter
-  if_cut kept fed reads told on tells is front =
-      passed_on r why BreaksAfter failed
-      (λ start opening h. line_cut w start opening before now kept fed reads h told on tells why is front)
+  -- all is told
+  pub group_leads : (r : Result (Option Ended) NodeFailure) → IfOk r HasGathered → Appends before.held now.held told
+      → IfOk r LeadsAfter
+  group_leads (Ok o) g written = ended_leads o g written
+  group_leads (Err e) g written = tt
+
+  -- all is told, and the next line was left
+  pub group_breaks : (r : Result (Option Ended) NodeFailure)
+      → IfErr r (GatherBreaks w before.state now.state before.left told) → Appends before.held now.held told
+      → IfErr r BreaksAfter
+  group_breaks (Ok o) g written = tt
+  group_breaks (Err e) g written = λ start opening h.
+      untold (stand g.at now.held g.mid)
+      (woven_gathered w start opening before (stand g.at now.held g.mid) told g.gathers written h) g.leaves refl
+
+  some_gathers : (o : Option Ended) → HasGathered o
+      → (at : Known) × Gathers w before.state now.state before.left at told
+  some_gathers None g = (now.left, g)
+  some_gathers (Some Input) g = (now.left, g.0)
+  some_gathers (Some EndAsked) g = (g.at, g.gathers)
+
+  group_held : (r : Result (Option Ended) NodeFailure) (why : NodeFailure) → IfOk r HasGathered
+      → IfErr r (GatherBreaks w before.state now.state before.left told) → WritesFront before.held now.held told
+      → IsHeldBack why → BreaksAfter why
+  group_held (Ok o) why g b front held = λ start opening h.
+      let gathers = (some_gathers o g).1 in
+      partly before h gathers.turns now.state told gathers.weaves (inl refl) front held
+  group_held (Err e) why g b front held = λ start opening h.
+      partly before h b.gathers.turns b.mid told b.gathers.weaves (inr (e, b.leaves)) front held
+
+  -- not all is told
+  pub if_group_held : {A : Type 0} (q : Result A NodeFailure) (r : Result (Option Ended) NodeFailure) (why : NodeFailure)
+      → IsErrAnd q (λ e. e ≡ why) → IfOk r HasGathered
+      → IfErr r (GatherBreaks w before.state now.state before.left told) → WritesFront before.held now.held told
+      → IsHeldBack why → IfErr q BreaksAfter
+  if_group_held q r why failed g b front held = passed_on q why BreaksAfter failed (group_held r why g b front held)
+
+-- nothing more was read
+pub turn_unread : (w : Ways) (start : Stand) (opening : Reaction) (before now : Stand) (why : NodeFailure)
+    → now.state ≡ before.state → now.held ≡ before.held → Woven w start opening before
+    → Breaks w start opening now why
+turn_unread w start opening before now why state held h = untold before h (leaves_nothing state) held
+
+-- Fronts.
+
+-- a front of a front
+front_of : (n k : ℕ) (xs : List ℕ) → (m : ℕ) × (take n (take k xs) ≡ take m xs)
+front_of zero k xs = (0, refl)
+front_of (suc n) zero xs = (0, refl)
+front_of (suc n) (suc k) [] = (0, refl)
+front_of (suc n) (suc k) (x ∷ xs) =
+    let rest = front_of n k xs in (suc rest.0, ap (λ (t : List ℕ). x ∷ t) rest.1)
+
+pub front_in : (a b : Known) (k : ℕ) (xs : List ℕ) → WritesFront a b (take k xs) → WritesFront a b xs
+front_in a b k xs (n, h) =
+    let front = front_of n k xs in (front.0, subst (λ (t : List ℕ). Appends a b t) front.1 h)
+
+pub none_written : (a b : Known) (xs : List ℕ) → b ≡ a → WritesFront a b xs
+none_written a b xs is = (0, subst (λ (k : Known). Appends a k []) (sym is) (appends_nothing a))
 
 -- Rounds.
 
@@ -327,7 +437,7 @@ round_left old mid new held now cs c why starts asked leaves = round_untold cs s
 -- a front of what is told of the next case was written
 pub round_cut : (old mid new : NodeState) (held at now : Known) (cs : List Case) (c : Case) (text : List ℕ)
     (why : NodeFailure) → AreFirst (cases_at old) (cs ++ c ∷ []) → AskedAbout old cs mid held at
-    → AnswersLine (ask_line c) mid new text → WritesFront at now (messages_in text) → why ≡ Write
+    → AnswersLine (ask_line c) mid new text → WritesFront at now (messages_in text) → IsHeldBack why
     → RoundBreaks old new held now why
 round_cut old mid new held at now cs c text why starts (told, asks, written) answers front is =
     round_partly (cs ++ c ∷ []) starts (told ++ messages_in text) (asks_on old mid new cs told c text asks answers)
@@ -361,7 +471,7 @@ module _ {A : Type 0} (r : Result A NodeFailure) (why : NodeFailure) (old mid ne
       (subst (λ (k : Known). AskedAbout old (take i xs) mid held k) (sym still) asked) leaves)
 
   pub if_round_cut : take (i + 1) xs ≡ take i xs ++ c ∷ [] → (text : List ℕ) → AnswersLine (ask_line c) mid new text
-      → WritesFront at now (messages_in text) → why ≡ Write → IfErr r (RoundBreaks old new held now)
+      → WritesFront at now (messages_in text) → IsHeldBack why → IfErr r (RoundBreaks old new held now)
   if_round_cut next text answers front write =
       passed_on r why (RoundBreaks old new held now) failed
       (round_cut old mid new held at now (take i xs) c text why
@@ -391,7 +501,8 @@ module _ (w : Ways) (start : Stand) (opening : Reaction) (left : Known) (old new
   round_broken why (round_untold cs starts mid asked leaves) =
       round_stops mid why (round_woven cs mid starts asked) leaves
   round_broken why (round_partly cs starts told asks front is) =
-      partly (stand left held old) h (Round cs) told (record { may = may; cases = starts; asks = asks }) front is
+      partly (stand left held old) h (Round cs ∷ []) new told
+      (one_weaves w old new (Round cs) told (record { may = may; cases = starts; asks = asks })) (inl refl) front is
 
 -- Trims.
 
@@ -404,6 +515,23 @@ module _ (w : Ways) (start : Stand) (opening : Reaction) (left held : Known) (ol
 
   pub trim_left : (why : NodeFailure) → TakesLine trim_line old new why → Breaks w start opening (stand left held new) why
   trim_left why takes = untold (stand left held old) h (leaves_trim may takes) refl
+
+  -- it was made, and is not safe
+  pub trim_held : (why : NodeFailure) (text : List ℕ) → AnswersLine trim_line old new text → IsHeldBack why
+      → Breaks w start opening (stand left held new) why
+  trim_held why text answers is =
+      partly (stand left held old) h (Trims ∷ []) new []
+      (one_weaves w old new Trims [] (record { may = may; text = text; answers = answers; silent = refl })) (inl refl)
+      (none_written held held [] refl) is
+
+pub if_trim_held : {A : Type 0} (r : Result A NodeFailure) (why : NodeFailure) (w : Ways) (old new : NodeState)
+    → IsErrAnd r (λ e. e ≡ why) → w.trims ≡ true → (text : List ℕ) → AnswersLine trim_line old new text → IsHeldBack why
+    → IfErr r (λ e. (left held : Known) (start : Stand) (opening : Reaction)
+    → Woven w start opening (stand left held old) → Breaks w start opening (stand left held new) e)
+if_trim_held r why w old new failed may text answers is =
+    passed_on r why (λ e. (left held : Known) (start : Stand) (opening : Reaction)
+    → Woven w start opening (stand left held old) → Breaks w start opening (stand left held new) e) failed
+    (λ left held start opening h. trim_held w start opening left held old new may h why text answers is)
 
 pub if_trim_left : {A : Type 0} (r : Result A NodeFailure) (why : NodeFailure) (w : Ways) (old new : NodeState)
     → IsErrAnd r (λ e. e ≡ why) → w.trims ≡ true → TakesLine trim_line old new why

@@ -1,5 +1,5 @@
 -- What a desk makes of a line of the input, and of its own lines.
-use Rattle.std.specs.Prelude.{◌≡◌, ◌≢◌, ◌⊎◌, ℕ, Bool, true, false, List, [], ◌∷◌, ◌++◌, All, codes, length, map, take, Option, Some, None, if◌then◌else◌}
+use Rattle.std.specs.Prelude.{◌≡◌, ◌≢◌, ◌⊎◌, ⊤, ℕ, Bool, true, false, List, [], ◌∷◌, ◌++◌, All, codes, length, map, take, Option, Some, None, if◌then◌else◌}
 use Rattle.std.specs.Io.BufRead.{strip_last}
 use Rattle.std.specs.Io.KnownBytes.{Appends}
 use Rattle.report_io.specs.Streams.{WritesFront}
@@ -13,7 +13,7 @@ use Rattle.node_desk.specs.declared.joining.Joining.{Joining}
 use Rattle.node_desk.specs.declared.watch.Ways.{Ways}
 use Rattle.node_desk.specs.Words.{Joins, ask_line, join_line, joined_line, messages_in, takes, trim_line}
 use Rattle.node_engine.specs.declared.failure.NodeFailure.{NodeFailure}
-use Rattle.node_engine.specs.declared.failure.NodeFailure.TheVariants.{Memory, Write}
+use Rattle.node_engine.specs.declared.failure.NodeFailure.TheVariants.{Memory, Write, Device}
 use Rattle.node_engine.specs.Answers.{AnswersLine, NodeState, TakesLine, records_at}
 use Rattle.node_engine.specs.Runs.{Known}
 
@@ -154,13 +154,21 @@ pub data LeavesLine (w : Ways) (line : List ℕ) (old new : NodeState) (why : No
   -- it answered the line
   line_untold : (told : List ℕ) → TellsLine w line old new told → why ≡ Memory → LeavesLine w line old new why
 
+-- What was made is not told, or not all of it: it could not be made safe, for memory or since a device failed, or not be
+-- written.
+abbrev pub IsHeldBack : NodeFailure → Type 0
+IsHeldBack Memory = ⊤
+IsHeldBack Write = ⊤
+IsHeldBack Device = ⊤
+IsHeldBack e = ⊥
+
 -- A round broke off: the first of the cases were asked about, and of the next one, if there is one, nothing is told; or a
 -- front of what is told of them was written.
 pub data RoundBreaks (old new : NodeState) (held now : Known) (why : NodeFailure) : Type 0 where
   round_untold : (cs : List Case) → AreFirst (cases_at old) cs → (mid : NodeState) → AskedAbout old cs mid held now
       → (new ≡ mid) ⊎ ((c : Case) × LeavesOwn (ask_line c) mid new why) → RoundBreaks old new held now why
   round_partly : (cs : List Case) → AreFirst (cases_at old) cs → (told : List ℕ) → Asks old cs new told
-      → WritesFront held now told → why ≡ Write → RoundBreaks old new held now why
+      → WritesFront held now told → IsHeldBack why → RoundBreaks old new held now why
 
 -- a turn is not told of, for this reason
 pub data Leaves (w : Ways) (old new : NodeState) (why : NodeFailure) : Type 0 where

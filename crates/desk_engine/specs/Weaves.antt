@@ -9,12 +9,11 @@ use Rattle.input_lines.specs.Lines.{Piece, bytes_of}
 use Rattle.node_lines.specs.Asked.{end_word}
 use Rattle.node_desk.specs.declared.watch.Ways.{Ways}
 use Rattle.node_engine.specs.declared.failure.NodeFailure.{NodeFailure}
-use Rattle.node_engine.specs.declared.failure.NodeFailure.TheVariants.{Write}
 use Rattle.node_engine.specs.declared.run.Ended.{Ended}
 use Rattle.node_engine.specs.declared.run.Ended.TheVariants.{Input, Asked}
 use Rattle.node_engine.specs.Answers.{NodeState, Shows}
-use Rattle.node_engine.specs.Runs.{ClosesLog, Known, ReadsAll, Stand, StopsOpening, end_text}
-use Rattle.desk_engine.specs.Turns.{Leaves, Makes, Turn, Line, Round, Trims, given}
+use Rattle.node_engine.specs.Runs.{ClosesLog, Known, ReadsAll, ShowsNothing, Stand, StopsOpening, end_text}
+use Rattle.desk_engine.specs.Turns.{IsHeldBack, Leaves, Makes, Turn, Line, Round, Trims, given}
 
 -- the bytes of the input that a turn takes: its line, and of the desk's own lines none
 abbrev pub bytes_taken : Turn → List ℕ
@@ -71,14 +70,22 @@ pub record EndsWoven {L : Type 0} (bytes : L → List ℕ) (forced failures : L 
   pub closes : ClosesLog bytes forced failures last.state.core store
   pub writes : Appends last.held held (end_text by)
 
--- how a node stands that broke off after its opening: of the turn that came next nothing was told, or it was made and a
--- front of what is told of it was written
+-- the last of some turns was left, if one was
+abbrev pub IsLeftAt : Ways → NodeState → NodeState → Type 0
+IsLeftAt w mid now = (now ≡ mid) ⊎ ((why : NodeFailure) × Leaves w mid now why)
+
+-- How a node stands that broke off after its opening. Of the turn that came next nothing was told; or some turns were made,
+-- and of what is to be told of them a front was written, which may be nothing.
 pub data Breaks (w : Ways) (start : Stand) (opening : Reaction) (now : Stand) (why : NodeFailure) : Type 0 where
   untold : (before : Stand) → Woven w start opening before → Leaves w before.state now.state why
       → now.held ≡ before.held → Breaks w start opening now why
-  partly : (before : Stand) → Woven w start opening before → (turn : Turn) (text : List ℕ)
-      → Makes w turn before.state now.state text → WritesFront before.held now.held text → why ≡ Write
-      → Breaks w start opening now why
+  partly : (before : Stand) → Woven w start opening before → (turns : List Turn) (mid : NodeState) (text : List ℕ)
+      → Weaves w before.state turns mid text → IsLeftAt w mid now.state → WritesFront before.held now.held text
+      → IsHeldBack why → Breaks w start opening now why
+
+-- nothing is told of the opening: it could not be written, or what it rests on could not be made safe
+abbrev pub StopsFirst : Stand → Reaction → Stand → NodeFailure → Type 0
+StopsFirst start opening now why = StopsOpening start opening now why ⊎ (ShowsNothing start now × IsHeldBack why)
 
 -- how a node stands that failed as it ended: its log was not forced, or a front of `ok` was written
 pub record EndsPartly (w : Ways) (start : Stand) (opening : Reaction) (held : Known) : Type 0 where
@@ -90,6 +97,6 @@ pub record EndsPartly (w : Ways) (start : Stand) (opening : Reaction) (held : Kn
 -- how a node stands that did not end in order
 abbrev pub BreaksOff : Ways → Stand → Reaction → Known → Known → NodeFailure → Type 0
 BreaksOff w start opening left held why =
-    ((s : NodeState) × (StopsOpening start opening (record { left = left; held = held; state = s }) why
+    ((s : NodeState) × (StopsFirst start opening (record { left = left; held = held; state = s }) why
     ⊎ Breaks w start opening (record { left = left; held = held; state = s }) why))
     ⊎ EndsPartly w start opening held

@@ -1,32 +1,19 @@
 //! Lines of the desk's own: the cases in doubt are asked about, and the log is trimmed.
 
 ghost use Rattle.std.specs.Prelude.{◌≡◌, ◌++◌, ℕ, List, IfErr, IfOk, OnOk, map};
-ghost use Rattle.std.specs.Io.KnownBytes.{Appends};
-ghost use Rattle.report_io.specs.Streams.{WritesFront};
 ghost use Rattle.node_engine.specs.Answers.{AnswersLine, TakesLine, state_of};
 ghost use Rattle.node_desk.specs.Words.{ask_line as ask_line_of, messages_in as messages_of, trim_line};
 ghost use Rattle.desk_engine.specs.Turns.{AskedAbout, LeavesOwn, RoundBreaks, cases_at};
 
+use crate::telling::tell;
 use log_news::{Decision, decisions_of, doubts_of};
 use log_store::LogStore;
 use node_desk::{TRIM, ask_line, messages_in};
 use node_engine::{NodeFailure, Serving};
-use report_io::write_all;
+use staged_store::Backing;
 use std::alloc::{AllocError, Global};
 use std::io::Write;
 use tree_model::Case;
-
-/// Writes a text.
-pub(crate) fn write_text<W: Write>(writer: &mut W, text: &[u8]) -> Result<(), NodeFailure>
-    ensures ok { OnOk result (Appends (W.contents writer.old) (W.contents writer.new) text.now) }
-    ensures err { IfErr result (λ e. (e ≡ NodeFailure.Write)
-        × WritesFront (W.contents writer.old) (W.contents writer.new) text.now) }
-{
-    match write_all(writer, text) {
-        Ok(()) => Ok(()),
-        Err(_) => Err(NodeFailure::Write),
-    }
-}
 
 /// Adds the cases that an operator decided.
 fn push_decided(cases: &mut Vec<Case>, decisions: &[Decision]) -> Result<(), AllocError>
@@ -62,10 +49,11 @@ fn ask<L: LogStore>(
     serving.answer(&line)
 }
 
-/// Asks about these cases, one after another, and writes the messages of the answers.
-fn ask_all<W: Write, L: LogStore>(
+/// Asks about these cases, one after another, and tells of the messages of the answers.
+fn ask_all<W: Write, L: LogStore, B: Backing<L>>(
     alloc: Global,
     serving: &mut Serving<L>,
+    backing: &mut B,
     writer: &mut W,
     cases: &[Case],
 ) -> Result<(), NodeFailure>
@@ -77,15 +65,16 @@ fn ask_all<W: Write, L: LogStore>(
 {
     for case in cases {
         let answer = ask(alloc, serving, case)?;
-        write_text(writer, messages_in(&answer))?;
+        tell(serving, backing, writer, messages_in(&answer))?;
     }
     Ok(())
 }
 
 /// Asks about each case in doubt, and about each that an operator decided.
-pub(crate) fn ask_again<W: Write, L: LogStore>(
+pub(crate) fn ask_again<W: Write, L: LogStore, B: Backing<L>>(
     alloc: Global,
     serving: &mut Serving<L>,
+    backing: &mut B,
     writer: &mut W,
 ) -> Result<(), NodeFailure>
     ensures ok { OnOk result (AskedAbout (state_of serving.old) (cases_at (state_of serving.old))
@@ -94,7 +83,7 @@ pub(crate) fn ask_again<W: Write, L: LogStore>(
         (W.contents writer.old) (W.contents writer.new)) }
 {
     let cases = cases_of(alloc, serving)?;
-    ask_all(alloc, serving, writer, &cases)
+    ask_all(alloc, serving, backing, writer, &cases)
 }
 
 /// Trims the log. What is answered is not told.

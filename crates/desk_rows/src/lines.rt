@@ -104,3 +104,38 @@ outcome a1.1 unknown
 ok
 ok
 ";
+
+/// Transactions that are begun, and joined by a child.
+pub(crate) const BEGUN: &str = "\
+begin pa
+begin pa
+join a1.1 4
+join a1.2 4
+1 4->1 JOINED a1.1 4.1.1
+2 4->1 JOINED a1.2 4.1.2
+";
+
+/// Four transactions, each of which forces a decision.
+pub(crate) const MANY: &str = "\
+begin pa
+begin pa
+begin pa
+begin pa
+join a1.1 4
+join a1.2 4
+join a1.3 4
+join a1.4 4
+1 4->1 JOINED a1.1 4.1.1
+2 4->1 JOINED a1.2 4.1.2
+3 4->1 JOINED a1.3 4.1.3
+4 4->1 JOINED a1.4 4.1.4
+commit a1.1
+commit a1.2
+commit a1.3
+commit a1.4
+5 4->1 YES a1.1@4.1.1
+6 4->1 YES a1.2@4.1.2
+7 4->1 YES a1.3@4.1.3
+8 4->1 YES a1.4@4.1.4
+outcome a1.4
+";

@@ -1,20 +1,23 @@
 //! Floor: engines and program.
 //!
-//! Rows of nodes that are run by desks, over stores in memory.
+//! Rows of nodes that are run by desks, over stores in memory, and over files that count their calls.
 #![tactic(auto)]
 
+mod groups;
 mod lines;
 
+use crate::groups::{after_opening, asks};
 use desk_engine::run_desk;
 use link_script::read_tree;
 use log_store::{LogStore, MemoryStore};
 use node_desk::{Habits, Watch};
 use node_engine::{Nobody, start};
+use staged_store::NoBacking;
 use std::alloc::{AllocError, Global};
 use std::io::{self, BufReader};
 use tree_model::{ProcessId, Tree};
 
-const ROOT: ProcessId = ProcessId(1);
+pub(crate) const ROOT: ProcessId = ProcessId(1);
 
 /// Adds a line of N bytes.
 fn push_line(input: &mut Vec<u8>, byte: u8, count: usize, is_fed: bool) -> Result<(), AllocError> {
@@ -61,6 +64,7 @@ fn served(
     let ended = run_desk(
         alloc,
         node,
+        &mut NoBacking,
         &opening,
         &mut watch,
         &mut reader,
@@ -100,7 +104,7 @@ fn says_later(rt: &HostRuntime, tree: &Tree, habits: Habits<'_>, said: &str) -> 
 }
 
 /// Nothing beside the lines of the input.
-fn nothing() -> Habits<'static> {
+pub(crate) fn nothing() -> Habits<'static> {
     Habits {
         root: ROOT,
         ask: None,
@@ -144,7 +148,21 @@ fn tell_rows(rt: &HostRuntime, tree: &Tree, long: &[u8]) -> io::Result<()> {
     let is_so = says_later(rt, tree, trims(10), lines::KEPT_SAID);
     tell(rt, "no trim", is_so == Some(true))?;
     let is_so = says_later(rt, tree, trims(9), lines::TRIMMED_SAID);
-    tell(rt, "a trim", is_so == Some(true))
+    tell(rt, "a trim", is_so == Some(true))?;
+    tell_groups(rt, tree)
+}
+
+/// Says it of the rows of lines that are at hand.
+fn tell_groups(rt: &HostRuntime, tree: &Tree) -> io::Result<()> {
+    let none = after_opening(0, 0);
+    let is_so = asks(rt, tree, lines::BEGUN, false, none, none);
+    tell(rt, "lines that force nothing", is_so == Some(true))?;
+    let each = after_opening(4, 4);
+    let once = after_opening(1, 1);
+    let is_so = asks(rt, tree, lines::MANY, false, each, once);
+    tell(rt, "one force for many lines", is_so == Some(true))?;
+    let is_so = asks(rt, tree, lines::MANY, true, once, once);
+    tell(rt, "a force that fails", is_so == Some(true))
 }
 
 fn main(rt: HostRuntime) -> io::Result<()> {

@@ -12,3 +12,4 @@ pub mod Branches
 pub mod AtHome
 pub mod Refusals
 pub mod Audits
+pub mod Groups

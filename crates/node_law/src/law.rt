@@ -3,6 +3,7 @@
 ghost use Rattle.node_law.specs.Audits.{NodesAreAuditedTruly};
 ghost use Rattle.node_law.specs.Branches.{BranchesAreTold};
 ghost use Rattle.node_law.specs.Files.{StoresLeaveFiles};
+ghost use Rattle.node_law.specs.Groups.{GroupsGoOn};
 ghost use Rattle.node_law.specs.Nodes.{
   NodesAreRuns,
   NodesFindTheirLogs,
@@ -63,6 +64,13 @@ pub fn stores_leave_files<F: LogFile>(store: &FileStore<F>)
 /// found after the forced ones.
 pub fn nodes_find_their_logs()
     ensures { NodesFindTheirLogs }
+{}
+
+/// A node may make many steps, bring its file up to all of them by one force or one new file, and then tell of them: what
+/// the next node finds, wherever the one before it was killed, is what the process left before those steps, or after all of
+/// them.
+pub fn groups_go_on()
+    ensures { GroupsGoOn }
 {}
 
 /// What was found of a process's own log names nobody else: no node calls it, at its next start, the log of another process

@@ -8,9 +8,11 @@ use crate::files::{
 use crate::pump::Pump;
 use desk_engine::run_desk;
 use file_store::{FileStore, HostFile, Trouble};
+use log_store::LogStore;
 use node_answers::Manner;
 use node_desk::{Habits, Waits, Watch};
 use node_engine::{NodeFailure, Serving, StartError, start};
+use staged_store::{FileBacking, StagedStore};
 use std::alloc::{AllocError, Global};
 use std::io::{self, BufReader};
 use std::sync::Wait;
@@ -36,8 +38,11 @@ pub struct NodeWords<'a> {
     pub tells_joined: bool,
 }
 
-/// A node over a log in a file.
-type FileNode = Serving<FileStore<HostFile>>;
+/// A node over a log in memory, up to which a file is brought before anybody is told.
+type FileNode = Serving<StagedStore>;
+
+/// That file.
+type NodeFile = FileBacking<HostFile>;
 
 /// Why a node did not start over the log at this path, which was judged.
 fn not_started(alloc: Global, path: &str, error: StartError, trouble: &Trouble) -> End {
@@ -56,6 +61,7 @@ fn not_started(alloc: Global, path: &str, error: StartError, trouble: &Trouble) 
 struct OpenNode<'a> {
     watch: Watch<'a>,
     node: FileNode,
+    file: NodeFile,
     /// What it did as it opened.
     opening: Reaction,
 }
@@ -95,6 +101,18 @@ fn watch_of<'a>(rt: &HostRuntime, words: NodeWords<'a>, root: ProcessId) -> Resu
     }
 }
 
+/// A store in memory in which stands what is in this file, and the file, which is to be brought up to it.
+fn staged(
+    alloc: Global,
+    path: &str,
+    store: FileStore<HostFile>,
+) -> Result<(StagedStore, NodeFile), End> {
+    match Vec::from_slice(alloc, store.bytes()) {
+        Ok(bytes) => Ok((StagedStore::from_bytes(bytes), FileBacking::new(store))),
+        Err(_) => Err(no_memory(alloc, path)),
+    }
+}
+
 /// The node of these words, and the reason of whatever fails under its log. Its file is written only once it is known that
 /// the process goes on over the log.
 fn started<'a>(rt: &HostRuntime, words: NodeWords<'a>) -> Result<(OpenNode<'a>, Trouble), End> {
@@ -107,12 +125,14 @@ fn started<'a>(rt: &HostRuntime, words: NodeWords<'a>) -> Result<(OpenNode<'a>, 
     judged(alloc, words.log, &tree, entry, seen.bytes())?;
     warn(rt, words.log, entry, seen.bytes());
     let (store, trouble) = settled(alloc, words.log, seen)?;
+    let (store, file) = staged(alloc, words.log, store)?;
     match start(alloc, &tree, entry, store) {
         Ok((node, opening)) => {
             let node = node.speaking(manner_of(words), name);
             let open = OpenNode {
                 watch,
                 node,
+                file,
                 opening,
             };
             Ok((open, trouble))
@@ -129,7 +149,7 @@ fn not_ended(alloc: Global, path: &str, failure: NodeFailure, trouble: &Trouble)
     }
 }
 
-/// Answers the lines that come from this reader, and gives the store of the node, all of it forced.
+/// Answers the lines that come from this reader, and gives the file of the node, all of it forced.
 fn answer_from<R: Waits>(
     rt: &HostRuntime,
     words: NodeWords<'_>,
@@ -140,19 +160,21 @@ fn answer_from<R: Waits>(
     let OpenNode {
         mut watch,
         node,
+        mut file,
         opening,
     } = open;
     let mut witness = Explainer::new(rt, words.is_explained);
     match run_desk(
         rt.alloc(),
         node,
+        &mut file,
         &opening,
         &mut watch,
         reader,
         &mut io::writer(rt),
         &mut witness,
     ) {
-        Ok(store) => Ok(store),
+        Ok(_) => Ok(file.into_file()),
         Err(failure) => Err(not_ended(rt.alloc(), words.log, failure, trouble)),
     }
 }

@@ -179,4 +179,8 @@ impl<T: Wait + Clock + Drop> Waits for Pump<T> {
             }
         }
     }
+
+    fn is_at_hand(&self) -> bool {
+        self.rest().contains(&b'\n')
+    }
 }

@@ -25,30 +25,30 @@ returns-in_err-answer-clause-err g c =
     c.loop-case.case-index (get_or c.args.cases.now c.loop-case.case-index none) c.from_residual.ensures.1 c.requires
     c.loop-case.invariant refl c.in_err-answer.ensures.err
 
-pub returns-in_err-write_text-clause-err : goal.returns-in_err-write_text-clause-err
-returns-in_err-write_text-clause-err g c =
-    if_round_cut c.from_residual-in_err-write_text.result c.in_err-write_text.field-0.0 (state_of c.args.serving.now)
+pub returns-in_err-tell-clause-err : goal.returns-in_err-tell-clause-err
+returns-in_err-tell-clause-err g c =
+    if_round_cut c.from_residual-in_err-tell.result c.in_err-tell.field-0.0 (state_of c.args.serving.now)
     (state_of c.loop-case.serving) (state_of c.ask.new.serving) (g.W.Write.contents c.args.writer.now)
-    (g.W.Write.contents c.loop-case.writer) (g.W.Write.contents c.write_text.new.writer) c.args.cases.now
+    (g.W.Write.contents c.loop-case.writer) (g.W.Write.contents c.tell.new.writer) c.args.cases.now
     c.loop-case.case-index (get_or c.args.cases.now c.loop-case.case-index none)
-    c.from_residual-in_err-write_text.ensures.1 c.requires c.loop-case.invariant
+    c.from_residual-in_err-tell.ensures.1 c.requires c.loop-case.invariant
     (take_more c.args.cases.now c.loop-case.case-index none c.loop-case-test.true) c.in_ok-answer.answer.items
     c.in_ok-answer.ensures.ok
     (subst (λ (t : List ℕ). WritesFront (g.W.Write.contents c.loop-case.writer)
-    (g.W.Write.contents c.write_text.new.writer) t) (c.messages_in.ensures ∙ ap messages_in c.deref.ensures.value)
-    c.in_err-write_text.ensures.err.1)
-    c.in_err-write_text.ensures.err.0
+    (g.W.Write.contents c.tell.new.writer) t) (c.messages_in.ensures ∙ ap messages_in c.deref.ensures.value)
+    c.in_err-tell.ensures.err.1)
+    c.in_err-tell.ensures.err.0
 
 pub loop-case-preserved : goal.loop-case-preserved
 loop-case-preserved g c =
     subst (λ (cs : List Case). AskedAbout (state_of c.args.serving.now) cs (state_of c.ask.new.serving)
-    (g.W.Write.contents c.args.writer.now) (g.W.Write.contents c.write_text.new.writer))
+    (g.W.Write.contents c.args.writer.now) (g.W.Write.contents c.tell.new.writer))
     (sym (take_more c.args.cases.now c.loop-case.case-index none c.loop-case-test.true))
     (asked_more (state_of c.args.serving.now) (state_of c.loop-case.serving) (state_of c.ask.new.serving)
     (g.W.Write.contents c.args.writer.now) (g.W.Write.contents c.loop-case.writer)
-    (g.W.Write.contents c.write_text.new.writer) (take c.loop-case.case-index c.args.cases.now)
+    (g.W.Write.contents c.tell.new.writer) (take c.loop-case.case-index c.args.cases.now)
     (get_or c.args.cases.now c.loop-case.case-index none) c.in_ok-answer.answer.items c.loop-case.invariant
     c.in_ok-answer.ensures.ok
     (subst (λ (t : List ℕ). Appends (g.W.Write.contents c.loop-case.writer)
-    (g.W.Write.contents c.write_text.new.writer) t) (c.messages_in.ensures ∙ ap messages_in c.deref.ensures.value)
-    c.in_ok-write_text.ensures.ok))
+    (g.W.Write.contents c.tell.new.writer) t) (c.messages_in.ensures ∙ ap messages_in c.deref.ensures.value)
+    c.in_ok-tell.ensures.ok))

@@ -5,18 +5,18 @@ use Rattle.node_engine.specs.declared.failure.NodeFailure.TheVariants.{Read}
 use Rattle.node_engine.specs.Answers.{state_of}
 use Rattle.node_engine.specs.Runs.{Known, Stand, stand}
 use Rattle.desk_engine.specs.Weaves.{Breaks, Woven}
-use Rattle.desk_engine.proofs.Weaving.{line_unread, round_after, trim_after}
+use Rattle.desk_engine.proofs.Weaving.{round_after, trim_after, turn_unread}
 use Rattle.desk_engine.proofs.run.take_turn.Goals as goal
 
 pub returns-in-Ok-Line-clause-breaks : goal.returns-in-Ok-Line-clause-breaks
 returns-in-Ok-Line-clause-breaks g c =
-    subst (λ (k : Known). IfErr c.take_line.result (λ e. (start : Stand) (opening : AnyReaction)
+    subst (λ (k : Known). IfErr c.take_lines.result (λ e. (start : Stand) (opening : AnyReaction)
     → Woven c.args.watch.now.ways start opening
     (stand k (g.W.Write.contents c.args.writer.now) (state_of c.args.serving.now))
     → Breaks c.args.watch.now.ways start opening
-    (stand (g.R.Read.remaining c.take_line.new.reader) (g.W.Write.contents c.take_line.new.writer)
-    (state_of c.take_line.new.serving)) e))
-    c.next.ensures.reads_nothing c.take_line.ensures.breaks
+    (stand (g.R.Read.remaining c.take_lines.new.reader) (g.W.Write.contents c.take_lines.new.writer)
+    (state_of c.take_lines.new.serving)) e))
+    c.next.ensures.reads_nothing c.take_lines.ensures.breaks
 
 pub returns-in-Ok-Ask-clause-breaks : goal.returns-in-Ok-Ask-clause-breaks
 returns-in-Ok-Ask-clause-breaks g c =
@@ -34,7 +34,7 @@ returns-in-Ok-Trim-clause-breaks g c =
 
 pub returns-in-Err-clause-breaks : goal.returns-in-Err-clause-breaks
 returns-in-Err-clause-breaks g c = λ start opening h.
-    line_unread c.args.watch.now.ways start opening
+    turn_unread c.args.watch.now.ways start opening
     (stand (g.R.Read.remaining c.args.reader.now) (g.W.Write.contents c.args.writer.now) (state_of c.args.serving.now))
     (stand (g.R.Read.remaining c.next.new.reader) (g.W.Write.contents c.args.writer.now) (state_of c.args.serving.now))
     Read refl refl h

@@ -6,7 +6,7 @@ use Rattle.node_engine.specs.declared.run.Ended.{Ended}
 use Rattle.node_engine.specs.Answers.{state_of}
 use Rattle.node_engine.specs.Runs.{Stand, stand}
 use Rattle.desk_engine.specs.Weaves.{Breaks, LeadsTo, Woven}
-use Rattle.desk_engine.proofs.Weaving.{line_unread, passed_on}
+use Rattle.desk_engine.proofs.Weaving.{passed_on, turn_unread}
 use Rattle.desk_engine.proofs.run.take_turns.Goals as goal
 
 pub returns-in_err-ended-clause-breaks : goal.returns-in_err-ended-clause-breaks
@@ -38,7 +38,7 @@ returns-in-Some-clause-ends g c = λ start opening h.
 
 pub returns-clause-breaks : goal.returns-clause-breaks
 returns-clause-breaks g c = λ start opening h.
-    line_unread c.args.watch.now.ways start opening
+    turn_unread c.args.watch.now.ways start opening
     (stand (g.R.Read.remaining c.loop.reader) (g.W.Write.contents c.loop.writer) (state_of c.loop.serving))
     (stand (g.R.Read.remaining c.loop.reader) (g.W.Write.contents c.loop.writer) (state_of c.loop.serving))
     Read refl refl (c.loop.invariant.woven start opening h)

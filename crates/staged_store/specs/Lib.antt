@@ -1,0 +1,3 @@
+pub mod Staged
+pub mod Backings
+pub mod Crashes
