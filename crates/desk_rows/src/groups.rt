@@ -60,7 +60,7 @@ pub(crate) struct Run {
 
 /// A run of these lines over a new log, if they are read so many bytes at once: with one byte no line is at hand but the
 /// one that is read.
-pub(crate) fn run(
+pub(crate) fn run_lines(
     rt: &HostRuntime,
     tree: &Tree,
     lines: &[u8],
@@ -111,8 +111,8 @@ pub(crate) fn asks(
     one_by_one: Calls,
     at_once: Calls,
 ) -> Option<bool> {
-    let single = run(rt, tree, lines.as_bytes(), 1, fails)?;
-    let many = run(rt, tree, lines.as_bytes(), 8192, fails)?;
+    let single = run_lines(rt, tree, lines.as_bytes(), 1, fails)?;
+    let many = run_lines(rt, tree, lines.as_bytes(), 8192, fails)?;
     Some(
         single.out == many.out
             && single.ended == many.ended
