@@ -3,7 +3,7 @@ use Rattle.std.proofs.Common.{◌≡◌, ℕ, ◌+◌, Bool, true, false, not, c
 use Rattle.std.specs.Prelude.{◌==◌, ◌⊎◌, is_some, nat_lt, if◌then◌else◌}
 use Rattle.std.specs.List.{list_any}
 use Rattle.std.proofs.lemmas.List.Sums.{sum_by-append}
-use Rattle.std.proofs.lemmas.Bool.{eq-eqb, lt-ltb, or_cases, or_left, or_right, and_from}
+use Rattle.std.proofs.lemmas.Bool.{eq-eqb, false≢true, lt-ltb, or_cases, or_left, or_right, and_from}
 use Rattle.xa_xid.specs.declared.xid.Xid.{Xid}
 use Rattle.xa_tables.specs.declared.states.AssocState.{AssocState}
 use Rattle.xa_tables.specs.declared.states.AssocState.TheVariants.{T0, T1, T2, M}
@@ -173,9 +173,9 @@ found_in {X} p q (x ∷ xs) y e h = by (λ k. found_in p q xs y k h) (p x) refl 
       or_right (q x) (list_any q xs) (rest (subst (λ (b : Bool). cond b (Some x) (find p xs) ≡ Some y) r e))
 
 active_only : (a c : Bool) → (a && c) ≡ true → (b : Bool) → b ≡ true → (a && b && c) ≡ true
-active_only a true h b k = rw k h
-active_only true false h b k = absurd cc
-active_only false false h b k = absurd cc
+active_only true true h b k = rw k refl
+active_only true false h b k = absurd (false≢true h)
+active_only false c h b k = absurd (false≢true h)
 
 pub worker_same : (n : Numbers) (a : AssocList) (ls : List Link) (ms : List ℕ) (t : ℕ) (x : Xid) → Tied n a ls ms
     → active_of a t ≡ Some x → option_map (λ l. l.branch) (find (is_active_link t) ls) ≡ Some (n.xid x)
