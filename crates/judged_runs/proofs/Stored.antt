@@ -220,7 +220,7 @@ module _ (old new : KvSight) (x : Xid) (e : Entry) (is_forced : Bool)
             )
           | inr whole ↦ inl (ap (λ (k : LogSight). left_by k keep) one
               ∙ ap (λ ks. old.log.sight.kept.forced ++ ks) whole
-              ∙ append_assoc old.log.sight.kept.forced old.log.sight.kept.unforced (last ∷ [])
+              ∙ sym (append_assoc old.log.sight.kept.forced old.log.sight.kept.unforced (last ∷ []))
               ∙ sym records_more)
         ]
 
