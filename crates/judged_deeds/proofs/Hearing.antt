@@ -1,13 +1,8 @@
 -- What happens at a key store leaves the judge's data those of the store.
-use Rattle.std.proofs.Common.{◌≡◌, ℕ, Bool, true, false, not, Option, Some, None, List, [], ◌∷◌, ◌++◌, filter, find, fold, ◌||◌, ◌&&◌, refl, ap, sym, subst, ◌∙◌, inl, inr}
-use Rattle.std.specs.Prelude.{◌==◌, ◌⊎◌, cond, is_some, if◌then◌else◌}
-use Rattle.std.specs.Str.{bytes_eq}
+use Rattle.std.proofs.Common.{◌≡◌, ℕ, Bool, true, false, not, Option, Some, None, List, [], ◌∷◌, ◌++◌, find, fold, ◌||◌, ◌&&◌, refl, ap, sym, subst, ◌∙◌, inl, inr}
+use Rattle.std.specs.Prelude.{◌==◌, cond, if◌then◌else◌}
 use Rattle.std.specs.List.{list_any, AllByRecursion}
-use Rattle.std.proofs.lemmas.Bool.{and_parts, eqb-true, eq-eqb, false≢true, ne_eqb, or_cases, or_left, or_right}
-use Rattle.std.proofs.lemmas.List.Folds.{list_any-append}
-use Rattle.xa_tables.specs.Tables.{is_in_doubt as is_doubt}
-use Rattle.xa_tables.specs.declared.states.BranchState.{BranchState}
-use Rattle.xa_tables.specs.declared.states.BranchState.TheVariants.{S0, S1, S2, S3, S4, S5}
+use Rattle.std.proofs.lemmas.Bool.{and_parts, eq-eqb, false≢true, or_cases, or_left, or_right}
 use Rattle.xa_xid.specs.declared.xid.Xid.{Xid}
 use Rattle.xa_branch.specs.Names.{same}
 use Rattle.xa_branch.proofs.Names.{same_is}
@@ -19,23 +14,20 @@ use Rattle.log_rules.proofs.order.Keys.{same_bytes_is_equality}
 use Rattle.kv_store.specs.Versions.{written as left_after}
 use Rattle.kv_store.specs.writes.Writes.{is_of}
 use Rattle.kv_core.specs.Works.{left_or}
-use Rattle.judge_state.specs.declared.parts.Branch.{Branch}
 use Rattle.judge_state.specs.declared.parts.Work.{Work}
 use Rattle.judge_state.specs.declared.parts.Write.{Write as Committed}
-use Rattle.judge_state.specs.Moves.{committed, committed_works, decided, gone, is_prepared_at, keeps_name, others, published, remembered, restarted, rolled, was_prepared, worked, works_of, works_without}
-use Rattle.judge_state.specs.Parts.{is_in_doubt, is_named}
+use Rattle.judge_state.specs.Moves.{committed, committed_works, is_prepared_at, others, remembered, rolled, was_prepared, worked, works_of, works_without}
 use Rattle.judge_state.specs.Questions.{branch_at}
-use Rattle.judge_state.specs.Scans.{has_value, has_worked, held_after, may_hold, may_read}
+use Rattle.judge_state.specs.Scans.{has_value, held_after, may_hold, may_read}
 use Rattle.judge_state.specs.Sights.{Sight}
 use Rattle.judge_rules.specs.declared.words.Rules.{Rules}
 use Rattle.judge_rules.specs.Scans.{may_see, reads_in, since_of}
 use Rattle.judged_deeds.specs.Data.{HasWritten, Holds, IsHeard, MayLeave, is_at, unsure}
 use Rattle.judged_deeds.specs.Names.{Numbers, value_number}
 use Rattle.judged_deeds.proofs.Branches.{at_name, not_one}
-use Rattle.judged_deeds.proofs.Holding.{bytes_are, holds_after, holds_before, holds_kept, holds_none, holds_others, holds_own, holds_twice, leaves_others, others_none, own_none, vacuous, writes_key}
-use Rattle.judged_deeds.proofs.Ledgers.{IsBack, IsReturned, Ledger, ledger}
-use Rattle.judged_deeds.proofs.Lists.{all_weaker, any_filter, find_any}
-use Rattle.judged_deeds.proofs.Values.{all_doubted, doubtful_commit, held_append, nothing_committed, read_since, unsure_held_append, unsure_holds, unsure_none, value_committed}
+use Rattle.judged_deeds.proofs.Holding.{bytes_are, holds_after, holds_before, holds_others, holds_own, leaves_others, others_none, own_none, writes_key}
+use Rattle.judged_deeds.proofs.Ledgers.{Ledger, ledger}
+use Rattle.judged_deeds.proofs.Values.{doubtful_commit, held_append, nothing_committed, read_since, unsure_held_append, unsure_holds, unsure_none, value_committed}
 
 -- What is read.
 
@@ -281,75 +273,75 @@ module _ (n : Numbers) (value value' : List ℕ → Option (List ℕ)) (written 
 
 module _ (n : Numbers) (value : List ℕ → Option (List ℕ)) (written promised : Xid → List Write) (back back' : Xid → Bool)
     (s : Sight) (x : Xid) (leave : MayLeave n value promised back s) (others_back : (y : Xid) → same x y ≡ false → back' y ≡ back y)
-    where
-  more_back : back' x ≡ true → (y : Xid) → back y ≡ true → back' y ≡ true
-  more_back here y e = by (same x y) refl where
-    by : (b : Bool) → same x y ≡ b → back' y ≡ true
-    by true q = subst (λ (z : Xid). back' z ≡ true) (same_is x y q) here
-    by false q = others_back y q ∙ e
+  where
+    more_back : back' x ≡ true → (y : Xid) → back y ≡ true → back' y ≡ true
+    more_back here y e = by (same x y) refl where
+      by : (b : Bool) → same x y ≡ b → back' y ≡ true
+      by true q = subst (λ (z : Xid). back' z ≡ true) (same_is x y q) here
+      by false q = others_back y q ∙ e
 
-  -- a branch leaves S3, and a crash may bring it back
-  lost_works_left : is_prepared_at (n.xid x) s ≡ true → promised x ≡ written x → ((k : List ℕ)
-      → Holds n (find (is_of k) (written x)) (n.xid x) (n.word k) s.works) → (y : Xid) → back' y ≡ true
-      → HasWritten n (promised y) y (remembered (n.xid x) s).lost_works
-  lost_works_left prepared is has y e k = subst (λ (b : Bool). Holds n (find (is_of k) (promised y)) (n.xid y) (n.word k)
-      (if b then record s {
-        lost = others (n.xid x) s.lost ++ was_prepared (n.xid x) s.branches;
-        lost_works = works_without (n.xid x) s.lost_works ++ works_of (n.xid x) s.works;
-      } else s).lost_works) (sym prepared) (by (same x y) refl)
-    where
-      by : (b : Bool) → same x y ≡ b → Holds n (find (is_of k) (promised y)) (n.xid y) (n.word k)
-          (works_without (n.xid x) s.lost_works ++ works_of (n.xid x) s.works)
-      by true q = subst (λ (z : Xid). Holds n (find (is_of k) (promised z)) (n.xid z) (n.word k)
-          (works_without (n.xid x) s.lost_works ++ works_of (n.xid x) s.works)) (same_is x y q)
-          (subst (λ (ws : List Write). Holds n (find (is_of k) ws) (n.xid x) (n.word k)
-          (works_without (n.xid x) s.lost_works ++ works_of (n.xid x) s.works)) (sym is)
-          (holds_after n (find (is_of k) (written x)) (n.xid x) (n.word k) (works_without (n.xid x) s.lost_works)
-          (works_of (n.xid x) s.works) (others_none n (n.xid x) (n.word k) s.lost_works)
-          (holds_own n (find (is_of k) (written x)) (n.xid x) (n.word k) s.works (has k))))
-      by false q = holds_before n (find (is_of k) (promised y)) (n.xid y) (n.word k) (works_without (n.xid x) s.lost_works)
-          (works_of (n.xid x) s.works)
-          (holds_others n (find (is_of k) (promised y)) (n.xid x) (n.xid y) (n.word k) s.lost_works (not_one n x y q)
-          (leave.works y (sym (others_back y q) ∙ e) k))
-          (own_none n (n.xid x) (n.xid y) (n.word k) s.works (not_one n x y q))
+    -- a branch leaves S3, and a crash may bring it back
+    lost_works_left : is_prepared_at (n.xid x) s ≡ true → promised x ≡ written x → ((k : List ℕ)
+        → Holds n (find (is_of k) (written x)) (n.xid x) (n.word k) s.works) → (y : Xid) → back' y ≡ true
+        → HasWritten n (promised y) y (remembered (n.xid x) s).lost_works
+    lost_works_left prepared is has y e k = subst (λ (b : Bool). Holds n (find (is_of k) (promised y)) (n.xid y) (n.word k)
+        (if b then record s {
+          lost = others (n.xid x) s.lost ++ was_prepared (n.xid x) s.branches;
+          lost_works = works_without (n.xid x) s.lost_works ++ works_of (n.xid x) s.works;
+        } else s).lost_works) (sym prepared) (by (same x y) refl)
+      where
+        by : (b : Bool) → same x y ≡ b → Holds n (find (is_of k) (promised y)) (n.xid y) (n.word k)
+            (works_without (n.xid x) s.lost_works ++ works_of (n.xid x) s.works)
+        by true q = subst (λ (z : Xid). Holds n (find (is_of k) (promised z)) (n.xid z) (n.word k)
+            (works_without (n.xid x) s.lost_works ++ works_of (n.xid x) s.works)) (same_is x y q)
+            (subst (λ (ws : List Write). Holds n (find (is_of k) ws) (n.xid x) (n.word k)
+            (works_without (n.xid x) s.lost_works ++ works_of (n.xid x) s.works)) (sym is)
+            (holds_after n (find (is_of k) (written x)) (n.xid x) (n.word k) (works_without (n.xid x) s.lost_works)
+            (works_of (n.xid x) s.works) (others_none n (n.xid x) (n.word k) s.lost_works)
+            (holds_own n (find (is_of k) (written x)) (n.xid x) (n.word k) s.works (has k))))
+        by false q = holds_before n (find (is_of k) (promised y)) (n.xid y) (n.word k) (works_without (n.xid x) s.lost_works)
+            (works_of (n.xid x) s.works)
+            (holds_others n (find (is_of k) (promised y)) (n.xid x) (n.xid y) (n.word k) s.lost_works (not_one n x y q)
+            (leave.works y (sym (others_back y q) ∙ e) k))
+            (own_none n (n.xid x) (n.xid y) (n.word k) s.works (not_one n x y q))
 
-  remembered_same : (b : Bool) → (if b then record s {
-    lost = others (n.xid x) s.lost ++ was_prepared (n.xid x) s.branches;
-    lost_works = works_without (n.xid x) s.lost_works ++ works_of (n.xid x) s.works;
-  } else s).values ≡ s.values
-  remembered_same true = refl
-  remembered_same false = refl
+    remembered_same : (b : Bool) → (if b then record s {
+      lost = others (n.xid x) s.lost ++ was_prepared (n.xid x) s.branches;
+      lost_works = works_without (n.xid x) s.lost_works ++ works_of (n.xid x) s.works;
+    } else s).values ≡ s.values
+    remembered_same true = refl
+    remembered_same false = refl
 
-  remembered_wrote : (b : Bool) → (if b then record s {
-    lost = others (n.xid x) s.lost ++ was_prepared (n.xid x) s.branches;
-    lost_works = works_without (n.xid x) s.lost_works ++ works_of (n.xid x) s.works;
-  } else s).works ≡ s.works
-  remembered_wrote true = refl
-  remembered_wrote false = refl
+    remembered_wrote : (b : Bool) → (if b then record s {
+      lost = others (n.xid x) s.lost ++ was_prepared (n.xid x) s.branches;
+      lost_works = works_without (n.xid x) s.lost_works ++ works_of (n.xid x) s.works;
+    } else s).works ≡ s.works
+    remembered_wrote true = refl
+    remembered_wrote false = refl
 
-  pub commit_leave : is_prepared_at (n.xid x) s ≡ true → promised x ≡ written x → HasWritten n (written x) x s.works
-      → back' x ≡ true → MayLeave n value promised back' (committed (n.xid x) s)
-  commit_leave prepared is has here = record {
-    committed = λ g all k. ap (λ vs. may_hold (n.word k) (value_number n (value k))
-        (unsure g (vs ++ committed_works (n.xid x) true (remembered (n.xid x) s).works)))
-        (remembered_same (is_prepared_at (n.xid x) s))
-        ∙ ap (λ js. may_hold (n.word k) (value_number n (value k)) (unsure g (s.values ++ committed_works (n.xid x) true js)))
-        (remembered_wrote (is_prepared_at (n.xid x) s))
-        ∙ unsure_held_append g (n.word k) (value_number n (value k)) s.values (committed_works (n.xid x) true s.works)
-        ∙ ap (λ c. fold (held_after (n.word k) (value_number n (value k))) c (unsure g (committed_works (n.xid x) true s.works)))
-        (leave.committed g (λ y e. all y (more_back here y e)) k)
-        ∙ doubtful_commit g (n.xid x) (n.word k) (value_number n (value k)) true s.works (all x here);
-    works = lost_works_left prepared is has;
-  }
+    pub commit_leave : is_prepared_at (n.xid x) s ≡ true → promised x ≡ written x → HasWritten n (written x) x s.works
+        → back' x ≡ true → MayLeave n value promised back' (committed (n.xid x) s)
+    commit_leave prepared is has here = record {
+      committed = λ g all k. ap (λ vs. may_hold (n.word k) (value_number n (value k))
+          (unsure g (vs ++ committed_works (n.xid x) true (remembered (n.xid x) s).works)))
+          (remembered_same (is_prepared_at (n.xid x) s))
+          ∙ ap (λ js. may_hold (n.word k) (value_number n (value k)) (unsure g (s.values ++ committed_works (n.xid x) true js)))
+          (remembered_wrote (is_prepared_at (n.xid x) s))
+          ∙ unsure_held_append g (n.word k) (value_number n (value k)) s.values (committed_works (n.xid x) true s.works)
+          ∙ ap (λ c. fold (held_after (n.word k) (value_number n (value k))) c (unsure g (committed_works (n.xid x) true s.works)))
+          (leave.committed g (λ y e. all y (more_back here y e)) k)
+          ∙ doubtful_commit g (n.xid x) (n.word k) (value_number n (value k)) true s.works (all x here);
+      works = lost_works_left prepared is has;
+    }
 
-  pub roll_leave : is_prepared_at (n.xid x) s ≡ true → promised x ≡ written x → HasWritten n (written x) x s.works
-      → back' x ≡ true → MayLeave n value promised back' (rolled (n.xid x) s)
-  roll_leave prepared is has here = record {
-    committed = λ g all k. ap (λ vs. may_hold (n.word k) (value_number n (value k)) (unsure g vs))
-        (remembered_same (is_prepared_at (n.xid x) s))
-        ∙ leave.committed g (λ y e. all y (more_back here y e)) k;
-    works = lost_works_left prepared is has;
-  }
+    pub roll_leave : is_prepared_at (n.xid x) s ≡ true → promised x ≡ written x → HasWritten n (written x) x s.works
+        → back' x ≡ true → MayLeave n value promised back' (rolled (n.xid x) s)
+    roll_leave prepared is has here = record {
+      committed = λ g all k. ap (λ vs. may_hold (n.word k) (value_number n (value k)) (unsure g vs))
+          (remembered_same (is_prepared_at (n.xid x) s))
+          ∙ leave.committed g (λ y e. all y (more_back here y e)) k;
+      works = lost_works_left prepared is has;
+    }
 
 -- a branch that has written nothing, and was not prepared, commits: a crash may leave what it might before
 pub silent_leave : (n : Numbers) (value : List ℕ → Option (List ℕ)) (promised : Xid → List Write) (back : Xid → Bool)

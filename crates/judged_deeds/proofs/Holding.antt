@@ -1,13 +1,11 @@
 -- What the judge has of a branch's writes, after a filter or some more of them.
-use Rattle.std.proofs.Common.{◌≡◌, ℕ, Bool, true, false, not, Option, Some, None, List, [], ◌∷◌, ◌++◌, filter, find, ◌||◌, ◌&&◌, refl, ap, sym, subst, ◌∙◌, inl, inr}
-use Rattle.std.specs.Prelude.{◌==◌, ◌⊎◌, cond}
-use Rattle.std.specs.Str.{bytes_eq}
+use Rattle.std.proofs.Common.{◌≡◌, ℕ, Bool, true, false, not, Option, Some, None, List, [], ◌∷◌, ◌++◌, filter, find, ◌||◌, ◌&&◌, refl, ap, sym, subst, ◌∙◌}
+use Rattle.std.specs.Prelude.{◌==◌, cond}
 use Rattle.std.specs.List.{list_any, AllByRecursion}
-use Rattle.std.proofs.lemmas.Bool.{and_from, and_parts, eqb-true, eq-eqb, false≢true, false_from_ne_true, ne_eqb, not_from_false, not_from_true, or_cases, or_left, or_right}
+use Rattle.std.proofs.lemmas.Bool.{and_from, and_parts, eqb-true, eq-eqb, false≢true, false_from_ne_true, ne_eqb, not_from_false, not_from_true, or_left, or_right}
 use Rattle.std.proofs.lemmas.List.Folds.{list_any-append}
 use Rattle.xa_xid.specs.declared.xid.Xid.{Xid}
 use Rattle.xa_branch.specs.Names.{same}
-use Rattle.xa_branch.proofs.Names.{same_is}
 use Rattle.tree_model.specs.declared.records.Write.{Write}
 use Rattle.tree_model.specs.Plays.{with_write}
 use Rattle.tree_model.specs.Records.{same_bytes}

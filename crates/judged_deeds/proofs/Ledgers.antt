@@ -1,5 +1,5 @@
 -- What a state of the judge knows of data, and what an answer makes of it.
-use Rattle.std.proofs.Common.{◌≡◌, ℕ, Bool, true, false, List, [], ◌++◌, fold, ◌&&◌, refl}
+use Rattle.std.proofs.Common.{◌≡◌, ℕ, true, false, List, [], ◌++◌, fold, ◌&&◌, refl}
 use Rattle.std.specs.Prelude.{◌==◌, is_some}
 use Rattle.std.specs.List.{list_any, AllByRecursion}
 use Rattle.xa_xid.specs.declared.xid.Xid.{Xid}

@@ -51,7 +51,7 @@ use Rattle.judged_deeds.proofs.Flags.{ReadsScan, recover_errs, recover_reads}
 use Rattle.judged_deeds.proofs.Giving.{gives, list_all_from}
 use Rattle.judged_deeds.proofs.Links.{Tied}
 use Rattle.judged_deeds.proofs.Lists.{all_where, any_filter, any_gone, any_implied, any_kept, any_map, any_pick, any_pushed}
-use Rattle.judged_deeds.proofs.Ledgers.{Ledger, ledger}
+use Rattle.judged_deeds.proofs.Ledgers.{ledger}
 use Rattle.judged_deeds.proofs.Mirrors.{AreBranches, IsBranch, IsFree, IsOrderly, Mirrors, is_begun, same_mirrors, stand_as}
 use Rattle.judged_deeds.proofs.Rows.{IsClean, IsDefect, Inval, Proto, first_in, has_code, in_else, in_if, is_clean}
 use Rattle.judged_deeds.proofs.Scanning.{AreScans, IsScan, all_implied, all_true, is_line, is_paid}

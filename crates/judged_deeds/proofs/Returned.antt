@@ -1,8 +1,8 @@
 -- After a restart the judge's data are those of what the crash left.
-use Rattle.std.proofs.Common.{◌≡◌, ℕ, Bool, true, false, not, Option, Some, None, List, [], ◌∷◌, ◌++◌, filter, find, fold, ◌||◌, ◌&&◌, refl, ap, sym, subst, ◌∙◌, inl, inr}
-use Rattle.std.specs.Prelude.{◌==◌, ◌⊎◌, is_some}
+use Rattle.std.proofs.Common.{◌≡◌, ℕ, Bool, true, false, Option, None, List, [], ◌∷◌, ◌++◌, filter, find, fold, ◌||◌, ◌&&◌, refl, ap, sym, subst, ◌∙◌, inl, inr}
+use Rattle.std.specs.Prelude.{◌==◌, ◌⊎◌}
 use Rattle.std.specs.List.{list_any, AllByRecursion}
-use Rattle.std.proofs.lemmas.Bool.{and_parts, eqb-true, eq-eqb, false≢true, or_cases}
+use Rattle.std.proofs.lemmas.Bool.{and_parts, eqb-true, eq-eqb, false≢true}
 use Rattle.xa_tables.specs.Tables.{is_in_doubt as is_doubt}
 use Rattle.xa_tables.specs.declared.states.BranchState.{BranchState}
 use Rattle.xa_tables.specs.declared.states.BranchState.TheVariants.{S0, S1, S2, S3, S4, S5}
@@ -11,13 +11,11 @@ use Rattle.tree_model.specs.declared.records.Write.{Write}
 use Rattle.kv_store.specs.writes.Writes.{is_of}
 use Rattle.judge_state.specs.declared.parts.Branch.{Branch}
 use Rattle.judge_state.specs.declared.parts.Work.{Work}
-use Rattle.judge_state.specs.declared.parts.Write.{Write as Committed}
 use Rattle.judge_state.specs.Moves.{keeps_name, restarted, works_of}
 use Rattle.judge_state.specs.Parts.{is_in_doubt, is_named}
-use Rattle.judge_state.specs.Questions.{branch_at}
 use Rattle.judge_state.specs.Scans.{may_hold}
 use Rattle.judge_state.specs.Sights.{Sight}
-use Rattle.judged_deeds.specs.Data.{HasWritten, Holds, IsHeard, MayLeave, is_at, unsure}
+use Rattle.judged_deeds.specs.Data.{HasWritten, Holds, IsHeard, MayLeave, is_at}
 use Rattle.judged_deeds.specs.Names.{Numbers, value_number}
 use Rattle.judged_deeds.proofs.Holding.{holds_after, holds_before, holds_kept, holds_none, holds_own, holds_twice, own_none}
 use Rattle.judged_deeds.proofs.Ledgers.{IsBack, IsReturned}

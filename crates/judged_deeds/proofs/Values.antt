@@ -1,9 +1,8 @@
 -- Which values the judge holds for committed.
-use Rattle.std.proofs.Common.{◌≡◌, ℕ, Bool, true, false, not, Option, Some, None, List, [], ◌∷◌, ◌++◌, append_assoc, filter, map, fold, find, take, drop, take-append-drop, ◌||◌, ◌&&◌, refl, ap, sym, subst, ◌∙◌, inl, inr}
-use Rattle.std.specs.Prelude.{◌==◌, ◌⊎◌, cond, if◌then◌else◌}
+use Rattle.std.proofs.Common.{◌≡◌, ℕ, Bool, true, false, not, Option, Some, None, List, [], ◌∷◌, ◌++◌, map, fold, take, drop, take-append-drop, ◌||◌, ◌&&◌, refl, ap, sym, subst, ◌∙◌, inl, inr}
+use Rattle.std.specs.Prelude.{◌==◌, cond, if◌then◌else◌}
 use Rattle.std.specs.List.{list_any, AllByRecursion}
 use Rattle.std.proofs.lemmas.Bool.{and_from, eqb-true, eq-eqb, false≢true, or_cases, or_left, or_right}
-use Rattle.std.proofs.lemmas.List.Folds.{list_any-append}
 use Rattle.std.proofs.lemmas.List.Sums.{fold-append}
 use Rattle.judge_state.specs.declared.parts.Branch.{Branch}
 use Rattle.judge_state.specs.declared.parts.Work.{Work}
@@ -23,27 +22,27 @@ written_or : (k v : ℕ) (held : Bool) (ws : List Write) → holds_from k v held
 written_or k v held [] h = or_left held false h
 written_or k v held (w ∷ ws) h =
     by (written_or k v (held_after k v held w) ws h) (w.key == k) (w.value == v) refl refl where
-  second : (c d : Bool) → (c && d) ≡ true → d ≡ true
-  second true d e = e
-  second false d e = absurd (false≢true e)
+      second : (c d : Bool) → (c && d) ≡ true → d ≡ true
+      second true d e = e
+      second false d e = absurd (false≢true e)
 
-  by : (held_after k v held w || is_written k v ws) ≡ true → (a b : Bool) → (w.key == k) ≡ a → (w.value == v) ≡ b
-      → (held || is_written k v (w ∷ ws)) ≡ true
-  by rest true true p q = or_right held (is_written k v (w ∷ ws))
-      (or_left (w.key == k && w.value == v) (is_written k v ws) (and_from (w.key == k) (w.value == v) p q))
-  by rest false b p q = elim (or_cases held (is_written k v ws)
-      (subst (λ (c : Bool). ((if c then w.value == v || (not w.sure && held) else held) || is_written k v ws) ≡ true) p rest)) [
-        | inl here ↦ or_left held (is_written k v (w ∷ ws)) here
-        | inr more ↦ or_right held (is_written k v (w ∷ ws))
-            (or_right (w.key == k && w.value == v) (is_written k v ws) more)
-      ]
-  by rest true false p q = elim (or_cases (not w.sure && held) (is_written k v ws)
-      (subst (λ (c : Bool). ((c || (not w.sure && held)) || is_written k v ws) ≡ true) q
-      (subst (λ (c : Bool). ((if c then w.value == v || (not w.sure && held) else held) || is_written k v ws) ≡ true) p rest))) [
-        | inl here ↦ or_left held (is_written k v (w ∷ ws)) (second (not w.sure) held here)
-        | inr more ↦ or_right held (is_written k v (w ∷ ws))
-            (or_right (w.key == k && w.value == v) (is_written k v ws) more)
-      ]
+      by : (held_after k v held w || is_written k v ws) ≡ true → (a b : Bool) → (w.key == k) ≡ a → (w.value == v) ≡ b
+          → (held || is_written k v (w ∷ ws)) ≡ true
+      by rest true true p q = or_right held (is_written k v (w ∷ ws))
+          (or_left (w.key == k && w.value == v) (is_written k v ws) (and_from (w.key == k) (w.value == v) p q))
+      by rest false b p q = elim (or_cases held (is_written k v ws)
+          (subst (λ (c : Bool). ((if c then w.value == v || (not w.sure && held) else held) || is_written k v ws) ≡ true) p rest)) [
+            | inl here ↦ or_left held (is_written k v (w ∷ ws)) here
+            | inr more ↦ or_right held (is_written k v (w ∷ ws))
+                (or_right (w.key == k && w.value == v) (is_written k v ws) more)
+          ]
+      by rest true false p q = elim (or_cases (not w.sure && held) (is_written k v ws)
+          (subst (λ (c : Bool). ((c || (not w.sure && held)) || is_written k v ws) ≡ true) q
+          (subst (λ (c : Bool). ((if c then w.value == v || (not w.sure && held) else held) || is_written k v ws) ≡ true) p rest))) [
+            | inl here ↦ or_left held (is_written k v (w ∷ ws)) (second (not w.sure) held here)
+            | inr more ↦ or_right held (is_written k v (w ∷ ws))
+                (or_right (w.key == k && w.value == v) (is_written k v ws) more)
+          ]
 
 -- what may be the committed value now may be read since any time
 pub read_since : (since k v : ℕ) (ws : List Write) → may_hold k v ws ≡ true → may_read_in since k v ws ≡ true
