@@ -1,294 +1,372 @@
--- A prepare, commit, rollback or forget is a step of the judge.
-use Rattle.std.proofs.Common.{◌≡◌, ℕ, Bool, true, false, not, Option, Some, None, List, [], ◌++◌, option_map, ◌&&◌, ◌||◌, refl, ap, sym, subst, ◌∙◌, inl, inr, arith}
-use Rattle.std.specs.Prelude.{is_some, nat_lt, Contains, if◌then◌else◌}
-use Rattle.std.proofs.lemmas.Bool.{false≢true, not_from_true, not_from_false, or_left, or_from, and_right, false_from_ne_true, ltb-false}
+-- The calls that finish a branch, an operator's decisions, trims and restarts leave the judge's data those of the store.
+use Rattle.std.proofs.Common.{◌≡◌, ℕ, Bool, true, false, not, cond, Option, Some, None, List, [], ◌∷◌, ◌++◌, Result, Ok, Err, ◌||◌, ◌&&◌, refl, ap, sym, subst, ◌∙◌, inl, inr, is_some}
+use Rattle.std.specs.Prelude.{◌⊎◌, Contains, if◌then◌else◌}
+use Rattle.std.proofs.lemmas.Bool.{and_from, and_parts, false≢true, not-true, not_from_false}
 use Rattle.xa_codes.specs.declared.code.Code.{Code}
 use Rattle.xa_codes.specs.declared.code.Code.TheVariants as code
-use Rattle.xa_codes.specs.declared.flags.Flags.{Flags}
-use Rattle.xa_tables.specs.Calls.{one_phase}
-use Rattle.xa_tables.specs.declared.states.AssocState.{AssocState}
-use Rattle.xa_tables.specs.declared.states.AssocState.TheVariants.{T0, T1, T2, M}
+use Rattle.xa_tables.specs.Calls.{legal}
+use Rattle.xa_tables.specs.Tables.{branch_rows, is_in_doubt as is_doubt}
+use Rattle.xa_tables.specs.declared.call.Call.{Call}
+use Rattle.xa_tables.specs.declared.call.Call.TheVariants as call
+use Rattle.xa_tables.specs.declared.call.Verb.{Verb}
+use Rattle.xa_tables.specs.declared.call.Verb.TheVariants as table_verb
 use Rattle.xa_tables.specs.declared.states.BranchState.{BranchState}
-use Rattle.xa_tables.specs.declared.states.BranchState.TheVariants.{S0, S1}
+use Rattle.xa_tables.specs.declared.states.BranchState.TheVariants.{S0, S1, S2, S3, S4, S5}
 use Rattle.xa_xid.specs.declared.xid.Xid.{Xid}
 use Rattle.xa_xid.specs.Xids.{null_xid}
 use Rattle.xa_branch.specs.Names.{same}
-use Rattle.xa_branch.specs.Scans.{ScanList}
-use Rattle.xa_branch.specs.Branches.{is_known, state_in}
+use Rattle.xa_branch.specs.Branches.{is_known, off_row}
 use Rattle.xa_assoc.specs.declared.states.States.{States}
-use Rattle.xa_assoc.specs.Associations.{AssocList, has_active as holds_active, has_seat, has_suspended as holds_suspended, is_active as is_active_in, moved_of, own_state}
-use Rattle.xa_assoc.specs.Answers.{Same, Takes, is_held}
-use Rattle.xa_assoc.specs.Ready.{is_closed}
-use Rattle.judge_state.specs.declared.parts.Branch.{Branch}
+use Rattle.xa_assoc.specs.Answers.{is_held, state_at}
+use Rattle.xa_assoc.specs.Ready.{finish_refusal, has_rows, is_closed, judged, ready, unless_refused}
+use Rattle.xa_assoc.proofs.Finishing.{passed}
+use Rattle.xa_heur.specs.Decisions.{heur_code}
+use Rattle.xa_heur.specs.declared.decision.Decision.{Decision as Known}
+use Rattle.xa_law.specs.Refusals.{is_refusal}
+use Rattle.xa_law.proofs.Refused.{legal_refuses}
+use Rattle.log_store.specs.Stores.{MoreFailures}
+use Rattle.log_text.specs.Parts.{name_in}
+use Rattle.tree_model.specs.declared.names.Outcome.{Outcome}
+use Rattle.tree_model.specs.declared.names.Outcome.TheVariants as outcome
+use Rattle.tree_model.specs.declared.records.Branch.{Branch}
+use Rattle.tree_model.specs.declared.records.Write.{Write}
+use Rattle.kv_store.specs.writes.Writes.{writes_of}
+use Rattle.kv_turns.specs.declared.entries.Entry.{Entry}
+use Rattle.kv_turns.specs.declared.entries.Entry.TheVariants.{Prepared, Committed, RolledBack, Direct, HeurCommit, HeurRollback, Told, Forgot}
+use Rattle.kv_turns.specs.declared.turns.Turn.{Turn}
+use Rattle.kv_turns.specs.Turns.{decide_turn, direct_turn, prepare_turn, silent, tell_turn, turn_of, writes}
+use Rattle.kv_core.specs.Ends.{IsDue, IsListed, IsOff, OfCall, Refused as RefusedOff, Unlisted as UnlistedOff, known_of, turn_for, wrote_some}
+use Rattle.kv_core.specs.Stores.{is_let_go, state_of}
+use Rattle.kv_manager.specs.Sights.{KvSight, SameManager, doubt_of}
+use Rattle.kv_manager.specs.Turns.{Finishes, IsDueTurn, Makes, Takes, Made, Broke, Spent, Failed, Refused, Taken}
+use Rattle.kv_manager.proofs.From.{due_from, silent_doubt}
+use Rattle.kv_manager.proofs.Staying.{same_doubts}
+use Rattle.kv_manager.proofs.Turns.{due_leads, due_turn}
 use Rattle.judge_state.specs.declared.parts.Decision.{Decision}
-use Rattle.judge_state.specs.declared.parts.Link.{Link}
-use Rattle.judge_state.specs.declared.parts.Listed.{Listed}
-use Rattle.judge_state.specs.declared.parts.Stand.{Stand}
-use Rattle.judge_state.specs.Moves.{committed, gone, is_prepared_at, not_due, others, published, remembered, rolled, standing, stands, was_prepared, works_of, works_without}
+use Rattle.judge_state.specs.Moves.{committed, decided, gone, rolled}
 use Rattle.judge_state.specs.Sights.{Sight}
-use Rattle.judge_state.specs.Questions.{branch_at, is_associated}
 use Rattle.judge_rules.specs.declared.calls.BranchVerb.{BranchVerb}
-use Rattle.judge_rules.specs.declared.defects.Refusals.{Refusals}
-use Rattle.judge_rules.specs.Flags.{are_wrong, has}
+use Rattle.judge_rules.specs.declared.calls.BranchVerb.TheVariants as verb
 use Rattle.judge_rules.specs.Replies.{reply_of}
-use Rattle.judge_rules.specs.Defects.{branch_defects, finish_defects, is_bad_name, is_forget, is_off_row}
-use Rattle.judge_rules.specs.Passes.{branch_passes, stand_in}
-use Rattle.judged_runs.specs.Deeds.{on}
-use Rattle.judged_runs.specs.Names.{Numbers, lacks_forced, sort_of}
-use Rattle.judged_runs.proofs.Agreements.{off_by, row_is}
-use Rattle.judged_runs.proofs.Branches.{Comes, gone_branches, stood_branches}
-use Rattle.judged_runs.proofs.Checks.{bad_same, closed_same, known_same, or_none, or_one, or_three, or_two, own_never}
-use Rattle.judged_runs.proofs.Flags.{AreRight}
-use Rattle.judged_runs.proofs.Links.{Tied}
-use Rattle.judged_runs.proofs.Mirrors.{AreBranches, IsFree, IsOrderly, Mirrors, entered, holds_one, holds_two, is_begun, is_quiet, known_here, seat_state, stand_as, stands_at, suspender}
-use Rattle.judged_runs.proofs.Orderly.{orderly_finished}
-use Rattle.judged_runs.proofs.Scanning.{AreScans, scans_less, scans_stay}
-use Rattle.judged_runs.proofs.Rows.{IsClean, IsDefect, Proto, NotA}
-use Rattle.judged_runs.proofs.Sights.{held_same}
-use Rattle.judged_runs.proofs.Losing.{Remembers}
-use Rattle.judged_runs.proofs.Steps.{Goes, goes_passed, goes_refused}
+use Rattle.judge_rules.specs.Steps.{outcome as decision_taken}
+use Rattle.judged_deeds.specs.Deeds.{ends_branch, is_commit}
+use Rattle.judged_deeds.specs.Names.{Numbers}
+use Rattle.judged_deeds.proofs.Finishing.{none_in}
+use Rattle.judged_deeds.proofs.Flags.{CommitMarks, commit_reads, plain_reads}
+use Rattle.judged_deeds.proofs.Ledgers.{effect, ledger}
+use Rattle.judged_deeds.proofs.Mirrors.{Mirrors}
+use Rattle.judged_runs.proofs.Judging.{IsJudged, abort_judged, again_judged, commit_judged, decide_judged, empty_judged, forget_judged, promise_judged, quiet_judged, roll_judged, tell_judged, undo_judged}
+use Rattle.judged_runs.proofs.Recorded.{IsLoose, IsRecorded, due_loose}
+use Rattle.judged_runs.proofs.Stored.{written_by}
 
--- Who holds a branch.
+-- What refuses a call does nothing to data.
 
-no_one : (s : AssocState) → s ≡ T0 → s ≡ T1 → ⊥
-no_one s p q = absurd (let e : T0 ≡ T1 = sym p ∙ q in cc)
+plain_effect : (k : Code) (v : BranchVerb) (x : ℕ) (s : Sight) → is_refusal k ≡ true → effect (reply_of k) v x s ≡ s
+plain_effect code.Async v x s h = refl
+plain_effect code.RmErr v x s h = refl
+plain_effect code.NotA v x s h = refl
+plain_effect code.Inval v x s h = refl
+plain_effect code.Proto v x s h = refl
+plain_effect code.RmFail v x s h = refl
+plain_effect code.DupId v x s h = refl
+plain_effect code.Outside v x s h = refl
+plain_effect code.RbRollback v x s h = refl
+plain_effect code.RbCommFail v x s h = refl
+plain_effect code.RbDeadlock v x s h = refl
+plain_effect code.RbIntegrity v x s h = refl
+plain_effect code.RbOther v x s h = refl
+plain_effect code.RbProto v x s h = refl
+plain_effect code.RbTimeout v x s h = refl
+plain_effect code.RbTransient v x s h = refl
+plain_effect code.NoMigrate v x s h = refl
+plain_effect code.HeurHaz v x s h = refl
+plain_effect code.HeurCom v x s h = refl
+plain_effect code.HeurRb v x s h = refl
+plain_effect code.HeurMix v x s h = refl
+plain_effect code.Retry v x s h = refl
+plain_effect code.RdOnly v x s h = absurd (false≢true h)
+plain_effect code.Ok v x s h = absurd (false≢true h)
 
-no_two : (s : AssocState) → s ≡ T0 → s ≡ T2 → ⊥
-no_two s p q = absurd (let e : T0 ≡ T2 = sym p ∙ q in cc)
+abbrev Plain : Option Code → Type 0
+Plain None = Unit {0}
+Plain (Some k) = is_refusal k ≡ true
 
--- no thread holds a branch that is not at work
-pub quiet_free : (n : Numbers) (m : States) (d : Xid → Decision) (s : Sight) (x : Xid) → Mirrors n m d s
-    → is_quiet (state_in m.branches.branches x) ≡ true → is_held m.associations x ≡ false
-quiet_free n m d s x mirrors calm = or_none (holds_active m.associations x) (holds_suspended m.associations x)
-    (nat_lt 0 (moved_of m.associations x))
-    (false_from_ne_true (holds_active m.associations x) (λ h.
-    let e = entered m.associations x mirrors.orderly.once h in
-    no_one (own_state m.associations e.0 x) (mirrors.orderly.quiet e.0 x calm) e.1))
-    (false_from_ne_true (holds_suspended m.associations x) (λ h.
-    let e = suspender m.associations.seats x h in
-    elim (seat_state (is_active_in m.associations e.0 x) (has_seat m.associations e.0 x) e.1) [
-      | inl is ↦ no_one (own_state m.associations e.0 x) (mirrors.orderly.quiet e.0 x calm) is
-      | inr is ↦ no_two (own_state m.associations e.0 x) (mirrors.orderly.quiet e.0 x calm) is
-    ]))
-    (ap (λ k. nat_lt 0 k) (mirrors.orderly.unmoved x calm))
+plain_if : (b : Bool) (o p : Option Code) → Plain o → Plain p → Plain (if b then o else p)
+plain_if true o p h k = h
+plain_if false o p h k = k
 
--- some thread holds one that is active
-pub busy_held : (n : Numbers) (m : States) (d : Xid → Decision) (s : Sight) (x : Xid) → Mirrors n m d s
-    → state_in m.branches.branches x ≡ S1 → is_held m.associations x ≡ true
-busy_held n m d s x mirrors e = let w = mirrors.orderly.busy x e in
-    or_one (holds_active m.associations x) (holds_suspended m.associations x) (nat_lt 0 (moved_of m.associations x))
-    (holds_one m.associations w.0 x w.1)
+plain_refusal : (m : States) (c : Call) (x : Xid) → Plain (finish_refusal m c x)
+plain_refusal m c x =
+    let held : Option Code =
+    if is_held m.associations x || not (has_rows (branch_rows (state_at m x) c)) then Some code.Proto else None in
+    let known : Option Code = if not (is_known m.branches.branches x) then Some code.NotA else held in
+    let named : Option Code = if same x null_xid then Some code.Inval else known in
+    plain_if (is_closed m.init) (Some code.Proto) named refl (plain_if (same x null_xid) (Some code.Inval) known refl
+    (plain_if (not (is_known m.branches.branches x)) (Some code.NotA) held refl
+    (plain_if (is_held m.associations x || not (has_rows (branch_rows (state_at m x) c))) (Some code.Proto) None refl tt)))
 
-own_cases : (s : AssocState) → (s ≡ M → ⊥) → (s ≡ T1 → ⊥) → (s ≡ T2 → ⊥) → s ≡ T0
-own_cases T0 m a b = refl
-own_cases T1 m a b = absurd (a refl)
-own_cases T2 m a b = absurd (b refl)
-own_cases M m a b = absurd (m refl)
+refused_by : (o : Option Code) (c : Call) (k : Code) → Plain o → unless_refused o c ≡ Err k → is_refusal k ≡ true
+refused_by None c k h e = absurd cc
+refused_by (Some z) c k h e =
+    let q : ◌≡◌ {A = Result Call Code} (Err z) (Err k) = e in let is : z ≡ k = cc in
+    subst (λ (y : Code). is_refusal y ≡ true) is h
 
--- of a branch that is not held no thread has an association
-pub unheld : (a : AssocList) (x : Xid) → is_held a x ≡ false → (u : ℕ) → own_state a u x ≡ T0
-unheld a x h u = own_cases (own_state a u x) (own_never a u x)
-    (λ e. false≢true (sym h ∙ or_one (holds_active a x) (holds_suspended a x) (nat_lt 0 (moved_of a x)) (holds_one a u x e)))
-    (λ e. false≢true (sym h ∙ or_two (holds_active a x) (holds_suspended a x) (nat_lt 0 (moved_of a x)) (holds_two a u x e)))
+ready_refuses : (m : States) (v : Verb) (x : Xid) (flags : ℕ) (k : Code) → ready m v x flags ≡ Err k → is_refusal k ≡ true
+ready_refuses m v x flags k h = by (legal v flags) refl h where
+  by : (l : Result Call Code) → legal v flags ≡ l → judged m x l ≡ Err k → is_refusal k ≡ true
+  by (Ok c) q e = refused_by (finish_refusal m c x) c k (plain_refusal m c x) e
+  by (Err z) q e = legal_refuses v flags k (q ∙ e)
 
-third : (a b c : Bool) → (a || b || c) ≡ false → c ≡ false
-third true b c h = absurd cc
-third false true c h = absurd cc
-third false false c h = h
+off_refusal : (c : Call) → is_refusal (off_row c) ≡ true
+off_refusal call.Start = refl
+off_refusal call.StartJoin = refl
+off_refusal call.StartResume = refl
+off_refusal call.EndSuspend = refl
+off_refusal call.EndMigrate = refl
+off_refusal call.EndSuccess = refl
+off_refusal call.EndFail = refl
+off_refusal call.Prepare = refl
+off_refusal call.Commit = refl
+off_refusal call.CommitOnePhase = refl
+off_refusal call.Rollback = refl
+off_refusal call.Forget = refl
+off_refusal call.Open = refl
+off_refusal call.Close = refl
+off_refusal call.Recover = refl
+off_refusal call.RecoverStart = refl
+off_refusal call.RecoverEnd = refl
+off_refusal call.RecoverWhole = refl
 
-pub unmoved_free : (a : AssocList) (x : Xid) → is_held a x ≡ false → moved_of a x ≡ 0
-unmoved_free a x h =
-    let le = ltb-false 0 (moved_of a x) (third (holds_active a x) (holds_suspended a x) (nat_lt 0 (moved_of a x)) h) in
-    omega arith
+heur_plain : (o : Outcome) (v : BranchVerb) (x : ℕ) (s : Sight) → effect (reply_of (heur_code o)) v x s ≡ s
+heur_plain outcome.Committed v x s = refl
+heur_plain outcome.Aborted v x s = refl
 
--- How a branch stands.
+none_some : (ws : List Write) → wrote_some ws ≡ false → ws ≡ []
+none_some [] h = refl
+none_some (w ∷ ws) h = absurd (false≢true (sym h))
 
-pub in_by : (o : Option Branch) (k : Stand) → option_map (λ b. b.stand) o ≡ Some k → stand_in o ≡ k
-in_by None k h = absurd cc
-in_by (Some b) k h = cc
+by_six : (X : Type 0) (s : BranchState) → (s ≡ S0 → X) → (s ≡ S1 → X) → (s ≡ S2 → X) → (s ≡ S3 → X) → (s ≡ S4 → X)
+    → (s ≡ S5 → X) → X
+by_six X S0 a b c d e f = a refl
+by_six X S1 a b c d e f = b refl
+by_six X S2 a b c d e f = c refl
+by_six X S3 a b c d e f = d refl
+by_six X S4 a b c d e f = e refl
+by_six X S5 a b c d e f = f refl
 
-off_is : (v : BranchVerb) (f : ℕ) (one : Bool) (o : Option Branch) → has f one_phase ≡ one
-    → is_off_row v f o ≡ off_by v one (option_map (λ b. b.stand) o)
-off_is v f one None h = refl
-off_is v f one (Some b) h = ap not (row_is v f b.stand) ∙ ap (λ c. off_by v c (Some b.stand)) h
+-- nothing changes but room
+pub same_judged : (n : Numbers) (old new : KvSight) (s u : Sight) → IsJudged n old s → SameManager old new
+    → ledger u ≡ ledger s → IsJudged n new u
+same_judged n old new s u j same books = quiet_judged n old new s u j same.log
+    (same_doubts old.store.tables new.store.tables same.tables) same.versions same.writes books
 
--- two states of the judge have the same tables
-pub record HasTables (u s : Sight) : Type 0 where
-  pub opened : u.opened ≡ s.opened
-  pub waits : u.hung ≡ s.hung
-  pub links : u.links ≡ s.links
-  pub migrated : u.migrated ≡ s.migrated
-  pub branches : u.branches ≡ s.branches
-  pub scans : u.scans ≡ s.scans
-  pub listed : u.listed ≡ s.listed
+-- A call's turn.
 
-pub remembered_tables : (x : ℕ) (s : Sight) → HasTables (remembered x s) s
-remembered_tables x s = by (is_prepared_at x s) where
-  by : (b : Bool) → HasTables (if b then record s {
-    lost = others x s.lost ++ was_prepared x s.branches;
-    lost_works = works_without x s.lost_works ++ works_of x s.works;
-  } else s) s
-  by true = record { opened = refl; waits = refl; links = refl; migrated = refl; branches = refl; scans = refl; listed = refl }
-  by false = record { opened = refl; waits = refl; links = refl; migrated = refl; branches = refl; scans = refl; listed = refl }
+module _ (n : Numbers) (old new : KvSight) (d : Xid → Decision) (l l' : Xid → Bool) (s u : Sight) (x : Xid) (turn : Turn)
+    (j : IsJudged n old s) (r : IsRecorded old l) (r' : IsRecorded new l') (mirrors : Mirrors n old.store.tables d s)
+    (made : Makes old new x turn) (c : Code) (answers : c ≡ turn.code) where
+  abbrev wrote : Bool
+  wrote = wrote_some (written_by old x)
 
-all_three : (a b c : Bool) → a ≡ true → b ≡ true → c ≡ true → (a && b && c) ≡ true
-all_three a b c p q r = rw (p, q, r) refl
+  abbrev name : Branch
+  name = (name_in x).1
 
-not_second : (a b c : Bool) → b ≡ false → (a && b && c) ≡ false
-not_second true b c h = rw h refl
-not_second false b c h = refl
+  abbrev known : Known
+  known = known_of old.store x
 
-pub none_in : (rows : List (Code × BranchState)) (r : Code × BranchState) → rows ≡ [] → Contains rows r → ⊥
-none_in rows r e c =
-    let d : Contains [] r = subst (λ (rs : List (Code × BranchState)). Contains rs r) e c in omega (arith, d.1)
+  abbrev st : BranchState
+  st = state_of old.store x
 
-module _ (n : Numbers) (old new : States) (d : Xid → Decision) (s : Sight) (v : BranchVerb) (t : ℕ) (x : Xid) (flags : Flags)
-    (answer : Code) (mirrors : Mirrors n old d s) (one : Bool) (phase : has flags.0 one_phase ≡ one)
-    (right : AreRight (are_wrong v) flags.0) (opened : is_closed old.init ≡ false) (named : same x null_xid ≡ false)
-    (finishes : branch_defects lacks_forced v s (on n t x flags) ≡ finish_defects lacks_forced v s (on n t x flags)) where
-  abbrev Result_of : Type 0
-  Result_of = Goes n v s t x flags answer new d
+  abbrev Judged_so : Type 0
+  Judged_so = IsJudged n new u
 
-  refuses : (c : Code) → IsDefect (finish_defects lacks_forced v s (on n t x flags)) (reply_of c)
-      → (answer ≡ c) × Same old new → Result_of
-  refuses c defect h = goes_refused n v s t x flags answer c old new d mirrors
-      (subst (λ (e : Refusals). IsDefect e (reply_of c)) (sym finishes) defect) h
+  -- what the judge did, by the code of the turn
+  data_as : (v : BranchVerb) (k : Code) → turn.code ≡ k → ledger u ≡ ledger (effect (reply_of c) v (n.xid x) s)
+      → ledger u ≡ ledger (effect (reply_of k) v (n.xid x) s)
+  data_as v k is books = books ∙ ap (λ z. ledger (effect (reply_of z) v (n.xid x) s)) (answers ∙ is)
 
-  pub known_is : is_some (branch_at (n.xid x) s) ≡ is_known old.branches.branches x
-  known_is = known_same n old d s x mirrors
-      ∙ sym (known_here old.branches.branches old.associations x mirrors.orderly)
+  not_listed : (k : Call) → IsDueTurn old x k turn → (at : BranchState) → branch_rows at k ≡ [] → st ≡ at → ⊥
+  not_listed k due at none e = none_in (branch_rows st k) (turn.code, turn.to) (ap (λ z. branch_rows z k) e ∙ none) due.listed
 
-  held_is : is_associated (n.xid x) s ≡ is_held old.associations x
-  held_is = held_same n old.associations s.links s.migrated x mirrors.tied mirrors.orderly.once
+  prepare_made : IsDueTurn old x call.Prepare turn → turn ≡ turn_for old.store x call.Prepare
+      → ledger u ≡ ledger (effect (reply_of c) verb.Prepare (n.xid x) s) → Judged_so
+  prepare_made due one books = by wrote refl where
+    by : (b : Bool) → wrote ≡ b → Judged_so
+    by true e =
+        let is : turn ≡ writes Prepared true S3 = one ∙ ap prepare_turn e in
+        let entry = ap (λ (t : Turn). t.entry) is in
+        promise_judged n old new d l l' s u x turn j r r' mirrors made Prepared entry (due_leads old x call.Prepare turn Prepared due entry)
+        (due_from old x call.Prepare turn Prepared due entry) (due_loose old x call.Prepare turn Prepared due entry)
+        (ap (λ (t : Turn). t.is_forced) is) refl refl (data_as verb.Prepare code.Ok (ap (λ (t : Turn). t.code) is) books)
+    by false e =
+        let is : turn ≡ silent code.RdOnly S0 = one ∙ ap prepare_turn e in
+        let entry = ap (λ (t : Turn). t.entry) is in
+        empty_judged n old new d l l' s u x turn j r r' mirrors made entry (silent_doubt old x call.Prepare turn due entry)
+        (not_listed call.Prepare due S3 refl) (ap (λ (t : Turn). is_let_go t.to) is) (none_some (written_by old x) e)
+        (data_as verb.Prepare code.RdOnly (ap (λ (t : Turn). t.code) is) books)
 
-  off_same : is_off_row v flags.0 (branch_at (n.xid x) s)
-      ≡ off_by v one (stand_as (state_in old.branches.branches x) (d x))
-  off_same = off_is v flags.0 one (branch_at (n.xid x) s) phase
-      ∙ ap (λ k. off_by v one k) (stands_at n (state_in old.branches.branches) d s.branches x mirrors.branches)
+  -- one that an operator decided answers by that
+  tell_made : (v : BranchVerb) (k : Call) (o : Outcome) → IsDueTurn old x k turn → st ≡ S5
+      → turn ≡ tell_turn name o known known.told
+      → ledger u ≡ ledger (effect (reply_of c) v (n.xid x) s) → Judged_so
+  tell_made v k o due five one books = by known.told refl where
+    by : (told : Option Outcome) → known.told ≡ told → Judged_so
+    by None e =
+        let is : turn ≡ tell_turn name o known None = one ∙ ap (tell_turn name o known) e in
+        let entry = ap (λ (t : Turn). t.entry) is in
+        tell_judged n old new d l l' s u x turn j r r' mirrors made (Told o) entry (due_leads old x k turn (Told o) due entry)
+        (due_from old x k turn (Told o) due entry) (due_loose old x k turn (Told o) due entry) refl refl refl
+        (data_as v (heur_code known.outcome) (ap (λ (t : Turn). t.code) is) books
+        ∙ ap ledger (heur_plain known.outcome v (n.xid x) s))
+    by (Some z) e =
+        let is : turn ≡ tell_turn name o known (Some z) = one ∙ ap (tell_turn name o known) e in
+        let entry = ap (λ (t : Turn). t.entry) is in
+        again_judged n old new d l l' s u x turn j r r' mirrors made entry (silent_doubt old x k turn due entry)
+        (λ three. absurd (let f : S3 ≡ S5 = sym three ∙ five in cc)) five (ap (λ (t : Turn). is_let_go t.to) is)
+        (data_as v (heur_code known.outcome) (ap (λ (t : Turn). t.code) is) books
+        ∙ ap ledger (heur_plain known.outcome v (n.xid x) s))
 
-  pub strange : is_known old.branches.branches x ≡ false → (answer ≡ code.NotA) × Same old new → Result_of
-  strange e h = refuses code.NotA (NotA (or_left (not (is_some (branch_at (n.xid x) s)))
-      (is_forget v && is_off_row v flags.0 (branch_at (n.xid x) s))
-      (not_from_false (is_some (branch_at (n.xid x) s)) (known_is ∙ e)))) h
+  commit_made : IsDueTurn old x call.Commit turn → turn ≡ turn_for old.store x call.Commit
+      → ledger u ≡ ledger (effect (reply_of c) verb.Commit (n.xid x) s) → Judged_so
+  commit_made due one books = by_six Judged_so st
+      (λ e. absurd (not_listed call.Commit due S0 refl e)) (λ e. absurd (not_listed call.Commit due S1 refl e))
+      (λ e. absurd (not_listed call.Commit due S2 refl e))
+      (λ e.
+      let is = one ∙ ap (λ z. turn_of z call.Commit wrote name known) e in
+      let entry = ap (λ (t : Turn). t.entry) is in
+      commit_judged n old new d l l' s u x turn j r r' mirrors made Committed entry
+      (due_leads old x call.Commit turn Committed due entry) (due_from old x call.Commit turn Committed due entry)
+      (due_loose old x call.Commit turn Committed due entry) refl refl (λ f. e)
+      (data_as verb.Commit code.Ok (ap (λ (t : Turn). t.code) is) books))
+      (λ e. absurd (not_listed call.Commit due S4 refl e))
+      (λ e. tell_made verb.Commit call.Commit outcome.Committed due e (one ∙ ap (λ z. turn_of z call.Commit wrote name known) e) books)
 
-  abbrev middle : Bool
-  middle = is_some (branch_at (n.xid x) s) && is_associated (n.xid x) s && not (is_forget v)
+  direct_made : IsDueTurn old x call.CommitOnePhase turn → turn ≡ turn_for old.store x call.CommitOnePhase
+      → ledger u ≡ ledger (effect (reply_of c) verb.Commit (n.xid x) s) → Judged_so
+  direct_made due one books = by wrote refl where
+    by : (b : Bool) → wrote ≡ b → Judged_so
+    by true e =
+        let is : turn ≡ writes Direct true S0 = one ∙ ap direct_turn e in
+        let entry = ap (λ (t : Turn). t.entry) is in
+        commit_judged n old new d l l' s u x turn j r r' mirrors made Direct entry
+        (due_leads old x call.CommitOnePhase turn Direct due entry) (due_from old x call.CommitOnePhase turn Direct due entry)
+        (due_loose old x call.CommitOnePhase turn Direct due entry) refl refl
+        (λ f. absurd (false≢true (sym f ∙ ap (λ (t : Turn). t.is_forced) is)))
+        (data_as verb.Commit code.Ok (ap (λ (t : Turn). t.code) is) books)
+    by false e =
+        let is : turn ≡ silent code.Ok S0 = one ∙ ap direct_turn e in
+        let entry = ap (λ (t : Turn). t.entry) is in
+        empty_judged n old new d l l' s u x turn j r r' mirrors made entry (silent_doubt old x call.CommitOnePhase turn due entry)
+        (not_listed call.CommitOnePhase due S3 refl) (ap (λ (t : Turn). is_let_go t.to) is) (none_some (written_by old x) e)
+        (data_as verb.Commit code.Ok (ap (λ (t : Turn). t.code) is) books)
 
-  pub held_proto : is_known old.branches.branches x ≡ true → is_held old.associations x ≡ true → is_forget v ≡ false
-      → (answer ≡ code.Proto) × Same old new → Result_of
-  held_proto e p f h = refuses code.Proto (Proto (or_two (not s.opened && not false) middle
-      (is_off_row v flags.0 (branch_at (n.xid x) s))
-      (all_three (is_some (branch_at (n.xid x) s)) (is_associated (n.xid x) s) (not (is_forget v)) (known_is ∙ e)
-      (held_is ∙ p) (not_from_false (is_forget v) f)))) h
+  -- a rollback of a branch that is not prepared
+  undo_made : (at : BranchState) → turn_of at call.Rollback wrote name known ≡ silent code.Ok S0 → (at ≡ S3 → ⊥)
+      → IsDueTurn old x call.Rollback turn → turn ≡ turn_for old.store x call.Rollback → st ≡ at
+      → ledger u ≡ ledger (effect (reply_of c) verb.Rollback (n.xid x) s) → Judged_so
+  undo_made at says off due one e books =
+      let is : turn ≡ silent code.Ok S0 = one ∙ ap (λ z. turn_of z call.Rollback wrote name known) e ∙ says in
+      let entry = ap (λ (t : Turn). t.entry) is in
+      undo_judged n old new d l l' s u x turn j r r' mirrors made entry (silent_doubt old x call.Rollback turn due entry)
+      (λ three. off (sym e ∙ three)) (ap (λ (t : Turn). is_let_go t.to) is)
+      (data_as verb.Rollback code.Ok (ap (λ (t : Turn). t.code) is) books)
 
-  pub off_proto : off_by v one (stand_as (state_in old.branches.branches x) (d x)) ≡ true
-      → (answer ≡ code.Proto) × Same old new → Result_of
-  off_proto o h = refuses code.Proto (Proto (or_three (not s.opened && not false) middle
-      (is_off_row v flags.0 (branch_at (n.xid x) s)) (off_same ∙ o))) h
+  rollback_made : IsDueTurn old x call.Rollback turn → turn ≡ turn_for old.store x call.Rollback
+      → ledger u ≡ ledger (effect (reply_of c) verb.Rollback (n.xid x) s) → Judged_so
+  rollback_made due one books = by_six Judged_so st
+      (λ e. undo_made S0 refl (λ q. absurd cc) due one e books) (λ e. undo_made S1 refl (λ q. absurd cc) due one e books)
+      (λ e. undo_made S2 refl (λ q. absurd cc) due one e books)
+      (λ e.
+      let is = one ∙ ap (λ z. turn_of z call.Rollback wrote name known) e in
+      let entry = ap (λ (t : Turn). t.entry) is in
+      roll_judged n old new d l l' s u x turn j r r' mirrors made RolledBack entry
+      (due_leads old x call.Rollback turn RolledBack due entry) (due_from old x call.Rollback turn RolledBack due entry)
+      (due_loose old x call.Rollback turn RolledBack due entry) refl refl e
+      (data_as verb.Rollback code.Ok (ap (λ (t : Turn). t.code) is) books))
+      (λ e. undo_made S4 refl (λ q. absurd cc) due one e books)
+      (λ e. tell_made verb.Rollback call.Rollback outcome.Aborted due e
+      (one ∙ ap (λ z. turn_of z call.Rollback wrote name known) e) books)
 
-  clean : is_known old.branches.branches x ≡ true → is_held old.associations x ≡ false
-      → off_by v one (stand_as (state_in old.branches.branches x) (d x)) ≡ false
-      → IsClean (finish_defects lacks_forced v s (on n t x flags))
-  clean e p o = record {
-    inval = or_from (are_wrong v flags.0) (is_bad_name lacks_forced (sort_of x)) right.right (bad_same x ∙ named);
-    asynchronous = right.sync;
-    proto = or_none (not s.opened && not false) middle (is_off_row v flags.0 (branch_at (n.xid x) s))
-        (closed_same n old d s mirrors ∙ opened)
-        (not_second (is_some (branch_at (n.xid x) s)) (is_associated (n.xid x) s) (not (is_forget v)) (held_is ∙ p))
-        (off_same ∙ o);
-    dup_id = refl;
-    not_a = or_from (not (is_some (branch_at (n.xid x) s))) (is_forget v && is_off_row v flags.0 (branch_at (n.xid x) s))
-        (not_from_true (is_some (branch_at (n.xid x) s)) (known_is ∙ e))
-        (and_right (is_forget v) (is_off_row v flags.0 (branch_at (n.xid x) s)) (off_same ∙ o));
-  }
+  forget_made : IsDueTurn old x call.Forget turn → turn ≡ turn_for old.store x call.Forget
+      → ledger u ≡ ledger (effect (reply_of c) verb.Forget (n.xid x) s) → Judged_so
+  forget_made due one books =
+      let entry : turn.entry ≡ Some Forgot = ap (λ (t : Turn). t.entry) one in
+      forget_judged n old new d l l' s u x turn j r r' mirrors made Forgot entry (due_leads old x call.Forget turn Forgot due entry)
+      (due_from old x call.Forget turn Forgot due entry) (due_loose old x call.Forget turn Forgot due entry)
+      (ap (λ (t : Turn). t.is_forced) one) refl refl (data_as verb.Forget code.Ok (ap (λ (t : Turn). t.code) one) books)
 
-  pub passes : (c : Code) (u : Sight) → Remembers v n s u x new → is_known old.branches.branches x ≡ true → is_held old.associations x ≡ false
-      → off_by v one (stand_as (state_in old.branches.branches x) (d x)) ≡ false → answer ≡ c
-      → Contains (branch_passes lacks_forced v s (on n t x flags) (reply_of c)) u → Mirrors n new d u → Result_of
-  passes c u lost e p o is row m = goes_passed n v s t x flags answer c new d u lost is
-      (subst (λ (r : Refusals). IsClean r) (sym finishes) (clean e p o)) row m
+  -- the call that flags name
+  pub call_made : (v : BranchVerb) (w : Verb) (flags : ℕ) (k : Call) → ends_branch v w → legal w flags ≡ Ok k
+      → IsDueTurn old x k turn → turn ≡ turn_for old.store x k
+      → ledger u ≡ ledger (effect (reply_of c) v (n.xid x) s) → Judged_so
+  call_made verb.Prepare w flags k ends e due one books =
+      let is = (plain_reads call.Prepare k flags (subst (λ (z : Verb). legal z flags ≡ Ok k) ends e)).1 in
+      prepare_made (subst (λ (z : Call). IsDueTurn old x z turn) is due)
+      (subst (λ (z : Call). turn ≡ turn_for old.store x z) is one) books
+  call_made verb.Rollback w flags k ends e due one books =
+      let is = (plain_reads call.Rollback k flags (subst (λ (z : Verb). legal z flags ≡ Ok k) ends e)).1 in
+      rollback_made (subst (λ (z : Call). IsDueTurn old x z turn) is due)
+      (subst (λ (z : Call). turn ≡ turn_for old.store x z) is one) books
+  call_made verb.Forget w flags k ends e due one books =
+      let is = (plain_reads call.Forget k flags (subst (λ (z : Verb). legal z flags ≡ Ok k) ends e)).1 in
+      forget_made (subst (λ (z : Call). IsDueTurn old x z turn) is due)
+      (subst (λ (z : Call). turn ≡ turn_for old.store x z) is one) books
+  call_made verb.Commit w flags k ends e due one books =
+      by k (commit_reads flags k (subst (λ (z : Verb). legal z flags ≡ Ok k) ends e)).1 due one where
+    by : (z : Call) → CommitMarks z flags → IsDueTurn old x z turn → turn ≡ turn_for old.store x z → Judged_so
+    by call.Commit m due one = commit_made due one books
+    by call.CommitOnePhase m due one = direct_made due one books
+    by call.Start m due one = absurd m
+    by call.StartJoin m due one = absurd m
+    by call.StartResume m due one = absurd m
+    by call.EndSuspend m due one = absurd m
+    by call.EndMigrate m due one = absurd m
+    by call.EndSuccess m due one = absurd m
+    by call.EndFail m due one = absurd m
+    by call.Prepare m due one = absurd m
+    by call.Rollback m due one = absurd m
+    by call.Forget m due one = absurd m
+    by call.Open m due one = absurd m
+    by call.Close m due one = absurd m
+    by call.Recover m due one = absurd m
+    by call.RecoverStart m due one = absurd m
+    by call.RecoverEnd m due one = absurd m
+    by call.RecoverWhole m due one = absurd m
+  call_made verb.Start w flags k ends e due one books = absurd ends
+  call_made verb.End w flags k ends e due one books = absurd ends
 
--- What becomes of the tables.
+-- A call that finishes a branch.
 
-module _ (n : Numbers) (old new : States) (d : Xid → Decision) (s u : Sight) (x : Xid) (to : BranchState)
-    (mirrors : Mirrors n old d s) (takes : Takes old new x to) (free : is_held old.associations x ≡ false)
-    (calm : is_quiet to ≡ true) (scanned : AreScans n old.branches.scans u.scans u.listed) where
-  orderly : IsOrderly new.branches.branches new.associations
-  orderly = subst (λ (a : AssocList). IsOrderly new.branches.branches a) (sym takes.associations)
-      (orderly_finished n old.branches new.branches old.associations x to mirrors.orderly takes.branch calm
-      (unheld old.associations x free) (unmoved_free old.associations x free))
+pub finish_judged : (n : Numbers) (old new : KvSight) (d : Xid → Decision) (l l' : Xid → Bool) (s u : Sight) → IsJudged n old s
+    → IsRecorded old l → IsRecorded new l' → Mirrors n old.store.tables d s
+    → (MoreFailures old.log.sight.failures new.log.sight.failures → ⊥) → (v : BranchVerb) (w : Verb) (x : Xid) (flags : ℕ)
+    (c : Code) → ends_branch v w → Finishes old new w x flags c
+    → ledger u ≡ ledger (effect (reply_of c) v (n.xid x) s) → IsJudged n new u
+finish_judged n old new d l l' s u j r r' mirrors breaks v w x flags c ends (Failed f q same) books =
+    absurd (false≢true (sym r.works ∙ f))
+finish_judged n old new d l l' s u j r r' mirrors breaks v w x flags c ends (Refused f off same) books =
+    same_judged n old new s u j same (books ∙ ap ledger (plain_effect c v (n.xid x) s (refusal off)))
+  where
+    refusal : IsOff old.store w x flags c → is_refusal c ≡ true
+    refusal (RefusedOff h) = ready_refuses old.store.tables w x flags c h
+    refusal (UnlistedOff k h none is) = ap is_refusal is ∙ off_refusal k
+finish_judged n old new d l l' s u j r r' mirrors breaks v w x flags c ends (Taken f due is takes) books = by takes where
+  by : Takes old new x due.1 c → IsJudged n new u
+  by (Made q made) = call_made n old new d l l' s u x due.1 j r r' mirrors made c q v w flags due.0 ends
+      (passed old.store.tables w x flags due.0 is.checked).by_flags (due_turn old w x flags due.0 due.1 f is) is.turn books
+  by (Broke q fails) = absurd (breaks fails.log.cause)
+  by (Spent q commits few same) =
+      same_judged n old new s u j same (books ∙ ap (λ z. ledger (effect (reply_of z) v (n.xid x) s)) q)
 
-  tied : u.links ≡ s.links → u.migrated ≡ s.migrated → Tied n new.associations u.links u.migrated
-  tied l m = subst (λ (a : AssocList). Tied n a u.links u.migrated) (sym takes.associations)
-      (subst (λ (ls : List Link). Tied n old.associations ls u.migrated) (sym l)
-      (subst (λ (ms : List ℕ). Tied n old.associations s.links ms) (sym m) mirrors.tied))
+-- An operator's decision.
 
-  comes : Comes (state_in old.branches.branches) (state_in new.branches.branches) d d x to
-  comes = record { own = takes.branch.own; others = takes.branch.others; decided = λ y differs. refl }
-
-  pub stood_mirrors : (k : Stand) → u.opened ≡ s.opened → u.hung ≡ s.hung → u.links ≡ s.links → u.migrated ≡ s.migrated
-      → u.branches ≡ standing (n.xid x) k s.branches → stand_as to (d x) ≡ Some k
-      → is_begun (state_in old.branches.branches x) ≡ true → is_begun to ≡ true → Mirrors n new d u
-  stood_mirrors k o w l m b stands was begun = record {
-    opened = o ∙ mirrors.opened ∙ ap (λ i. not (is_closed i)) (sym takes.init);
-    waits = w ∙ mirrors.waits;
-    tied = tied l m;
-    branches = subst (λ (bs : List Branch). AreBranches n (state_in new.branches.branches) d bs) (sym b)
-        (stood_branches n (state_in old.branches.branches) (state_in new.branches.branches) d d x to k s.branches comes
-        stands was begun mirrors.branches);
-    orderly = orderly;
-    shut = λ e. subst IsFree (sym takes.associations) (mirrors.shut (sym takes.init ∙ e));
-    scans = scans_stay n old.branches.scans new.branches.scans u.scans u.listed takes.branch.scans scanned;
-  }
-
-  pub gone_mirrors : u.opened ≡ s.opened → u.hung ≡ s.hung → u.links ≡ s.links → u.migrated ≡ s.migrated
-      → u.branches ≡ others (n.xid x) s.branches → is_begun to ≡ false → Mirrors n new d u
-  gone_mirrors o w l m b ended = record {
-    opened = o ∙ mirrors.opened ∙ ap (λ i. not (is_closed i)) (sym takes.init);
-    waits = w ∙ mirrors.waits;
-    tied = tied l m;
-    branches = subst (λ (bs : List Branch). AreBranches n (state_in new.branches.branches) d bs) (sym b)
-        (gone_branches n (state_in old.branches.branches) (state_in new.branches.branches) d d x to s.branches comes ended
-        mirrors.branches);
-    orderly = orderly;
-    shut = λ e. subst IsFree (sym takes.associations) (mirrors.shut (sym takes.init ∙ e));
-    scans = scans_stay n old.branches.scans new.branches.scans u.scans u.listed takes.branch.scans scanned;
-  }
-
--- The calls.
-
-gone_scans : (n : Numbers) (x : ℕ) (scans : ScanList) (s r : Sight) → HasTables r s → AreScans n scans s.scans s.listed
-    → AreScans n scans r.scans (not_due x r.listed)
-gone_scans n x scans s r same are = scans_less n x scans r.scans r.listed
-    (subst (λ (ts : List ℕ). AreScans n scans ts r.listed) (sym same.scans)
-    (subst (λ (ls : List Listed). AreScans n scans s.scans ls) (sym same.listed) are))
-
-pub ended_mirrors : (n : Numbers) (old new : States) (d : Xid → Decision) (s r : Sight) (x : Xid) → Mirrors n old d s
-    → Takes old new x S0 → is_held old.associations x ≡ false → HasTables r s → Mirrors n new d (gone (n.xid x) r)
-ended_mirrors n old new d s r x mirrors takes free same = gone_mirrors n old new d s (gone (n.xid x) r) x S0 mirrors takes free
-    refl (gone_scans n (n.xid x) old.branches.scans s r same mirrors.scans) same.opened same.waits same.links same.migrated (ap (λ bs. others (n.xid x) bs) same.branches) refl
-
-published_tables : (x : ℕ) (sure : Bool) (u s : Sight) → HasTables u s → HasTables (published x sure u) s
-published_tables x sure u s h = record {
-  opened = h.opened;
-  waits = h.waits;
-  links = h.links;
-  migrated = h.migrated;
-  branches = h.branches;
-  scans = h.scans;
-  listed = h.listed;
-}
-
-pub committed_mirrors : (n : Numbers) (old new : States) (d : Xid → Decision) (s : Sight) (x : Xid) → Mirrors n old d s
-    → Takes old new x S0 → is_held old.associations x ≡ false → Mirrors n new d (committed (n.xid x) s)
-committed_mirrors n old new d s x mirrors takes free =
-    ended_mirrors n old new d s (published (n.xid x) true (remembered (n.xid x) s)) x mirrors takes free
-    (published_tables (n.xid x) true (remembered (n.xid x) s) s (remembered_tables (n.xid x) s))
-
-pub rolled_mirrors : (n : Numbers) (old new : States) (d : Xid → Decision) (s : Sight) (x : Xid) → Mirrors n old d s
-    → Takes old new x S0 → is_held old.associations x ≡ false → Mirrors n new d (rolled (n.xid x) s)
-rolled_mirrors n old new d s x mirrors takes free =
-    ended_mirrors n old new d s (remembered (n.xid x) s) x mirrors takes free (remembered_tables (n.xid x) s)
-
-pub same_tables : (s : Sight) → HasTables s s
-same_tables s = record { opened = refl; waits = refl; links = refl; migrated = refl; branches = refl; scans = refl; listed = refl }
+pub decide_data : (n : Numbers) (old new : KvSight) (d : Xid → Decision) (l l' : Xid → Bool) (s u : Sight) → IsJudged n old s
+    → IsRecorded old l → IsRecorded new l' → Mirrors n old.store.tables d s → (x : Xid) (o : Outcome)
+    → state_of old.store x ≡ S3 → Makes old new x (decide_turn o)
+    → ledger u ≡ ledger (decided (n.xid x) (decision_taken (is_commit o)) s) → IsJudged n new u
+decide_data n old new d l l' s u j r r' mirrors x outcome.Committed three made books =
+    decide_judged n old new d l l' s u x (decide_turn outcome.Committed) j r r' mirrors made HeurCommit refl refl three
+    (λ f. absurd (false≢true (sym f))) refl refl refl books
+decide_data n old new d l l' s u j r r' mirrors x outcome.Aborted three made books =
+    abort_judged n old new d l l' s u x (decide_turn outcome.Aborted) j r r' mirrors made HeurRollback refl refl three
+    (λ f. absurd (false≢true (sym f))) refl refl refl books

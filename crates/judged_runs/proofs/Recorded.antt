@@ -58,7 +58,7 @@ use Rattle.kv_manager.proofs.Marks.{agrees_of, branch_same, state_by}
 use Rattle.kv_manager.proofs.Staying.{SameDoubts, moves_doubts}
 use Rattle.kv_manager.proofs.TrimOrder.{TrimFollows, trim_follows}
 use Rattle.kv_manager.proofs.Turns.{decided_behind, due_leads, entry_by_xid, leads, mark_behind}
-use Rattle.judged_runs.specs.Deeds.{none_lost}
+use Rattle.judged_deeds.specs.Deeds.{none_lost}
 use Rattle.xa_engine.specs.Runs.{HasSoundLog}
 
 -- What is kept.
@@ -129,16 +129,16 @@ more_recorded m l l' f r = record {
 
 -- A log that is forced as a whole.
 
-within_none : (k : ℕ) → whole_within k [] ≡ []
+pub within_none : (k : ℕ) → whole_within k [] ≡ []
 unfolding whole_within
 within_none k = refl
 
-forced_left : (s : LogSight) (ls : List LogRecord) (keep : ℕ) → s.kept.forced ≡ ls → s.kept.unforced ≡ []
+pub forced_left : (s : LogSight) (ls : List LogRecord) (keep : ℕ) → s.kept.forced ≡ ls → s.kept.unforced ≡ []
     → left_by s keep ≡ ls
 forced_left s ls keep one none = ap (λ us. s.kept.forced ++ whole_within (s.behind + keep) us) none
     ∙ ap (λ us. s.kept.forced ++ us) (within_none (s.behind + keep)) ∙ append-nil s.kept.forced ∙ one
 
-forced_all : (s : LogSight) (ls : List LogRecord) → s.kept.forced ≡ ls → s.kept.unforced ≡ [] → records_of s.kept ≡ ls
+pub forced_all : (s : LogSight) (ls : List LogRecord) → s.kept.forced ≡ ls → s.kept.unforced ≡ [] → records_of s.kept ≡ ls
 forced_all s ls one none = ap (λ us. s.kept.forced ++ us) none ∙ append-nil s.kept.forced ∙ one
 
 pub forced_recorded : (m : KvSight) (l : Xid → Bool) (ls : List LogRecord) → m.log.sight.failed ≡ false
@@ -240,7 +240,7 @@ own_decides d known (Told o) x ws h was =
     ap (λ b. (cond b (record { outcome = d.outcome; told = Some o }) d).outcome) (same_xid_refl x) ∙ was refl
 
 -- what a crash leaves of one record more: what it leaves without it, or all
-within_more : (k : ℕ) (us : List LogRecord) (u : LogRecord)
+pub within_more : (k : ℕ) (us : List LogRecord) (u : LogRecord)
     → (whole_within k (us ++ u ∷ []) ≡ whole_within k us) ⊎ (whole_within k (us ++ u ∷ []) ≡ us ++ u ∷ [])
 unfolding whole_within
 within_more k [] u = by (nat_le (record_size u) k) where
@@ -411,7 +411,7 @@ told_loose : (b : Branch) (o : Outcome) (d : Known) (told : Option Outcome) (e :
 told_loose b o d None e h = subst IsLoose (some_is (Told o) e h) tt
 told_loose b o d (Some t) e h = absurd cc
 
-loose_call : (s : BranchState) (c : Call) (wrote : Bool) (b : Branch) (d : Known) (e : Entry)
+pub loose_call : (s : BranchState) (c : Call) (wrote : Bool) (b : Branch) (d : Known) (e : Entry)
     → (turn_of s c wrote b d).entry ≡ Some e → (turn_of s c wrote b d).is_forced ≡ false → IsLoose e
 loose_call s call.Prepare true b d e h f = absurd cc
 loose_call s call.Prepare false b d e h f = absurd cc
@@ -434,7 +434,7 @@ loose_call s _ wrote b d e h f = absurd cc
 loose_decision : (o : Outcome) (e : Entry) → (decide_turn o).is_forced ≡ false → IsLoose e
 loose_decision o e f = absurd cc
 
-due_loose : (s : KvSight) (x : Xid) (c : Call) (turn : Turn) (e : Entry) → IsDueTurn s x c turn → turn.entry ≡ Some e
+pub due_loose : (s : KvSight) (x : Xid) (c : Call) (turn : Turn) (e : Entry) → IsDueTurn s x c turn → turn.entry ≡ Some e
     → turn.is_forced ≡ false → IsLoose e
 due_loose s x c turn e due is f = by due.due where
   by : IsTurn s.store x c turn → IsLoose e
@@ -547,7 +547,7 @@ some_trimmed ls = some_behind (front_of_trim ls)
     some_behind [] = refl
     some_behind (k ∷ ks) = refl
 
-shut_state : (m : Mark) → is_open m ≡ false → marked_state m ≡ S0
+pub shut_state : (m : Mark) → is_open m ≡ false → marked_state m ≡ S0
 shut_state Unmarked h = refl
 shut_state Promised h = absurd (false≢true (sym h))
 shut_state Decided h = absurd (false≢true (sym h))
@@ -573,7 +573,7 @@ module _ (ls : List LogRecord) (sound : AllByRecursion (IsSound Manager) ls) (or
   follows : TrimFollows ls seen.0
   follows = trim_follows ls seen.0 (all_of_manager ls sound) begun seen.1
 
-  keeps : KeepsData ls (trim_of ls)
+  pub keeps : KeepsData ls (trim_of ls)
   keeps = trims_keep_data ls (all_of_manager ls sound) (lawful_of ls seen.0 seen.1).tied.rise
 
   trim_marks : (x : Xid) → marked_state (mark_at (trim_of ls) x) ≡ marked_state (mark_at ls x)

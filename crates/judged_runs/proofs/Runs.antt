@@ -77,22 +77,33 @@ use Rattle.xa_engine.specs.declared.answer.Answer.{Answer}
 use Rattle.xa_engine.specs.declared.answer.Answer.TheVariants as answer
 use Rattle.xa_engine.specs.Makes.{Boots, CallsBranch, Decides, IsCode, IsRead, IsWritten, Joins, Makes, Moves, Scans, Trims, Works, kept_bytes}
 use Rattle.xa_engine.specs.Runs.{IsFresh, IsReport, IsSoundManager, Leads as LeadsRun}
-use Rattle.judged_runs.specs.Deeds.{Closed, Deed, Decided, Ended, Finished, Is, IsScan, Leads, Limited as LimitedDeed, Loses, NoMore, Opened, Recovered, Restarted as RestartedDeed, Returns, Started, StillKnown, Trimmed, Undecided, Unread, Unwritten, Wrote, decision_of, ends_branch, none_lost, on, rows_for}
-use Rattle.judged_runs.specs.Events.{AreCovered, AreEvents, Conforms, IsEvent, Says, is_booted, is_covered, verb_of}
-use Rattle.judged_runs.specs.Names.{Numbers, lacks_forced, value_number}
-use Rattle.judged_runs.proofs.Conforming.{deeds_legal}
+use Rattle.judged_deeds.specs.Deeds.{Closed, Deed, Decided, Ended, Finished, Is, IsScan, Leads, Limited as LimitedDeed, Loses, NoMore, Opened, Recovered, Restarted as RestartedDeed, Returns, Started, StillKnown, Trimmed, Undecided, Unread, Unwritten, Wrote, decision_of, ends_branch, none_lost, on, rows_for}
+use Rattle.judged_runs.specs.Events.{IsEvent, Says, verb_of}
+use Rattle.judged_deeds.specs.Names.{Numbers, lacks_forced, value_number}
+use Rattle.judged_deeds.proofs.Conforming.{deeds_legal}
 use Rattle.judged_runs.proofs.Recorded.{IsRecorded, IsSaid, all_left, boot_recorded, lost_after, lost_before, lost_cases, more_recorded, stays_recorded, trim_recorded, turn_recorded, written_recorded}
+
+-- a manager restarted
+abbrev pub is_booted : Answer → Bool
+is_booted (answer.Booted b) = true
+is_booted _ = false
+
+-- a request with its answer is a deed: any but a read that found, and a restart that is refused
+abbrev pub is_deed : Request → Answer → Bool
+is_deed (Restart keep) a = is_booted a
+is_deed (Work t op) (answer.Found v) = false
+is_deed r a = true
 
 -- what operators decided, as the key store knows it
 abbrev pub known_in : KvSight → Xid → Decision
 known_in m x = decision_of (known_of m.store x).outcome
 
 -- what is known of decisions hangs on their table alone
-same_known : (old new : KeySight) → new.decisions ≡ old.decisions → (y : Xid) → known_of new y ≡ known_of old y
+pub same_known : (old new : KeySight) → new.decisions ≡ old.decisions → (y : Xid) → known_of new y ≡ known_of old y
 same_known old new e y = ap (λ (t : DecisionTable). decision_or (decision_in t y)) e
 
 -- the device of a manager in memory does not fail
-quiet : (old new : KvSight) → old.log.sight.failures ≡ 0 → new.log.sight.failures ≡ 0
+pub quiet : (old new : KvSight) → old.log.sight.failures ≡ 0 → new.log.sight.failures ≡ 0
     → MoreFailures old.log.sight.failures new.log.sight.failures → ⊥
 quiet old new was is more = omega (arith, was, is, more)
 
@@ -292,7 +303,7 @@ module _ (n : Numbers) (old new : KvSight) (e : Event) (l : Xid → Bool) (r : I
       let same = refused_same old.store new.store refusal w (h.works r.works) in
       then_so same.tables (λ y. ap decision_or (same.decisions y))
 
-  read_deed : (t : ℕ) (k : List ℕ) (a : Answer) → is_covered (Work t (Get k)) a ≡ true → IsRead old new t k a
+  read_deed : (t : ℕ) (k : List ℕ) (a : Answer) → is_deed (Work t (Get k)) a ≡ true → IsRead old new t k a
       → IsEvent n (Work t (Get k)) a e → Deed_of
   read_deed t k (answer.Found v) covered h is = absurd (false≢true covered)
   read_deed t k (answer.Refused w) covered h is = refused_work _ w Deed_of h.1
@@ -323,7 +334,7 @@ module _ (n : Numbers) (old new : KvSight) (e : Event) (l : Xid → Bool) (r : I
   write_deed t k v (answer.NotTrimmed w) h calls says = absurd h
   write_deed t k v (answer.NotDecided w) h calls says = absurd h
 
-  work_deed : (t : ℕ) (op : Op) (a : Answer) → is_covered (Work t op) a ≡ true → Works old new t op a
+  work_deed : (t : ℕ) (op : Op) (a : Answer) → is_deed (Work t op) a ≡ true → Works old new t op a
       → IsEvent n (Work t op) a e → Deed_of
   work_deed t (Get k) a covered h is = read_deed t k a covered h is
   work_deed t (Put k v) a covered h is = write_deed t k (Some v) a h is.calls is.says
@@ -478,7 +489,7 @@ module _ (n : Numbers) (old new : KvSight) (e : Event) (l : Xid → Bool) (r : I
   restart_deed keep (answer.NotTrimmed w) covered h is = absurd (false≢true covered)
   restart_deed keep (answer.NotDecided w) covered h is = absurd (false≢true covered)
 
-  pub deed_of : (q : Request) (a : Answer) → is_covered q a ≡ true → Makes old new q a → IsEvent n q a e
+  pub deed_of : (q : Request) (a : Answer) → is_deed q a ≡ true → Makes old new q a → IsEvent n q a e
       → Deed_by (lost_next q l old new)
   deed_of (Open flags migrates) a covered h is = open_by flags migrates a h is
   deed_of (Close flags) a covered h is = close_by flags a h is
@@ -580,7 +591,7 @@ module _ (old new : KvSight) (l : Xid → Bool) (r : IsRecorded old l) (sound : 
   write_recorded t k v (answer.NotTrimmed w) h = absurd h
   write_recorded t k v (answer.NotDecided w) h = absurd h
 
-  op_recorded : (t : ℕ) (op : Op) (a : Answer) → Works old new t op a → IsRecorded new l
+  pub op_recorded : (t : ℕ) (op : Op) (a : Answer) → Works old new t op a → IsRecorded new l
   op_recorded t (Get k) a h = read_recorded t k a h
   op_recorded t (Put k v) a h = write_recorded t k (Some v) a h
   op_recorded t (Delete k) a h = write_recorded t k None a h
@@ -675,7 +686,7 @@ module _ (old new : KvSight) (l : Xid → Bool) (r : IsRecorded old l) (sound : 
   scan_recorded t count flags (answer.NotTrimmed w) h = absurd h
   scan_recorded t count flags (answer.NotDecided w) h = absurd h
 
-  pub recorded_of : (q : Request) (a : Answer) → is_covered q a ≡ true → Makes old new q a
+  pub recorded_of : (q : Request) (a : Answer) → is_deed q a ≡ true → Makes old new q a
       → IsRecorded new (lost_next q l old new)
   recorded_of (Open flags migrates) a covered h = with_code (IsRecorded new l) _ a h (λ c calls.
       moved_recorded _ _ calls (λ b d opens. branches_doubts b d (opens_one b d flags.0 migrates c opens)))
@@ -688,80 +699,3 @@ module _ (old new : KvSight) (l : Xid → Bool) (r : IsRecorded old l) (sound : 
   recorded_of (Restart keep) a covered h = restarted_recorded keep a covered h
   recorded_of Trim a covered h = trimmed_recorded a h
   recorded_of (Decide x o) a covered h = decide_recorded x o a h
-
--- Whole runs.
-
-first_sound : (m k : KvSight) (rs : List Request) (given : List Answer) → LeadsRun m rs given k → IsSoundManager m
-first_sound m k [] [] h = h.1
-first_sound m k [] (a ∷ given) h = absurd h
-first_sound m k (q ∷ rs) [] h = absurd h
-first_sound m k (q ∷ rs) (a ∷ given) h = h.1
-
-leads_of : (n : Numbers) (m k : KvSight) (l : Xid → Bool) (rs : List Request) (given : List Answer) (es : List Event)
-    → IsRecorded m l → LeadsRun m rs given k → AreCovered rs given → AreEvents n rs given es
-    → Leads n m.store.tables (known_in m) l es
-leads_of n m k l [] [] [] r h covered is = tt
-leads_of n m k l [] [] (e ∷ es) r h covered is = absurd is
-leads_of n m k l [] (a ∷ given) es r h covered is = absurd h
-leads_of n m k l (q ∷ rs) [] es r h covered is = absurd h
-leads_of n m k l (q ∷ rs) (a ∷ given) [] r h covered is = absurd is
-leads_of n m k l (q ∷ rs) (a ∷ given) (e ∷ es) r h covered is =
-    let after = first_sound h.0 k rs given h.3 in (
-      h.0.store.tables,
-      known_in h.0,
-      lost_next q l m h.0,
-      after.listed.once,
-      deed_of n m h.0 e l r h.1 after q a covered.0 h.2 is.0,
-      leads_of n h.0 k (lost_next q l m h.0) rs given es (recorded_of m h.0 l r h.1 after q a covered.0 h.2) h.3
-          covered.1 is.1,
-    )
-
--- a new manager has new tables
-no_records : (log : LogState) → OpensLog (log_form (record { 0 = 1 }) Manager) [] 0 0 log → records_of log.sight.kept ≡ []
-unfolding read_log same_bytes
-no_records log opens = let one : Whole [] 0 ≡ Whole (records_of log.sight.kept) opens.torn = opens.read in cc
-
-seen_nothing : (ls : List LogRecord) (t : SeenLog) → ls ≡ [] → seen_of ls ≡ Some t → t ≡ nothing_seen
-unfolding seen_after
-seen_nothing ls t none e = let one : seen_of [] ≡ Some t = subst (λ ks. seen_of ks ≡ Some t) none e in cc
-
-new_tables : (m : KvSight) → IsFresh m → IsNew m.store.tables
-new_tables m fresh =
-    let left = fresh.starts.left in
-    let nothing = seen_nothing (records_of fresh.log.sight.kept) left.seen
-    (no_records fresh.log fresh.opens) left.read in
-    let tables : Restored [] m.store.tables =
-    subst (λ (s : SeenLog). Restored (in_doubt_by s) m.store.tables) nothing left.tables in
-    record {
-      init = tables.init;
-      branches = tables.branches;
-      scans = tables.scans;
-      associations = tables.associations;
-      seats = tables.seats;
-    }
-
--- its log has the record of its boot alone
-new_recorded : (m : KvSight) → IsFresh m → IsRecorded m none_lost
-unfolding mark_of
-new_recorded m fresh =
-    let none : (x : Xid) → state_of m.store x ≡ S0 =
-    λ x. ap (λ (bs : List (Xid × BranchState)). state_in bs x) (new_tables m fresh).branches in
-    boot_recorded m [] m.boot fresh.starts.works
-    (fresh.starts.forced ∙ ap (λ ls. ls ++ boot_record m.boot ∷ []) (no_records fresh.log fresh.opens))
-    fresh.starts.unforced none
-    (λ x e. absurd (let q : S0 ≡ S5 = sym (none x) ∙ e in cc))
-
-pub runs_legal : (n : Numbers) (m k : KvSight) (rs : List Request) (given : List Answer) (es : List Event) → IsFresh m
-    → LeadsRun m rs given k → AreCovered rs given → AreEvents n rs given es → IsLegal lacks_forced es
-runs_legal n m k rs given es fresh h covered is =
-    deeds_legal n m.store.tables (known_in m) es (new_tables m fresh)
-    (leads_of n m k none_lost rs given es (new_recorded m fresh) h covered is)
-
-pub report_legal : (input text : List ℕ) → IsReport Ended input text → Conforms input text
-report_legal input text h = record {
-  requests = h.0;
-  answers = h.2.runs.answers;
-  script = h.1;
-  report = h.2.runs.lines;
-  legal = λ n es covered is. runs_legal n h.2.old h.2.new h.0 h.2.runs.answers es h.2.fresh h.2.runs.leads covered is;
-}

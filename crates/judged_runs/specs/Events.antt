@@ -1,5 +1,5 @@
 -- What a request of a script, with its answer, is to the judge; and which of them the law covers.
-use Rattle.std.specs.Prelude.{◌≡◌, ℕ, Bool, true, false, List, [], ◌∷◌, is_some, map}
+use Rattle.std.specs.Prelude.{◌≡◌, ◌<◌, ◌-◌, ◌^◌, ℕ, List, [], ◌∷◌, is_some, length, map}
 use Rattle.tree_model.specs.declared.messages.Op.{Op}
 use Rattle.tree_model.specs.declared.messages.Op.TheVariants.{Put, Get, Delete}
 use Rattle.judge_rules.specs.declared.calls.Answer.{Answer as Judged}
@@ -19,8 +19,8 @@ use Rattle.xa_engine.specs.declared.answer.Answer.{Answer}
 use Rattle.xa_engine.specs.declared.answer.Answer.TheVariants as answer
 use Rattle.xa_engine.specs.Runs.{report_text}
 use Rattle.xa_engine.specs.script.Scripts.{IsScript}
-use Rattle.judged_runs.specs.Deeds.{IsGiven, is_commit, on}
-use Rattle.judged_runs.specs.Names.{Numbers, lacks_forced, value_number}
+use Rattle.judged_deeds.specs.Deeds.{IsGiven, is_commit, on}
+use Rattle.judged_deeds.specs.Names.{Numbers, lacks_forced, value_number}
 
 -- the function of XA that a call on a branch is to the judge
 abbrev pub verb_of : BranchCall → BranchVerb
@@ -72,29 +72,12 @@ AreEvents n [] [] [] = Unit {0}
 AreEvents n (r ∷ rs) (a ∷ given) (e ∷ es) = IsEvent n r a e × AreEvents n rs given es
 AreEvents n _ _ _ = ⊥
 
--- a manager restarted
-abbrev pub is_booted : Answer → Bool
-is_booted (answer.Booted b) = true
-is_booted _ = false
-
--- the law covers each request and its answer, but what a read found and a restart that is refused
-abbrev pub is_covered : Request → Answer → Bool
-is_covered (Restart keep) a = is_booted a
-is_covered (Work t op) (answer.Found v) = false
-is_covered r a = true
-
--- the law covers requests with their answers, one for one
-abbrev pub AreCovered : List Request → List Answer → Type 0
-AreCovered [] [] = Unit {0}
-AreCovered (r ∷ rs) (a ∷ given) = (is_covered r a ≡ true) × AreCovered rs given
-AreCovered _ _ = ⊥
-
 -- what is written of a script conforms: the input spells requests, the text has their answers, and they are, their names
--- numbered, events of a legal history, if the law covers them
+-- numbered, events of a legal history, if they are fewer than 2^63 - 1
 pub record Conforms (input text : List ℕ) : Type 0 where
   pub requests : List Request
   pub answers : List Answer
   pub script : IsScript input requests
   pub report : text ≡ report_text answers
-  pub legal : (n : Numbers) (es : List Event) → AreCovered requests answers → AreEvents n requests answers es
+  pub legal : (n : Numbers) (es : List Event) → length requests < 2 ^ 63 - 1 → AreEvents n requests answers es
       → IsLegal lacks_forced es

@@ -1,3 +1,1 @@
-pub mod Names
-pub mod Deeds
 pub mod Events

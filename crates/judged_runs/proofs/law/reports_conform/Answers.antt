@@ -1,4 +1,4 @@
-use Rattle.judged_runs.proofs.Runs.{report_legal}
+use Rattle.judged_runs.proofs.Histories.{report_legal}
 use Rattle.judged_runs.proofs.law.reports_conform.Goals as goal
 
 pub returns : goal.returns

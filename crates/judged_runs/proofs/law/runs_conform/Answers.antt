@@ -1,4 +1,4 @@
-use Rattle.judged_runs.proofs.Runs.{runs_legal}
+use Rattle.judged_runs.proofs.Histories.{runs_legal}
 use Rattle.judged_runs.proofs.law.runs_conform.Goals as goal
 
 pub returns : goal.returns
