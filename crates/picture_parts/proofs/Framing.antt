@@ -18,12 +18,21 @@ pub framed : (es : List Entry) (text whole : List ℕ) → IsPicture es text →
 framed es text whole p s =
     let upper = p.front ++ strokes_text p.strokes ++ p.middle ++ squares_text p.squares in
     record {
+      grid = p.grid;
+      apart = p.apart;
+      seats = p.seats;
+      in_order = p.in_order;
+      rows = p.rows;
+      end = p.end;
+      rise = p.rise;
+      each = p.each;
       front = s.head ++ p.front;
       strokes = p.strokes;
       middle = p.middle;
       squares = p.squares;
       rest = p.rest ++ s.tail;
       arrows = p.arrows;
+      ways = p.ways;
       marks = p.marks;
       layers = s.is
           ∙ ap (λ (xs : List ℕ). s.head ++ (xs ++ s.tail)) p.layers
