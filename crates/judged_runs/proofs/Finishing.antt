@@ -313,25 +313,25 @@ module _ (n : Numbers) (old new : KvSight) (d : Xid → Decision) (l l' : Xid �
       (subst (λ (z : Call). turn ≡ turn_for old.store x z) is one) books
   call_made verb.Commit w flags k ends e due one books =
       by k (commit_reads flags k (subst (λ (z : Verb). legal z flags ≡ Ok k) ends e)).1 due one where
-    by : (z : Call) → CommitMarks z flags → IsDueTurn old x z turn → turn ≡ turn_for old.store x z → Judged_so
-    by call.Commit m due one = commit_made due one books
-    by call.CommitOnePhase m due one = direct_made due one books
-    by call.Start m due one = absurd m
-    by call.StartJoin m due one = absurd m
-    by call.StartResume m due one = absurd m
-    by call.EndSuspend m due one = absurd m
-    by call.EndMigrate m due one = absurd m
-    by call.EndSuccess m due one = absurd m
-    by call.EndFail m due one = absurd m
-    by call.Prepare m due one = absurd m
-    by call.Rollback m due one = absurd m
-    by call.Forget m due one = absurd m
-    by call.Open m due one = absurd m
-    by call.Close m due one = absurd m
-    by call.Recover m due one = absurd m
-    by call.RecoverStart m due one = absurd m
-    by call.RecoverEnd m due one = absurd m
-    by call.RecoverWhole m due one = absurd m
+        by : (z : Call) → CommitMarks z flags → IsDueTurn old x z turn → turn ≡ turn_for old.store x z → Judged_so
+        by call.Commit m due one = commit_made due one books
+        by call.CommitOnePhase m due one = direct_made due one books
+        by call.Start m due one = absurd m
+        by call.StartJoin m due one = absurd m
+        by call.StartResume m due one = absurd m
+        by call.EndSuspend m due one = absurd m
+        by call.EndMigrate m due one = absurd m
+        by call.EndSuccess m due one = absurd m
+        by call.EndFail m due one = absurd m
+        by call.Prepare m due one = absurd m
+        by call.Rollback m due one = absurd m
+        by call.Forget m due one = absurd m
+        by call.Open m due one = absurd m
+        by call.Close m due one = absurd m
+        by call.Recover m due one = absurd m
+        by call.RecoverStart m due one = absurd m
+        by call.RecoverEnd m due one = absurd m
+        by call.RecoverWhole m due one = absurd m
   call_made verb.Start w flags k ends e due one books = absurd ends
   call_made verb.End w flags k ends e due one books = absurd ends
 

@@ -215,9 +215,9 @@ module _ (old new : KvSight) (x : Xid) (e : Entry) (is_forced : Bool)
         let one = at_force false q in
         elim (within_more (old.log.sight.behind + keep) old.log.sight.kept.unforced last) [
           | inl front ↦ inr (
-              q,
-              ap (λ (k : LogSight). left_by k keep) one ∙ ap (λ ks. old.log.sight.kept.forced ++ ks) front,
-            )
+            q,
+            ap (λ (k : LogSight). left_by k keep) one ∙ ap (λ ks. old.log.sight.kept.forced ++ ks) front,
+          )
           | inr whole ↦ inl (ap (λ (k : LogSight). left_by k keep) one
               ∙ ap (λ ks. old.log.sight.kept.forced ++ ks) whole
               ∙ sym (append_assoc old.log.sight.kept.forced old.log.sight.kept.unforced (last ∷ []))
