@@ -1,25 +1,36 @@
 //! What the workers of one call share.
 
-ghost use Rattle.std.specs.Prelude.{IsTrue, OnOk};
+ghost use Rattle.std.specs.Prelude.{IfErr, IsTrue, OnOk};
+ghost use Rattle.tree_cluster.specs.Refusals.{NotSettled};
 
+use std::marker::PhantomData;
 use std::sync::atomic::{AtomicBool, Ordering};
 use std::sync::{Mutex, Wait};
 use tree_threads::PostError;
+use tree_ties::seats::Seats;
+
+/// Why the workers stopped: a delivery was refused, or memory.
+#[derive(Drop)]
+pub(crate) struct Stop<N: Seats> {
+    pub(crate) why: PostError,
+    pub(crate) name: PhantomData<N>,
+    ghost cause: { NotSettled N.tree why },
+}
 
 /// What the workers of one call, or of one run of a script, share: whether they are to deliver now, whether all
 /// is done, and the first refusal. It changes under the journal's lock alone, so that no wake is lost.
 #[derive(Drop)]
-pub struct Rounds {
+pub struct Rounds<N: Seats> {
     begun: AtomicBool,
     open: AtomicBool,
     done: AtomicBool,
     stopped: AtomicBool,
-    why: Mutex<Option<PostError>>,
+    why: Mutex<Option<Stop<N>>>,
 }
 
-impl Rounds {
+impl<N: Seats> Rounds<N> {
     /// Nothing is delivered yet.
-    pub fn new() -> Rounds {
+    pub fn new() -> Rounds<N> {
         Rounds {
             begun: AtomicBool::new(false),
             open: AtomicBool::new(false),
@@ -61,21 +72,28 @@ impl Rounds {
         self.stopped.load(Ordering::SeqCst)
     }
 
-    /// A delivery was refused. The first refusal is kept.
-    pub(crate) fn stop<R: Wait>(&self, rt: &R, why: PostError) {
+    /// A delivery was refused, or memory. The first refusal is kept.
+    pub(crate) fn stop<R: Wait>(&self, rt: &R, why: PostError)
+        requires { NotSettled N.tree why }
+    {
         let mut kept = self.why.lock(rt);
         if kept.is_none() {
-            *kept = Some(why);
+            *kept = Some(Stop {
+                why,
+                name: PhantomData,
+            });
         }
         self.stopped.store(true, Ordering::SeqCst);
     }
 
     /// How the deliveries ended, where the last worker found that every message is delivered, or did not.
     pub(crate) fn ended<R: Wait>(&self, rt: &R, is_settled: bool) -> Result<(), PostError>
-        ensures { OnOk result (IsTrue is_settled) }
+        ensures ok { OnOk result (IsTrue is_settled) }
+        ensures err { IfErr result (NotSettled N.tree) }
     {
-        match *self.why.lock(rt) {
-            Some(why) => Err(why),
+        let kept = self.why.lock(rt);
+        match kept.as_ref() {
+            Some(stop) => Err(stop.why),
             None if is_settled => Ok(()),
             None => Err(PostError::Memory),
         }
