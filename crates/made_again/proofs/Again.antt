@@ -265,10 +265,10 @@ next end done x rest w all walk = by_events walk.events walk.ask walk.leads
           leads = leads.4;
         }
 
-walk : (tree : List TreeEntry) (start end again w : WorldState) (events : List Event) (done rest : List Entry)
+walked : (tree : List TreeEntry) (start end again w : WorldState) (events : List Event) (done rest : List Entry)
     → IsTree tree → IsOpened start tree → AskForAll (done ++ rest) events → LeadsOn start events end
     → end.entries ≡ done ++ rest → IsOpened again tree → Again again done w → Walk end done rest w
-walk tree start end again w events done rest is_tree opens ask leads all opens_again (none_again) = record {
+walked tree start end again _ events _ rest is_tree opens ask leads all opens_again none_again = record {
   here = start;
   events = events;
   alike = opened_alike tree start again is_tree opens opens_again;
@@ -277,10 +277,10 @@ walk tree start end again w events done rest is_tree opens ask leads all opens_a
   ask = ask;
   leads = leads;
 }
-walk tree start end again w events done rest is_tree opens ask leads all opens_again
-    (one_again xs x e mid w before asks applies) =
+walked tree start end again w events _ rest is_tree opens ask leads all opens_again
+    (one_again xs x e mid _ before asks applies) =
     let same : (xs ++ x ∷ []) ++ rest ≡ xs ++ x ∷ rest = append_assoc xs (x ∷ []) rest in
-    let was = walk tree start end again mid events xs (x ∷ rest) is_tree opens
+    let was = walked tree start end again mid events xs (x ∷ rest) is_tree opens
     (subst (λ ys. AskForAll ys events) same ask) leads (all ∙ same) opens_again before in
     let n = next end xs x rest mid (all ∙ same) was in
     record {
@@ -332,4 +332,4 @@ comes_to (x ∷ rest) done end w all walk = λ e why left asks stops.
 pub made_again : JournalsAreMadeAgain
 made_again tree front rest start end again w events is_tree opens ask leads all opens_again before =
     comes_to rest front end w all
-    (walk tree start end again w events front rest is_tree opens ask leads all opens_again before)
+    (walked tree start end again w events front rest is_tree opens ask leads all opens_again before)
