@@ -3,18 +3,47 @@
 ghost use Rattle.std.specs.Prelude.{IfErr, IsTrue, OnOk};
 ghost use Rattle.tree_cluster.specs.Refusals.{NotSettled};
 
-use std::marker::PhantomData;
+use std::marker::{Model, PhantomData};
 use std::sync::atomic::{AtomicBool, Ordering};
 use std::sync::{Mutex, Wait};
 use tree_threads::PostError;
 use tree_ties::seats::Seats;
 
-/// Why the workers stopped: a delivery was refused, or memory.
+/// Why the workers stopped: a delivery was refused, or memory. To a contract it is the refusal.
 #[derive(Drop)]
-pub(crate) struct Stop<N: Seats> {
-    pub(crate) why: PostError,
-    pub(crate) name: PhantomData<N>,
-    ghost cause: { NotSettled N.tree why },
+struct Stop<N: Seats> {
+    why: PostError,
+    name: PhantomData<N>,
+}
+
+impl<N: Seats> Model for Stop<N> {
+    ghost use Rattle.tree_threads.specs.declared.errors.PostError.{PostError as AnyError};
+    ghost use Rattle.tree_cluster.specs.Refusals.{NotSettled};
+
+    ghost Value = { AnyError };
+
+    ghost view = { λ s. s.why };
+
+    ghost invariant = { λ s. NotSettled N.tree s.why };
+}
+
+impl<N: Seats> Stop<N> {
+    /// They stop for this reason.
+    fn new(why: PostError) -> Stop<N>
+        requires { NotSettled N.tree why }
+    {
+        Stop {
+            why,
+            name: PhantomData,
+        }
+    }
+
+    /// The reason.
+    fn why(&self) -> PostError
+        ensures { NotSettled N.tree result }
+    {
+        self.why
+    }
 }
 
 /// What the workers of one call, or of one run of a script, share: whether they are to deliver now, whether all
@@ -78,10 +107,7 @@ impl<N: Seats> Rounds<N> {
     {
         let mut kept = self.why.lock(rt);
         if kept.is_none() {
-            *kept = Some(Stop {
-                why,
-                name: PhantomData,
-            });
+            *kept = Some(Stop::new(why));
         }
         self.stopped.store(true, Ordering::SeqCst);
     }
@@ -93,7 +119,7 @@ impl<N: Seats> Rounds<N> {
     {
         let kept = self.why.lock(rt);
         match kept.as_ref() {
-            Some(stop) => Err(stop.why),
+            Some(stop) => Err(stop.why()),
             None if is_settled => Ok(()),
             None => Err(PostError::Memory),
         }

@@ -52,8 +52,8 @@ split_seat-requires c =
       λ s h at. parting.parts_pass _ s.words s.views _ _ h at holds,
     )
 
-pub split_seat-2-requires : goal.split_seat-2-requires
-split_seat-2-requires c =
+pub split_seat-requires-2 : goal.split_seat-requires-2
+split_seat-requires-2 c =
     let e = c.lend.ensures.journal in
     let f = c.lend_pass.ensures.journal in
     let l = c.compare_exchange_with.ensures in
