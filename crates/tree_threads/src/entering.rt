@@ -61,7 +61,8 @@ fn enter_seats<N: Seats>(
     ensures cut { HasCut N.tree (entries_in (journal.old.me.0.journal.all ++ (caller, entry.now) ∷ [])) }
     ensures own { OwnRun N.tree me seat.new.me.0.process.own (core_of node.now) }
 {
-    let _ = (node, caller);
+    let _ = node;
+    let _ = caller;
     put(ties, journal, seat, pass, word, entry);
 }
 
