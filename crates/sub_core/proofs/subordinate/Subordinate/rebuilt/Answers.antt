@@ -1,13 +1,17 @@
-use Rattle.std.proofs.Common.{◌≡◌, ◌∙◌, sym, subst}
+use Rattle.std.proofs.Common.{◌≡◌, ◌∙◌, ◌+◌, ◌++◌, ◌∷◌, [], List, Result, Ok, Err, IfErr, IfOk, ap, refl, sym, subst}
+use Rattle.tree_model.specs.declared.records.LogRecord.{LogRecord}
 use Rattle.rec_log.specs.Sights.{left_by}
-use Rattle.sub_table.specs.declared.names.RebuildError.TheVariants.{Unfit}
-use Rattle.sub_table.specs.Rebuilt.{AreFit, NotRebuilt}
+use Rattle.manager_model.specs.Restarting.{boot_record}
+use Rattle.sub_table.specs.declared.names.RebuildError.TheVariants.{Exhausted, Unfit}
+use Rattle.sub_table.specs.Rebuilt.{AreFit, NotRebuilt, Rebuilds}
+use Rattle.sub_table.specs.Remembered.{Remembers}
+use Rattle.sub_core.specs.Fronts.{IsFrontOf}
 use Rattle.sub_core.specs.Subordinates.{SubState, place_of}
 use Rattle.sub_core.proofs.Reached.{left_fit}
 use Rattle.sub_core.proofs.subordinate.Subordinate.rebuilt.Goals as goal
 
-pub unreachable-requires : goal.unreachable-requires
-unreachable-requires g c =
+pub rebuild-requires : goal.rebuild-requires
+rebuild-requires g c =
     let s : SubState = record {
       me = c.self.inside.me;
       parent = c.self.inside.parent;
@@ -16,10 +20,7 @@ unreachable-requires g c =
       table = c.self.inside.branches;
       manager = g.M.ResourceManager.sight c.self.inside.manager;
     } in
-    let fit : AreFit (place_of s) (left_by s.manager.log c.args.keep) =
-    left_fit s c.args.keep c.self.invariant.reached c.records_are_sound.ensures c.records_are_in_order.ensures in
-    let records : c.deref.result.now ≡ left_by s.manager.log c.args.keep =
-    c.deref.ensures.value ∙ c.in_ok-records.ensures in
-    let why : NotRebuilt (place_of s) c.deref.result.now Unfit =
-    subst (NotRebuilt (place_of s) c.deref.result.now) c.in-Err-Unfit.field-0-is c.in-Err-Unfit.ensures.err in
-    why (subst (AreFit (place_of s)) (sym records) fit)
+    let front : IsFrontOf (place_of s) s.manager.log c.args.front =
+    subst (λ v. IsFrontOf (record { me = v.me; role = AtLeaf v.parent; tree = v.tree })
+    (g.M.ResourceManager.sight v.manager).log c.args.front) (sym c.self.view_is) c.requires in
+    (front.first, front.says s.parent refl)
