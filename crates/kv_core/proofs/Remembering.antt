@@ -1,18 +1,19 @@
 -- What is remembered of a log, and read on from.
-use Rattle.std.proofs.Common.{◌≡◌, ◌∙◌, ◌⊎◌, inl, inr, Bool, true, false, ◌||◌, cond, Option, Some, None, is_some, List, [], ◌∷◌, map, refl, sym, ap, subst, arith}
+use Rattle.std.proofs.Common.{◌≡◌, ◌∙◌, ◌⊎◌, inl, inr, ℕ, Bool, true, false, ◌||◌, cond, Option, Some, None, is_some, List, [], ◌∷◌, map, refl, sym, ap, subst, arith}
 use Rattle.std.specs.Map.{lookup}
 use Rattle.xa_xid.specs.declared.xid.Xid.{Xid}
 use Rattle.tree_model.specs.declared.records.LogRecord.{LogRecord}
 use Rattle.tree_model.specs.Store.{data_of}
 use Rattle.log_rules.specs.order.Orders.{SeenLog, nothing_seen, same}
-use Rattle.kv_core.specs.Replays.{seen_after}
+use Rattle.kv_core.specs.Replays.{Leaves, seen_after}
 use Rattle.kv_store.specs.Pairs.{ArePairsOf, AreSet, found_in, keys_rise}
 use Rattle.kv_store.specs.Versions.{VersionTable}
 use Rattle.kv_store.proofs.Pairs.{same_pairs}
 use Rattle.xa_heur.specs.declared.decision.Decision.{Decision}
 use Rattle.xa_heur.specs.Cases.{DecisionTable, Notes, SameDecisions, decision_in, decision_or, open_cases}
 use Rattle.kv_core.specs.Decisions.{KnowDecided}
-use Rattle.kv_core.specs.Remembered.{LogMemory, ReadsNow, Remembers}
+use Rattle.kv_core.specs.Remembered.{LeavesNow, LogMemory, ReadsNow, Remembers}
+use Rattle.kv_core.specs.declared.replayed.Replayed.{Replayed}
 use Rattle.kv_core.proofs.Lawful.{lawful_of}
 use Rattle.kv_core.proofs.Lookups.{apart_turns, same_is, true_is_false}
 use Rattle.kv_core.proofs.Noting.{nothing_decided}
@@ -132,4 +133,19 @@ remembers_read ls s v m reads seen decided count pairs = record {
   pairs = same_pairs m.pairs (data_of ls).pairs pairs.rise (lawful_of ls s reads.read).tied.rise
       (λ k. pairs.values k ∙ reads.stored.values k);
   counted = reads.counted;
+}
+
+-- what records leave, but for what the data were before
+pub leaves_now : (ls : List LogRecord) (r : Replayed)
+    → Leaves ls r.boot r.left.items r.data r.writes r.locks r.decisions → LeavesNow ls r
+leaves_now ls r leaves = record {
+  seen = leaves.seen;
+  read = leaves.read;
+  boots = leaves.boots;
+  in_doubt = leaves.in_doubt;
+  stored = leaves.stored;
+  counted = leaves.counted;
+  promises = leaves.promises;
+  locks_held = leaves.locks_held;
+  decided = leaves.decided;
 }
