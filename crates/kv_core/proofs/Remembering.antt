@@ -3,7 +3,7 @@ use Rattle.std.proofs.Common.{◌≡◌, ◌∙◌, ◌⊎◌, inl, inr, ℕ, Bo
 use Rattle.std.specs.Map.{lookup}
 use Rattle.xa_xid.specs.declared.xid.Xid.{Xid}
 use Rattle.tree_model.specs.declared.records.LogRecord.{LogRecord}
-use Rattle.tree_model.specs.Store.{data_of}
+use Rattle.tree_model.specs.Store.{data_of, stored}
 use Rattle.log_rules.specs.order.Orders.{SeenLog, nothing_seen, same}
 use Rattle.kv_core.specs.Replays.{Leaves, seen_after}
 use Rattle.kv_store.specs.Pairs.{ArePairsOf, AreSet, found_in, keys_rise}

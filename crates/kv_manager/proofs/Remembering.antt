@@ -1,13 +1,16 @@
 -- What a manager remembers of its log, whatever it did.
-use Rattle.std.proofs.Common.{◌≡◌, ◌≤◌, ◌∙◌, ◌+◌, ◌-◌, ℕ, Bool, true, false, if◌then◌else◌, List, [], ◌∷◌, ◌++◌, length, map, take, refl, sym, ap, subst, append_assoc, append-nil, arith}
+use Rattle.std.proofs.Common.{◌≡◌, ◌≤◌, ◌∙◌, ◌+◌, ◌-◌, inl, inr, ℕ, Bool, true, false, if◌then◌else◌, List, [], ◌∷◌, ◌++◌, length, map, take, refl, sym, ap, subst, append_assoc, append-nil, arith}
 use Rattle.tree_model.specs.declared.records.LogRecord.{LogRecord}
 use Rattle.log_text.specs.Payloads.{record_size}
 use Rattle.core_log.specs.Writes.{Writes}
-use Rattle.rec_log.specs.Sights.{Breaks, IsFront, LogSight, LogState, Restarts, frames_size, left_by, records_of}
+use Rattle.rec_log.specs.Sights.{Breaks, IsFront, Kept, LogSight, LogState, NotRewritten, Restarts, Rewritten, frames_size, left_by, records_of, whole_within}
+use Rattle.manager_model.specs.declared.errors.RestartError.{RestartError}
+use Rattle.manager_model.specs.declared.errors.RestartError.TheVariants as restarts
+use Rattle.kv_manager.specs.Restarts.{FailsToRestart}
 use Rattle.std.specs.Prelude.{Result, Ok, Err, IfErr, OnOk}
 use Rattle.tree_model.specs.Nodes.{is_any_forced}
 use Rattle.rec_log.specs.declared.log.LogError.{LogError}
-use Rattle.rec_log.specs.declared.log.LogError.TheVariants.{Device}
+use Rattle.rec_log.specs.declared.log.LogError.TheVariants.{Device, Memory}
 use Rattle.kv_core.specs.Remembered.{Remembers}
 use Rattle.kv_manager.specs.Remembered.{IsFrontOf}
 use Rattle.kv_manager.specs.declared.remembered.Front.{Front}
@@ -56,6 +59,35 @@ front_broken old new ls f b front =
     new.sight.kept.unforced
     (sym (append_assoc old.sight.kept.forced old.sight.kept.unforced (take b.appended ls)) ∙ sym b.stand) b.no_less in
     front_goes_on old new f m.0 m.1 front
+
+-- or under the record of a boot, after a crash
+pub front_unstarted : (old new : LogState) (keep : ℕ) (l : LogRecord) (f : Front) (e : RestartError)
+    → FailsToRestart old new keep l e → IsFrontOf old f → IsFrontOf new f
+front_unstarted old new keep l f restarts.Memory is front = front_stays old new f is front
+front_unstarted old new keep l f restarts.Device b front =
+    let kept : List LogRecord = whole_within (old.sight.behind + keep) old.sight.kept.unforced in
+    let m = longer old.sight.kept.forced (kept ++ take b.appended (l ∷ [])) new.sight.kept.forced
+    new.sight.kept.unforced
+    (sym (append_assoc old.sight.kept.forced kept (take b.appended (l ∷ []))) ∙ sym b.stand) b.no_less in
+    front_goes_on old new f m.0 m.1 front
+front_unstarted old new keep l f restarts.Exhausted never front = absurd never
+
+-- or as all that stands was put in its own place
+front_replaced : (old new : LogState) (f : Front)
+    → new.sight.kept ≡ record { forced = records_of old.sight.kept; unforced = [] } → IsFrontOf old f → IsFrontOf new f
+front_replaced old new f is front =
+    front_goes_on old new f old.sight.kept.unforced (ap (λ (k : Kept). k.forced) is) front
+
+pub front_put_again : {T : Type 0} (old new : LogState) (f : Front) (r : Result T LogError)
+    → OnOk r (Rewritten old new (records_of old.sight.kept))
+    → IfErr r (λ e. NotRewritten old new (records_of old.sight.kept) e) → IsFrontOf old f → IsFrontOf new f
+front_put_again old new f (Ok x) put broke front = front_goes_on old new f old.sight.kept.unforced put.forced front
+front_put_again old new f (Err Memory) put is front = front_stays old new f is front
+front_put_again old new f (Err Device) put broke front = elim broke.either [
+  | inl stands ↦ front_goes_on old new f [] (ap (λ (k : Kept). k.forced) stands ∙ sym (append-nil old.sight.kept.forced))
+      front
+  | inr placed ↦ front_replaced old new f placed front
+]
 
 wrote_more : (s : LogSight) (b : Bool) (ls : List LogRecord) → (more : List LogRecord)
     × ((if b then record s { kept = record { forced = records_of s.kept ++ ls; unforced = [] }; behind = 0 }

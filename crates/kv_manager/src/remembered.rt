@@ -133,14 +133,13 @@ impl<L: LogStore> FrontedLog<L> {
         self.log.trimmed()
     }
 
-    /// Puts all that stands in its own place, by one `replace`, and reads nothing.
+    /// Puts all that stands in its own place, by one `replace`, and reads nothing. It stays remembered.
     pub(crate) fn put_again(&mut self, alloc: Global) -> Result<(), LogError>
         requires works { self.old.sight.failed ≡ false }
         ensures form { self.new.sight.form ≡ self.old.sight.form }
         ensures ok { OnOk result (Rewritten self.old self.new (records_of self.old.sight.kept)) }
         ensures err { IfErr result (λ e. NotRewritten self.old self.new (records_of self.old.sight.kept) e) }
     {
-        self.front = Front::header(alloc);
         self.log.put_again(alloc)
     }
 
@@ -171,7 +170,6 @@ impl<L: LogStore> FrontedLog<L> {
         ensures ok { OnOk result (Restarts self.old self.new keep (frame_record opened.now ∷ [])) }
         ensures err { IfErr result (λ e. FailsToRestart self.old self.new keep (frame_record opened.now) e) }
     {
-        self.front = Front::header(alloc);
         match self.log.restart(keep, slice::from_ref(opened), alloc) {
             Ok(()) => {
                 let size = self.log.size() - opened.size();
