@@ -109,16 +109,18 @@ remembers_nothing m seen decided count pairs = record {
 }
 
 -- the data that the pairs set are those of the records
-pub remembered_data : (ls : List LogRecord) (m : LogMemory) (v : VersionTable) → Remembers ls m
-    → AreSet v m.count m.pairs → (keys_rise m.pairs ≡ true → ArePairsOf v m.pairs) → ReadsNow ls m.seen v
-remembered_data ls m v is set of =
-    let rise : keys_rise m.pairs ≡ true = ap keys_rise is.pairs ∙ (lawful_of ls m.seen is.read).tied.rise in
+pub remembered_data : (ls : List LogRecord) (m : LogMemory) (v : VersionTable) (ps : List (List ℕ × List ℕ))
+    → ps ≡ m.pairs → Remembers ls m → AreSet v m.count ps → (keys_rise ps ≡ true → ArePairsOf v ps)
+    → ReadsNow ls m.seen v
+remembered_data ls m v ps alike is set of =
+    let rise : keys_rise ps ≡ true =
+    ap keys_rise (alike ∙ is.pairs) ∙ (lawful_of ls m.seen is.read).tied.rise in
     record {
       read = is.read;
       stored = record {
         count = set.count ∙ is.count;
         unstaged = set.unstaged;
-        values = λ k. sym ((of rise).values k) ∙ ap (λ ps. found_in ps k) is.pairs;
+        values = λ k. sym ((of rise).values k) ∙ ap (λ qs. found_in qs k) (alike ∙ is.pairs);
       };
       counted = is.counted;
     }

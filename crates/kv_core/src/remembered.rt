@@ -91,16 +91,18 @@ impl Remembered {
         } = self;
         let data = Versions::from_pairs(alloc, count, &pairs)?;
         let decisions = decided_after(decisions, &records)?;
-        let Reading { seen, data } = read_on(Reading { seen, data }, records, alloc)?;
+        let reading = read_on(Reading { seen, data }, records, alloc)?;
+        let held = in_doubt(&reading.seen, alloc)?;
+        let given = copied(&decisions, alloc)?;
+        let pairs = reading.data.pairs()?;
+        let count = reading.data.count();
+        let boot = reading.seen.boot();
+        let Reading { seen, data } = reading;
         let InDoubt {
             left,
             writes,
             locks,
-        } = in_doubt(&seen, alloc)?;
-        let given = copied(&decisions, alloc)?;
-        let pairs = data.pairs()?;
-        let count = data.count();
-        let boot = seen.boot();
+        } = held;
         Ok((
             Replayed {
                 boot,

@@ -41,7 +41,7 @@ returns-in-Ok-clause-ok g c =
     subst (λ v. IsFrontOf (leaf_place v.me v.parent v.tree) (g.M.ResourceManager.sight v.manager).log c.args.front)
     (sym c.self.view_is) c.requires in
     let left : front.first ++ c.deref.result.now ≡ left_by s.manager.log c.args.keep =
-    ap (λ ks. front.first ++ ks) c.deref.ensures.value ∙ c.in_ok-records.ensures front.first front.stands in
+    ap (λ ks. front.first ++ ks) c.deref.ensures.value ∙ c.in_ok-records.ensures {u = tt} front.first front.stands in
     subst (λ v. Rebuilds (leaf_place v.me v.parent v.tree) v.parent
     (left_by (g.M.ResourceManager.sight v.manager).log c.args.keep) c.in-Ok.rebuilt.0) c.self.view_is
     (subst (λ ls. Rebuilds (place_of s) s.parent ls c.in-Ok.rebuilt.0) left
@@ -61,7 +61,7 @@ returns-in-Ok-clause-remembered g c =
     subst (λ v. IsFrontOf (leaf_place v.me v.parent v.tree) (g.M.ResourceManager.sight v.manager).log c.args.front)
     (sym c.self.view_is) c.requires in
     let left : front.first ++ c.deref.result.now ≡ left_by s.manager.log c.args.keep =
-    ap (λ ks. front.first ++ ks) c.deref.ensures.value ∙ c.in_ok-records.ensures front.first front.stands in
+    ap (λ ks. front.first ++ ks) c.deref.ensures.value ∙ c.in_ok-records.ensures {u = tt} front.first front.stands in
     subst (λ v. Remembers (leaf_place v.me v.parent v.tree) v.parent
     (left_by (g.M.ResourceManager.sight v.manager).log c.args.keep ++ boot_record (c.in-Ok.rebuilt.0.boot + 1) ∷ [])
     c.in-Ok.rebuilt.1) c.self.view_is
@@ -83,7 +83,7 @@ returns-in-Err-Exhausted-clause-err g c =
     subst (λ v. IsFrontOf (leaf_place v.me v.parent v.tree) (g.M.ResourceManager.sight v.manager).log c.args.front)
     (sym c.self.view_is) c.requires in
     let left : front.first ++ c.deref.result.now ≡ left_by s.manager.log c.args.keep =
-    ap (λ ks. front.first ++ ks) c.deref.ensures.value ∙ c.in_ok-records.ensures front.first front.stands in
+    ap (λ ks. front.first ++ ks) c.deref.ensures.value ∙ c.in_ok-records.ensures {u = tt} front.first front.stands in
     let why : NotRebuilt (place_of s) (front.first ++ c.deref.result.now) Exhausted =
     subst (NotRebuilt (place_of s) (front.first ++ c.deref.result.now)) c.in-Err-Exhausted.field-0-is
     (c.in-Err-Exhausted.ensures.err front.first (front.says s.parent refl)) in
@@ -105,7 +105,7 @@ unreachable-requires g c =
     subst (λ v. IsFrontOf (leaf_place v.me v.parent v.tree) (g.M.ResourceManager.sight v.manager).log c.args.front)
     (sym c.self.view_is) c.requires in
     let left : front.first ++ c.deref.result.now ≡ left_by s.manager.log c.args.keep =
-    ap (λ ks. front.first ++ ks) c.deref.ensures.value ∙ c.in_ok-records.ensures front.first front.stands in
+    ap (λ ks. front.first ++ ks) c.deref.ensures.value ∙ c.in_ok-records.ensures {u = tt} front.first front.stands in
     let fit : AreFit (place_of s) (left_by s.manager.log c.args.keep) =
     left_fit s c.args.keep c.self.invariant.reached c.records_are_sound.ensures c.records_are_in_order.ensures in
     let why : NotRebuilt (place_of s) (front.first ++ c.deref.result.now) Unfit =
