@@ -172,7 +172,9 @@ impl<L: LogStore> FrontedLog<L> {
     {
         match self.log.restart(keep, slice::from_ref(opened), alloc) {
             Ok(()) => {
-                let size = self.log.size() - opened.size();
+                let all = self.log.size();
+                let last = opened.size();
+                let size = all - last;
                 self.front = Front { size, remembered };
                 Ok(())
             }
