@@ -203,7 +203,10 @@ fn rebuilt_before<M: ResourceManager>(
 {
     let records = left_before(manager)?;
     match rebuild(me, parent, tree, Remembered::nothing(alloc), &records, alloc) {
-        Ok((rebuilt, _)) => Ok(rebuilt),
+        Ok((rebuilt, remembered)) => {
+            drop(remembered);
+            Ok(rebuilt)
+        }
         Err(error) => Err(error),
     }
 }
