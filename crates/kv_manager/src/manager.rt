@@ -385,7 +385,8 @@ impl<L: LogStore> KvManager<L> {
         ensures listed { ready.new.in_doubt.items ≡ ready.old.in_doubt.items }
         ensures err { IfErr result (NotRestarted self.old self.new keep) }
     {
-        self.log.restart(keep, &ready.opened, remembered, self.alloc)?;
+        self.log
+            .restart(keep, &ready.opened, remembered, self.alloc)?;
         mem::swap(&mut self.store, &mut ready.store);
         self.boot = ready.boot;
         Ok(())

@@ -18,8 +18,7 @@ use manager_model::RestartError;
 use rec_log::{LogError, RecLog};
 use std::alloc::{AllocError, Global};
 use std::marker::Model;
-use std::mem;
-use std::slice;
+use std::{mem, slice};
 
 /// The front of a log as a restart remembers it: how many bytes it has, and what its records say.
 #[derive(Drop)]

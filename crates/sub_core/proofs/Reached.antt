@@ -257,7 +257,7 @@ front_same : (place : Place) (old new : LogSight) (f : Front) → new ≡ old �
 front_same place old new f is front = subst (λ (l : LogSight). IsFrontOf place l f) (sym is) front
 
 -- what a restart remembers is the front of the log
-pub pub restarted_front : (place : Place) (log : LogSight) (form : LogForm) (all : List LogRecord) (failures : ℕ) (f : Front)
+pub restarted_front : (place : Place) (log : LogSight) (form : LogForm) (all : List LogRecord) (failures : ℕ) (f : Front)
     → log ≡ forced_sight form all failures → f.size ≡ 5 + frames_size (records_of log.kept)
     → ((p : ProcessId) → place.role ≡ AtLeaf p → Remembers place p all f.remembered) → IsFrontOf place log f
 restarted_front place log form all failures f is sized says = record {

@@ -202,7 +202,14 @@ fn rebuilt_before<M: ResourceManager>(
     ensures err { IfErr result (NotRebuilt (leaf_place me parent tree.now) (left_before (M.sight manager.now))) }
 {
     let records = left_before(manager)?;
-    match rebuild(me, parent, tree, Remembered::nothing(alloc), &records, alloc) {
+    match rebuild(
+        me,
+        parent,
+        tree,
+        Remembered::nothing(alloc),
+        &records,
+        alloc,
+    ) {
         Ok((rebuilt, remembered)) => {
             drop(remembered);
             Ok(rebuilt)
