@@ -7,6 +7,3 @@ use Rattle.kv_core.proofs.remembered.copied.Goals as goal
 
 pub loop-xid-init : goal.loop-xid-init
 loop-xid-init c = copying_starts c.args.decisions.now c.new-copy.result c.new-copy.ensures
-
-pub loop-xid-preserved : goal.loop-xid-preserved
-loop-xid-preserved c = ?
