@@ -15,3 +15,4 @@ pub mod Deciding
 pub mod Trims
 pub mod Spelt
 pub mod Counting
+pub mod Remembering

@@ -1,5 +1,7 @@
 -- What the records of a log say of operators' decisions, one by one.
-use Rattle.std.proofs.Common.{◌≡◌, ◌∙◌, Bool, true, false, cond, Option, Some, None, List, [], ◌∷◌, map, fold, refl, sym, ap}
+use Rattle.std.proofs.Common.{◌≡◌, ◌∙◌, Bool, true, false, cond, Option, Some, None, List, [], ◌∷◌, ◌++◌, map, fold, refl, sym, ap}
+use Rattle.std.proofs.lemmas.Grind.{fold-append}
+use Rattle.std.proofs.lemmas.List.{map-append}
 use Rattle.std.specs.Prelude.{is_some}
 use Rattle.xa_xid.specs.declared.xid.Xid.{Xid}
 use Rattle.xa_heur.specs.declared.decision.Decision.{Decision}
@@ -145,6 +147,19 @@ noting_starts ls t none = record {
   known = λ x says. true_is_false (sym says);
 }
 
+-- those behind some records by which operators decided this
+pub noting_on : (ls rs : List LogRecord) (t : DecisionTable) → KnowDecided ls t → IsNoting (ls ++ rs) rs t
+unfolding decision_of mark_of
+noting_on ls rs t know = record {
+  mark = λ x. mark_of (Foreign x) (map by_xid ls);
+  marks = λ x. sym (ap (mark_of (Foreign x)) (map-append by_xid ls rs)
+      ∙ fold-append (mark_after (Foreign x)) Unmarked (map by_xid ls) (map by_xid rs));
+  each = λ x. ap (λ d. fold (decision_after (Foreign x)) d (map by_xid rs)) (know.each x)
+      ∙ sym (ap (decision_of (Foreign x)) (map-append by_xid ls rs)
+      ∙ fold-append (decision_after (Foreign x)) (decided_as AbortedOutcome) (map by_xid ls) (map by_xid rs));
+  known = know.known;
+}
+
 pub noting_goes_on : (all rest : List LogRecord) (l : LogRecord) (t u : DecisionTable)
     → IsNoting all (l ∷ rest) t → NotesRecord t u l
     → IsNoting all rest u
@@ -162,3 +177,7 @@ noting_ends all t noting = record {
   each = noting.each;
   known = λ x says. noting.known x (ap says_decided (noting.marks x) ∙ says);
 }
+
+-- no record says that an operator decided
+pub nothing_decided : (t : DecisionTable) → t.decisions ≡ [] → KnowDecided [] t
+nothing_decided t none = noting_ends [] t (noting_starts [] t none)

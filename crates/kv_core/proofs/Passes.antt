@@ -1,5 +1,5 @@
 -- The pass over the records.
-use Rattle.std.proofs.Common.{◌≡◌, ◌≤◌, ◌<◌, ◌^◌, inl, ℕ, Bool, true, false, cond, nat_le, arith, List, [], ◌∷◌, ◌++◌, Option, Some, None, Result, Ok, Err, IfErr, map, fold, refl, sym, ap, subst, ◌∙◌, append_assoc, append-nil}
+use Rattle.std.proofs.Common.{◌≡◌, ◌≤◌, ◌<◌, ◌^◌, inl, ℕ, Bool, true, false, cond, nat_le, arith, List, [], ◌∷◌, ◌++◌, Option, Some, None, Result, Ok, Err, IfErr, IfOk, map, fold, refl, sym, ap, subst, ◌∙◌, append_assoc, append-nil}
 use Rattle.std.proofs.lemmas.Bool.Decides.{nat_tests}
 use Rattle.std.specs.Result.{IsErrAnd}
 use Rattle.log_text.specs.declared.records.ReadFault.{ReadFault}
@@ -14,18 +14,10 @@ use Rattle.kv_core.specs.declared.fault.ReplayError.TheVariants.{Memory, Malform
 use Rattle.kv_core.specs.Folds.{AreData, GoBack, base_after, data_behind, last_within, latest}
 use Rattle.tree_model.specs.LogNames.{by_xid}
 use Rattle.kv_core.specs.Replays.{AreCounted, CountTooFar, Fails, KeepsBefore, Reads, TakeFails, Takes, error_of, seen_after, seen_of}
-use Rattle.kv_core.proofs.Counting.{counted_next}
+use Rattle.kv_core.specs.Remembered.{HasRead, ReadsNow}
+use Rattle.kv_core.specs.declared.replayed.Reading.{Reading}
+use Rattle.kv_core.proofs.Counting.{counted_next, counted_whole}
 use Rattle.kv_core.proofs.Lawful.{lawful_of}
-
--- a front of the records has been read
-pub record IsReading (ls rest : List LogRecord) (s : SeenLog) (versions : VersionTable) : Type 0 where
-  pub done : List LogRecord
-  pub parts : ls ≡ done ++ rest
-  pub read : seen_of done ≡ Some s
-  pub stored : AreData versions (data_of done)
-  pub history : GoBack versions done
-  pub counted : AreCounted done
-  pub fits : versions.count < 2 ^ 63
 
 seen_nothing : (ls : List LogRecord) → seen_after None ls ≡ None
 unfolding seen_after
@@ -108,67 +100,128 @@ module _ (ls : List LogRecord) (l : LogRecord) (v w : VersionTable) (back : GoBa
       by_test n k low high false e = earlier n k low e
           ∙ ap (λ b. found_in (cond b (data_of (ls ++ l ∷ [])) (data_behind n ls)).pairs k) (sym e)
 
-pub reading_begins : (ls : List LogRecord) → IsReading ls ls nothing_seen
-    (record { base = 0; count = 0; is_staged = false; versions = [] })
-unfolding seen_after stored value_by last_within
-reading_begins ls = record {
-  done = [];
-  parts = refl;
-  read = refl;
-  stored = record { count = refl; unstaged = refl; values = λ k. refl };
-  history = record { base = refl; values = λ n k low high. refl };
-  counted = omega arith;
-  fits = omega arith;
+-- Before any record.
+
+-- no records say nothing, and make no data
+pub nothing_read : (s : SeenLog) (v : VersionTable) → s ≡ nothing_seen
+    → v ≡ record { base = 0; count = 0; is_staged = false; versions = [] } → ReadsNow [] s v
+unfolding seen_after stored value_by
+nothing_read s v seen none = subst (λ w. ReadsNow [] s w) (sym none)
+    (subst (λ t. ReadsNow [] t (record { base = 0; count = 0; is_staged = false; versions = [] })) (sym seen)
+    (record {
+      read = refl;
+      stored = record { count = refl; unstaged = refl; values = λ k. refl };
+      counted = omega arith;
+    }))
+
+-- and they go back to where they begin
+pub nothing_before : (v : VersionTable) → v ≡ record { base = 0; count = 0; is_staged = false; versions = [] }
+    → GoBack v []
+unfolding value_by last_within
+nothing_before v none = subst (λ w. GoBack w []) (sym none) (record { base = refl; values = λ n k low high. refl })
+
+-- One record more.
+
+pub read_next : (ls : List LogRecord) (l : LogRecord) (s t : SeenLog) (v w : VersionTable) → ReadsNow ls s v
+    → after s l ≡ Some t → Takes s l v w → w.count < 2 ^ 63 → ReadsNow (ls ++ l ∷ []) t w
+unfolding seen_after
+read_next ls l s t v w reads may takes fits =
+    let are : AreData w (data_of (ls ++ l ∷ [])) =
+    subst (AreData w) (sym (data_next ls l)) (takes (data_of ls) (lawful_of ls s reads.read).tied reads.stored) in
+    record {
+      read = seen_next ls s l [] reads.read ∙ may;
+      stored = are;
+      counted = counted_next ls l reads.counted (subst (λ n. n < 2 ^ 63) are.count fits);
+    }
+
+-- why one is not taken is why all records leave nothing
+take_fails : (ls : List LogRecord) (l : LogRecord) (rest : List LogRecord) (s : SeenLog) (v : VersionTable)
+    (e : ReplayError) → ReadsNow ls s v → TakeFails s l v e → Fails (ls ++ l ∷ rest) e
+take_fails ls l rest s v Memory reads fails = tt
+take_fails ls l rest s v Malformed reads fails =
+    inl (seen_next ls s l rest reads.read ∙ ap (λ o. seen_after o rest) fails ∙ seen_nothing rest)
+take_fails ls l rest s v Exhausted reads fails = record {
+  front = ls ++ l ∷ [];
+  behind = rest;
+  parts = sym (append_assoc ls (l ∷ []) rest);
+  far = subst (λ d. 2 ^ 63 ≤ d.count) (sym (data_next ls l)) (fails (data_of ls) reads.stored);
 }
 
-module _ (ls : List LogRecord) (l : LogRecord) (rest : List LogRecord) (s : SeenLog) (v : VersionTable)
-    (reading : IsReading ls (l ∷ rest) s v) where
-  next_parts : ls ≡ (reading.done ++ l ∷ []) ++ rest
-  next_parts = reading.parts ∙ sym (append_assoc reading.done (l ∷ []) rest)
+-- Reading on.
 
-  pub reading_goes_on : (t : SeenLog) (w : VersionTable) → after s l ≡ Some t → Takes s l v w
-      → KeepsBefore v w l.entry → w.count < 2 ^ 63 → IsReading ls rest t w
-  unfolding seen_after
-  reading_goes_on t w may takes keeps fits = record {
+-- of these records, which come after some that were read, a front has been read
+pub record ReadsOn (old : SeenLog) (before : VersionTable) (all rest : List LogRecord) (s : SeenLog)
+    (v : VersionTable) : Type 0 where
+  pub some : List LogRecord
+  pub begun : ReadsNow some old before
+  pub done : List LogRecord
+  pub parts : all ≡ done ++ rest
+  pub reads : (ls : List LogRecord) → ReadsNow ls old before → ReadsNow (ls ++ done) s v
+  pub history : (ls : List LogRecord) → ReadsNow ls old before → GoBack before ls → GoBack v (ls ++ done)
+  pub unstaged : v.is_staged ≡ false
+  pub fits : v.count < 2 ^ 63
+
+pub reading_on_begins : (old : SeenLog) (before : VersionTable) (all rest : List LogRecord) → rest ≡ all
+    → HasRead old before → ReadsOn old before all rest old before
+reading_on_begins old before all rest whole h = record {
+  some = h.0;
+  begun = h.1;
+  done = [];
+  parts = sym whole;
+  reads = λ ls reads. subst (λ ks. ReadsNow ks old before) (sym (append-nil ls)) reads;
+  history = λ ls reads back. subst (λ ks. GoBack before ks) (sym (append-nil ls)) back;
+  unstaged = h.1.stored.unstaged;
+  fits = subst (λ n. n < 2 ^ 63) (sym h.1.stored.count) (counted_whole h.0 h.1.counted);
+}
+
+module _ (old : SeenLog) (before : VersionTable) (all : List LogRecord) (l : LogRecord) (rest : List LogRecord)
+    (s : SeenLog) (v : VersionTable) (reading : ReadsOn old before all (l ∷ rest) s v) where
+  pub reading_on_goes_on : (t : SeenLog) (w : VersionTable) → after s l ≡ Some t → Takes s l v w
+      → KeepsBefore v w l.entry → w.count < 2 ^ 63 → ReadsOn old before all rest t w
+  reading_on_goes_on t w may takes keeps fits = record {
+    some = reading.some;
+    begun = reading.begun;
     done = reading.done ++ l ∷ [];
-    parts = next_parts;
-    read = seen_next reading.done s l [] reading.read ∙ may;
-    stored = are;
-    history = history_goes_on reading.done l v w reading.history are keeps;
-    counted = counted_next reading.done l reading.counted (subst (λ n. n < 2 ^ 63) are.count fits);
+    parts = reading.parts ∙ sym (append_assoc reading.done (l ∷ []) rest);
+    reads = λ ls reads. subst (λ ks. ReadsNow ks t w) (append_assoc ls reading.done (l ∷ [])) (next ls reads);
+    history = λ ls reads back. subst (GoBack w) (append_assoc ls reading.done (l ∷ []))
+        (history_goes_on (ls ++ reading.done) l v w (reading.history ls reads back) (next ls reads).stored keeps);
+    unstaged = (next reading.some reading.begun).stored.unstaged;
     fits = fits;
   }
     where
-      are : AreData w (data_of (reading.done ++ l ∷ []))
-      are = subst (AreData w) (sym (data_next reading.done l))
-          (takes (data_of reading.done) (lawful_of reading.done s reading.read).tied reading.stored)
+      next : (ls : List LogRecord) → ReadsNow ls old before → ReadsNow ((ls ++ reading.done) ++ l ∷ []) t w
+      next ls reads = read_next (ls ++ reading.done) l s t v w (reading.reads ls reads) may takes fits
 
-  malformed : after s l ≡ None → seen_of ls ≡ None
-  malformed never = ap seen_of reading.parts ∙ seen_next reading.done s l rest reading.read
-      ∙ ap (λ o. seen_after o rest) never ∙ seen_nothing rest
+  pub reading_on_fails : (e : ReplayError) → TakeFails s l v e → (ls : List LogRecord) → ReadsNow ls old before
+      → Fails (ls ++ all) e
+  reading_on_fails e fails ls reads =
+      subst (λ ks. Fails ks e)
+      (append_assoc ls reading.done (l ∷ rest) ∙ ap (λ ks. ls ++ ks) (sym reading.parts))
+      (take_fails (ls ++ reading.done) l rest s v e (reading.reads ls reads) fails)
 
-  exhausted : ((d : Data) → AreData v d → 2 ^ 63 ≤ (stored_after d (by_xid l)).count) → CountTooFar ls
-  exhausted far = record {
-    front = reading.done ++ l ∷ [];
-    behind = rest;
-    parts = next_parts;
-    far = subst (λ d. 2 ^ 63 ≤ d.count) (sym (data_next reading.done l))
-        (far (data_of reading.done) reading.stored);
-  }
+module _ (old : SeenLog) (before : VersionTable) (all : List LogRecord) (s : SeenLog) (v : VersionTable)
+    (reading : ReadsOn old before all [] s v) where
+  is_done : reading.done ≡ all
+  is_done = sym (reading.parts ∙ append-nil reading.done)
 
-  pub reading_fails : (e : ReplayError) → TakeFails s l v e → Fails ls e
-  reading_fails Memory fails = tt
-  reading_fails Malformed fails = inl (malformed fails)
-  reading_fails Exhausted fails = exhausted fails
+  pub reading_on_ends : (ls : List LogRecord) → ReadsNow ls old before → ReadsNow (ls ++ all) s v
+  reading_on_ends ls reads = subst (λ ks. ReadsNow (ls ++ ks) s v) is_done (reading.reads ls reads)
 
-pub reading_ends : (ls : List LogRecord) (s : SeenLog) (v : VersionTable) → IsReading ls [] s v → Reads ls s v
-reading_ends ls s v reading = record {
-  read = ap seen_of (reading.parts ∙ append-nil reading.done) ∙ reading.read;
-  stored = subst (λ ks. AreData v (data_of ks)) (sym
-      (reading.parts ∙ append-nil reading.done)) reading.stored;
-  history = subst (GoBack v) (sym (reading.parts ∙ append-nil reading.done)) reading.history;
-  counted = subst AreCounted (sym (reading.parts ∙ append-nil reading.done)) reading.counted;
-}
+  pub history_on_ends : (ls : List LogRecord) → ReadsNow ls old before → GoBack before ls → GoBack v (ls ++ all)
+  history_on_ends ls reads back = subst (λ ks. GoBack v (ls ++ ks)) is_done (reading.history ls reads back)
+
+-- all records are read on from none
+pub read_all : (ls : List LogRecord) (old : SeenLog) (before : VersionTable) (r : Result Reading ReplayError)
+    → ReadsNow [] old before → GoBack before []
+    → IfOk r (λ all. (ks : List LogRecord) → ReadsNow ks old before → ReadsNow (ks ++ ls) all.seen all.data)
+    → IfOk r (λ all. (ks : List LogRecord) → ReadsNow ks old before → GoBack before ks
+    → GoBack all.data (ks ++ ls))
+    → IfOk r (λ all. Reads ls all.seen all.data)
+read_all ls old before (Ok all) begun back reads history =
+    let now : ReadsNow ls all.seen all.data = reads [] begun in
+    record { read = now.read; stored = now.stored; history = history [] begun back; counted = now.counted }
+read_all ls old before (Err e) begun back reads history = tt
 
 -- a record that may not follow is not taken
 pub refused_take : (s : SeenLog) (l : LogRecord) (v : VersionTable) (f : ReadFault)
@@ -176,21 +229,6 @@ pub refused_take : (s : SeenLog) (l : LogRecord) (v : VersionTable) (f : ReadFau
     → TakeFails s l v (error_of f)
 refused_take s l v fault.Memory never = tt
 refused_take s l v fault.Malformed never = never refl
-
--- the loop begins with all records, nothing seen and no data
-pub reading_starts : (ls rest : List LogRecord) (s : SeenLog) (v : VersionTable) → rest ≡ ls
-    → s ≡ nothing_seen
-    → v ≡ record { base = 0; count = 0; is_staged = false; versions = [] } → IsReading ls rest s v
-reading_starts ls rest s v all nothing none = subst (λ w. IsReading ls rest s w) (sym none)
-    (subst (λ t. IsReading ls rest t (record { base = 0; count = 0; is_staged = false; versions = [] }))
-    (sym nothing)
-    (subst (λ ks. IsReading ls ks nothing_seen (record {
-      base = 0;
-      count = 0;
-      is_staged = false;
-      versions =
-          [];
-    })) (sym all) (reading_begins ls)))
 
 -- an error that is passed on
 pub passed_on : {T E : Type 0} (r : Result T E) (e : E) (P : E → Type 0) → IsErrAnd r (λ x. x ≡ e) → P e

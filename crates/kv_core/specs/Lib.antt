@@ -4,4 +4,5 @@ pub mod Ends
 pub mod Folds
 pub mod Decisions
 pub mod Replays
+pub mod Remembered
 pub mod Keeping

@@ -1,6 +1,7 @@
 //! What operators decided.
 
-ghost use Rattle.std.specs.Prelude.{IfOk, OnOk, Some};
+ghost use Rattle.std.specs.Prelude.{◌++◌, IfOk, List, OnOk, Some};
+ghost use Rattle.tree_model.specs.declared.records.LogRecord.{LogRecord as AnyRecord};
 ghost use Rattle.xa_heur.specs.Cases.{Notes, decision_in, decision_or};
 ghost use Rattle.kv_core.specs.Decisions.{KnowDecided, NotesRecord};
 
@@ -53,13 +54,24 @@ fn note(heuristics: &mut Heuristics, next: &LogRecord) -> Result<(), AllocError>
     Ok(())
 }
 
-/// What operators decided by the records of a log.
-pub(crate) fn decided(records: &[LogRecord], alloc: Global) -> Result<Heuristics, AllocError>
-    ensures { IfOk result (KnowDecided records.now) }
+/// What operators decided by the records of a log, if these come after those by which they decided this.
+pub(crate) fn decided_after(
+    heuristics: Heuristics,
+    records: &[LogRecord],
+) -> Result<Heuristics, AllocError>
+    ensures { IfOk result (λ decided. (ls : List AnyRecord) → KnowDecided ls heuristics
+        → KnowDecided (ls ++ records.now) decided) }
 {
-    let mut heuristics = Heuristics::new(alloc);
+    let mut heuristics = heuristics;
     for record in records {
         note(&mut heuristics, record)?;
     }
     Ok(heuristics)
+}
+
+/// What operators decided by the records of a log.
+pub(crate) fn decided(records: &[LogRecord], alloc: Global) -> Result<Heuristics, AllocError>
+    ensures { IfOk result (KnowDecided records.now) }
+{
+    decided_after(Heuristics::new(alloc), records)
 }

@@ -29,10 +29,12 @@ mod frames;
 mod heuristic;
 pub mod law;
 mod promises;
+mod remembered;
 mod replayed;
 mod store;
 
 pub use fault::ReplayError;
 pub use frames::base_frames;
+pub use remembered::Remembered;
 pub use replayed::{Replayed, replay};
 pub use store::KeyStore;

@@ -1,7 +1,10 @@
 //! The pass over the records of a log.
 
-ghost use Rattle.std.specs.Prelude.{◌≡◌, ◌<◌, ◌^◌, false, Some, IfOk, IfErr, OnOk};
+ghost use Rattle.std.specs.Prelude.{◌≡◌, ◌<◌, ◌^◌, ◌++◌, false, Some, IfOk, IfErr, List, OnOk};
+ghost use Rattle.tree_model.specs.declared.records.LogRecord.{LogRecord as AnyRecord};
 ghost use Rattle.log_rules.specs.order.Orders.{after};
+ghost use Rattle.kv_core.specs.Folds.{GoBack};
+ghost use Rattle.kv_core.specs.Remembered.{HasRead, ReadsNow};
 ghost use Rattle.kv_core.specs.Replays.{Fails, KeepsBefore, Leaves, Reads, TakeFails, Takes};
 
 use crate::data;
@@ -36,9 +39,9 @@ pub struct Replayed {
 
 /// The records so far: what they have said, and the data that they make.
 #[derive(Drop)]
-struct Reading {
-    seen: Seen,
-    data: Versions,
+pub(crate) struct Reading {
+    pub(crate) seen: Seen,
+    pub(crate) data: Versions,
 }
 
 impl Reading {
@@ -58,19 +61,37 @@ impl Reading {
     }
 }
 
+/// Reads on in these records. With an error they and what was read are gone.
+pub(crate) fn read_on(
+    reading: Reading,
+    records: Vec<LogRecord>,
+    alloc: Global,
+) -> Result<Reading, ReplayError>
+    requires { HasRead reading.seen reading.data }
+    ensures ok { IfOk result (λ all. (ls : List AnyRecord) → ReadsNow ls reading.seen reading.data
+        → ReadsNow (ls ++ records.items) all.seen all.data) }
+    ensures history { IfOk result (λ all. (ls : List AnyRecord) → ReadsNow ls reading.seen reading.data
+        → GoBack reading.data ls → GoBack all.data (ls ++ records.items)) }
+    ensures err { IfErr result (λ e. (ls : List AnyRecord) → ReadsNow ls reading.seen reading.data
+        → Fails (ls ++ records.items) e) }
+{
+    let mut reading = reading;
+    for record in records {
+        reading.take(record, alloc)?;
+    }
+    Ok(reading)
+}
+
 /// What all records have said, and the data that they make.
 fn read(records: Vec<LogRecord>, alloc: Global) -> Result<Reading, ReplayError>
     ensures ok { IfOk result (λ all. Reads records.items all.seen all.data) }
     ensures err { IfErr result (Fails records.items) }
 {
-    let mut reading = Reading {
+    let nothing = Reading {
         seen: Seen::new(alloc),
         data: Versions::new(alloc, 0),
     };
-    for record in records {
-        reading.take(record, alloc)?;
-    }
-    Ok(reading)
+    read_on(nothing, records, alloc)
 }
 
 /// What the records of a log leave of a key store. It goes through them twice.

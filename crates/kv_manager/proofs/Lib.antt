@@ -21,3 +21,4 @@ pub mod Boots
 pub mod TrimOrder
 pub mod TrimCounts
 pub mod SoundData
+pub mod Remembering

@@ -22,7 +22,9 @@ use Rattle.kv_store.specs.Pairs.{keys_rise}
 use Rattle.kv_store.specs.Versions.{VersionTable}
 use Rattle.kv_store.specs.writes.Writes.{WriteTable, writes_of}
 use Rattle.kv_core.specs.Folds.{AreData}
-use Rattle.kv_core.specs.Replays.{AreCounted, HoldPromises, Leaves, seen_of}
+use Rattle.kv_core.specs.Replays.{AreCounted, HoldPromises, seen_of}
+use Rattle.kv_core.specs.Remembered.{LeavesNow}
+use Rattle.kv_core.specs.declared.replayed.Replayed.{Replayed}
 use Rattle.kv_core.proofs.Counting.{counted_front}
 use Rattle.kv_core.specs.declared.fault.ReplayError.{ReplayError}
 use Rattle.kv_core.specs.declared.fault.ReplayError.TheVariants.{Memory, Malformed, Exhausted}
@@ -383,15 +385,12 @@ kept_unstarted s log keep l restarts.Device kept behind counts broke = record {
 kept_unstarted s log keep l restarts.Exhausted kept behind counts never = absurd never
 
 -- what replays and what is rebuilt of it
-pub left_store : (ls : List LogRecord) (last : Option ℕ) (left : List (Xid × Bool))
-    (versions : VersionTable) (writes : WriteTable)
-    (locks : LockTable) (decisions : DecisionTable) (listed : List (Xid × Bool)) (s : KeySight) (boot : ℕ)
-    → Leaves ls last left versions writes locks decisions → listed ≡ left → Rebuilt s listed writes locks
-    versions decisions → next_boot last ≡ Some boot → LeavesStore ls s boot
-left_store ls last left versions writes locks decisions listed s boot leaves is rebuilt next = record {
+pub left_store : (ls : List LogRecord) (r : Replayed) (s : KeySight) (boot : ℕ) → LeavesNow ls r
+    → Rebuilt s r.left.items r.writes r.locks r.data r.decisions → next_boot r.boot ≡ Some boot → LeavesStore ls s boot
+left_store ls r s boot leaves rebuilt next = record {
   seen = leaves.seen;
   read = leaves.read;
-  tables = subst (λ l. Restored l s.tables) (is ∙ leaves.in_doubt) rebuilt.tables;
+  tables = subst (λ l. Restored l s.tables) leaves.in_doubt rebuilt.tables;
   stored = subst (λ v. AreData v (data_of ls)) (sym rebuilt.data_left) leaves.stored;
   counted = leaves.counted;
   promises = λ x. ap (λ w. writes_of w x) rebuilt.writes_left ∙ leaves.promises x;

@@ -17,7 +17,6 @@ ghost use Rattle.xa_tables.specs.declared.call.Call.{Call as AnyCall};
 ghost use Rattle.kv_manager.specs.Turns.{Finishes, HasWrites, IsDueTurn, Makes, NotTaken, OnlyRoom, Takes};
 
 use crate::manager::KvManager;
-use core_log::write;
 use kv_turns::{Entry, Turn};
 use log_store::LogStore;
 use log_text::Frame;
@@ -95,7 +94,7 @@ impl<L: LogStore> KvManager<L> {
     {
         let frame = self.frame(xid, written, entry)?;
         self.store.is_tidy(xid);
-        match write(&mut self.log, &frame, turn.is_forced) {
+        match self.log.write(&frame, turn.is_forced) {
             Ok(()) => {
                 self.store.finish(xid, place, written, turn);
                 Ok(turn.code)
@@ -126,7 +125,7 @@ impl<L: LogStore> KvManager<L> {
         let frame = self.frame(xid, written, entry)?;
         self.store.is_tidy(xid);
         self.store.stage(xid, written)?;
-        match write(&mut self.log, &frame, turn.is_forced) {
+        match self.log.write(&frame, turn.is_forced) {
             Ok(()) => {
                 self.store.publish();
                 self.store.finish(xid, place, written, turn);

@@ -5,6 +5,7 @@
 
 mod finishing;
 mod manager;
+mod remembered;
 mod resource;
 mod restart;
 mod trimming;

@@ -1,7 +1,8 @@
 //! A key store with a log, as an XA manager.
 
 ghost use Rattle.log_text.specs.Forms.{log_form};
-ghost use Rattle.std.specs.Prelude.{◌≡◌, ◌<◌, ◌+◌, [], length, false, true, IfOk, IfErr, OnOk, OnErr, Err, Some, None};
+ghost use Rattle.tree_model.specs.declared.records.LogRecord.{LogRecord as AnyRecord};
+ghost use Rattle.std.specs.Prelude.{◌≡◌, ◌<◌, ◌+◌, ◌++◌, [], length, false, true, List, IfOk, IfErr, OnOk, OnErr, Err, Some, None};
 ghost use Rattle.key_tables.specs.declared.holders.Mode.TheVariants as mode;
 ghost use Rattle.kv_core.specs.Stores.{MovesTables, state_of};
 ghost use Rattle.kv_core.specs.Works.{Reads, Writes, WorksIdle, work_refusal};
@@ -17,13 +18,15 @@ ghost use Rattle.kv_manager.specs.Sights.{SameManager, are_ordered};
 ghost use Rattle.manager_model.specs.Opening.{IsNew};
 ghost use Rattle.std.specs.List.{AllByRecursion};
 ghost use Rattle.log_rules.specs.sound.Sound.{IsSound};
-ghost use Rattle.rec_log.specs.Sights.{ReadsAs, left_by, log_state, records_of, whole_within};
+ghost use Rattle.rec_log.specs.Sights.{IsFront, ReadsAs, left_by, log_state, records_of, whole_within};
 ghost use Rattle.tree_model.specs.declared.names.Kind.TheVariants as kind;
 ghost use Rattle.kv_manager.specs.Restarts.{IsReady, LeavesNone, NotReady, NotRestarted, NotRestored, Restarted, RestoredFrom, StartsOver};
+ghost use Rattle.kv_core.specs.Remembered.{Remembers};
 ghost use Rattle.kv_manager.specs.Turns.{Calls, Refuses};
 
-use crate::restart::{Ready, RecordsError, ready_for, restart_log, started};
-use kv_core::KeyStore;
+use crate::remembered::FrontedLog;
+use crate::restart::{Ready, RecordsError, made_ready, started};
+use kv_core::{KeyStore, Remembered};
 use log_store::{LogStore, MemoryStore};
 use manager_model::RestartError;
 use rec_log::{OpenError, RecLog};
@@ -52,7 +55,7 @@ pub enum RestoreError {
 /// A key store with a log, as an XA manager.
 pub struct KvManager<L: LogStore> {
     pub(crate) alloc: Global,
-    pub(crate) log: RecLog<L>,
+    pub(crate) log: FrontedLog<L>,
     boot: u64,
     pub(crate) store: KeyStore,
 }
@@ -93,14 +96,14 @@ impl<L: LogStore> KvManager<L> {
         ensures { IfOk result (λ text. ReadsAs self.now.log.sight.form text.items
             (records_of self.now.log.sight.kept) self.now.log.sight.failed) }
     {
-        self.log.text(self.alloc)
+        self.log.log().text(self.alloc)
     }
 
     /// How many bytes its log has. A crash that keeps N after the forced front keeps every record.
     pub fn log_size(&self) -> usize
         ensures { left_by self.now.log.sight result ≡ records_of self.now.log.sight.kept }
     {
-        self.log.size()
+        self.log.log().size()
     }
 
     /// How many of the records after the forced ones a crash would leave that keeps N bytes after
@@ -109,14 +112,14 @@ impl<L: LogStore> KvManager<L> {
         ensures { IfOk result (λ count. count
             ≡ length (whole_within (self.now.log.sight.behind + keep) self.now.log.sight.kept.unforced)) }
     {
-        self.log.left_behind(keep, self.alloc)
+        self.log.log().left_behind(keep, self.alloc)
     }
 
     /// Each record of its log can stand in a manager's log.
     pub fn records_are_sound(&self)
         ensures { AllByRecursion (IsSound kind.Manager) (records_of self.now.log.sight.kept) }
     {
-        self.log.records_are_sound();
+        self.log.log().records_are_sound();
     }
 
     /// Each branch that it knows is listed once, and none that is in S0.
@@ -144,7 +147,7 @@ impl<L: LogStore> KvManager<L> {
     pub fn records(&self) -> Result<Vec<LogRecord>, AllocError>
         ensures { IfOk result (λ records. records.items ≡ records_of self.now.log.sight.kept) }
     {
-        self.log.records(self.alloc)
+        self.log.log().records(self.alloc)
     }
 
     /// The store under its log, to be read.
@@ -152,7 +155,7 @@ impl<L: LogStore> KvManager<L> {
         ensures { (log_state self.now.log.sight.form (L.bytes result.now) (L.forced result.now) (L.failures result.now)
             (L.room result.now) self.now.log.sight.failed).sight ≡ self.now.log.sight }
     {
-        self.log.store()
+        self.log.log().store()
     }
 
     /// The records that a crash would leave which keeps N bytes after the forced front, as a list
@@ -160,14 +163,23 @@ impl<L: LogStore> KvManager<L> {
     pub fn left(&self, keep: usize) -> Result<Vec<LogRecord>, AllocError>
         ensures { IfOk result (λ records. records.items ≡ left_by self.now.log.sight keep) }
     {
-        self.log.kept(keep, self.alloc)
+        self.log.log().kept(keep, self.alloc)
+    }
+
+    /// Of the records that a crash would leave that keeps N bytes after the forced front, those after the first ones, if the
+    /// header and the first ones, all of them forced, are `size` bytes.
+    pub fn kept_after(&self, size: usize, keep: usize) -> Result<Vec<LogRecord>, AllocError>
+        ensures { IfOk result (λ records. (first : List AnyRecord) → IsFront self.now.log.sight size first
+            → first ++ records.items ≡ left_by self.now.log.sight keep) }
+    {
+        self.log.log().kept_after(size, keep, self.alloc)
     }
 
     /// Whether its device has failed: it answers nothing until a restart.
     pub fn has_failed(&self) -> bool
         ensures { result ≡ self.now.log.sight.failed }
     {
-        self.log.failed()
+        self.log.log().failed()
     }
 
     /// The state of a branch: S0 where it is not known.
@@ -341,15 +353,16 @@ impl<L: LogStore> KvManager<L> {
         self.store.work_idle(xid, op)
     }
 
-    /// What the manager restarts as after a crash that keeps N of the log's unforced bytes. Memory.
-    /// Exhausted: no boot comes after the last one.
-    fn ready(&self, keep: usize) -> Result<Ready, RestartError>
-        ensures ok { IfOk result (IsReady (left_by self.now.log.sight keep)) }
-        ensures err { IfErr result (NotReady (left_by self.now.log.sight keep)) }
+    /// What the manager restarts as after a crash that keeps N of the log's unforced bytes, and what it is to remember of
+    /// what is left; what it remembered is gone. Memory. Exhausted: no boot comes after the last one.
+    fn ready(&mut self, keep: usize) -> Result<(Ready, Remembered), RestartError>
+        ensures stays { self.new ≡ self.old }
+        ensures ok { IfOk result (λ r. IsReady (left_by self.old.log.sight keep) r.0) }
+        ensures remembered { IfOk result (λ r. Remembers (left_by self.old.log.sight keep) r.1) }
+        ensures err { IfErr result (NotReady (left_by self.old.log.sight keep)) }
     {
         self.records_are_sound();
-        let records = self.log.kept(keep, self.alloc)?;
-        match ready_for(records, self.alloc) {
+        match made_ready(&mut self.log, keep, self.alloc) {
             Ok(ready) => Ok(ready),
             Err(RecordsError::Memory) => Err(RestartError::Memory),
             Err(RecordsError::Exhausted) => Err(RestartError::Exhausted),
@@ -360,13 +373,20 @@ impl<L: LogStore> KvManager<L> {
 
     /// What was made ready takes the manager's place, after the log's restart. What stood before is left in
     /// its stead.
-    fn reopen(&mut self, keep: usize, ready: &mut Ready) -> Result<(), RestartError>
-        requires { IsReady (left_by self.old.log.sight keep) ready.old }
+    fn reopen(
+        &mut self,
+        keep: usize,
+        ready: &mut Ready,
+        remembered: Remembered,
+    ) -> Result<(), RestartError>
+        requires ready { IsReady (left_by self.old.log.sight keep) ready.old }
+        requires says { Remembers (left_by self.old.log.sight keep) remembered }
         ensures ok { OnOk result (Restarted self.old self.new keep ready.old.in_doubt.items) }
         ensures listed { ready.new.in_doubt.items ≡ ready.old.in_doubt.items }
         ensures err { IfErr result (NotRestarted self.old self.new keep) }
     {
-        restart_log(&mut self.log, keep, &ready.opened, self.alloc)?;
+        self.log
+            .restart(keep, &ready.opened, remembered, self.alloc)?;
         mem::swap(&mut self.store, &mut ready.store);
         self.boot = ready.boot;
         Ok(())
@@ -374,14 +394,15 @@ impl<L: LogStore> KvManager<L> {
 
     /// Restarts the manager after a crash that keeps N of the log's unforced bytes: it stands as the
     /// records that are left say, not open, and gives the branches in doubt, in the order of their promises.
-    /// Its own records are never refused. Memory: nothing changed. Exhausted: no boot below 2^63 comes after
-    /// the last one; nothing changed. Device: the manager has failed until it is restarted.
+    /// Its own records are never refused. The records are gone through that came after its last restart, or all of them after
+    /// a trim. Memory: nothing changed. Exhausted: no boot below 2^63 comes after the last one; nothing changed. Device:
+    /// the manager has failed until it is restarted.
     pub fn restart(&mut self, keep: usize) -> Result<Vec<Xid>, RestartError>
         ensures ok { IfOk result (λ given. Restarted self.old self.new keep given.items) }
         ensures err { IfErr result (NotRestarted self.old self.new keep) }
     {
-        let mut ready = self.ready(keep)?;
-        let reopened = self.reopen(keep, &mut ready);
+        let (mut ready, remembered) = self.ready(keep)?;
+        let reopened = self.reopen(keep, &mut ready, remembered);
         let in_doubt = ready.into_in_doubt();
         match reopened {
             Ok(()) => Ok(in_doubt),
@@ -400,7 +421,7 @@ impl<L: LogStore> KvManager<L> {
         match started(&mut log, alloc) {
             Ok((store, boot)) => Ok(KvManager {
                 alloc,
-                log,
+                log: FrontedLog::new(log, alloc),
                 boot,
                 store,
             }),
@@ -433,7 +454,7 @@ impl<L: LogStore + Drop> KvManager<L> {
             boot: _,
             store: _,
         } = self;
-        log.into_store()
+        log.into_log().into_store()
     }
 
     /// The manager of this process over the log in a store, which is not open: it stands as the log's records
@@ -460,6 +481,6 @@ impl KvManager<MemoryStore> {
     pub fn never_failed(&self)
         ensures { (sight_of self.now).log.failures ≡ 0 }
     {
-        self.log.never_failed()
+        self.log.log().never_failed()
     }
 }

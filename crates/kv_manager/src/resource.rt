@@ -100,6 +100,14 @@ impl<L: LogStore> ResourceManager for KvManager<L> {
         KvManager::left(self, keep)
     }
 
+    fn log_size(&self) -> usize {
+        self.log.log().size()
+    }
+
+    fn kept_after(&self, size: usize, keep: usize) -> Result<Vec<LogRecord>, AllocError> {
+        KvManager::kept_after(self, size, keep)
+    }
+
     fn records_are_sound(&self) {
         KvManager::records_are_sound(self);
     }

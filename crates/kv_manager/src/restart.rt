@@ -1,24 +1,25 @@
 //! What the records of a log leave of a manager.
 
-ghost use Rattle.std.specs.Prelude.{◌≡◌, ◌<◌, ◌^◌, ◌∷◌, [], true, false, IfOk, IfErr, OnOk};
+ghost use Rattle.std.specs.Prelude.{◌≡◌, ◌<◌, ◌^◌, true, false, IfOk, IfErr, List, OnOk};
+ghost use Rattle.tree_model.specs.declared.records.LogRecord.{LogRecord as AnyRecord};
 ghost use Rattle.xa_branch.specs.Branches.{in_doubt};
 ghost use Rattle.xa_assoc.specs.declared.states.States.{States as AnyStates};
 ghost use Rattle.xa_assoc.specs.Restored.{Restored};
+ghost use Rattle.kv_core.specs.Remembered.{LeavesNow, Remembers};
 ghost use Rattle.kv_core.specs.Stores.{IsTidy, Rebuilt};
 ghost use Rattle.tree_model.specs.declared.names.Kind.TheVariants as kind;
 ghost use Rattle.log_text.specs.Made.{frame_record};
 ghost use Rattle.core_log.specs.Writes.{Writes};
-ghost use Rattle.rec_log.specs.Sights.{IsRecord, Restarts};
-ghost use Rattle.kv_manager.specs.Restarts.{FailsToRestart, IsReady, LeavesNone, LeavesStore, NotBegun, NotRebuilt, NotStored, StartsOver, error_of, next_boot, opened, records_number};
+ghost use Rattle.rec_log.specs.Sights.{IsRecord, left_by};
+ghost use Rattle.kv_manager.specs.Restarts.{IsReady, LeavesNone, LeavesStore, NotBegun, NotRebuilt, NotStored, StartsOver, error_of, next_boot, opened, records_number};
 
+use crate::remembered::FrontedLog;
 use core_log::write;
-use kv_core::{KeyStore, ReplayError, Replayed, replay};
+use kv_core::{KeyStore, Remembered, ReplayError, Replayed, replay};
 use log_store::LogStore;
 use log_text::Frame;
-use manager_model::RestartError;
-use rec_log::{LogError, RecLog};
+use rec_log::RecLog;
 use std::alloc::{AllocError, Global};
-use std::slice;
 use thiserror::Error;
 use tree_model::{LogRecord, Record};
 use xa_xid::Xid;
@@ -120,17 +121,14 @@ fn stored(replayed: Replayed, alloc: Global) -> Result<KeyStore, RecordsError>
     }
 }
 
-/// What the records of a log leave of a key store, and the boot after them. Memory: there was none. Unfit:
-/// they are not the records of a key store. Exhausted: the boots or the commits count 2^63. With an error the
-/// records are gone.
-pub fn rebuilt(records: Vec<LogRecord>, alloc: Global) -> Result<(KeyStore, u64), RecordsError>
-    ensures ok { IfOk result (λ made. LeavesStore records.items made.0 made.1) }
-    ensures err { IfErr result (NotRebuilt records.items) }
+/// The key store of what replayed, and the boot after the last one. Memory: there was none. Unfit: more branches are in
+/// doubt than it holds, or one of them twice. Exhausted: no boot comes after the last one.
+fn store_of(replayed: Replayed, alloc: Global) -> Result<(KeyStore, u64), RecordsError>
+    requires { (ls : List AnyRecord) × LeavesNow ls replayed }
+    ensures ok { IfOk result (λ made. (ls : List AnyRecord) → LeavesNow ls replayed
+        → LeavesStore ls made.0 made.1) }
+    ensures err { IfErr result (λ e. (ls : List AnyRecord) → LeavesNow ls replayed → NotRebuilt ls e) }
 {
-    let replayed = match replay(records, alloc) {
-        Ok(replayed) => replayed,
-        Err(error) => return Err(replay_error(error)),
-    };
     let Some(boot) = next_boot(replayed.boot) else {
         drop(replayed);
         return Err(RecordsError::Exhausted);
@@ -138,6 +136,19 @@ pub fn rebuilt(records: Vec<LogRecord>, alloc: Global) -> Result<(KeyStore, u64)
     match stored(replayed, alloc) {
         Ok(store) => Ok((store, boot)),
         Err(error) => Err(error),
+    }
+}
+
+/// What the records of a log leave of a key store, and the boot after them. Memory: there was none. Unfit:
+/// they are not the records of a key store. Exhausted: the boots or the commits count 2^63. With an error the
+/// records are gone.
+pub fn rebuilt(records: Vec<LogRecord>, alloc: Global) -> Result<(KeyStore, u64), RecordsError>
+    ensures ok { IfOk result (λ made. LeavesStore records.items made.0 made.1) }
+    ensures err { IfErr result (NotRebuilt records.items) }
+{
+    match replay(records, alloc) {
+        Ok(replayed) => store_of(replayed, alloc),
+        Err(error) => Err(replay_error(error)),
     }
 }
 
@@ -192,12 +203,13 @@ fn announced(store: &KeyStore, boot: u64, alloc: Global) -> Result<(Vec<Xid>, Fr
     Ok((in_doubt, opened))
 }
 
-/// What a manager restarts as where these records are left. The errors are those of `rebuilt`.
-pub(crate) fn ready_for(records: Vec<LogRecord>, alloc: Global) -> Result<Ready, RecordsError>
-    ensures ok { IfOk result (IsReady records.items) }
-    ensures err { IfErr result (NotRebuilt records.items) }
+/// What a manager restarts as by what replayed. The errors are those of `store_of`.
+fn ready_for(replayed: Replayed, alloc: Global) -> Result<Ready, RecordsError>
+    requires { (ls : List AnyRecord) × LeavesNow ls replayed }
+    ensures ok { IfOk result (λ ready. (ls : List AnyRecord) → LeavesNow ls replayed → IsReady ls ready) }
+    ensures err { IfErr result (λ e. (ls : List AnyRecord) → LeavesNow ls replayed → NotRebuilt ls e) }
 {
-    let (store, boot) = rebuilt(records, alloc)?;
+    let (store, boot) = store_of(replayed, alloc)?;
     match announced(&store, boot, alloc) {
         Ok((in_doubt, opened)) => Ok(Ready {
             store,
@@ -212,22 +224,27 @@ pub(crate) fn ready_for(records: Vec<LogRecord>, alloc: Global) -> Result<Ready,
     }
 }
 
-/// Restarts a log, with the record of a boot after what is left.
-pub(crate) fn restart_log<L: LogStore>(
-    log: &mut RecLog<L>,
+/// What a manager restarts as after a crash that keeps N bytes of its log after the forced front, and what it is to
+/// remember of what is left; what it remembered is gone. The errors are those of `rebuilt`.
+pub(crate) fn made_ready<L: LogStore>(
+    log: &mut FrontedLog<L>,
     keep: usize,
-    opened: &Frame,
     alloc: Global,
-) -> Result<(), RestartError>
-    requires { IsRecord log.old.sight.form.kind (frame_record opened.now) }
-    ensures form { log.new.sight.form ≡ log.old.sight.form }
-    ensures ok { OnOk result (Restarts log.old log.new keep (frame_record opened.now ∷ [])) }
-    ensures err { IfErr result (λ e. FailsToRestart log.old log.new keep (frame_record opened.now) e) }
+) -> Result<(Ready, Remembered), RecordsError>
+    ensures stays { log.new ≡ log.old }
+    ensures ok { IfOk result (λ r. IsReady (left_by log.old.sight keep) r.0) }
+    ensures remembered { IfOk result (λ r. Remembers (left_by log.old.sight keep) r.1) }
+    ensures err { IfErr result (NotRebuilt (left_by log.old.sight keep)) }
 {
-    match log.restart(keep, slice::from_ref(opened), alloc) {
-        Ok(()) => Ok(()),
-        Err(LogError::Memory) => Err(RestartError::Memory),
-        Err(LogError::Device) => Err(RestartError::Device),
+    match log.read(keep, alloc) {
+        Ok((replayed, remembered)) => match ready_for(replayed, alloc) {
+            Ok(ready) => Ok((ready, remembered)),
+            Err(error) => {
+                drop(remembered);
+                Err(error)
+            }
+        },
+        Err(error) => Err(replay_error(error)),
     }
 }
 

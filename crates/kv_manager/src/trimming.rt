@@ -11,11 +11,12 @@ ghost use Rattle.kv_manager.specs.Resources.{sight_of, trim_error};
 ghost use Rattle.manager_model.specs.Trimming.{NotTrimmed, Trims};
 
 use crate::manager::KvManager;
+use crate::remembered::FrontedLog;
 use kv_core::base_frames;
 use log_store::LogStore;
 use log_text::Frame;
 use manager_model::TrimError;
-use rec_log::{LogError, RecLog};
+use rec_log::LogError;
 use std::alloc::{AllocError, Global};
 
 /// Why a manager's log was not trimmed, where it was not written.
@@ -29,7 +30,11 @@ fn trim_error(error: LogError) -> TrimError
 }
 
 /// Trims a manager's log again that a trim leaves as it is: it is put in its own place, and not read.
-fn trim_again<L: LogStore>(log: &mut RecLog<L>, count: usize, alloc: Global) -> Result<(), LogError>
+fn trim_again<L: LogStore>(
+    log: &mut FrontedLog<L>,
+    count: usize,
+    alloc: Global,
+) -> Result<(), LogError>
     requires works { log.old.sight.failed ≡ false }
     requires managers { log.old.sight.form.kind ≡ kind.Manager }
     requires settled { IsSettled log.old count }

@@ -1,6 +1,7 @@
 //! The calls of a resource manager.
 
-ghost use Rattle.std.specs.Prelude.{◌≡◌, ◌≢◌, false, Err, IfErr, IfOk, OnErr, OnOk};
+ghost use Rattle.std.specs.Prelude.{◌≡◌, ◌≢◌, ◌+◌, ◌++◌, false, Err, IfErr, IfOk, List, OnErr, OnOk};
+ghost use Rattle.tree_model.specs.declared.records.LogRecord.{LogRecord as AnyRecord};
 ghost use Rattle.std.specs.List.{AllByRecursion};
 ghost use Rattle.xa_branch.specs.Branches.{AreListedOnce};
 ghost use Rattle.xa_heur.specs.Decisions.{decision_at};
@@ -14,7 +15,7 @@ ghost use Rattle.manager_model.specs.Deciding.{Decides, NotDecided};
 ghost use Rattle.manager_model.specs.Restarting.{NotRestarted, Restarts};
 ghost use Rattle.manager_model.specs.Orders.{AreInOrder};
 ghost use Rattle.manager_model.specs.Trimming.{NotTrimmed, Trims};
-ghost use Rattle.rec_log.specs.Sights.{left_by, records_of};
+ghost use Rattle.rec_log.specs.Sights.{IsFront, frames_size, left_by, records_of};
 ghost use Rattle.log_rules.specs.sound.Sound.{IsSound};
 ghost use Rattle.tree_model.specs.declared.names.Kind.TheVariants as kind;
 
@@ -165,6 +166,17 @@ pub trait ResourceManager {
     /// made again.
     fn left(&self, keep: usize) -> Result<Vec<LogRecord>, AllocError>
         ensures { IfOk result (λ records. records.items ≡ left_by (sight self.now).log keep) };
+
+    /// How many bytes its log has: the header and the frames of its records, and a torn one where its device has failed.
+    fn log_size(&self) -> usize
+        ensures { (sight self.now).log.failed ≡ false
+            → result ≡ 5 + frames_size (records_of (sight self.now).log.kept) };
+
+    /// Of the records that a crash would leave that keeps N bytes after the forced front, those after the first ones, if the
+    /// header and the first ones, all of them forced, are `size` bytes.
+    fn kept_after(&self, size: usize, keep: usize) -> Result<Vec<LogRecord>, AllocError>
+        ensures { IfOk result (λ records. (first : List AnyRecord) → IsFront (sight self.now).log size first
+            → first ++ records.items ≡ left_by (sight self.now).log keep) };
 
     /// Each record of its log can stand in a manager's log: it was read off bytes.
     fn records_are_sound(&self)

@@ -90,6 +90,14 @@ impl<M: ResourceManager> ResourceManager for RefusingManager<M> {
         self.manager.left(keep)
     }
 
+    fn log_size(&self) -> usize {
+        self.manager.log_size()
+    }
+
+    fn kept_after(&self, size: usize, keep: usize) -> Result<Vec<LogRecord>, AllocError> {
+        self.manager.kept_after(size, keep)
+    }
+
     fn records_are_sound(&self) {
         self.manager.records_are_sound();
     }

@@ -38,6 +38,7 @@ use Rattle.manager_model.specs.Turns.{DataTurn, MovesData, abort_data, commit_da
 use Rattle.sub_branch.specs.declared.branch.Branch.{Branch}
 use Rattle.sub_branch.specs.declared.branch.Stage.TheVariants.{Heuristic}
 use Rattle.sub_table.specs.Tables.{BranchTable, IsKept, Notes, Retires, branch_in, kept_view, nothing, ticket_in, view_in}
+use Rattle.sub_core.specs.declared.subordinate.Front.{Front}
 use Rattle.sub_core.specs.Subordinates.{Hears, IsAt, IsNamed, IsTied, NotHeard, NotTurned, SubState, Turns, answer_for, core_of, decided, decided_at, decided_found, decision_kind, found_against, logged_alone, outcome_reply, prepared, turn_for, xid_of}
 use Rattle.sub_deeds.specs.Replies.{shown}
 use Rattle.sub_core.specs.Steps.{Acts, NotActed, turn_at}
@@ -78,7 +79,7 @@ decided_now : (c : Case) (o : Outcome) (k : Option Outcome) (d : Decision) → d
 decided_now c o k d is = ap (λ (e : Decision). Some e.outcome) is
     ∙ sym (ap (λ (b : Bool). if b then Some o else k) (same_case-itself c))
 
-module _ (s : SubState) (key : ℕ) (c : Case) (x : Xid) (o : Outcome) (tied : IsTied s)
+module _ {f : Front} (s : SubState) (key : ℕ) (c : Case) (x : Xid) (o : Outcome) (tied : IsTied f s)
     (at : IsAt s.table key c (prepared x)) where
   decide_is : turn_at s (Decide c o) ≡ Handles c (prepared_decide (leaf_in (core_of s) s.parent c) o)
   decide_is = ap (λ (k : Option Branch). decide_turn (leaf_in (core_of s) s.parent c) o
@@ -114,7 +115,7 @@ module _ (s : SubState) (key : ℕ) (c : Case) (x : Xid) (o : Outcome) (tied : I
       }
 
   pub decides_tied : (t : BranchTable) (m : ManagerSight) → Notes s.table t key (Heuristic None)
-      → Decides s.manager m x o → IsTied (behind s t m)
+      → Decides s.manager m x o → IsTied f (behind s t m)
   decides_tied t m notes made =
       moved_tied s t m c (prepared x) (Some (decided x None)) S5 tied at.live
       (notes_at s.table t key (Heuristic None) c (prepared x) at notes).branches
@@ -250,7 +251,7 @@ tells_is s c Committed ws d none = ap (tells (CaseBranch c) Committed) none
 tells_is s c Aborted ws d none = ap (tells (CaseBranch c) Aborted) none
 
 -- the first outcome is noted
-module _ (s : SubState) (key : ℕ) (c : Case) (x : Xid) (o : Outcome) (tied : IsTied s) (kept : IsKept s.table)
+module _ {f : Front} (s : SubState) (key : ℕ) (c : Case) (x : Xid) (o : Outcome) (tied : IsTied f s) (kept : IsKept s.table)
     (at : IsAt s.table key c (decided x None)) where
   abbrev l : Leaf
   l = leaf_in (core_of s) s.parent c
@@ -297,7 +298,7 @@ module _ (s : SubState) (key : ℕ) (c : Case) (x : Xid) (o : Outcome) (tied : I
 
   pub told_tied : (t : BranchTable) (m : ManagerSight) → Notes s.table t key (Heuristic (Some o))
       → Finishes s.manager m x (outcome_call o)
-      → IsTied (behind s t m)
+      → IsTied f (behind s t m)
   told_tied t m notes f =
       moved_tied s t m c (decided x None) (Some (decided x (Some o))) S5 tied at.live
       (notes_at s.table t key (Heuristic (Some o)) c (decided x None) at notes).branches (
@@ -321,8 +322,8 @@ module _ (s : SubState) (key : ℕ) (c : Case) (x : Xid) (o : Outcome) (tied : I
 
 -- Its end.
 
-module _ (s : SubState) (key : ℕ) (c : Case) (x : Xid) (told : Option Outcome)
-    (tied : IsTied s) (kept : IsKept s.table)
+module _ {f : Front} (s : SubState) (key : ℕ) (c : Case) (x : Xid) (told : Option Outcome)
+    (tied : IsTied f s) (kept : IsKept s.table)
     (at : IsAt s.table key c (decided x told)) where
   forget_is : turn_at s (Forget c) ≡ Handles c (heuristic_forget (leaf_in (core_of s) s.parent c))
   forget_is = ap (λ (k : Option Branch). forget_turn (leaf_in (core_of s) s.parent c)

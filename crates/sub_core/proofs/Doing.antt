@@ -22,6 +22,7 @@ use Rattle.sub_branch.specs.declared.branch.Branch.{Branch}
 use Rattle.sub_branch.specs.declared.branch.Stage.{Stage}
 use Rattle.sub_branch.specs.declared.branch.Stage.TheVariants.{Active}
 use Rattle.sub_table.specs.Tables.{BranchTable, Notes, kept_view, stage_view, ticket_in}
+use Rattle.sub_core.specs.declared.subordinate.Front.{Front}
 use Rattle.sub_core.specs.Subordinates.{Hears, IsAt, IsTied, SubState, Turns, active, answer_for, core_of, place_of, turn_for, xid_of}
 use Rattle.sub_core.proofs.Reached.{same_reached}
 use Rattle.sub_deeds.specs.Replies.{shown}
@@ -57,7 +58,7 @@ view_after i n does =
     let v : ManagerView = record { standing = ActiveStanding; done = n; spoiled = false; told = None } in
     if does then record v { done = i } else record v { spoiled = true }
 
-module _ (s : SubState) (key : ℕ) (c g : Case) (n i : ℕ) (x : Xid) (op : Op) (tied : IsTied s)
+module _ {f : Front} (s : SubState) (key : ℕ) (c g : Case) (n i : ℕ) (x : Xid) (op : Op) (tied : IsTied f s)
     (at : IsAt s.table key c (active x g n false)) (next : i ≡ n + 1) where
   turn_is : (does : Bool) → is_none (obstacle s.manager x op) ≡ does
       → turn_for s (Work c i op) ≡ Handles c (unmoved (view_after i n does))
@@ -126,20 +127,20 @@ module _ (s : SubState) (key : ℕ) (c g : Case) (n i : ℕ) (x : Xid) (op : Op)
   spoils t m notes w = done_by false n true t m refl notes w
 
   pub did_tied : (t : BranchTable) (m : ManagerSight) → Notes s.table t key (Active g i false)
-      → Works s.manager m x op true → IsTied (behind s t m)
+      → Works s.manager m x op true → IsTied f (behind s t m)
   did_tied t m notes w =
       moved_tied s t m c (active x g n false) (Some (active x g i false)) S2 tied at.live
       (notes_at s.table t key (Active g i false) c (active x g n false) at
       notes).branches (refl, refl, tt) w.comes (same_reached (place_of s) s.manager m tied.reached w.comes.boot w.log)
 
   pub spoils_tied : (t : BranchTable) (m : ManagerSight) → Notes s.table t key (Active g n true)
-      → Works s.manager m x op false → IsTied (behind s t m)
+      → Works s.manager m x op false → IsTied f (behind s t m)
   spoils_tied t m notes w =
       moved_tied s t m c (active x g n false) (Some (active x g n true)) S4 tied at.live
       (notes_at s.table t key (Active g n true) c (active x g n false) at
       notes).branches (refl, refl, tt) w.comes (same_reached (place_of s) s.manager m tied.reached w.comes.boot w.log)
 
-  pub idles_tied : (m : ManagerSight) → Idles s.manager m x → IsTied (behind s s.table m)
+  pub idles_tied : (m : ManagerSight) → Idles s.manager m x → IsTied f (behind s s.table m)
   idles_tied m w =
       moved_tied s s.table m c (active x g n false) (Some (active x g n false)) S2 tied at.live
       (record { own = at.live; others = λ d apart. refl }) (refl, refl, tt) w.comes

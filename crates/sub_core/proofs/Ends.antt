@@ -29,6 +29,7 @@ use Rattle.live_table.specs.Tables.{Moves}
 use Rattle.sub_deeds.specs.Deeds.{NotDecided, NotDone, NotFinished}
 use Rattle.sub_branch.specs.declared.branch.Branch.{Branch}
 use Rattle.sub_table.specs.Tables.{BranchTable, Retires, branch_in, retired_at, ticket_in}
+use Rattle.sub_core.specs.declared.subordinate.Front.{Front}
 use Rattle.sub_core.specs.Subordinates.{IsAt, IsGiven, IsNamed, IsTied, NotTurned, SubState, core_of, place_of}
 use Rattle.std.specs.List.{AllByRecursion}
 use Rattle.sub_table.specs.Rebuilt.{IsReached}
@@ -130,9 +131,9 @@ module _ (s : SubState) (c : Case) (x : Xid) (named : IsNamed s.parent c x) (giv
       not_done m (written_for s.manager x call) row e (written_is st ws call row.written at writes is) of h
 
 -- the tie after a piece of work that was not done
-pub none_tied : (s : SubState) (m : ManagerSight) (ls : List LogRecord) (e : StepError)
-    → IsTied s → AllByRecursion (IsReached (place_of s) s.manager.boot) ls → NotDone s.manager m ls e
-    → IsTied (behind s s.table m)
+pub none_tied : {f : Front} (s : SubState) (m : ManagerSight) (ls : List LogRecord) (e : StepError)
+    → IsTied f s → AllByRecursion (IsReached (place_of s) s.manager.boot) ls → NotDone s.manager m ls e
+    → IsTied f (behind s s.table m)
 none_tied s m ls Memory tied each h = same_tied s m tied h
 none_tied s m ls Device tied each h =
     still_tied s m tied h.idle h.states h.decided h.boot h.log.form
@@ -141,17 +142,17 @@ none_tied s m ls Exhausted tied each h = same_tied s m tied h.0
 none_tied s m ls _ tied each h = absurd h
 
 -- the tie after a call that was not made
-pub not_tied : (s : SubState) (m : ManagerSight) (c : Case) (b : Branch) (call : Call) (e : StepError) → IsTied s
+pub not_tied : {f : Front} (s : SubState) (m : ManagerSight) (c : Case) (b : Branch) (call : Call) (e : StepError) → IsTied f s
     → branch_in s.table c ≡ Some b → NotFinished s.manager m b.xid call e
-    → IsTied (behind s s.table m)
+    → IsTied f (behind s s.table m)
 not_tied s m c b call e tied at h =
     none_tied s m (logged_under b.xid (written_for s.manager b.xid call)) e tied
     (call_reached s c b.xid call (tied.named c b at) (tied.given_before c b at)) h
 
 -- the tie after a decision that was not made
-pub undecided_tied : (s : SubState) (m : ManagerSight) (c : Case) (b : Branch) (o : Outcome) (e : StepError)
-    → IsTied s → branch_in s.table c ≡ Some b → NotDecided s.manager m b.xid o e
-    → IsTied (behind s s.table m)
+pub undecided_tied : {f : Front} (s : SubState) (m : ManagerSight) (c : Case) (b : Branch) (o : Outcome) (e : StepError)
+    → IsTied f s → branch_in s.table c ≡ Some b → NotDecided s.manager m b.xid o e
+    → IsTied f (behind s s.table m)
 undecided_tied s m c b o e tied at h =
     none_tied s m (logged_under b.xid (decision_writes b.xid o)) e tied
     (decided_reached s c b.xid o (tied.named c b at) (tied.given_before c b at)) h

@@ -32,6 +32,7 @@ use Rattle.sub_core.proofs.Staying.{rests}
 use Rattle.sub_deeds.specs.Deeds.{Begins, HasBegun, starts}
 use Rattle.sub_branch.specs.declared.branch.Branch.{Branch}
 use Rattle.sub_table.specs.Tables.{BranchTable, Opens, SameTable, branch_in, kept_view, opened, ticket_in, view_in}
+use Rattle.sub_core.specs.declared.subordinate.Front.{Front}
 use Rattle.sub_core.specs.Subordinates.{AgreesWith, Hears, IsGiven, IsNamed, IsTied, Joins, Keeps, SubState, Turns, core_of, decided_at, next_case, place_of, stage_state, xid_of}
 use Rattle.sub_deeds.specs.Replies.{shown}
 use Rattle.sub_deeds.proofs.Kept.{same_kept}
@@ -135,7 +136,7 @@ refused s new d ungiven j =
 -- The case of a fresh ticket.
 
 -- the case of the ticket that is given next is not live
-pub is_fresh : (s : SubState) (d : Case) → IsTied s → branch_in s.table (next_case s d) ≡ None
+pub is_fresh : {f : Front} (s : SubState) (d : Case) → IsTied f s → branch_in s.table (next_case s d) ≡ None
 is_fresh s d tied = by_branch (branch_in s.table (next_case s d)) refl
   where
     by_branch : (o : Option Branch) → branch_in s.table (next_case s d) ≡ o → o ≡ None
@@ -147,7 +148,7 @@ is_fresh s d tied = by_branch (branch_in s.table (next_case s d)) refl
         let number : s.given + 1 ≡ g.ticket.number = ap (λ (t : Ticket). t.number) is in
         absurd (omega arith)
 
-module _ (s : SubState) (d : Case) (t : BranchTable) (m : ManagerSight) (x : Xid) (tied : IsTied s)
+module _ {f : Front} (s : SubState) (d : Case) (t : BranchTable) (m : ManagerSight) (x : Xid) (tied : IsTied f s)
     (named : IsNamed s.parent (next_case s d) x)
     (opens : Opens s.table t d (next_ticket (core_of s)) x) where
   abbrev own : Case
@@ -207,7 +208,7 @@ module _ (s : SubState) (d : Case) (t : BranchTable) (m : ManagerSight) (x : Xid
         before = λ f. let before : g.ticket.number ≤ s.given = g.before (f ∙ b.comes.boot) in omega arith;
       }
 
-  pub begun_tied : Begins s.manager m x → IsTied new
+  pub begun_tied : Begins s.manager m x → IsTied f new
   begun_tied b = record {
     own = b.comes.form ∙ tied.own;
     idle = b.comes.idle;
@@ -258,8 +259,8 @@ module _ (s : SubState) (d : Case) (t : BranchTable) (m : ManagerSight) (x : Xid
 
 -- The start was refused, or wanted memory.
 
-pub table_tied : (s : SubState) (t : BranchTable) → IsTied s → SameTable s.table t
-    → IsTied (behind s t s.manager)
+pub table_tied : {f : Front} (s : SubState) (t : BranchTable) → IsTied f s → SameTable s.table t
+    → IsTied f (behind s t s.manager)
 table_tied s t tied same = record {
   own = tied.own;
   idle = tied.idle;
@@ -271,8 +272,8 @@ table_tied s t tied same = record {
   reached = tied.reached;
 }
 
-pub undone_tied : (s : SubState) (t : BranchTable) (m : ManagerSight) → IsTied s → SameTable s.table t
-    → SameManager s.manager m → IsTied (behind s t m)
+pub undone_tied : {f : Front} (s : SubState) (t : BranchTable) (m : ManagerSight) → IsTied f s → SameTable s.table t
+    → SameManager s.manager m → IsTied f (behind s t m)
 undone_tied s t m tied same stays = same_tied (behind s t s.manager) m (table_tied s t tied same) stays
 
 undone_core : (s : SubState) (t : BranchTable) (m : ManagerSight) → SameTable s.table t

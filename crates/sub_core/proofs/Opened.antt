@@ -24,8 +24,10 @@ use Rattle.manager_model.specs.Sights.{Calls, ManagerSight, manager_data}
 use Rattle.sub_deeds.specs.Deeds.{IsIdle, IsQuiet}
 use Rattle.sub_table.specs.Tables.{BranchTable, branch_in, kept_view, ticket_in, view_in}
 use Rattle.tree_model.specs.Views.{leaf_place}
+use Rattle.sub_core.specs.Fronts.{IsHeader}
+use Rattle.sub_core.specs.declared.subordinate.Front.{Front}
 use Rattle.sub_core.specs.Subordinates.{IsTied, core_of}
-use Rattle.sub_core.proofs.Reached.{new_reached}
+use Rattle.sub_core.proofs.Reached.{header_front, new_reached}
 
 abbrev none : BranchTable
 none = record { tickets = []; branches = [] }
@@ -72,10 +74,10 @@ module _ (old m : ManagerSight) (new : IsNew old) (refuses : Code → Type 0) (a
         (ap (λ (bs : BranchList). bs.branches) (calls.works up).branches ∙ new.branches);
   }
 
-  pub opened_tied : (me parent : ProcessId) (tree : List TreeEntry) (t : BranchTable)
-      → t.tickets ≡ [] → t.branches ≡ [] → old.log.form ≡ log_form me Manager
-      → IsTied (record { me = me; parent = parent; tree = tree; given = 0; table = t; manager = m })
-  opened_tied me parent tree t tickets branches own = record {
+  pub opened_tied : (f : Front) (me parent : ProcessId) (tree : List TreeEntry) (t : BranchTable)
+      → IsHeader f → t.tickets ≡ [] → t.branches ≡ [] → old.log.form ≡ log_form me Manager
+      → IsTied f (record { me = me; parent = parent; tree = tree; given = 0; table = t; manager = m })
+  opened_tied f me parent tree t header tickets branches own = record {
     own = ap (λ (l : LogSight). l.form) calls.log ∙ own;
     idle = idle;
     named = λ c b e. absurd (let f = sym e ∙ bare c in cc);
@@ -83,7 +85,7 @@ module _ (old m : ManagerSight) (new : IsNew old) (refuses : Code → Type 0) (a
     told = λ c b e. absurd (let f = sym e ∙ bare c in cc);
     given_before = λ c b e. absurd (let f = sym e ∙ bare c in cc);
     reached = new_reached (leaf_place me parent tree) m old.log.form old.log.failures (calls.boot ∙ new.boot)
-        (calls.log ∙ new.log);
+        (calls.log ∙ new.log) (header_front (leaf_place me parent tree) m.log f header);
   }
     where
       bare : (c : Case) → branch_in t c ≡ None

@@ -32,6 +32,7 @@ use Rattle.sub_branch.specs.declared.branch.Branch.{Branch}
 use Rattle.sub_branch.specs.declared.branch.Stage.{Stage}
 use Rattle.sub_branch.specs.declared.branch.Stage.TheVariants.{Active, Heuristic, Prepared}
 use Rattle.sub_table.specs.Tables.{BranchTable, IsGivenFor, IsKept, Retires, branch_in, has_promised, kept_view, nothing, retired_at, ticket_in}
+use Rattle.sub_core.specs.declared.subordinate.Front.{Front}
 use Rattle.sub_core.specs.Subordinates.{Hears, IsAt, IsTied, NotHeard, NotTurned, SubState, Turns, active, answer_for, core_of, prepared, stage_state, turn_for, xid_of}
 use Rattle.sub_deeds.specs.Replies.{shown}
 use Rattle.sub_core.proofs.Reached.{finishes_reached}
@@ -61,8 +62,8 @@ pub record EndsBy (s : SubState) (c : Case) (b : Branch) (message : Message) (ca
   pub drops : message_data (core_of s) (answer_for s message) message ≡ Ends c
   pub gone : (row_of call (stage_state b.stage) (s.manager.writes b.xid) (s.manager.decided b.xid)).1 ≡ S0
 
-module _ (s : SubState) (key : ℕ) (c : Case) (b : Branch) (message : Message) (call : Call) (row : LeafRow)
-    (tied : IsTied s) (at : IsAt s.table key c b)
+module _ {f : Front} (s : SubState) (key : ℕ) (c : Case) (b : Branch) (message : Message) (call : Call) (row : LeafRow)
+    (tied : IsTied f s) (at : IsAt s.table key c b)
     (ends : EndsBy s c b message call row) where
   pub ended : (t : BranchTable) (m : ManagerSight) → Retires s.table t key nothing
       → Finishes s.manager m b.xid call
@@ -98,9 +99,9 @@ module _ (s : SubState) (key : ℕ) (c : Case) (b : Branch) (message : Message) 
       (tied.stands c b at.live) refl ends.written ends.of h)
 
 -- the tie after a branch that ended
-pub ended_tied : (s : SubState) (key : ℕ) (c : Case) (b : Branch) (call : Call) (t : BranchTable)
-    (m : ManagerSight) → IsTied s → IsAt s.table key c b
-    → Retires s.table t key nothing → Finishes s.manager m b.xid call → IsTied (behind s t m)
+pub ended_tied : {f : Front} (s : SubState) (key : ℕ) (c : Case) (b : Branch) (call : Call) (t : BranchTable)
+    (m : ManagerSight) → IsTied f s → IsAt s.table key c b
+    → Retires s.table t key nothing → Finishes s.manager m b.xid call → IsTied f (behind s t m)
 ended_tied s key c b call t m tied at gone f =
     moved_tied s t m c b None _ tied at.live (retires_at s.table t key nothing c b
     at gone).branches tt f.comes (finishes_reached s c b call m tied at.live f)

@@ -20,14 +20,14 @@ use Rattle.tree_model.specs.declared.records.Record.{Record}
 use Rattle.tree_model.specs.declared.records.Record.TheVariants as entries
 use Rattle.tree_model.specs.declared.records.Write.{Write}
 use Rattle.tree_model.specs.LogNames.{is_own, own_records, unnamed}
-use Rattle.tree_model.specs.Nodes.{Place, Written, is_any_forced}
+use Rattle.tree_model.specs.Nodes.{AtLeaf, Place, Written, is_any_forced}
 use Rattle.tree_model.specs.Records.{boot_after, boot_of, is_opened}
 use Rattle.tree_model.specs.Store.{base_records, data_of, pair_record}
 use Rattle.log_text.specs.declared.form.LogForm.{LogForm}
 use Rattle.log_text.specs.Parts.{Name, name_in}
 use Rattle.log_rules.specs.sound.Sound.{IsSound}
 use Rattle.log_rules.specs.trim.Trims.{front_of_trim, last_opened, opened_after, stays, staying, trim_of}
-use Rattle.rec_log.specs.Sights.{LogSight, left_by, longer, records_of, whole_within}
+use Rattle.rec_log.specs.Sights.{LogSight, frames_size, left_by, longer, records_of, whole_within}
 use Rattle.core_model.specs.Opening.{first_opened}
 use Rattle.core_model.specs.States.{forced_sight, wrote}
 use Rattle.manager_model.specs.Deciding.{decides_record, decision_writes}
@@ -43,6 +43,9 @@ use Rattle.sub_table.proofs.Steps.{reached_later}
 use Rattle.sub_branch.specs.declared.branch.Branch.{Branch}
 use Rattle.sub_deeds.specs.Deeds.{Decides, Finishes}
 use Rattle.sub_table.specs.Tables.{branch_in}
+use Rattle.sub_table.specs.Remembered.{Remembers}
+use Rattle.sub_core.specs.Fronts.{IsFrontOf, IsHeader}
+use Rattle.sub_core.specs.declared.subordinate.Front.{Front}
 use Rattle.sub_core.specs.Subordinates.{HasReached, IsGiven, IsNamed, IsTied, Reaches, SubState, place_of}
 
 -- Lists.
@@ -226,26 +229,69 @@ pub decided_reached : (s : SubState) (c : Case) (x : Xid) (o : Outcome) → IsNa
 decided_reached s c x o named g =
     decision_reached (place_of s) s.manager.boot (name_in x) (named_given s c (name_in x) named.reads g) o
 
+-- The front that is remembered.
+
+-- the header is the front of any log
+pub header_front : (place : Place) (log : LogSight) (f : Front) → IsHeader f → IsFrontOf place log f
+unfolding frames_size
+header_front place log f header = record {
+  first = [];
+  stands = record { rest = log.kept.forced; split = refl; sized = header.size };
+  says = λ p leaf. header.says place p;
+}
+
+-- a front stays one where more is forced
+front_goes_on : (place : Place) (old new : LogSight) (f : Front) (more : List LogRecord)
+    → new.kept.forced ≡ old.kept.forced ++ more → IsFrontOf place old f → IsFrontOf place new f
+front_goes_on place old new f more is front = record {
+  first = front.first;
+  stands = record {
+    rest = front.stands.rest ++ more;
+    split = sym (append_assoc front.first front.stands.rest more) ∙ ap (λ ks. ks ++ more) front.stands.split ∙ sym is;
+    sized = front.stands.sized;
+  };
+  says = front.says;
+}
+
+front_same : (place : Place) (old new : LogSight) (f : Front) → new ≡ old → IsFrontOf place old f → IsFrontOf place new f
+front_same place old new f is front = subst (λ (l : LogSight). IsFrontOf place l f) (sym is) front
+
+-- what a restart remembers is the front of the log
+pub restarted_front : (place : Place) (log : LogSight) (form : LogForm) (all : List LogRecord) (failures : ℕ) (f : Front)
+    → log ≡ forced_sight form all failures → f.size ≡ 5 + frames_size (records_of log.kept)
+    → ((p : ProcessId) → place.role ≡ AtLeaf p → Remembers place p all f.remembered) → IsFrontOf place log f
+restarted_front place log form all failures f is sized says = record {
+  first = all;
+  stands = record {
+    rest = [];
+    split = append-nil all ∙ sym (ap (λ (l : LogSight). l.kept.forced) is);
+    sized = sized ∙ ap (λ (l : LogSight). 5 + frames_size (records_of l.kept)) is
+        ∙ ap (λ ks. 5 + frames_size ks) (append-nil all);
+  };
+  says = says;
+}
+
 -- A log that goes on.
 
 -- its forced records go on, and all of them are such
-pub goes_on : (place : Place) (old new : ManagerSight) (behind : List LogRecord) → HasReached place old
+pub goes_on : {f : Front} (place : Place) (old new : ManagerSight) (behind : List LogRecord) → HasReached f place old
     → new.boot ≡ old.boot → records_of new.log.kept ≡ old.log.kept.forced ++ behind
     → length old.log.kept.forced ≤ length new.log.kept.forced
-    → AllByRecursion (IsReached place old.boot) (records_of new.log.kept) → HasReached place new
+    → AllByRecursion (IsReached place old.boot) (records_of new.log.kept) → HasReached f place new
 goes_on place old new behind h boot all longer each =
-    let front = longer_front old.log.kept.forced behind new.log.kept.forced new.log.kept.unforced (sym all) longer in
+    let longer_by = longer_front old.log.kept.forced behind new.log.kept.forced new.log.kept.unforced (sym all) longer in
     record {
       boot = subst (λ n. Reaches n new.log.kept.forced) (sym boot)
-          (subst (Reaches old.boot) (sym front.1) (reaches_more old.boot old.log.kept.forced front.0 h.boot));
+          (subst (Reaches old.boot) (sym longer_by.1) (reaches_more old.boot old.log.kept.forced longer_by.0 h.boot));
       promises = subst (λ n. AllByRecursion (IsReached place n) (records_of new.log.kept)) (sym boot) each;
+      front = front_goes_on place old.log new.log _ longer_by.0 longer_by.1 h.front;
     }
 
 -- more records
-more : (place : Place) (old new : ManagerSight) (ls : List LogRecord) → HasReached place old
+more : {f : Front} (place : Place) (old new : ManagerSight) (ls : List LogRecord) → HasReached f place old
     → new.boot ≡ old.boot → records_of new.log.kept ≡ records_of old.log.kept ++ ls
     → length old.log.kept.forced ≤ length new.log.kept.forced
-    → AllByRecursion (IsReached place old.boot) ls → HasReached place new
+    → AllByRecursion (IsReached place old.boot) ls → HasReached f place new
 more place old new ls h boot all longer each =
     goes_on place old new (old.log.kept.unforced ++ ls) h boot
     (all ∙ append_assoc old.log.kept.forced old.log.kept.unforced ls) longer
@@ -253,13 +299,14 @@ more place old new ls h boot all longer each =
     (all_append (IsReached place old.boot) (records_of old.log.kept) ls h.promises each))
 
 -- the log stays
-pub same_reached : (place : Place) (old new : ManagerSight) → HasReached place old
-    → new.boot ≡ old.boot → new.log ≡ old.log → HasReached place new
+pub same_reached : {f : Front} (place : Place) (old new : ManagerSight) → HasReached f place old
+    → new.boot ≡ old.boot → new.log ≡ old.log → HasReached f place new
 same_reached place old new h boot log = record {
   boot = subst (λ n. Reaches n new.log.kept.forced) (sym boot)
       (subst (λ (l : LogSight). Reaches old.boot l.kept.forced) (sym log) h.boot);
   promises = subst (λ n. AllByRecursion (IsReached place n) (records_of new.log.kept)) (sym boot)
       (subst (λ (l : LogSight). AllByRecursion (IsReached place old.boot) (records_of l.kept)) (sym log) h.promises);
+  front = front_same place old.log new.log _ log h.front;
 }
 
 wrote_all : (l : LogSight) (ws : List Written) (ls : List LogRecord)
@@ -288,9 +335,9 @@ wrote_longer l ws ls = by_test (is_any_forced ws)
     by_test false = omega arith
 
 -- these records were written
-pub wrote_reached : (place : Place) (old new : ManagerSight) (ws : List Written) (ls : List LogRecord)
-    → HasReached place old → new.boot ≡ old.boot → new.log ≡ wrote old.log ws ls
-    → AllByRecursion (IsReached place old.boot) ls → HasReached place new
+pub wrote_reached : {f : Front} (place : Place) (old new : ManagerSight) (ws : List Written) (ls : List LogRecord)
+    → HasReached f place old → new.boot ≡ old.boot → new.log ≡ wrote old.log ws ls
+    → AllByRecursion (IsReached place old.boot) ls → HasReached f place new
 wrote_reached place old new ws ls h boot log each =
     more place old new ls h boot
     (ap (λ (l : LogSight). records_of l.kept) log ∙ wrote_all old.log ws ls)
@@ -298,35 +345,35 @@ wrote_reached place old new ws ls h boot log each =
     (wrote_longer old.log ws ls)) each
 
 -- a call made its row of a live branch
-pub finishes_reached : (s : SubState) (c : Case) (b : Branch) (k : Call) (m : ManagerSight) → IsTied s
-    → branch_in s.table c ≡ Some b → Finishes s.manager m b.xid k → HasReached (place_of s) m
+pub finishes_reached : {f : Front} (s : SubState) (c : Case) (b : Branch) (k : Call) (m : ManagerSight) → IsTied f s
+    → branch_in s.table c ≡ Some b → Finishes s.manager m b.xid k → HasReached f (place_of s) m
 finishes_reached s c b k m tied at f =
     wrote_reached (place_of s) s.manager m (written_for s.manager b.xid k)
     (logged_under b.xid (written_for s.manager b.xid k)) tied.reached f.comes.boot f.log
     (call_reached s c b.xid k (tied.named c b at) (tied.given_before c b at))
 
 -- an operator decided a live branch
-pub decides_reached : (s : SubState) (c : Case) (b : Branch) (o : Outcome) (m : ManagerSight) → IsTied s
-    → branch_in s.table c ≡ Some b → Decides s.manager m b.xid o → HasReached (place_of s) m
+pub decides_reached : {f : Front} (s : SubState) (c : Case) (b : Branch) (o : Outcome) (m : ManagerSight) → IsTied f s
+    → branch_in s.table c ≡ Some b → Decides s.manager m b.xid o → HasReached f (place_of s) m
 decides_reached s c b o m tied at made =
     wrote_reached (place_of s) s.manager m (decision_writes b.xid o)
     (logged_under b.xid (decision_writes b.xid o)) tied.reached made.comes.boot made.log
     (decided_reached s c b.xid o (tied.named c b at) (tied.given_before c b at))
 
 -- the device failed under these
-pub broke_reached : (place : Place) (old new : ManagerSight) (ls : List LogRecord) (n : ℕ)
-    → HasReached place old → new.boot ≡ old.boot
+pub broke_reached : {f : Front} (place : Place) (old new : ManagerSight) (ls : List LogRecord) (n : ℕ)
+    → HasReached f place old → new.boot ≡ old.boot
     → records_of new.log.kept ≡ records_of old.log.kept ++ take n ls
     → length old.log.kept.forced ≤ length new.log.kept.forced
-    → AllByRecursion (IsReached place old.boot) ls → HasReached place new
+    → AllByRecursion (IsReached place old.boot) ls → HasReached f place new
 broke_reached place old new ls n h boot all longer each =
     more place old new (take n ls) h boot all longer (all_taken (IsReached place old.boot) n ls each)
 
 -- it failed under a restart
-pub restart_broke_reached : (place : Place) (old new : ManagerSight) (keep b n : ℕ) → HasReached place old
+pub restart_broke_reached : {f : Front} (place : Place) (old new : ManagerSight) (keep b n : ℕ) → HasReached f place old
     → new.boot ≡ old.boot
     → records_of new.log.kept ≡ left_by old.log keep ++ take n (boot_record b ∷ [])
-    → length old.log.kept.forced ≤ length new.log.kept.forced → HasReached place new
+    → length old.log.kept.forced ≤ length new.log.kept.forced → HasReached f place new
 restart_broke_reached place old new keep b n h boot all longer =
     let opened = take n (boot_record b ∷ []) in
     let rest = whole_within (old.log.behind + keep) old.log.kept.unforced in
@@ -338,19 +385,21 @@ restart_broke_reached place old new keep b n h boot all longer =
     (all_taken (IsReached place old.boot) n (boot_record b ∷ []) (tt, tt))))
 
 -- a manager that just opened
-pub new_reached : (place : Place) (m : ManagerSight) (form : LogForm) (failures : ℕ) → m.boot ≡ 1
-    → m.log ≡ forced_sight form (first_opened ∷ []) failures → HasReached place m
-new_reached place m form failures boot log = record {
+pub new_reached : {f : Front} (place : Place) (m : ManagerSight) (form : LogForm) (failures : ℕ) → m.boot ≡ 1
+    → m.log ≡ forced_sight form (first_opened ∷ []) failures → IsFrontOf place m.log f → HasReached f place m
+new_reached place m form failures boot log front = record {
+  front = front;
   boot = subst (λ n. Reaches n m.log.kept.forced) (sym boot)
       (subst (λ (l : LogSight). Reaches 1 l.kept.forced) (sym log) (inl (omega arith)));
   promises = subst (λ (l : LogSight). AllByRecursion (IsReached place m.boot) (records_of l.kept)) (sym log) (tt, tt);
 }
 
 -- a manager that restarted over these records
-pub restarted_reached : (place : Place) (m : ManagerSight) (form : LogForm) (left : List LogRecord) (failures b : ℕ)
+pub restarted_reached : {f : Front} (place : Place) (m : ManagerSight) (form : LogForm) (left : List LogRecord) (failures b : ℕ)
     → m.boot ≡ next_boot left → m.log ≡ forced_sight form (with_boot left) failures
-    → b ≤ next_boot left → AllByRecursion (IsReached place b) left → HasReached place m
-restarted_reached place m form left failures b boot log le each = record {
+    → b ≤ next_boot left → AllByRecursion (IsReached place b) left → IsFrontOf place m.log f → HasReached f place m
+restarted_reached place m form left failures b boot log le each front = record {
+  front = front;
   boot = subst (λ n. Reaches n m.log.kept.forced) (sym boot)
       (subst (λ (l : LogSight). Reaches (next_boot left) l.kept.forced) (sym log)
       (reaches_last left (next_boot left)));
@@ -398,9 +447,11 @@ trim_all place boot ls h =
     (tt, pairs_reached place boot (data_of ls).pairs)
 
 -- what a trim leaves
-trim_reached : (place : Place) (old new : ManagerSight) → HasReached place old → AreInOrder (records_of old.log.kept)
-    → new.boot ≡ old.boot → new.log.kept ≡ record { forced = trimmed old.log; unforced = [] } → HasReached place new
-trim_reached place old new h order boot kept = record {
+trim_reached : {f : Front} (place : Place) (old new : ManagerSight) → HasReached f place old → AreInOrder (records_of old.log.kept)
+    → new.boot ≡ old.boot → new.log.kept ≡ record { forced = trimmed old.log; unforced = [] }
+    → IsFrontOf place new.log f → HasReached f place new
+trim_reached place old new h order boot kept front = record {
+  front = front;
   boot = subst (λ n. Reaches n new.log.kept.forced) (sym boot)
       (subst (λ k. Reaches old.boot k.forced) (sym kept)
       (trim_reaches old.boot (records_of old.log.kept) (reached_last old.boot (records_of old.log.kept) order
@@ -411,28 +462,29 @@ trim_reached place old new h order boot kept = record {
       (trim_all place old.boot (records_of old.log.kept) h.promises)));
 }
 
-pub trimmed_reached : (place : Place) (old new : ManagerSight) → HasReached place old
+pub trimmed_reached : {f : Front} (place : Place) (old new : ManagerSight) → HasReached f place old
     → AreInOrder (records_of old.log.kept) → new.boot ≡ old.boot
-    → new.log ≡ forced_sight old.log.form (trimmed old.log) old.log.failures → HasReached place new
-trimmed_reached place old new h order boot log =
-    trim_reached place old new h order boot (ap (λ (l : LogSight). l.kept) log)
+    → new.log ≡ forced_sight old.log.form (trimmed old.log) old.log.failures → IsHeader f → HasReached f place new
+trimmed_reached place old new h order boot log header =
+    trim_reached place old new h order boot (ap (λ (l : LogSight). l.kept) log) (header_front place new.log _ header)
 
-pub trim_broke_reached : (place : Place) (old new : ManagerSight) → HasReached place old
-    → AreInOrder (records_of old.log.kept) → TrimFails old new → HasReached place new
-trim_broke_reached place old new h order fails = elim fails.either [
+pub trim_broke_reached : {f : Front} (place : Place) (old new : ManagerSight) → HasReached f place old
+    → AreInOrder (records_of old.log.kept) → TrimFails old new → IsHeader f → HasReached f place new
+trim_broke_reached place old new h order fails header = elim fails.either [
   | inl stands ↦ record {
+    front = header_front place new.log _ header;
     boot = subst (λ n. Reaches n new.log.kept.forced) (sym fails.boot)
         (subst (λ k. Reaches old.boot k.forced) (sym stands) h.boot);
     promises = subst (λ n. AllByRecursion (IsReached place n) (records_of new.log.kept)) (sym fails.boot)
         (subst (λ k. AllByRecursion (IsReached place old.boot) (records_of k)) (sym stands) h.promises);
   }
-  | inr one ↦ trim_reached place old new h order fails.boot one
+  | inr one ↦ trim_reached place old new h order fails.boot one (header_front place new.log _ header)
 ]
 
 -- What a crash leaves.
 
 -- a subordinate can have written what a crash leaves of its log
-pub left_fit : (s : SubState) (keep : ℕ) → HasReached (place_of s) s.manager
+pub left_fit : {f : Front} (s : SubState) (keep : ℕ) → HasReached f (place_of s) s.manager
     → AllByRecursion (IsSound Manager) (records_of s.manager.log.kept) → AreInOrder (records_of s.manager.log.kept)
     → AreFit (place_of s) (left_by s.manager.log keep)
 left_fit s keep h sound order =

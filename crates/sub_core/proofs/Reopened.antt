@@ -26,7 +26,10 @@ use Rattle.sub_table.specs.declared.names.RebuildError.{RebuildError}
 use Rattle.sub_table.specs.declared.names.RebuildError.TheVariants.{Exhausted, Memory, Unfit}
 use Rattle.sub_table.specs.Rebuilt.{NotRebuilt, Rebuilds}
 use Rattle.sub_core.specs.Steps.{NotReopenedOver, PromisesLeft, left_before}
-use Rattle.sub_core.specs.Subordinates.{IsTied, SubState, core_of}
+use Rattle.sub_core.specs.Fronts.{IsHeader}
+use Rattle.sub_core.specs.declared.subordinate.Front.{Front}
+use Rattle.sub_core.specs.Subordinates.{IsTied, SubState, core_of, place_of}
+use Rattle.sub_core.proofs.Reached.{header_front}
 use Rattle.sub_core.proofs.Restarted.{promises_left, reopened_tied, restarted, shown_restart}
 
 -- the records before the last
@@ -97,8 +100,9 @@ module _ (s : SubState) (all : ℕ) (r : Rebuilt) (mid m : ManagerSight)
   rebuilt = subst (λ (ls : List LogRecord). Rebuilds (leaf_place s.me s.parent s.tree) s.parent ls r)
       (left_is s.manager mid all restarts) made
 
-  pub over_tied : IsTied over
-  over_tied = reopened_tied s all r mid m refuses answer rebuilt restarts calls own
+  pub over_tied : (f : Front) → IsHeader f → IsTied f over
+  over_tied f header = reopened_tied s all r mid m refuses answer rebuilt restarts calls own f
+      (header_front (place_of s) m.log f header)
 
   pub over_left : (old : CoreState) → LeftSo old (core_of s).place s.manager.log.failures
       → (keep : ℕ) → left_by old.log keep ≡ left_by s.manager.log all

@@ -29,13 +29,15 @@ use Rattle.xa_tables.specs.declared.states.BranchState.TheVariants.{S5}
 use Rattle.xa_heur.specs.declared.decision.Decision.{Decision}
 use Rattle.xa_heur.specs.Decisions.{decided_in, decision_of}
 use Rattle.log_text.specs.Parts.{name_in}
-use Rattle.rec_log.specs.Sights.{LogSight, RestartBreaks, left_by}
+use Rattle.rec_log.specs.Sights.{LogSight, RestartBreaks, frames_size, left_by, records_of}
+use Rattle.tree_model.specs.declared.names.ProcessId.{ProcessId}
+use Rattle.tree_model.specs.Nodes.{AtLeaf}
 use Rattle.core_model.specs.States.{forced_sight, form_of}
 use Rattle.core_model.specs.Restarting.{NotRestarted, Restarts, restarted_log}
 use Rattle.core_model.proofs.Alike.{same_view}
 use Rattle.manager_model.specs.Data.{is_begun}
 use Rattle.manager_model.specs.Ends.{state_of}
-use Rattle.manager_model.specs.Restarting.{RestartFails, Restarts as ManagerRestarts, boot_record, marked_state, next_boot}
+use Rattle.manager_model.specs.Restarting.{RestartFails, Restarts as ManagerRestarts, boot_record, marked_state, next_boot, with_boot}
 use Rattle.manager_model.specs.Sights.{Calls, ManagerSight, SameManager}
 use Rattle.sub_deeds.specs.Deeds.{IsIdle}
 use Rattle.sub_deeds.proofs.Quiet.{same_idle}
@@ -50,12 +52,15 @@ use Rattle.sub_core.proofs.Told.{left_mark, left_state, told_by_mark}
 use Rattle.sub_branch.specs.declared.branch.Branch.{Branch}
 use Rattle.sub_branch.specs.declared.branch.Stage.{Stage}
 use Rattle.sub_branch.specs.declared.branch.Stage.TheVariants.{Active, Heuristic, Prepared}
+use Rattle.sub_core.specs.declared.subordinate.Front.{Front}
+use Rattle.sub_table.specs.Remembered.{Remembers}
+use Rattle.sub_core.specs.Fronts.{IsFrontOf}
 use Rattle.sub_core.specs.Subordinates.{AgreesWith, IsGiven, IsNamed, IsTied, SubState, core_of, decided_at, place_of, stage_state}
 use Rattle.sub_core.specs.Steps.{PromisesLeft}
 use Rattle.sub_core.proofs.Joins.{is_real}
 use Rattle.sub_core.proofs.Rows.{same_keeps}
 use Rattle.sub_core.proofs.Opened.{bare_quiet}
-use Rattle.sub_core.proofs.Reached.{restart_broke_reached, restarted_reached}
+use Rattle.sub_core.proofs.Reached.{restart_broke_reached, restarted_front, restarted_reached}
 use Rattle.sub_core.proofs.Ties.{behind, still_tied}
 
 -- the reaction of a restart
@@ -192,8 +197,28 @@ module _ (s : SubState) (keep : ℕ) (r : Rebuilt) (mid m : ManagerSight)
       let alike = boots_alike s.me s.parent s.tree (left_by s.manager.log keep) in
       omega (arith)
 
-  pub reopened_tied : IsTied reopened
-  reopened_tied = record {
+  -- its log did not fail
+  pub reopened_works : m.log.failed ≡ false
+  reopened_works = ap (λ (l : LogSight). l.failed) (calls.log ∙ restarts.log)
+
+  -- what is remembered of all its records is remembered of their front
+  pub reopened_front : (f : Front) → f.size ≡ 5 + frames_size (records_of m.log.kept)
+      → Remembers (leaf_place s.me s.parent s.tree) s.parent
+      (left_by s.manager.log keep ++ boot_record (r.boot + 1) ∷ []) f.remembered
+      → IsFrontOf (place_of s) m.log f
+  reopened_front f sized says =
+      restarted_front (place_of s) m.log s.manager.log.form (with_boot (left_by s.manager.log keep))
+      s.manager.log.failures f (calls.log ∙ restarts.log) sized
+      (λ p leaf. subst (λ (q : ProcessId). Remembers (place_of s) q (with_boot (left_by s.manager.log keep)) f.remembered)
+      (parent_is p leaf)
+      (subst (λ n. Remembers (place_of s) s.parent (left_by s.manager.log keep ++ boot_record n ∷ []) f.remembered)
+      (ap (λ n. n + 1) made.boot ∙ sym boots) says))
+    where
+      parent_is : (p : ProcessId) → AtLeaf s.parent ≡ AtLeaf p → s.parent ≡ p
+      parent_is p leaf = cc
+
+  pub reopened_tied : (f : Front) → IsFrontOf (place_of s) m.log f → IsTied f reopened
+  reopened_tied f front = record {
     own = ap (λ (l : LogSight). l.form) (calls.log ∙ restarts.log) ∙ own;
     idle = idle;
     named = λ c b e. named c b (made.live c b e);
@@ -201,7 +226,7 @@ module _ (s : SubState) (keep : ℕ) (r : Rebuilt) (mid m : ManagerSight)
     told = λ c b e. agrees c b (made.live c b e);
     given_before = λ c b e. given_by c b (made.live c b e);
     reached = restarted_reached (place_of s) m s.manager.log.form (left_by s.manager.log keep) s.manager.log.failures
-        r.boot (calls.boot ∙ restarts.boot) (calls.log ∙ restarts.log) reached_before made.reached;
+        r.boot (calls.boot ∙ restarts.boot) (calls.log ∙ restarts.log) reached_before made.reached front;
   }
 
   -- what an operator decided is what the records say that he did
@@ -271,8 +296,8 @@ module _ (s : SubState) (keep : ℕ) (r : Rebuilt) (mid m : ManagerSight)
 
 -- The device failed.
 
-pub broken_tied : (s : SubState) (m : ManagerSight) (keep : ℕ) → IsTied s → RestartFails s.manager m keep
-    → IsTied (behind s s.table m)
+pub broken_tied : {f : Front} (s : SubState) (m : ManagerSight) (keep : ℕ) → IsTied f s → RestartFails s.manager m keep
+    → IsTied f (behind s s.table m)
 broken_tied s m keep tied fails =
     still_tied s m tied (same_idle s.manager m fails.tables tied.idle)
     (λ y. ap (λ (bs : List (Xid × BranchState)). state_in bs y)

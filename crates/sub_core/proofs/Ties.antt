@@ -26,8 +26,10 @@ use Rattle.sub_deeds.specs.Deeds.{Comes, IsIdle}
 use Rattle.sub_deeds.proofs.Quiet.{same_idle}
 use Rattle.sub_branch.specs.declared.branch.Branch.{Branch}
 use Rattle.sub_table.specs.Tables.{BranchTable, branch_in, kept_view, view_in}
+use Rattle.sub_core.specs.Fronts.{IsHeader}
+use Rattle.sub_core.specs.declared.subordinate.Front.{Front}
 use Rattle.sub_core.specs.Subordinates.{AgreesWith, HasReached, IsGiven, IsNamed, IsTied, SubState, decided_at, place_of, stage_state}
-use Rattle.sub_core.proofs.Reached.{same_reached}
+use Rattle.sub_core.proofs.Reached.{header_front, same_reached}
 
 -- a subordinate with another table and another manager
 abbrev pub behind : SubState → BranchTable → ManagerSight → SubState
@@ -66,8 +68,8 @@ KeepsDecided s t m i = (d : Case) → (view_in t d).standing ≡ Heuristic
     → decided_at m (branch_in t d) ≡ decided_by i d (decided_at s.manager (branch_in s.table d))
 
 -- one branch moved, and of the others what operators decided stays
-module _ (s : SubState) (t : BranchTable) (m : ManagerSight) (owner : Case) (b : Branch) (v : Option Branch)
-    (tied : IsTied s) (at : branch_in s.table owner ≡ Some b)
+module _ {f : Front} (s : SubState) (t : BranchTable) (m : ManagerSight) (owner : Case) (b : Branch) (v : Option Branch)
+    (tied : IsTied f s) (at : branch_in s.table owner ≡ Some b)
     (moves : Moves s.table.branches t.branches owner v)
     (others : OthersStayDecided s.manager m b.xid) where
   others_decide : (c : Case) → same_case owner c ≡ false
@@ -115,8 +117,8 @@ given_still s t m c boot g = record {
 }
 
 -- one branch moved, here and at the manager
-module _ (s : SubState) (t : BranchTable) (m : ManagerSight) (owner : Case) (b : Branch) (v : Option Branch)
-    (st : BranchState) (tied : IsTied s)
+module _ {f : Front} (s : SubState) (t : BranchTable) (m : ManagerSight) (owner : Case) (b : Branch) (v : Option Branch)
+    (st : BranchState) (tied : IsTied f s)
     (at : branch_in s.table owner ≡ Some b) (moves : Moves s.table.branches t.branches owner v)
     (fits : Fits v b st (m.decided b.xid)) (comes : Comes s.manager m b.xid st) where
   owner_named : IsNamed s.parent owner b.xid
@@ -180,7 +182,7 @@ module _ (s : SubState) (t : BranchTable) (m : ManagerSight) (owner : Case) (b :
   same_given : (c : Case) → IsGiven s c → IsGiven (behind s t m) c
   same_given c g = given_still s t m c comes.boot g
 
-  pub moved_tied : HasReached (place_of s) m → IsTied (behind s t m)
+  pub moved_tied : HasReached f (place_of s) m → IsTied f (behind s t m)
   moved_tied reached = record {
     own = comes.form ∙ tied.own;
     idle = comes.idle;
@@ -192,10 +194,10 @@ module _ (s : SubState) (t : BranchTable) (m : ManagerSight) (owner : Case) (b :
   }
 
 -- no branch moved
-pub still_tied : (s : SubState) (m : ManagerSight) → IsTied s → IsIdle m
+pub still_tied : {f : Front} (s : SubState) (m : ManagerSight) → IsTied f s → IsIdle m
     → ((y : Xid) → state_at m.tables y ≡ state_at s.manager.tables y)
     → ((y : Xid) → m.decided y ≡ s.manager.decided y) → m.boot ≡ s.manager.boot
-    → m.log.form ≡ s.manager.log.form → HasReached (place_of s) m → IsTied (behind s s.table m)
+    → m.log.form ≡ s.manager.log.form → HasReached f (place_of s) m → IsTied f (behind s s.table m)
 still_tied s m tied idle states decided boot form reached = record {
   own = form ∙ tied.own;
   idle = idle;
@@ -206,10 +208,26 @@ still_tied s m tied idle states decided boot form reached = record {
   reached = reached;
 }
 
-pub same_tied : (s : SubState) (m : ManagerSight) → IsTied s → SameManager s.manager m
-    → IsTied (behind s s.table m)
+pub same_tied : {f : Front} (s : SubState) (m : ManagerSight) → IsTied f s → SameManager s.manager m
+    → IsTied f (behind s s.table m)
 same_tied s m tied stays =
     still_tied s m tied (same_idle s.manager m stays.tables tied.idle)
     (λ y. ap (λ (bs : List (Xid × BranchState)). state_in bs y) stays.tables.branches.branches)
     stays.rest.decided stays.boot (ap (λ (l : LogSight). l.form) stays.log)
     (same_reached (place_of s) s.manager m tied.reached stays.boot stays.log)
+
+-- the header alone is remembered from now on
+pub header_tied : {f : Front} (h : Front) (s : SubState) → IsHeader h → IsTied f s → IsTied h s
+header_tied h s header tied = record {
+  own = tied.own;
+  idle = tied.idle;
+  named = tied.named;
+  stands = tied.stands;
+  told = tied.told;
+  given_before = tied.given_before;
+  reached = record {
+    boot = tied.reached.boot;
+    promises = tied.reached.promises;
+    front = header_front (place_of s) s.manager.log h header;
+  };
+}

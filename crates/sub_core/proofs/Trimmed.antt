@@ -38,6 +38,8 @@ use Rattle.manager_model.specs.declared.errors.TrimError.TheVariants as trim_err
 use Rattle.manager_model.specs.Trimming.{NotTrimmed as NotTrimmedBy, TrimFails, Trims as ManagerTrims, trimmed}
 use Rattle.tree_model.specs.Views.{leaf_place}
 use Rattle.sub_table.specs.Tables.{branch_in}
+use Rattle.sub_core.specs.Fronts.{IsHeader}
+use Rattle.sub_core.specs.declared.subordinate.Front.{Front}
 use Rattle.sub_core.specs.Subordinates.{IsTied, SubState, core_of, place_of}
 use Rattle.sub_deeds.proofs.Quiet.{same_idle}
 use Rattle.sub_core.proofs.Rows.{same_decided}
@@ -239,18 +241,18 @@ module _ (s : SubState) (m : ManagerSight) (sound : AllByRecursion (IsSound Mana
 
 -- The tie.
 
-module _ (s : SubState) (m : ManagerSight) (order : AreInOrder (records_of s.manager.log.kept)) (tied : IsTied s) where
-  pub trimmed_tied : (remain : ℕ) → ManagerTrims s.manager m remain → IsTied (behind s s.table m)
-  trimmed_tied remain h =
+module _ {f : Front} (s : SubState) (m : ManagerSight) (order : AreInOrder (records_of s.manager.log.kept)) (tied : IsTied f s) where
+  pub trimmed_tied : IsHeader f → (remain : ℕ) → ManagerTrims s.manager m remain → IsTied f (behind s s.table m)
+  trimmed_tied header remain h =
       still_tied s m tied (same_idle s.manager m h.tables tied.idle)
       (λ y. ap (λ (bs : List (Xid × BranchState)). state_in bs y) h.tables.branches.branches)
       h.rest.decided h.boot (ap (λ (l : LogSight). l.form) h.log)
-      (trimmed_reached (place_of s) s.manager m tied.reached order h.boot h.log)
+      (trimmed_reached (place_of s) s.manager m tied.reached order h.boot h.log header)
 
-  pub untrimmed_tied : (e : TrimError) → NotTrimmedBy s.manager m e → IsTied (behind s s.table m)
-  untrimmed_tied trim_error.Memory h = same_tied s m tied h
-  untrimmed_tied trim_error.Failed h = same_tied s m tied h.0
-  untrimmed_tied trim_error.Device h =
+  pub untrimmed_tied : IsHeader f → (e : TrimError) → NotTrimmedBy s.manager m e → IsTied f (behind s s.table m)
+  untrimmed_tied header trim_error.Memory h = same_tied s m tied h
+  untrimmed_tied header trim_error.Failed h = same_tied s m tied h.0
+  untrimmed_tied header trim_error.Device h =
       still_tied s m tied (same_idle s.manager m h.tables tied.idle)
       (λ y. ap (λ (bs : List (Xid × BranchState)). state_in bs y) h.tables.branches.branches)
-      h.decided h.boot h.form (trim_broke_reached (place_of s) s.manager m tied.reached order h)
+      h.decided h.boot h.form (trim_broke_reached (place_of s) s.manager m tied.reached order h header)

@@ -37,6 +37,7 @@ use Rattle.manager_model.specs.Turns.{DataTurn, Ends, MovesData, message_data, p
 use Rattle.sub_deeds.specs.Deeds.{Finishes, NotFinished, vote_of}
 use Rattle.sub_branch.specs.declared.branch.Branch.{Branch}
 use Rattle.sub_table.specs.Tables.{BranchTable, Retires, kept_view, nothing, promised, retired_at, ticket_in}
+use Rattle.sub_core.specs.declared.subordinate.Front.{Front}
 use Rattle.sub_core.specs.Subordinates.{HasReached, Hears, IsAt, IsTied, NotHeard, NotTurned, SubState, Turns, active, answer_for, core_of, place_of, turn_for, xid_of}
 use Rattle.sub_core.proofs.Reached.{finishes_reached}
 use Rattle.sub_deeds.specs.Replies.{shown}
@@ -82,7 +83,7 @@ yes_state : (ws : List Write) → Yes ≡ vote_of ws → S3 ≡ (prepare_row ws)
 yes_state [] e = absurd cc
 yes_state (w ∷ ws) e = refl
 
-module _ (s : SubState) (key : ℕ) (c g : Case) (n : ℕ) (x : Xid) (tied : IsTied s)
+module _ {f : Front} (s : SubState) (key : ℕ) (c g : Case) (n : ℕ) (x : Xid) (tied : IsTied f s)
     (at : IsAt s.table key c (active x g n false)) where
   turn_is : turn_for s (Prepare c n) ≡ Handles c (row s c)
   turn_is =
@@ -206,18 +207,18 @@ module _ (s : SubState) (key : ℕ) (c g : Case) (n : ℕ) (x : Xid) (tied : IsT
           (voted t m (promised (active x g n false)) (retires_at s.table t key promised c (active x g n false)
           at r) (ap (λ (q : LeafRow). q.view) (sym row_is)) (λ e. cc) f)
 
-  finished_reached : (m : ManagerSight) → Finishes s.manager m x call.Prepare → HasReached (place_of s) m
+  finished_reached : (m : ManagerSight) → Finishes s.manager m x call.Prepare → HasReached f (place_of s) m
   finished_reached m f = finishes_reached s c (active x g n false) call.Prepare m tied at.live f
 
   pub read_tied : (t : BranchTable) (m : ManagerSight) → Retires s.table t key nothing
-      → Finishes s.manager m x call.Prepare → IsTied (behind s t m)
+      → Finishes s.manager m x call.Prepare → IsTied f (behind s t m)
   read_tied t m r f =
       moved_tied s t m c (active x g n false) None _ tied at.live
       (retires_at s.table t key nothing c (active x g n false) at r).branches tt f.comes (finished_reached m f)
 
   pub yes_tied : (t : BranchTable) (m : ManagerSight) → Retires s.table t key promised
       → Yes ≡ vote_of (s.manager.writes x) → Finishes s.manager m x call.Prepare
-      → IsTied (behind s t m)
+      → IsTied f (behind s t m)
   yes_tied t m r vote f =
       moved_tied s t m c (active x g n false) (promised (active x g n false)) _ tied at.live
       (retires_at s.table t key promised c (active x g n false) at r).branches

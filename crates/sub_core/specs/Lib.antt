@@ -1,2 +1,3 @@
 pub mod Subordinates
 pub mod Steps
+pub mod Fronts

@@ -36,6 +36,8 @@ use Rattle.tree_model.specs.Records.{boot_after}
 use Rattle.std.specs.List.{AllByRecursion}
 use Rattle.rec_log.specs.Sights.{records_of}
 use Rattle.sub_table.specs.Rebuilt.{IsReached}
+use Rattle.sub_core.specs.declared.subordinate.Front.{Front}
+use Rattle.sub_core.specs.Fronts.{IsFrontOf}
 use Rattle.tree_model.specs.Plays.{held_writes}
 use Rattle.tree_model.specs.Reactions.{Does}
 use Rattle.tree_model.specs.Standings.{decided_against, decided_findings, own_finding, unknown_view}
@@ -162,16 +164,17 @@ abbrev pub Reaches : ℕ → List LogRecord → Type 0
 Reaches n [] = n ≤ 0
 Reaches n (l ∷ ls) = (n ≤ boot_after 0 l.entry) ⊎ Reaches n ls
 
--- the forced records of a manager's log have reached its boot, and the cases of the process's own that promise in it
--- do so by tickets of boots that were reached
-pub record HasReached (place : Place) (m : ManagerSight) : Type 0 where
+-- the forced records of a manager's log have reached its boot, the cases of the process's own that promise in it
+-- do so by tickets of boots that were reached, and what is remembered of its front is what that says
+pub record HasReached (f : Front) (place : Place) (m : ManagerSight) : Type 0 where
   pub boot : Reaches m.boot m.log.kept.forced
   pub promises : AllByRecursion (IsReached place m.boot) (records_of m.log.kept)
+  pub front : IsFrontOf place m.log f
 
 -- the manager's log is this process's, it is idle, and each live branch stands there as the subordinate keeps
 -- it, under its case's XID, with what it was told after an operator's decision; and the log has reached the boots of
--- the tickets by which cases of its own promise
-pub record IsTied (s : SubState) : Type 0 where
+-- the tickets by which cases of its own promise, and begins with the front that is remembered
+pub record IsTied (f : Front) (s : SubState) : Type 0 where
   pub own : s.manager.log.form ≡ log_form s.me Manager
   pub idle : IsIdle s.manager
   pub named : (c : Case) (b : Branch) → branch_in s.table c ≡ Some b → IsNamed s.parent c b.xid
@@ -180,7 +183,7 @@ pub record IsTied (s : SubState) : Type 0 where
   pub told : (c : Case) (b : Branch) → branch_in s.table c ≡ Some b
       → AgreesWith b.stage (s.manager.decided b.xid)
   pub given_before : (c : Case) (b : Branch) → branch_in s.table c ≡ Some b → IsGiven s c
-  pub reached : HasReached (place_of s) s.manager
+  pub reached : HasReached f (place_of s) s.manager
 
 -- Turns.
 

@@ -3,13 +3,14 @@
 
 ghost use Rattle.log_text.specs.Forms.{log_form};
 ghost use Rattle.tree_model.specs.declared.names.Kind.TheVariants.{Manager};
-ghost use Rattle.std.specs.Prelude.{◌≡◌, ◌≢◌, ◌∷◌, ◌+◌, ℕ, [], true, IfErr, IfOk, OnOk};
+ghost use Rattle.std.specs.Prelude.{◌≡◌, ◌≢◌, ◌∷◌, ◌++◌, ◌+◌, ℕ, [], true, IfErr, IfOk, OnOk};
 ghost use Rattle.core_model.specs.Restarting.{LeftSo, NotRestarted, NotTrimmed, Restarts, Trims};
 ghost use Rattle.core_model.specs.States.{CoreState};
 ghost use Rattle.manager_model.specs.Restarting.{
   IsRestarted,
   NotRestarted as NotReopened,
   Restarts as RestartsManager,
+  boot_record,
 };
 ghost use Rattle.manager_model.specs.Sights.{ManagerSight};
 ghost use Rattle.tree_model.specs.Nodes.{AtLeaf};
@@ -17,15 +18,18 @@ ghost use Rattle.rec_log.specs.Sights.{left_by};
 ghost use Rattle.sub_deeds.specs.Deeds.{KeepsManager};
 ghost use Rattle.sub_table.specs.Rebuilt.{NotRebuilt, Rebuilds};
 ghost use Rattle.tree_model.specs.Views.{leaf_place};
+ghost use Rattle.sub_table.specs.Remembered.{Remembers};
+ghost use Rattle.sub_core.specs.Fronts.{IsFrontOf};
 ghost use Rattle.sub_core.specs.Subordinates.{seen};
 ghost use Rattle.sub_core.specs.Steps.{LeavesPromises, NotReady, NotReopenedOver, PromisesLeft, Reopens, left_before, state};
 ghost use Rattle.tree_model.specs.declared.records.RecordKind.TheVariants as kind;
 ghost use Rattle.tree_model.specs.declared.records.Subject.TheVariants as subject;
 
-use crate::subordinate::Subordinate;
+use crate::subordinate::{Front, Subordinate};
 use manager_model::{ResourceManager, RestartError, TrimError};
 use std::alloc::{AllocError, Global};
-use sub_table::{RebuildError, Rebuilt, rebuild};
+use std::mem;
+use sub_table::{RebuildError, Rebuilt, Remembered, rebuild};
 use tree_model::{
     LogRecord, Logged, ProcessId, Reaction, RecordKind, Sequence, StepError, Subject, Tree,
 };
@@ -56,18 +60,32 @@ fn reopen<M: ResourceManager>(manager: &mut M, keep: usize) -> Result<(), Restar
 }
 
 impl<M: ResourceManager> Subordinate<M> {
-    /// What the records leave that a crash would leave, which it wrote itself. Exhausted: no boot below 2^63 comes
+    /// What the records leave that a crash would leave, which it wrote itself, and what is to be remembered of them and
+    /// of the record of the boot after them. It reads on from this front. Exhausted: no boot below 2^63 comes
     /// after the last one.
-    fn rebuilt(&self, keep: usize) -> Result<Rebuilt, StepError>
-        ensures ok { IfOk result (Rebuilds (leaf_place self.now.me self.now.parent self.now.tree) self.now.parent
-            (left_by (M.sight self.now.manager).log keep)) }
+    fn rebuilt(&self, front: Front, keep: usize) -> Result<(Rebuilt, Remembered), StepError>
+        requires { IsFrontOf (leaf_place self.now.me self.now.parent self.now.tree) (M.sight self.now.manager).log
+            front }
+        ensures ok { IfOk result (λ r. Rebuilds (leaf_place self.now.me self.now.parent self.now.tree) self.now.parent
+            (left_by (M.sight self.now.manager).log keep) r.0) }
+        ensures remembered { IfOk result (λ r. Remembers (leaf_place self.now.me self.now.parent self.now.tree)
+            self.now.parent
+            (left_by (M.sight self.now.manager).log keep ++ boot_record (r.0.boot + 1) ∷ []) r.1) }
         ensures err { IfErr result (NotReady (leaf_place self.now.me self.now.parent self.now.tree)
             (left_by (M.sight self.now.manager).log keep)) }
     {
         self.manager.records_are_sound();
         self.manager.records_are_in_order();
-        let records = self.manager.left(keep)?;
-        match rebuild(self.me, self.parent, &self.tree, &records, self.alloc) {
+        let Front { size, remembered } = front;
+        let records = self.manager.kept_after(size, keep)?;
+        match rebuild(
+            self.me,
+            self.parent,
+            &self.tree,
+            remembered,
+            &records,
+            self.alloc,
+        ) {
             Ok(rebuilt) => Ok(rebuilt),
             Err(RebuildError::Memory) => Err(StepError::Memory),
             Err(RebuildError::Exhausted) => Err(StepError::Exhausted),
@@ -76,24 +94,34 @@ impl<M: ResourceManager> Subordinate<M> {
     }
 
     /// What the records leave that a crash would leave, and the record of the boot after it, as a reaction
-    /// shows it. The error is that of `rebuilt`.
-    fn ready(&self, keep: usize) -> Result<(Rebuilt, Sequence<Logged>), StepError>
+    /// shows it; and what is to be remembered. The error is that of `rebuilt`.
+    fn ready(
+        &self,
+        front: Front,
+        keep: usize,
+    ) -> Result<(Rebuilt, Sequence<Logged>, Remembered), StepError>
+        requires { IsFrontOf (leaf_place self.now.me self.now.parent self.now.tree) (M.sight self.now.manager).log
+            front }
         ensures ok { IfOk result (λ ready. Rebuilds
             (leaf_place self.now.me self.now.parent self.now.tree) self.now.parent
             (left_by (M.sight self.now.manager).log keep) ready.0) }
         ensures written { IfOk result (λ ready.
             ready.1 ≡ record { kind = kind.Opened; subject = subject.Boot (ready.0.boot + 1); forced = true } ∷ []) }
+        ensures remembered { IfOk result (λ ready.
+            Remembers (leaf_place self.now.me self.now.parent self.now.tree) self.now.parent
+            (left_by (M.sight self.now.manager).log keep ++ boot_record (ready.0.boot + 1) ∷ []) ready.2) }
         ensures err { IfErr result (NotReady (leaf_place self.now.me self.now.parent self.now.tree)
             (left_by (M.sight self.now.manager).log keep)) }
     {
-        let rebuilt = self.rebuilt(keep)?;
+        let (rebuilt, remembered) = self.rebuilt(front, keep)?;
         let written = opened(rebuilt.boot + 1, self.alloc)?;
-        Ok((rebuilt, written))
+        Ok((rebuilt, written, remembered))
     }
 
     /// Restarts after a crash that keeps N of the log's unforced bytes: each case in doubt asks for
     /// its outcome, and so does one that an operator decided and that was not told. All memory is taken
-    /// before the crash. Its own records are never refused. Memory: nothing changed. Exhausted: no boot below 2^63
+    /// before the crash. The records are gone through that came after its last restart, or all of them after a trim. Its own
+    /// records are never refused. Memory: nothing changed. Exhausted: no boot below 2^63
     /// comes after the last one; nothing changed. Device: it has failed until it is restarted.
     pub fn restart(&mut self, keep: usize) -> Result<Reaction, StepError>
         ensures ok { IfOk result (Restarts (state M.sight self.old) keep (state M.sight self.new)) }
@@ -102,7 +130,8 @@ impl<M: ResourceManager> Subordinate<M> {
         ensures kept { IfErr result (λ e. e ≢ StepError.Device
             → KeepsManager (M.sight self.old.manager) (M.sight self.new.manager)) }
     {
-        let (rebuilt, written) = self.ready(keep)?;
+        let front = mem::replace(&mut self.front, Front::header(self.alloc));
+        let (rebuilt, written, remembered) = self.ready(front, keep)?;
         match reopen(&mut self.manager, keep) {
             Ok(()) => {
                 let Rebuilt {
@@ -112,6 +141,10 @@ impl<M: ResourceManager> Subordinate<M> {
                 } = rebuilt;
                 self.branches = branches;
                 self.given = 0;
+                self.front = Front {
+                    size: self.manager.log_size(),
+                    remembered,
+                };
                 Ok(Reaction {
                     begun: None,
                     written,
@@ -138,6 +171,7 @@ impl<M: ResourceManager> Subordinate<M> {
     {
         self.manager.records_are_sound();
         self.manager.records_are_in_order();
+        self.front = Front::header(self.alloc);
         match self.manager.trim() {
             Ok(count) => Ok(count as u64),
             Err(TrimError::Memory) => Err(StepError::Memory),
@@ -168,7 +202,20 @@ fn rebuilt_before<M: ResourceManager>(
     ensures err { IfErr result (NotRebuilt (leaf_place me parent tree.now) (left_before (M.sight manager.now))) }
 {
     let records = left_before(manager)?;
-    rebuild(me, parent, tree, &records, alloc)
+    match rebuild(
+        me,
+        parent,
+        tree,
+        Remembered::nothing(alloc),
+        &records,
+        alloc,
+    ) {
+        Ok((rebuilt, remembered)) => {
+            drop(remembered);
+            Ok(rebuilt)
+        }
+        Err(error) => Err(error),
+    }
 }
 
 /// The same, and the record of the boot after them, as a reaction shows it.
@@ -241,6 +288,7 @@ impl<M: ResourceManager + Drop> Subordinate<M> {
                     given: 0,
                     branches,
                     manager,
+                    front: Front::header(alloc),
                 };
                 Ok((subordinate, reaction))
             }

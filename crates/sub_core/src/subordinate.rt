@@ -12,20 +12,41 @@ ghost use Rattle.manager_model.specs.Opening.{IsNew};
 ghost use Rattle.manager_model.specs.Sights.{manager_data};
 ghost use Rattle.manager_model.specs.Turns.{AnswersInput, case_xid};
 ghost use Rattle.sub_table.specs.Tables.{IsKept};
+ghost use Rattle.sub_core.specs.Fronts.{IsHeader};
 ghost use Rattle.sub_core.specs.Subordinates.{FindsBranch, seen};
 ghost use Rattle.sub_core.specs.Steps.{data_answer, state};
 ghost use Rattle.tree_model.specs.declared.events.Input.{Input};
 
+use log_text::HEADER_SIZE;
 use manager_model::ResourceManager;
 use std::alloc::Global;
 use std::marker::Model;
 use sub_branch::{Branch, Stage};
-use sub_table::Branches;
+use sub_table::{Branches, Remembered};
 use tree_model::{Case, ProcessId, Standing, Tree};
 use xa_codes::Flags;
 
 /// The largest number of a ticket.
 const LAST_NUMBER: u64 = (1 << 63) - 1;
+
+/// The front of a log as a restart remembers it: how many bytes it has, and what its records say.
+#[derive(Drop)]
+pub(crate) struct Front {
+    pub(crate) size: usize,
+    pub(crate) remembered: Remembered,
+}
+
+impl Front {
+    /// The header alone. It takes no memory.
+    pub(crate) fn header(alloc: Global) -> Front
+        ensures { IsHeader result }
+    {
+        Front {
+            size: HEADER_SIZE,
+            remembered: Remembered::nothing(alloc),
+        }
+    }
+}
 
 /// A process below a parent, with a resource manager.
 #[derive(Drop)]
@@ -37,6 +58,8 @@ pub struct Subordinate<M: ResourceManager> {
     pub(crate) given: u64,
     pub(crate) branches: Branches,
     pub(crate) manager: M,
+    /// What its last restart remembers of the log: the header alone after a trim, and after a restart that was refused.
+    pub(crate) front: Front,
 }
 
 impl<M: ResourceManager> Model for Subordinate<M> {
@@ -53,7 +76,7 @@ impl<M: ResourceManager> Model for Subordinate<M> {
       manager = s.manager;
     } };
 
-    ghost invariant = { λ s. IsTied (record {
+    ghost invariant = { λ s. IsTied s.front (record {
       me = s.me;
       parent = s.parent;
       tree = s.tree;
@@ -88,6 +111,7 @@ impl<M: ResourceManager> Subordinate<M> {
             given: 0,
             branches: Branches::new(alloc),
             manager,
+            front: Front::header(alloc),
         }
     }
 

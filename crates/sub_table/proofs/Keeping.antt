@@ -372,9 +372,8 @@ opens ts us bs cs d t x k kept fresh ungiven given opened =
     fresh opened.updates kept.apart)
 
 -- a case that promised is live again
-module _ (ts : Tickets) (bs cs : Slots) (c0 : Case) (x : Xid) (key : ℕ) (kept : IsKept (table ts bs))
-    (fresh : live_value bs c0 ≡ None)
-    (inserts : Inserts bs cs c0 (record { xid = x; stage = Prepared }) key) where
+module _ (ts : Tickets) (bs cs : Slots) (c0 : Case) (b0 : Branch) (key : ℕ) (kept : IsKept (table ts bs))
+    (fresh : live_value bs c0 ≡ None) (promised : has_promised b0.stage ≡ true) (inserts : Inserts bs cs c0 b0 key) where
   given_restored : (d : Case) (k : Ticket) (b : Bool)
       → same_case c0 (child_case d.txn k) ≡ b → live_value ts d ≡ Some k
       → (v : Branch) × (live_value cs (child_case d.txn k) ≡ Some v) × IsGivenFor d v.stage
@@ -384,18 +383,22 @@ module _ (ts : Tickets) (bs cs : Slots) (c0 : Case) (x : Xid) (key : ℕ) (kept 
   given_restored d k false differs e =
       let g = kept.given d k e in (g.0, inserts.moves.others (child_case d.txn k) differs ∙ g.1, g.2)
 
+  -- a branch that promised needs no ticket
+  needs_none : (c : Case) (s : Stage) → has_promised s ≡ true → HasTicket ts c s
+  needs_none c (Active e m q) is = absurd (cc)
+  needs_none c Prepared is = tt
+  needs_none c (Heuristic told) is = tt
+
   active_restored : (c : Case) (v : Branch) (b : Bool) → same_case c0 c ≡ b
       → live_value cs c ≡ Some v → HasTicket ts c v.stage
   active_restored c v true is e =
-      let entry : record { xid = x; stage = Prepared } ≡ v =
-      some_same _ v (sym inserts.moves.own ∙ ap (live_value cs) (one c0 c is) ∙ e) in
-      subst (λ (w : Branch). HasTicket ts c w.stage) entry tt
+      let entry : b0 ≡ v = some_same _ v (sym inserts.moves.own ∙ ap (live_value cs) (one c0 c is) ∙ e) in
+      subst (λ (w : Branch). HasTicket ts c w.stage) entry (needs_none c b0.stage promised)
   active_restored c v false differs e = kept.active c v (sym (inserts.moves.others c differs) ∙ e)
 
   pub restored_kept : IsKept (table ts cs)
   restored_kept = record {
-    apart = apart_inserted bs cs key c0 (record { xid = x; stage = Prepared })
-        fresh inserts.updates kept.apart;
+    apart = apart_inserted bs cs key c0 b0 fresh inserts.updates kept.apart;
     given = λ d k e. given_restored d k (same_case c0 (child_case d.txn k)) refl e;
     active = λ c v e. active_restored c v (same_case c0 c) refl e;
   }

@@ -8,3 +8,4 @@ pub mod Rebuilding
 pub mod Marks
 pub mod Booting
 pub mod Fitting
+pub mod Remembering

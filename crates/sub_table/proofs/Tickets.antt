@@ -225,17 +225,17 @@ module _ (bs : Slots) (kept : IsKept (table (tickets_of bs) bs)) where
       removes (tickets_of bs) (tickets_of cs) bs cs key b kept gone
       (ticket_drops cs key gone.owner b None gone.was gone.updates refl)
 
-  module _ (cs : Slots) (c : Case) (x : Xid) (key : ℕ) (fresh : live_value bs c ≡ None)
-      (inserts : Inserts bs cs c (record { xid = x; stage = Prepared }) key) where
+  module _ (cs : Slots) (c : Case) (b : Branch) (key : ℕ) (fresh : live_value bs c ≡ None)
+      (is : has_promised b.stage ≡ true) (inserts : Inserts bs cs c b key) where
     restored_same : tickets_of cs ≡ tickets_of bs
-    restored_same = tickets_same bs cs key (Some (c, record { xid = x; stage = Prepared })) inserts.updates
-        (sym (ap given_ticket inserts.vacant))
+    restored_same = tickets_same bs cs key (Some (c, b)) inserts.updates
+        (sym (promised_none b.stage c.ticket is) ∙ sym (ap given_ticket inserts.vacant))
 
     pub restored : IsKept (table (tickets_of cs) cs)
-        × Restores (table (tickets_of bs) bs) (table (tickets_of cs) cs) c x
+        × Restores (table (tickets_of bs) bs) (table (tickets_of cs) cs) c b
     restored = (
       subst (λ ts. IsKept (table ts cs)) (sym restored_same)
-          (restored_kept (tickets_of bs) bs cs c x key kept fresh inserts),
+          (restored_kept (tickets_of bs) bs cs c b key kept fresh is inserts),
       record { branches = inserts.moves; tickets = restored_same },
     )
 

@@ -6,6 +6,7 @@ use Rattle.tree_model.specs.declared.names.Case.{Case}
 use Rattle.tree_model.specs.declared.names.Ticket.{Ticket}
 use Rattle.tree_model.specs.declared.standings.Standing.TheVariants.{Active as ActiveStanding, Heuristic as HeuristicStanding, Prepared as PreparedStanding}
 use Rattle.tree_model.specs.Names.{child_case, same_case}
+use Rattle.tree_model.specs.Records.{has_case}
 use Rattle.tree_model.specs.Standings.{ManagerView, standing_branch, unknown_branch}
 use Rattle.live_table.specs.Tables.{AreApart, Moves, entry_at, live_value}
 use Rattle.sub_branch.specs.declared.branch.Branch.{Branch}
@@ -113,9 +114,9 @@ pub record Opens (old new : BranchTable) (d : Case) (t : Ticket) (x : Xid) : Typ
   pub branches : Moves old.branches new.branches (child_case d.txn t) (Some (opened x d))
   pub tickets : Moves old.tickets new.tickets d (Some t)
 
--- a case that is not live is live now, and promised; no ticket moves
-pub record Restores (old new : BranchTable) (c : Case) (x : Xid) : Type 0 where
-  pub branches : Moves old.branches new.branches c (Some (record { xid = x; stage = Prepared }))
+-- a case that is not live is live now, with what is kept of it; no ticket moves
+pub record Restores (old new : BranchTable) (c : Case) (b : Branch) : Type 0 where
+  pub branches : Moves old.branches new.branches c (Some b)
   pub tickets : new.tickets ≡ old.tickets
 
 -- the case of a key has this in place of what it had, and no ticket moves
@@ -141,3 +142,11 @@ promised b = Some (record { xid = b.xid; stage = Prepared })
 -- nothing is kept of a branch
 abbrev pub nothing : Branch → Option Branch
 nothing b = None
+
+-- each live branch promised
+abbrev pub HavePromised : BranchTable → Type 0
+HavePromised t = (c : Case) (b : Branch) → branch_in t c ≡ Some b → has_promised b.stage ≡ true
+
+-- each live case is one of these
+abbrev pub AreLiveOf : BranchTable → List Case → Type 0
+AreLiveOf t cs = (c : Case) (b : Branch) → branch_in t c ≡ Some b → has_case cs c ≡ true

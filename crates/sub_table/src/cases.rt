@@ -9,7 +9,7 @@ use crate::table::Branches;
 use indexmap::IndexSet;
 use log_text::name_xid;
 use std::alloc::{AllocError, Global};
-use sub_branch::Stage;
+use sub_branch::{Branch as Kept, Stage};
 use tree_model::{Branch, Case, LogRecord, Outcome, ProcessId, Tree};
 
 /// The live branches, the process's own cases in order of their first records, the last boot, and the newest
@@ -69,8 +69,11 @@ impl Cases {
         if self.branches.find(&case).is_some() {
             return Err(RebuildError::Unfit);
         }
-        let xid = name_xid(Some(parent), Branch::Case(case));
-        self.branches.restore(case, xid)?;
+        let promised = Kept {
+            xid: name_xid(Some(parent), Branch::Case(case)),
+            stage: Stage::Prepared,
+        };
+        self.branches.restore(case, promised)?;
         if self.newest < ticket.boot {
             self.newest = ticket.boot;
         }

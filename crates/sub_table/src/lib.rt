@@ -9,5 +9,5 @@ mod rebuilt;
 mod table;
 
 pub use names::RebuildError;
-pub use rebuilt::{Rebuilt, rebuild};
+pub use rebuilt::{Rebuilt, Remembered, rebuild};
 pub use table::Branches;

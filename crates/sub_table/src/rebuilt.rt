@@ -1,15 +1,22 @@
 //! The records of a log, read in one pass.
 
-ghost use Rattle.std.specs.Prelude.{◌≡◌, IfErr, IfOk};
+ghost use Rattle.std.specs.Prelude.{◌≡◌, ◌+◌, ◌++◌, ◌∷◌, [], IfErr, IfOk, List};
 ghost use Rattle.std.specs.List.{flat_map};
-ghost use Rattle.sub_table.specs.Tables.{branch_in};
+ghost use Rattle.manager_model.specs.Restarting.{boot_record};
+ghost use Rattle.sub_table.specs.Tables.{AreLiveOf, HavePromised, branch_in};
 ghost use Rattle.sub_table.specs.Rebuilt.{AreFit, IsRefusal, Leaves, NotRebuilt, Rebuilds, asks, is_asked};
+ghost use Rattle.sub_table.specs.Remembered.{IsOfSome, Remembers};
+ghost use Rattle.tree_model.specs.Nodes.{Place};
+ghost use Rattle.tree_model.specs.declared.names.Case.{Case as AnyCase};
+ghost use Rattle.tree_model.specs.declared.names.ProcessId.{ProcessId as AnyProcess};
+ghost use Rattle.tree_model.specs.declared.records.LogRecord.{LogRecord as AnyRecord};
 ghost use Rattle.tree_model.specs.Views.{leaf_place};
 
 use crate::cases::Cases;
 use crate::names::RebuildError;
 use crate::table::Branches;
 use std::alloc::{AllocError, Global};
+use sub_branch::Branch;
 use tree_model::{Case, Envelope, Envelopes, LogRecord, Message, ProcessId, Sequence, Tree};
 
 /// The last boot that another can follow.
@@ -25,22 +32,71 @@ pub struct Rebuilt {
     pub boot: u64,
 }
 
-/// The cases of these records. Unfit: no subordinate can have written them.
+/// What the records of a log say to a subordinate, to be read on from.
+#[derive(Drop)]
+pub struct Remembered {
+    pub(crate) cases: Cases,
+}
+
+impl Remembered {
+    /// What no records say. It takes no memory.
+    pub fn nothing(alloc: Global) -> Remembered
+        ensures { (place : Place) (p : AnyProcess) → Remembers place p [] result }
+    {
+        Remembered {
+            cases: Cases::new(alloc),
+        }
+    }
+}
+
+/// The cases of these records and of those before them, of which these are the cases. Unfit: no subordinate can have
+/// written them all.
 fn read(
     me: ProcessId,
     parent: ProcessId,
     tree: &Tree,
+    cases: Cases,
     records: &[LogRecord],
-    alloc: Global,
 ) -> Result<Cases, RebuildError>
-    ensures ok { IfOk result (Leaves (leaf_place me parent tree.now) parent records.now) }
-    ensures err { IfErr result (IsRefusal (AreFit (leaf_place me parent tree.now) records.now)) }
+    ensures ok { IfOk result (λ s. (ls : List AnyRecord) → Leaves (leaf_place me parent tree.now) parent ls cases
+        → Leaves (leaf_place me parent tree.now) parent (ls ++ records.now) s) }
+    ensures listed { IfOk result (λ s. AreLiveOf cases.branches cases.order.keys
+        → AreLiveOf s.branches s.order.keys) }
+    ensures err { IfErr result (λ e. (ls : List AnyRecord)
+        → Leaves (leaf_place me parent tree.now) parent ls cases
+        → IsRefusal (AreFit (leaf_place me parent tree.now) (ls ++ records.now)) e) }
 {
-    let mut cases = Cases::new(alloc);
+    let mut cases = cases;
     for next in records {
         cases.take(me, parent, tree, next)?;
     }
     Ok(cases)
+}
+
+/// What is kept of a case, if it is live.
+fn kept_of(branches: &Branches, case: &Case) -> Option<Branch>
+    ensures { result ≡ branch_in branches.now case.now }
+{
+    let key = branches.find(case)?;
+    branches.get(key).copied()
+}
+
+/// The live branches, which are of these cases and promised, as a table made again.
+fn copied(branches: &Branches, cases: &[Case], alloc: Global) -> Result<Branches, AllocError>
+    requires promised { HavePromised branches.now }
+    requires listed { AreLiveOf branches.now cases.now }
+    ensures branches { IfOk result (λ copy. (c : AnyCase) → branch_in copy c ≡ branch_in branches.now c) }
+    ensures tickets { IfOk result (λ copy. copy.tickets ≡ []) }
+{
+    let mut copy = Branches::new(alloc);
+    for case in cases {
+        if kept_of(&copy, case).is_none() {
+            if let Some(branch) = kept_of(branches, case) {
+                copy.restore(*case, branch)?;
+            }
+        }
+    }
+    Ok(copy)
 }
 
 /// Whether a live case asks for its outcome: it is in doubt, or an operator decided it and it was not told.
@@ -79,34 +135,48 @@ fn inquiries(
     Ok(messages)
 }
 
-/// What these records leave. Unfit: no subordinate can have written them, as with a ticket of a boot that they have
-/// not reached. Exhausted: no boot below 2^63 comes after the last one.
+/// What these records leave and those before them, of which this is remembered; and what is to be remembered of all of
+/// them, and of the record of the boot that comes after them. Unfit: no subordinate can have written them, as with a ticket
+/// of a boot that they have not reached. Exhausted: no boot below 2^63 comes after the last one. With an error what
+/// was remembered is gone.
 pub fn rebuild(
     me: ProcessId,
     parent: ProcessId,
     tree: &Tree,
+    remembered: Remembered,
     records: &[LogRecord],
     alloc: Global,
-) -> Result<Rebuilt, RebuildError>
-    ensures ok { IfOk result (Rebuilds (leaf_place me parent tree.now) parent records.now) }
-    ensures err { IfErr result (NotRebuilt (leaf_place me parent tree.now) records.now) }
+) -> Result<(Rebuilt, Remembered), RebuildError>
+    requires { IsOfSome (leaf_place me parent tree.now) parent remembered }
+    ensures ok { IfOk result (λ r. (ls : List AnyRecord)
+        → Remembers (leaf_place me parent tree.now) parent ls remembered
+        → Rebuilds (leaf_place me parent tree.now) parent (ls ++ records.now) r.0) }
+    ensures remembered { IfOk result (λ r. (ls : List AnyRecord)
+        → Remembers (leaf_place me parent tree.now) parent ls remembered
+        → Remembers (leaf_place me parent tree.now) parent
+        ((ls ++ records.now) ++ boot_record (r.0.boot + 1) ∷ []) r.1) }
+    ensures err { IfErr result (λ e. (ls : List AnyRecord)
+        → Remembers (leaf_place me parent tree.now) parent ls remembered
+        → NotRebuilt (leaf_place me parent tree.now) (ls ++ records.now) e) }
 {
-    let Cases {
-        branches,
-        order,
-        boot,
-        newest,
-    } = read(me, parent, tree, records, alloc)?;
+    let Remembered { cases } = remembered;
+    let mut cases = read(me, parent, tree, cases, records)?;
+    let boot = cases.boot;
     if boot > LAST_BOOT {
         return Err(RebuildError::Exhausted);
     }
-    if newest > boot {
+    if cases.newest > boot {
         return Err(RebuildError::Unfit);
     }
-    let messages = inquiries(me, parent, &branches, order.as_slice(), alloc)?;
-    Ok(Rebuilt {
-        branches,
-        messages,
-        boot,
-    })
+    let messages = inquiries(me, parent, &cases.branches, cases.order.as_slice(), alloc)?;
+    let branches = copied(&cases.branches, cases.order.as_slice(), alloc)?;
+    cases.boot = boot + 1;
+    Ok((
+        Rebuilt {
+            branches,
+            messages,
+            boot,
+        },
+        Remembered { cases },
+    ))
 }

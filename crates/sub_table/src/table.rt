@@ -132,16 +132,14 @@ impl Branches {
         self.branches.insert(case, branch)
     }
 
-    /// A case that is not live is live again, as it promised before a restart. Memory: nothing changed.
-    pub fn restore(&mut self, case: Case, xid: Xid) -> Result<(), AllocError>
-        requires { branch_in self.old case ≡ None }
-        ensures ok { OnOk result (Restores self.old self.new case xid) }
+    /// A case that is not live is live again, with what is kept of it: it promised before a restart. Memory: nothing
+    /// changed.
+    pub fn restore(&mut self, case: Case, branch: Branch) -> Result<(), AllocError>
+        requires fresh { branch_in self.old case ≡ None }
+        requires promised { has_promised branch.stage ≡ true }
+        ensures ok { OnOk result (Restores self.old self.new case branch) }
         ensures err { OnErr result (self.new ≡ self.old) }
     {
-        let branch = Branch {
-            xid,
-            stage: Stage::Prepared,
-        };
         let _ = self.branches.insert(case, branch)?;
         Ok(())
     }

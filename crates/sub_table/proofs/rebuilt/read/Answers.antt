@@ -1,26 +1,22 @@
-use Rattle.std.proofs.Common.{◌≡◌, ◌∙◌, ◌+◌, ◌∷◌, [], ◌++◌, append_assoc, take, drop, ap, sym, subst}
+use Rattle.std.proofs.Common.{◌≡◌, ◌∙◌, ◌+◌, ◌∷◌, [], ◌++◌, List, append_assoc, take, drop, ap, sym, subst}
 use Rattle.std.proofs.lemmas.List.{take-append-drop, take_more}
+use Rattle.tree_model.specs.declared.records.LogRecord.{LogRecord}
+use Rattle.tree_model.specs.Views.{leaf_place}
 use Rattle.sub_table.specs.Rebuilt.{AreFit, CanCome, IsRefusal, Leaves}
 use Rattle.sub_table.proofs.Fitting.{can_come, passed_on, refuses_more}
-use Rattle.tree_model.specs.Views.{leaf_place}
-use Rattle.sub_table.proofs.Steps.{nothing_left, taken}
+use Rattle.sub_table.proofs.Remembering.{reading_begins, reading_goes_on}
 use Rattle.sub_table.proofs.rebuilt.read.Goals as goal
 
 pub loop-next-init : goal.loop-next-init
-loop-next-init c =
-    nothing_left (leaf_place c.args.me c.args.parent c.args.tree.now) c.args.parent c.new-cases.result
-    c.new-cases.ensures.order c.new-cases.ensures.tickets c.new-cases.ensures.branches
-    c.new-cases.ensures.numbers.0 c.new-cases.ensures.numbers.1
+loop-next-init c = reading_begins (leaf_place c.args.me c.args.parent c.args.tree.now) c.args.parent c.args.cases
 
 pub loop-next-preserved : goal.loop-next-preserved
 loop-next-preserved c =
-    let place = leaf_place c.args.me c.args.parent c.args.tree.now in
+    let done = take c.loop-next.next-index c.args.records.now in
     let more = take_more c.args.records.now c.loop-next.next-index c.next-item.result c.loop-next-test.true in
-    subst (λ ls. Leaves place c.args.parent ls c.take.new.self)
-    (ap (λ l. take c.loop-next.next-index c.args.records.now ++ l ∷ []) c.next-item.is ∙ sym more)
-    (taken c.args.me c.args.parent c.args.tree.now (take c.loop-next.next-index c.args.records.now)
-    c.loop-next.cases c.loop-next.invariant c.take.new.self c.next-item.result
-    c.in_ok-take.ensures.ok)
+    reading_goes_on c.args.me c.args.parent c.args.tree.now c.args.cases c.loop-next.cases c.take.new.self done
+    (take (c.loop-next.next-index + 1) c.args.records.now) c.next-item.result c.loop-next.invariant
+    c.in_ok-take.ensures.ok (ap (λ l. done ++ l ∷ []) c.next-item.is ∙ sym more)
 
 pub returns-in_err-take-clause-err : goal.returns-in_err-take-clause-err
 returns-in_err-take-clause-err c =
@@ -32,8 +28,12 @@ returns-in_err-take-clause-err c =
     sym (append_assoc (take i rs) (c.next-item.result ∷ []) (drop (i + 1) rs))
     ∙ ap (λ ls. ls ++ drop (i + 1) rs) (ap (λ l. take i rs ++ l ∷ []) c.next-item.is ∙ sym more)
     ∙ take-append-drop (i + 1) rs in
-    passed_on c.from_residual.result c.in_err-take.field-0.0 (IsRefusal (AreFit place rs)) c.from_residual.ensures.1
-    (refuses_more (AreFit place rs) (CanCome place c.loop-next.cases c.next-item.result)
-    (λ fit. can_come c.args.me c.args.parent c.args.tree.now (take i rs) (drop (i + 1) rs) c.loop-next.cases
-    c.loop-next.invariant c.next-item.result (subst (AreFit place) (sym split) fit))
+    passed_on c.from_residual.result c.in_err-take.field-0.0
+    (λ e. (ls : List LogRecord) → Leaves place c.args.parent ls c.args.cases → IsRefusal (AreFit place (ls ++ rs)) e)
+    c.from_residual.ensures.1
+    (λ ls left. refuses_more (AreFit place (ls ++ rs)) (CanCome place c.loop-next.cases c.next-item.result)
+    (λ fit. can_come c.args.me c.args.parent c.args.tree.now (ls ++ take i rs) (drop (i + 1) rs) c.loop-next.cases
+    (c.loop-next.invariant.leaves ls left) c.next-item.result
+    (subst (AreFit place) (sym (append_assoc ls (take i rs) (c.next-item.result ∷ drop (i + 1) rs)
+    ∙ ap (λ ks. ls ++ ks) split)) fit))
     c.in_err-take.field-0.0 c.in_err-take.ensures.err)

@@ -1,7 +1,8 @@
 use Rattle.std.proofs.Common.{take}
-use Rattle.sub_table.specs.Rebuilt.{Leaves}
 use Rattle.tree_model.specs.Views.{leaf_place}
+use Rattle.sub_table.proofs.Remembering.{ReadsTo}
 use Rattle.sub_table.proofs.rebuilt.read.Given as goal
 
 abbrev pub invariant-loop-next : goal.invariant-loop-next
-invariant-loop-next l = Leaves (leaf_place l.me l.parent l.tree) l.parent (take l.next-index l.records) l.cases
+invariant-loop-next l = ReadsTo (leaf_place l.fn.me l.fn.parent l.fn.tree) l.fn.parent l.fn.cases
+    (take l.next-index l.fn.records) l.cases

@@ -2,16 +2,22 @@ use Rattle.std.proofs.Common.{sym, subst}
 use Rattle.std.specs.List.{AllByRecursion}
 use Rattle.tree_model.specs.declared.names.Kind.TheVariants.{Manager}
 use Rattle.log_rules.specs.sound.Sound.{IsSound}
-use Rattle.rec_log.specs.Sights.{left_by, records_of}
+use Rattle.rec_log.specs.Sights.{LogState, left_by, records_of}
 use Rattle.kv_manager.specs.declared.restart.RecordsError.TheVariants.{Exhausted, Unfit}
 use Rattle.kv_manager.specs.Restarts.{AreLastBoots, NotRebuilt}
-use Rattle.kv_manager.specs.Sights.{KvSight}
+use Rattle.kv_manager.specs.Sights.{IsKept, KvSight}
 use Rattle.kv_manager.proofs.Boots.{left_fits, left_spent}
 use Rattle.kv_manager.proofs.manager.KvManager.ready.Goals as goal
 
+pub invariant_of-self : goal.invariant_of-self
+invariant_of-self g c =
+    subst (λ (l : LogState). IsKept (record { store = c.self.inside.store; log = l; boot = c.self.inside.boot }))
+    (sym c.made_ready.ensures.stays) c.self.invariant
+
 pub unreachable-requires : goal.unreachable-requires
 unreachable-requires g c =
-    subst (NotRebuilt c.in_ok-records.records.items) c.in-Err-Device.field-0-is c.in-Err-Device.ensures.err
+    subst (NotRebuilt (left_by c.self.inside.log.sight c.args.keep)) c.in-Err-Device.field-0-is
+    c.in-Err-Device.ensures.err
 
 pub unreachable-requires-in-Err-Unfit : goal.unreachable-requires-in-Err-Unfit
 unreachable-requires-in-Err-Unfit g c =
@@ -20,14 +26,12 @@ unreachable-requires-in-Err-Unfit g c =
       log = c.self.inside.log;
       boot = c.self.inside.boot;
     } in
-    let why : NotRebuilt c.in_ok-records.records.items Unfit =
-    subst (NotRebuilt c.in_ok-records.records.items) c.in-Err-Unfit.field-0-is c.in-Err-Unfit.ensures.err in
-    let left : NotRebuilt (left_by s.log.sight c.args.keep) Unfit =
-    subst (λ ls. NotRebuilt ls Unfit) c.in_ok-records.ensures why in
+    let why : NotRebuilt (left_by s.log.sight c.args.keep) Unfit =
+    subst (NotRebuilt (left_by s.log.sight c.args.keep)) c.in-Err-Unfit.field-0-is c.in-Err-Unfit.ensures.err in
     let sound : AllByRecursion (IsSound Manager) (records_of s.log.sight.kept) =
     subst (λ (v : KvSight). AllByRecursion (IsSound Manager) (records_of v.log.sight.kept))
     (sym c.self.view_is) c.records_are_sound.ensures in
-    left_fits s c.args.keep c.self.invariant sound left
+    left_fits s c.args.keep c.self.invariant sound why
 
 pub returns-in-Err-Exhausted-clause-err : goal.returns-in-Err-Exhausted-clause-err
 returns-in-Err-Exhausted-clause-err g c =
@@ -36,10 +40,8 @@ returns-in-Err-Exhausted-clause-err g c =
       log = c.self.inside.log;
       boot = c.self.inside.boot;
     } in
-    let why : NotRebuilt c.in_ok-records.records.items Exhausted =
-    subst (NotRebuilt c.in_ok-records.records.items) c.in-Err-Exhausted.field-0-is
+    let why : NotRebuilt (left_by s.log.sight c.args.keep) Exhausted =
+    subst (NotRebuilt (left_by s.log.sight c.args.keep)) c.in-Err-Exhausted.field-0-is
     c.in-Err-Exhausted.ensures.err in
-    let left : NotRebuilt (left_by s.log.sight c.args.keep) Exhausted =
-    subst (λ ls. NotRebuilt ls Exhausted) c.in_ok-records.ensures why in
     subst (λ (v : KvSight). AreLastBoots (left_by v.log.sight c.args.keep)) c.self.view_is
-    (left_spent s c.args.keep c.self.invariant left)
+    (left_spent s c.args.keep c.self.invariant why)

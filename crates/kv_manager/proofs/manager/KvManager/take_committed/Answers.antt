@@ -55,7 +55,7 @@ invariant_of-self-in-Ok g c =
     let staged : StagesWrites s.store c.stage.new.self c.args.xid.now = search rules in
     let published : PublishesWrites c.stage.new.self c.publish.new.self = search rules in
     let takes : TakesTurn c.publish.new.self c.finish.new.self c.args.xid.now c.args.turn = search rules in
-    let made : Writes s.log c.write.new.log (entry_record c.args.entry c.args.xid.now
+    let made : Writes s.log c.write.new.self (entry_record c.args.entry c.args.xid.now
     (writes_of s.store.writes c.args.xid.now)) c.args.turn.is_forced = search rules in
     let fits : s.store.versions.count + 1 < 2 ^ 63 =
     subst (λ (k : KeySight). k.versions.count + 1 < 2 ^ 63) (sym room.store) c.requires.fits in
@@ -81,7 +81,7 @@ returns-in-Ok-clause-answer g c =
     let staged : StagesWrites s.store c.stage.new.self c.args.xid.now = search rules in
     let published : PublishesWrites c.stage.new.self c.publish.new.self = search rules in
     let takes : TakesTurn c.publish.new.self c.finish.new.self c.args.xid.now c.args.turn = search rules in
-    let made : Writes s.log c.write.new.log (entry_record c.args.entry c.args.xid.now
+    let made : Writes s.log c.write.new.self (entry_record c.args.entry c.args.xid.now
     (writes_of s.store.writes c.args.xid.now)) c.args.turn.is_forced = search rules in
     Made refl (made_committed c.args.self.now s _ c.args.xid.now c.args.turn c.args.entry room
     c.requires.entry c.requires.data
@@ -98,7 +98,7 @@ returns-clause-answer g c =
     let room : OnlyRoom c.args.self.now s = subst (OnlyRoom c.args.self.now)
     (sym c.self.view_is) c.frame.ensures.stays in
     let staged : StagesWrites s.store c.stage.new.self c.args.xid.now = search rules in
-    let broke : Breaks s.log c.write.new.log (entry_record c.args.entry c.args.xid.now
+    let broke : Breaks s.log c.write.new.self (entry_record c.args.entry c.args.xid.now
     (writes_of s.store.writes c.args.xid.now) ∷ []) = search rules in
     Broke refl (fails_by c.args.self.now s _ c.args.xid.now c.args.turn c.args.entry room c.requires.entry
     broke staged.tables staged.writes staged.locks staged.decisions refl)
@@ -112,12 +112,12 @@ invariant_of-self-in-Err g c =
     } in
     let broken : KvSight = record {
       store = c.stage.new.self;
-      log = c.write.new.log;
+      log = c.write.new.self;
       boot = c.self.inside.boot;
     } in
     let room : OnlyRoom c.args.self.now s = subst (OnlyRoom c.args.self.now)
     (sym c.self.view_is) c.frame.ensures.stays in
-    let broke : Breaks s.log c.write.new.log (entry_record c.args.entry c.args.xid.now
+    let broke : Breaks s.log c.write.new.self (entry_record c.args.entry c.args.xid.now
     (writes_of s.store.writes c.args.xid.now) ∷ []) = search rules in
     let fits : s.store.versions.count + 1 < 2 ^ 63 =
     subst (λ (k : KeySight). k.versions.count + 1 < 2 ^ 63) (sym room.store) c.requires.fits in

@@ -37,7 +37,7 @@ invariant_of-self g c =
     let room : OnlyRoom c.args.self.now s = subst (OnlyRoom c.args.self.now)
     (sym c.self.view_is) c.frame.ensures.stays in
     let takes : TakesTurn s.store c.finish.new.self c.args.xid.now c.args.turn = search rules in
-    let made : Writes s.log c.write.new.log (entry_record c.args.entry c.args.xid.now
+    let made : Writes s.log c.write.new.self (entry_record c.args.entry c.args.xid.now
     (writes_of s.store.writes c.args.xid.now)) c.args.turn.is_forced = search rules in
     kept_noted s _ c.args.xid.now c.requires.due.0 c.args.turn c.args.entry c.self.invariant
     (record_follows s c.args.xid.now c.requires.due.0 c.args.turn c.args.entry c.self.invariant
@@ -56,7 +56,7 @@ returns-clause-answer g c =
     } in
     let room : OnlyRoom c.args.self.now s = subst (OnlyRoom c.args.self.now)
     (sym c.self.view_is) c.frame.ensures.stays in
-    let broke : Breaks s.log c.write.new.log (entry_record c.args.entry c.args.xid.now
+    let broke : Breaks s.log c.write.new.self (entry_record c.args.entry c.args.xid.now
     (writes_of s.store.writes c.args.xid.now) ∷ []) = search rules in
     Broke refl (fails_by c.args.self.now s _ c.args.xid.now c.args.turn c.args.entry room c.requires.entry
     broke refl refl refl refl refl)
@@ -70,12 +70,12 @@ invariant_of-self-in-Err g c =
     } in
     let broken : KvSight = record {
       store = c.self.inside.store;
-      log = c.write.new.log;
+      log = c.write.new.self;
       boot = c.self.inside.boot;
     } in
     let room : OnlyRoom c.args.self.now s = subst (OnlyRoom c.args.self.now)
     (sym c.self.view_is) c.frame.ensures.stays in
-    let broke : Breaks s.log c.write.new.log (entry_record c.args.entry c.args.xid.now
+    let broke : Breaks s.log c.write.new.self (entry_record c.args.entry c.args.xid.now
     (writes_of s.store.writes c.args.xid.now) ∷ []) = search rules in
     kept_broken s broken (entry_record c.args.entry c.args.xid.now
     (writes_of s.store.writes c.args.xid.now) ∷ []) c.self.invariant

@@ -23,7 +23,8 @@ invariant_of-subordinate g c =
     over_tied s c.requires.restarted.keep r (g.M.ResourceManager.sight c.args.manager)
     (g.M.ResourceManager.sight c.open.new.self) (λ answer. answer ≡ code.RmFail) c.open.result
     c.in-Ok.ensures.ok c.requires.restarted.restarts c.open.ensures
-    (sym (ap (λ (l : LogSight). l.form) c.requires.restarted.restarts.log) ∙ c.requires.own)
+    (sym (ap (λ (l : LogSight). l.form) c.requires.restarted.restarts.log) ∙ c.requires.own) c.header.result
+    c.header.ensures
 
 pub returns-in-Ok-clause-ok : goal.returns-in-Ok-clause-ok
 returns-in-Ok-clause-ok g c = λ before all restarts old so keep left.

@@ -1,21 +1,49 @@
-use Rattle.std.proofs.Common.{◌≡◌, None, sym, subst}
+use Rattle.std.proofs.Common.{◌≡◌, ◌+◌, ◌++◌, ◌∷◌, [], None, sym, subst}
 use Rattle.xa_codes.specs.declared.code.Code.TheVariants as code
 use Rattle.rec_log.specs.Sights.{left_by}
 use Rattle.core_model.specs.Restarting.{NotRestarted, Restarts}
 use Rattle.tree_model.specs.declared.events.StepError.TheVariants.{Device, Exhausted}
 use Rattle.manager_model.specs.Sights.{ManagerSight}
-use Rattle.manager_model.specs.Restarting.{NotRestarted as NotRestartedBy}
+use Rattle.manager_model.specs.Restarting.{NotRestarted as NotRestartedBy, boot_record}
 use Rattle.sub_table.specs.declared.rebuilt.Rebuilt.{Rebuilt}
 use Rattle.sub_table.specs.Rebuilt.{Rebuilds}
+use Rattle.sub_table.specs.Remembered.{Remembers}
 use Rattle.tree_model.specs.Views.{leaf_place}
-use Rattle.sub_core.specs.Subordinates.{SubState, core_of, seen}
+use Rattle.sub_core.specs.declared.subordinate.Front.{Front}
+use Rattle.sub_core.specs.Fronts.{IsFrontOf, IsHeader}
+use Rattle.sub_core.specs.Subordinates.{IsTied, SubState, core_of, seen}
 use Rattle.sub_core.specs.Steps.{LeavesPromises, Reopens, state}
-use Rattle.sub_core.proofs.Restarted.{boots_used, broken, broken_tied, promises_left, reopened_tied, restarted}
-use Rattle.sub_core.proofs.Ties.{behind, same_tied}
+use Rattle.sub_core.proofs.Restarted.{boots_used, broken, broken_tied, promises_left, reopened_front, reopened_tied, reopened_works, restarted}
+use Rattle.sub_core.proofs.Ties.{behind, header_tied, same_tied}
 use Rattle.sub_core.proofs.subordinate.Subordinate.restart.Goals as goal
+
+pub ready-requires : goal.ready-requires
+ready-requires g c =
+    let s : SubState = record {
+      me = c.self.inside.me;
+      parent = c.self.inside.parent;
+      tree = c.self.inside.tree;
+      given = c.self.inside.given;
+      table = c.self.inside.branches;
+      manager = g.M.ResourceManager.sight c.self.inside.manager;
+    } in
+    subst (IsFrontOf (leaf_place s.me s.parent s.tree) s.manager.log) (sym c.replace.ensures.value)
+    c.self.invariant.reached.front
 
 pub invariant_of-self : goal.invariant_of-self
 invariant_of-self g c =
+    let s : SubState = record {
+      me = c.self.inside.me;
+      parent = c.self.inside.parent;
+      tree = c.self.inside.tree;
+      given = c.self.inside.given;
+      table = c.self.inside.branches;
+      manager = g.M.ResourceManager.sight c.self.inside.manager;
+    } in
+    header_tied c.replace.new.dest s (subst IsHeader (sym c.replace.ensures.after) c.header.ensures) c.self.invariant
+
+pub invariant_of-self-2 : goal.invariant_of-self-2
+invariant_of-self-2 g c =
     let s : SubState = record {
       me = c.self.inside.me;
       parent = c.self.inside.parent;
@@ -29,10 +57,17 @@ invariant_of-self g c =
     c.args.keep = c.in-Ok.ensures.ok in
     let m : ManagerSight = g.M.ResourceManager.sight c.reopen.new.manager in
     let made : Rebuilds (leaf_place s.me s.parent s.tree) s.parent (left_by s.manager.log c.args.keep) r =
-    subst (λ v. Rebuilds (leaf_place v.me v.parent v.tree) v.parent (left_by (g.M.ResourceManager.sight
-    v.manager).log c.args.keep) r) (sym c.self.view_is) c.in_ok-rebuilt.ensures.ok in
+    c.in_ok-rebuilt.ensures.ok in
+    let f : Front = record { size = c.log_size.result; remembered = c.in_ok-rebuilt.remembered } in
+    let works = reopened_works s c.args.keep r re.mid m (λ answer. answer ≡ code.RmFail)
+    re.answer made re.restarts re.calls c.self.invariant.own in
+    let says : Remembers (leaf_place s.me s.parent s.tree) s.parent
+    (left_by s.manager.log c.args.keep ++ boot_record (r.boot + 1) ∷ []) f.remembered =
+    c.in_ok-rebuilt.ensures.remembered in
     reopened_tied s c.args.keep r re.mid m (λ answer. answer ≡ code.RmFail)
-    re.answer made re.restarts re.calls c.self.invariant.own
+    re.answer made re.restarts re.calls c.self.invariant.own f
+    (reopened_front s c.args.keep r re.mid m (λ answer. answer ≡ code.RmFail)
+    re.answer made re.restarts re.calls c.self.invariant.own f (c.log_size.ensures works) says)
 
 pub returns-in-Ok-clause-ok : goal.returns-in-Ok-clause-ok
 returns-in-Ok-clause-ok g c =
@@ -57,8 +92,7 @@ returns-in-Ok-clause-ok g c =
       manager = m;
     } in
     let made : Rebuilds (leaf_place s.me s.parent s.tree) s.parent (left_by s.manager.log c.args.keep) r =
-    subst (λ v. Rebuilds (leaf_place v.me v.parent v.tree) v.parent (left_by (g.M.ResourceManager.sight
-    v.manager).log c.args.keep) r) (sym c.self.view_is) c.in_ok-rebuilt.ensures.ok in
+    c.in_ok-rebuilt.ensures.ok in
     subst (λ v. Restarts (state g.M.ResourceManager.sight v) c.args.keep (core_of n)
     (record {
       begun = None;
@@ -83,7 +117,9 @@ invariant_of-self-in-Err-Memory g c =
       table = c.self.inside.branches;
       manager = g.M.ResourceManager.sight c.self.inside.manager;
     } in
-    same_tied s (g.M.ResourceManager.sight c.reopen.new.manager) c.self.invariant
+    let header : IsHeader c.replace.new.dest = subst IsHeader (sym c.replace.ensures.after) c.header.ensures in
+    let tied : IsTied c.replace.new.dest s = header_tied c.replace.new.dest s header c.self.invariant in
+    same_tied s (g.M.ResourceManager.sight c.reopen.new.manager) tied
     (subst (λ e. NotRestartedBy s.manager (g.M.ResourceManager.sight c.reopen.new.manager) c.args.keep e)
     c.in-Err-Memory.field-0-is c.in-Err-Memory.ensures.err)
 
@@ -99,7 +135,9 @@ invariant_of-self-in-Err-Exhausted g c =
     } in
     let why = subst (λ e. NotRestartedBy s.manager (g.M.ResourceManager.sight c.reopen.new.manager) c.args.keep e)
     c.in-Err-Exhausted.field-0-is c.in-Err-Exhausted.ensures.err in
-    same_tied s (g.M.ResourceManager.sight c.reopen.new.manager) c.self.invariant why.0
+    let header : IsHeader c.replace.new.dest = subst IsHeader (sym c.replace.ensures.after) c.header.ensures in
+    let tied : IsTied c.replace.new.dest s = header_tied c.replace.new.dest s header c.self.invariant in
+    same_tied s (g.M.ResourceManager.sight c.reopen.new.manager) tied why.0
 
 pub invariant_of-self-in-Err-Device : goal.invariant_of-self-in-Err-Device
 invariant_of-self-in-Err-Device g c =
@@ -111,7 +149,9 @@ invariant_of-self-in-Err-Device g c =
       table = c.self.inside.branches;
       manager = g.M.ResourceManager.sight c.self.inside.manager;
     } in
-    broken_tied s (g.M.ResourceManager.sight c.reopen.new.manager) c.args.keep c.self.invariant
+    let header : IsHeader c.replace.new.dest = subst IsHeader (sym c.replace.ensures.after) c.header.ensures in
+    let tied : IsTied c.replace.new.dest s = header_tied c.replace.new.dest s header c.self.invariant in
+    broken_tied s (g.M.ResourceManager.sight c.reopen.new.manager) c.args.keep tied
     (subst (λ e. NotRestartedBy s.manager (g.M.ResourceManager.sight c.reopen.new.manager) c.args.keep e)
     c.in-Err-Device.field-0-is c.in-Err-Device.ensures.err)
 

@@ -8,9 +8,10 @@ use Rattle.manager_model.specs.Orders.{AreInOrder}
 use Rattle.manager_model.specs.Sights.{ManagerSight}
 use Rattle.manager_model.specs.declared.errors.TrimError.TheVariants as trim_error
 use Rattle.manager_model.specs.Trimming.{NotTrimmed as NotTrimmedBy}
-use Rattle.sub_core.specs.Subordinates.{SubState, core_of}
+use Rattle.sub_core.specs.Fronts.{IsHeader}
+use Rattle.sub_core.specs.Subordinates.{IsTied, SubState, core_of}
 use Rattle.sub_core.specs.Steps.{state}
-use Rattle.sub_core.proofs.Ties.{behind}
+use Rattle.sub_core.proofs.Ties.{behind, header_tied}
 use Rattle.sub_core.proofs.Trimmed.{not_trimmed, trimmed_tied, trims, untrimmed_tied}
 use Rattle.sub_core.proofs.subordinate.Subordinate.trim.Goals as goal
 use Rattle.sub_core.proofs.subordinate.Subordinate.trim.Goals.{in-Ok, in-Err-Memory, in-Err-Device, in-Err-Failed}
@@ -27,13 +28,15 @@ invariant_of-self g c =
     } in
     let m : ManagerSight = g.M.ResourceManager.sight c.trim.new.self in
     let order : AreInOrder (records_of s.manager.log.kept) = c.records_are_in_order.ensures in
+    let header : IsHeader c.header.result = c.header.ensures in
+    let tied : IsTied c.header.result s = header_tied c.header.result s header c.self.invariant in
     elim c.match-trim.branch [
-      | in-Ok w ↦ trimmed_tied s m order c.self.invariant w.in-Ok.count w.in-Ok.ensures.ok
-      | in-Err-Memory w ↦ untrimmed_tied s m order c.self.invariant trim_error.Memory
+      | in-Ok w ↦ trimmed_tied s m order tied header w.in-Ok.count w.in-Ok.ensures.ok
+      | in-Err-Memory w ↦ untrimmed_tied s m order tied header trim_error.Memory
           (subst (λ e. NotTrimmedBy s.manager m e) w.in-Err-Memory.field-0-is w.in-Err-Memory.ensures.err)
-      | in-Err-Device w ↦ untrimmed_tied s m order c.self.invariant trim_error.Device
+      | in-Err-Device w ↦ untrimmed_tied s m order tied header trim_error.Device
           (subst (λ e. NotTrimmedBy s.manager m e) w.in-Err-Device.field-0-is w.in-Err-Device.ensures.err)
-      | in-Err-Failed w ↦ untrimmed_tied s m order c.self.invariant trim_error.Failed
+      | in-Err-Failed w ↦ untrimmed_tied s m order tied header trim_error.Failed
           (subst (λ e. NotTrimmedBy s.manager m e) w.in-Err-Failed.field-0-is w.in-Err-Failed.ensures.err)
     ]
 

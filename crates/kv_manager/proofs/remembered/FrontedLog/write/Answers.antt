@@ -1,0 +1,7 @@
+use Rattle.log_text.specs.Made.{frame_record}
+use Rattle.kv_manager.proofs.Remembering.{front_written}
+use Rattle.kv_manager.proofs.remembered.FrontedLog.write.Goals as goal
+
+pub invariant_of-self : goal.invariant_of-self
+invariant_of-self g c = front_written c.self.inside.log c.write.new.log (frame_record c.args.frame.now) c.args.forced
+    c.self.inside.front c.write.result c.write.ensures.ok c.write.ensures.err c.self.invariant

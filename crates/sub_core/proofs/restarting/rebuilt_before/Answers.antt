@@ -1,0 +1,19 @@
+use Rattle.std.proofs.Common.{◌∙◌, [], subst}
+use Rattle.tree_model.specs.Views.{leaf_place}
+use Rattle.sub_table.specs.Rebuilt.{NotRebuilt, Rebuilds}
+use Rattle.sub_core.proofs.restarting.rebuilt_before.Goals as goal
+
+pub rebuild-requires : goal.rebuild-requires
+rebuild-requires g c = ([], c.nothing.ensures (leaf_place c.args.me c.args.parent c.args.tree.now) c.args.parent)
+
+pub returns-in-Ok-clause-ok : goal.returns-in-Ok-clause-ok
+returns-in-Ok-clause-ok g c =
+    subst (λ ls. Rebuilds (leaf_place c.args.me c.args.parent c.args.tree.now) c.args.parent ls c.in-Ok.rebuilt)
+    (c.deref.ensures.value ∙ c.in_ok-records.ensures)
+    (c.in-Ok.ensures.ok [] (c.nothing.ensures (leaf_place c.args.me c.args.parent c.args.tree.now) c.args.parent))
+
+pub returns-in-Err-clause-err : goal.returns-in-Err-clause-err
+returns-in-Err-clause-err g c =
+    subst (λ ls. NotRebuilt (leaf_place c.args.me c.args.parent c.args.tree.now) ls c.in-Err.error)
+    (c.deref.ensures.value ∙ c.in_ok-records.ensures)
+    (c.in-Err.ensures.err [] (c.nothing.ensures (leaf_place c.args.me c.args.parent c.args.tree.now) c.args.parent))
