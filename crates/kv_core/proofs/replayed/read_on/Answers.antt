@@ -1,4 +1,5 @@
-use Rattle.std.proofs.Common.{rules, ◌≡◌, ◌∷◌, ◌++◌, List, subst}
+use Rattle.std.proofs.Common.{rules, ◌≡◌, ◌∙◌, [], ◌∷◌, ◌++◌, List, subst, sym}
+use Rattle.std.proofs.lemmas.List.{nil_from_length}
 use Rattle.tree_model.specs.declared.records.LogRecord.{LogRecord}
 use Rattle.kv_core.specs.Remembered.{ReadsNow}
 use Rattle.kv_core.specs.Replays.{Fails}
@@ -39,14 +40,22 @@ returns-in_err-take-clause-err c =
 
 pub returns-clause-ok : goal.returns-clause-ok
 returns-clause-ok c =
+    let none : c.loop-record.record-iterator.rest.items ≡ [] =
+    nil_from_length _ (sym c.loop-record.record-iterator.rest.ok.0 ∙ c.in-None.ensures.steps.0) in
     let over : ReadsOn c.args.reading.seen c.args.reading.data c.args.records.items [] c.loop-record.reading.seen
-    c.loop-record.reading.data = search rules in
+    c.loop-record.reading.data =
+    subst (λ ks. ReadsOn c.args.reading.seen c.args.reading.data c.args.records.items ks
+    c.loop-record.reading.seen c.loop-record.reading.data) none c.loop-record.invariant in
     reading_on_ends c.args.reading.seen c.args.reading.data c.args.records.items c.loop-record.reading.seen
     c.loop-record.reading.data over
 
 pub returns-clause-history : goal.returns-clause-history
 returns-clause-history c =
+    let none : c.loop-record.record-iterator.rest.items ≡ [] =
+    nil_from_length _ (sym c.loop-record.record-iterator.rest.ok.0 ∙ c.in-None.ensures.steps.0) in
     let over : ReadsOn c.args.reading.seen c.args.reading.data c.args.records.items [] c.loop-record.reading.seen
-    c.loop-record.reading.data = search rules in
+    c.loop-record.reading.data =
+    subst (λ ks. ReadsOn c.args.reading.seen c.args.reading.data c.args.records.items ks
+    c.loop-record.reading.seen c.loop-record.reading.data) none c.loop-record.invariant in
     history_on_ends c.args.reading.seen c.args.reading.data c.args.records.items c.loop-record.reading.seen
     c.loop-record.reading.data over

@@ -70,8 +70,8 @@ returns-clause-leaves c = λ ls is.
           (c.in_ok-given.ensures {u = tt}) decided;
     }
 
-pub returns-clause-remembered : goal.returns-clause-remembered
-returns-clause-remembered c = λ ls is.
+pub returns-clause-remembers : goal.returns-clause-remembers
+returns-clause-remembers c = λ ls is.
     let m : LogMemory = record {
       seen = c.self.inside.seen;
       decisions = c.self.inside.decisions;
