@@ -1,12 +1,13 @@
-use Rattle.std.proofs.Common.{sym, subst}
+use Rattle.std.proofs.Common.{IfErr, sym, subst}
 use Rattle.std.specs.List.{AllByRecursion}
 use Rattle.tree_model.specs.declared.names.Kind.TheVariants.{Manager}
 use Rattle.log_rules.specs.sound.Sound.{IsSound}
 use Rattle.rec_log.specs.Sights.{LogState, left_by, records_of}
 use Rattle.kv_manager.specs.declared.restart.RecordsError.TheVariants.{Exhausted, Unfit}
-use Rattle.kv_manager.specs.Restarts.{AreLastBoots, NotRebuilt}
+use Rattle.kv_manager.specs.Restarts.{AreLastBoots, NotReady, NotRebuilt}
 use Rattle.kv_manager.specs.Sights.{IsKept, KvSight}
 use Rattle.kv_manager.proofs.Boots.{left_fits, left_spent}
+use Rattle.kv_manager.proofs.manager.KvManager.ready.Goals.{in-Ok, in-Err-Memory, in-Err-Exhausted}
 use Rattle.kv_manager.proofs.manager.KvManager.ready.Goals as goal
 
 pub invariant_of-self : goal.invariant_of-self
@@ -33,15 +34,22 @@ unreachable-requires-in-Err-Unfit g c =
     (sym c.self.view_is) c.records_are_sound.ensures in
     left_fits s c.args.keep c.self.invariant sound why
 
-pub returns-in-Err-Exhausted-clause-err : goal.returns-in-Err-Exhausted-clause-err
-returns-in-Err-Exhausted-clause-err g c =
+pub returns-clause-err : goal.returns-clause-err
+returns-clause-err g c =
     let s : KvSight = record {
       store = c.self.inside.store;
       log = c.self.inside.log;
       boot = c.self.inside.boot;
     } in
-    let why : NotRebuilt (left_by s.log.sight c.args.keep) Exhausted =
-    subst (NotRebuilt (left_by s.log.sight c.args.keep)) c.in-Err-Exhausted.field-0-is
-    c.in-Err-Exhausted.ensures.err in
-    subst (λ (v : KvSight). AreLastBoots (left_by v.log.sight c.args.keep)) c.self.view_is
-    (left_spent s c.args.keep c.self.invariant why)
+    elim c.match-made_ready.branch [
+      | in-Ok w ↦ subst (λ r. IfErr r (NotReady (left_by c.args.self.now.log.sight c.args.keep))) (sym w.result-is) tt
+      | in-Err-Memory w ↦
+          subst (λ r. IfErr r (NotReady (left_by c.args.self.now.log.sight c.args.keep))) (sym w.result-is) tt
+      | in-Err-Exhausted w ↦
+          let why : NotRebuilt (left_by s.log.sight c.args.keep) Exhausted =
+          subst (NotRebuilt (left_by s.log.sight c.args.keep)) w.in-Err-Exhausted.field-0-is
+          w.in-Err-Exhausted.ensures.err in
+          subst (λ r. IfErr r (NotReady (left_by c.args.self.now.log.sight c.args.keep))) (sym w.result-is)
+          (subst (λ (v : KvSight). AreLastBoots (left_by v.log.sight c.args.keep)) c.self.view_is
+          (left_spent s c.args.keep c.self.invariant why))
+    ]

@@ -5,12 +5,12 @@ use Rattle.kv_manager.specs.Restarts.{IsReady}
 use Rattle.kv_manager.specs.Sights.{KvSight}
 use Rattle.kv_manager.proofs.manager.KvManager.restart.Goals as goal
 
-pub reopen-requires-clause-ready : goal.reopen-requires-clause-ready
-reopen-requires-clause-ready g c =
+pub reopen-reopened-requires-clause-ready : goal.reopen-reopened-requires-clause-ready
+reopen-reopened-requires-clause-ready g c =
     subst (λ (v : KvSight). IsReady (left_by v.log.sight c.args.keep) c.in_ok-ready.ready) (sym c.ready.ensures.stays)
     c.in_ok-ready.ensures.ok
 
-pub reopen-requires-clause-says : goal.reopen-requires-clause-says
-reopen-requires-clause-says g c =
+pub reopen-reopened-requires-clause-says : goal.reopen-reopened-requires-clause-says
+reopen-reopened-requires-clause-says g c =
     subst (λ (v : KvSight). Remembers (left_by v.log.sight c.args.keep) c.in_ok-ready.remembered)
     (sym c.ready.ensures.stays) c.in_ok-ready.ensures.remembered

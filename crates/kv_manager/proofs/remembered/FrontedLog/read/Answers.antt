@@ -10,20 +10,26 @@ use Rattle.kv_manager.proofs.remembered.FrontedLog.read.Goals as goal
 
 pub invariant_of-self : goal.invariant_of-self
 invariant_of-self g c =
-    header_front c.self.inside.log c.replace.new.dest
-    (ap (λ (f : Front). f.size) c.replace.ensures.after ∙ c.header.ensures.size)
-    (subst (λ (f : Front). Remembers [] f.remembered) (sym c.replace.ensures.after) c.header.ensures.says)
+    header_front c.self.inside.log c.replace-size.new.dest
+    (ap (λ (f : Front). f.size) c.replace-size.ensures.after ∙ c.header.ensures.size)
+    (subst (λ (f : Front). Remembers [] f.remembered) (sym c.replace-size.ensures.after) c.header.ensures.says)
+
+pub invariant_of-self-2 : goal.invariant_of-self-2
+invariant_of-self-2 g c =
+    header_front c.self.inside.log c.replace-size.new.dest
+    (ap (λ (f : Front). f.size) c.replace-size.ensures.after ∙ c.header.ensures.size)
+    (subst (λ (f : Front). Remembers [] f.remembered) (sym c.replace-size.ensures.after) c.header.ensures.says)
 
 pub read_on-requires : goal.read_on-requires
 read_on-requires g c =
-    let front : IsFrontOf c.self.inside.log c.replace.result =
-    subst (IsFrontOf c.self.inside.log) (sym c.replace.ensures.value) c.self.invariant in
+    let front : IsFrontOf c.self.inside.log c.replace-size.result =
+    subst (IsFrontOf c.self.inside.log) (sym c.replace-size.ensures.value) c.self.invariant in
     (front.first, front.says)
 
 pub returns-clause-leaves : goal.returns-clause-leaves
 returns-clause-leaves g c =
-    let front : IsFrontOf c.self.inside.log c.replace.result =
-    subst (IsFrontOf c.self.inside.log) (sym c.replace.ensures.value) c.self.invariant in
+    let front : IsFrontOf c.self.inside.log c.replace-size.result =
+    subst (IsFrontOf c.self.inside.log) (sym c.replace-size.ensures.value) c.self.invariant in
     let left : front.first ++ c.in_ok-records.records.items ≡ left_by c.self.inside.log.sight c.args.keep =
     c.in_ok-records.ensures {u = tt} front.first front.stands in
     IfOk-weaker c.read_on.result _ (λ r. LeavesNow (left_by c.args.self.now.sight c.args.keep) r.0)
@@ -32,18 +38,18 @@ returns-clause-leaves g c =
 
 pub returns-clause-remembered : goal.returns-clause-remembered
 returns-clause-remembered g c =
-    let front : IsFrontOf c.self.inside.log c.replace.result =
-    subst (IsFrontOf c.self.inside.log) (sym c.replace.ensures.value) c.self.invariant in
+    let front : IsFrontOf c.self.inside.log c.replace-size.result =
+    subst (IsFrontOf c.self.inside.log) (sym c.replace-size.ensures.value) c.self.invariant in
     let left : front.first ++ c.in_ok-records.records.items ≡ left_by c.self.inside.log.sight c.args.keep =
     c.in_ok-records.ensures {u = tt} front.first front.stands in
     IfOk-weaker c.read_on.result _ (λ r. Remembers (left_by c.args.self.now.sight c.args.keep) r.1)
     (λ r is. subst (λ l. Remembers (left_by l.sight c.args.keep) r.1) c.self.view_is
-    (subst (λ ls. Remembers ls r.1) left (is front.first front.says))) c.read_on.ensures.remembered
+    (subst (λ ls. Remembers ls r.1) left (is front.first front.says))) c.read_on.ensures.remembers
 
 pub returns-clause-err : goal.returns-clause-err
 returns-clause-err g c =
-    let front : IsFrontOf c.self.inside.log c.replace.result =
-    subst (IsFrontOf c.self.inside.log) (sym c.replace.ensures.value) c.self.invariant in
+    let front : IsFrontOf c.self.inside.log c.replace-size.result =
+    subst (IsFrontOf c.self.inside.log) (sym c.replace-size.ensures.value) c.self.invariant in
     let left : front.first ++ c.in_ok-records.records.items ≡ left_by c.self.inside.log.sight c.args.keep =
     c.in_ok-records.ensures {u = tt} front.first front.stands in
     IfErr-weaker c.read_on.result _ (Fails (left_by c.args.self.now.sight c.args.keep))

@@ -1,12 +1,20 @@
 use Rattle.std.proofs.Common.{◌≡◌, ◌≤◌, ◌+◌, ◌∷◌, [], map, subst, sym, arith}
 use Rattle.log_text.specs.Made.{frame_record}
 use Rattle.log_text.specs.Payloads.{record_size}
-use Rattle.rec_log.specs.Sights.{NotRestarted, Restarts, frames_size, left_by}
+use Rattle.rec_log.specs.Sights.{AreRecords, IsRecord, LogState, NotRestarted, Restarts, frames_size, left_by}
 use Rattle.rec_log.specs.declared.log.LogError.TheVariants.{Device, Memory}
 use Rattle.manager_model.specs.declared.errors.RestartError.TheVariants as restarts
 use Rattle.kv_core.specs.Remembered.{Remembers}
 use Rattle.kv_manager.proofs.Remembering.{front_unstarted, restarted_front, restarted_size}
 use Rattle.kv_manager.proofs.remembered.FrontedLog.restart.Goals as goal
+
+pub restart-requires : goal.restart-requires
+restart-requires g c =
+    subst (λ fs. AreRecords c.self.inside.log.sight.form.kind (map frame_record fs)) (sym c.from_ref.ensures.value) (
+      subst (λ (l : LogState). IsRecord l.sight.form.kind (frame_record c.args.opened.now)) (sym c.self.view_is)
+          c.requires.sound,
+      tt,
+    )
 
 pub overflow_sub-size : goal.overflow_sub-size
 overflow_sub-size g c =
