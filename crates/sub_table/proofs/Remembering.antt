@@ -1,5 +1,6 @@
 -- What is remembered of a subordinate's log, and read on from.
-use Rattle.std.proofs.Common.{◌≡◌, ◌∙◌, ◌⊎◌, inl, inr, ◌≤◌, ◌<◌, ◌+◌, ◌^◌, ℕ, Bool, true, false, ◌||◌, if◌then◌else◌, Option, Some, None, List, [], ◌∷◌, ◌++◌, append_assoc, append-nil, refl, sym, ap, subst, arith}
+use Rattle.std.proofs.Common.{◌≡◌, ◌∙◌, ◌⊎◌, inl, inr, ◌≤◌, ◌<◌, ◌+◌, ◌^◌, ℕ, Bool, true, false, ◌||◌, if◌then◌else◌, Option, Some, None, List, [], ◌∷◌, ◌++◌, append_assoc, append-nil, drop, get_or, length, refl, sym, ap, subst, arith}
+use Rattle.std.proofs.lemmas.List.{drop_more}
 use Rattle.std.specs.List.{flat_map, list_any}
 use Rattle.live_table.specs.Tables.{Moves, live_value}
 use Rattle.live_table.proofs.Writes.{same_case-itself}
@@ -213,6 +214,22 @@ module _ (t : BranchTable) (k : Case) (rest : List Case) (copy : BranchTable)
       by_test c true is (inr out) = inl (out.0 ∙ sym (subst (λ d. branch_in copy d ≡ None → branch_in t d ≡ None)
           (one_case k c is) none out.0))
       by_test c false is (inr out) = inr (out.0, among_rest c is out.1)
+
+-- the same of the case at a place of a list
+pub copies_one : (t : BranchTable) (cs : List Case) (i : ℕ) (d : Case) (copy new : BranchTable) (b : Branch)
+    → i < length cs → IsCopying t (drop i cs) copy → branch_in t (get_or cs i d) ≡ Some b
+    → Restores copy new (get_or cs i d) b → IsCopying t (drop (i + 1) cs) new
+copies_one t cs i d copy new b within copying found made =
+    copying_goes_on t (get_or cs i d) (drop (i + 1) cs) copy
+    (subst (λ ks. IsCopying t ks copy) (drop_more cs i d within) copying) new b found made
+
+pub passes_one : (t : BranchTable) (cs : List Case) (i : ℕ) (d : Case) (copy : BranchTable)
+    → i < length cs → IsCopying t (drop i cs) copy
+    → (branch_in copy (get_or cs i d) ≡ None → branch_in t (get_or cs i d) ≡ None)
+    → IsCopying t (drop (i + 1) cs) copy
+passes_one t cs i d copy within copying none =
+    copying_passes t (get_or cs i d) (drop (i + 1) cs) copy
+    (subst (λ ks. IsCopying t ks copy) (drop_more cs i d within) copying) none
 
 pub copying_ends : (t copy : BranchTable) → IsCopying t [] copy → (c : Case) → branch_in copy c ≡ branch_in t c
 unfolding has_case

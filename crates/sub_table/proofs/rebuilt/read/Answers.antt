@@ -1,5 +1,5 @@
-use Rattle.std.proofs.Common.{◌≡◌, ◌∙◌, ◌+◌, ◌∷◌, [], ◌++◌, List, append_assoc, take, drop, ap, sym, subst}
-use Rattle.std.proofs.lemmas.List.{take-append-drop, take_more}
+use Rattle.std.proofs.Common.{◌≡◌, ◌∙◌, ◌+◌, ◌∷◌, [], ◌++◌, List, append_assoc, take, drop, ap, sym, subst, arith}
+use Rattle.std.proofs.lemmas.List.{take-append-drop, take_all, take_more}
 use Rattle.tree_model.specs.declared.records.LogRecord.{LogRecord}
 use Rattle.tree_model.specs.Views.{leaf_place}
 use Rattle.sub_table.specs.Rebuilt.{AreFit, CanCome, IsRefusal, Leaves}
@@ -37,3 +37,9 @@ returns-in_err-take-clause-err c =
     (subst (AreFit place) (sym (append_assoc ls (take i rs) (c.next-item.result ∷ drop (i + 1) rs)
     ∙ ap (λ ks. ls ++ ks) split)) fit))
     c.in_err-take.field-0.0 c.in_err-take.ensures.err)
+
+pub returns-clause-ok : goal.returns-clause-ok
+returns-clause-ok c = λ ls left.
+    let rs = c.args.records.now in
+    subst (λ ks. Leaves (leaf_place c.args.me c.args.parent c.args.tree.now) c.args.parent (ls ++ ks) c.loop-next.cases)
+    (take_all c.loop-next.next-index rs (omega (arith, c.loop-next-test.false))) (c.loop-next.invariant.leaves ls left)

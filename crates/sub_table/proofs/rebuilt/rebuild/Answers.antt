@@ -1,7 +1,8 @@
-use Rattle.std.proofs.Common.{◌∙◌, ◌++◌, ap, subst, arith}
+use Rattle.std.proofs.Common.{◌∙◌, ◌++◌, ap, subst, sym, arith}
 use Rattle.std.specs.List.{flat_map}
 use Rattle.tree_model.specs.Views.{leaf_place}
 use Rattle.sub_table.specs.Rebuilt.{Leaves, asks}
+use Rattle.sub_table.specs.Tables.{AreLiveOf}
 use Rattle.sub_table.proofs.Fitting.{newest_within}
 use Rattle.sub_table.proofs.Remembering.{have_promised, rebuilt_copied, remembered_boot}
 use Rattle.sub_table.proofs.rebuilt.rebuild.Goals as goal
@@ -13,13 +14,15 @@ copied-requires-clause-promised c =
     (c.in_ok-cases.ensures.ok c.requires.0 c.requires.1.leaves)
 
 pub copied-requires-clause-listed : goal.copied-requires-clause-listed
-copied-requires-clause-listed c = c.in_ok-cases.ensures.listed c.requires.1.listed
+copied-requires-clause-listed c =
+    subst (AreLiveOf c.in_ok-cases.cases.branches) (sym c.as_slice-2.ensures.keys)
+    (c.in_ok-cases.ensures.listed c.requires.1.listed)
 
 pub returns-clause-ok : goal.returns-clause-ok
 returns-clause-ok c = λ ls is.
     let s = c.in_ok-cases.cases in
     let low = c.if-boot-gt-LAST_BOOT.false in
-    let within = c.if-newest-boot.false in
+    let within = c.if-cases-boot.false in
     rebuilt_copied c.args.me c.args.parent c.args.tree.now (ls ++ c.args.records.now) s
     (c.in_ok-cases.ensures.ok ls is.leaves) c.in_ok-branches.branches c.in_ok-messages.messages
     c.in_ok-branches.ensures.branches c.in_ok-branches.ensures.tickets
@@ -31,10 +34,10 @@ returns-clause-remembered c = λ ls is.
     remembered_boot c.args.me c.args.parent c.args.tree.now (ls ++ c.args.records.now) c.in_ok-cases.cases
     (c.in_ok-cases.ensures.ok ls is.leaves) (c.in_ok-cases.ensures.listed is.listed) _
 
-pub returns-then-newest-boot-clause-err : goal.returns-then-newest-boot-clause-err
-returns-then-newest-boot-clause-err c = λ ls is fit.
+pub returns-then-cases-boot-clause-err : goal.returns-then-cases-boot-clause-err
+returns-then-cases-boot-clause-err c = λ ls is fit.
     let s = c.in_ok-cases.cases in
-    let above = c.if-newest-boot.true in
+    let above = c.if-cases-boot.true in
     let within = newest_within c.args.me c.args.parent c.args.tree.now (ls ++ c.args.records.now) s
     (c.in_ok-cases.ensures.ok ls is.leaves) fit in
     absurd (omega (arith, above, within))
