@@ -12,8 +12,8 @@ returns-in-Ok-clause-ok g c =
     (c.deref.ensures.value ∙ c.in_ok-records.ensures)
     (c.in-Ok.ensures.ok [] (c.nothing.ensures (leaf_place c.args.me c.args.parent c.args.tree.now) c.args.parent))
 
-pub returns-in-Err-clause-err : goal.returns-in-Err-clause-err
-returns-in-Err-clause-err g c =
+pub returns-clause-err : goal.returns-clause-err
+returns-clause-err g c =
     subst (λ ls. NotRebuilt (leaf_place c.args.me c.args.parent c.args.tree.now) ls c.in-Err.error)
     (c.deref.ensures.value ∙ c.in_ok-records.ensures)
     (c.in-Err.ensures.err [] (c.nothing.ensures (leaf_place c.args.me c.args.parent c.args.tree.now) c.args.parent))

@@ -2,7 +2,7 @@ use Rattle.std.proofs.Common.{◌≡◌, ◌+◌, ◌++◌, ◌∷◌, [], None,
 use Rattle.xa_codes.specs.declared.code.Code.TheVariants as code
 use Rattle.rec_log.specs.Sights.{left_by}
 use Rattle.core_model.specs.Restarting.{NotRestarted, Restarts}
-use Rattle.tree_model.specs.declared.events.StepError.TheVariants.{Device, Exhausted}
+use Rattle.tree_model.specs.declared.events.StepError.TheVariants.{Device, Exhausted, Memory}
 use Rattle.manager_model.specs.Sights.{ManagerSight}
 use Rattle.manager_model.specs.Restarting.{NotRestarted as NotRestartedBy, boot_record}
 use Rattle.sub_table.specs.declared.rebuilt.Rebuilt.{Rebuilt}
@@ -14,6 +14,7 @@ use Rattle.sub_core.specs.Fronts.{IsFrontOf, IsHeader}
 use Rattle.sub_core.specs.Subordinates.{IsTied, SubState, core_of, seen}
 use Rattle.sub_core.specs.Steps.{LeavesPromises, Reopens, state}
 use Rattle.sub_core.proofs.Restarted.{boots_used, broken, broken_tied, promises_left, reopened_front, reopened_tied, reopened_works, restarted}
+use Rattle.sub_core.proofs.Rows.{same_keeps}
 use Rattle.sub_core.proofs.Ties.{behind, header_tied, same_tied}
 use Rattle.sub_core.proofs.subordinate.Subordinate.restart.Goals as goal
 
@@ -27,7 +28,7 @@ ready-requires g c =
       table = c.self.inside.branches;
       manager = g.M.ResourceManager.sight c.self.inside.manager;
     } in
-    subst (IsFrontOf (leaf_place s.me s.parent s.tree) s.manager.log) (sym c.replace.ensures.value)
+    subst (IsFrontOf (leaf_place s.me s.parent s.tree) s.manager.log) (sym c.replace-front.ensures.value)
     c.self.invariant.reached.front
 
 pub invariant_of-self : goal.invariant_of-self
@@ -40,10 +41,23 @@ invariant_of-self g c =
       table = c.self.inside.branches;
       manager = g.M.ResourceManager.sight c.self.inside.manager;
     } in
-    header_tied c.replace.new.dest s (subst IsHeader (sym c.replace.ensures.after) c.header.ensures) c.self.invariant
+    header_tied c.replace-front.new.dest s (subst IsHeader (sym c.replace-front.ensures.after) c.header.ensures) c.self.invariant
 
-pub invariant_of-self-2 : goal.invariant_of-self-2
-invariant_of-self-2 g c =
+pub invariant_of-self-in_err-rebuilt : goal.invariant_of-self-in_err-rebuilt
+invariant_of-self-in_err-rebuilt g c =
+    let s : SubState = record {
+      me = c.self.inside.me;
+      parent = c.self.inside.parent;
+      tree = c.self.inside.tree;
+      given = c.self.inside.given;
+      table = c.self.inside.branches;
+      manager = g.M.ResourceManager.sight c.self.inside.manager;
+    } in
+    header_tied c.replace-front.new.dest s (subst IsHeader (sym c.replace-front.ensures.after) c.header.ensures)
+    c.self.invariant
+
+pub invariant_of-self-in-Ok : goal.invariant_of-self-in-Ok
+invariant_of-self-in-Ok g c =
     let s : SubState = record {
       me = c.self.inside.me;
       parent = c.self.inside.parent;
@@ -117,8 +131,8 @@ invariant_of-self-in-Err-Memory g c =
       table = c.self.inside.branches;
       manager = g.M.ResourceManager.sight c.self.inside.manager;
     } in
-    let header : IsHeader c.replace.new.dest = subst IsHeader (sym c.replace.ensures.after) c.header.ensures in
-    let tied : IsTied c.replace.new.dest s = header_tied c.replace.new.dest s header c.self.invariant in
+    let header : IsHeader c.replace-front.new.dest = subst IsHeader (sym c.replace-front.ensures.after) c.header.ensures in
+    let tied : IsTied c.replace-front.new.dest s = header_tied c.replace-front.new.dest s header c.self.invariant in
     same_tied s (g.M.ResourceManager.sight c.reopen.new.manager) tied
     (subst (λ e. NotRestartedBy s.manager (g.M.ResourceManager.sight c.reopen.new.manager) c.args.keep e)
     c.in-Err-Memory.field-0-is c.in-Err-Memory.ensures.err)
@@ -135,8 +149,8 @@ invariant_of-self-in-Err-Exhausted g c =
     } in
     let why = subst (λ e. NotRestartedBy s.manager (g.M.ResourceManager.sight c.reopen.new.manager) c.args.keep e)
     c.in-Err-Exhausted.field-0-is c.in-Err-Exhausted.ensures.err in
-    let header : IsHeader c.replace.new.dest = subst IsHeader (sym c.replace.ensures.after) c.header.ensures in
-    let tied : IsTied c.replace.new.dest s = header_tied c.replace.new.dest s header c.self.invariant in
+    let header : IsHeader c.replace-front.new.dest = subst IsHeader (sym c.replace-front.ensures.after) c.header.ensures in
+    let tied : IsTied c.replace-front.new.dest s = header_tied c.replace-front.new.dest s header c.self.invariant in
     same_tied s (g.M.ResourceManager.sight c.reopen.new.manager) tied why.0
 
 pub invariant_of-self-in-Err-Device : goal.invariant_of-self-in-Err-Device
@@ -149,8 +163,8 @@ invariant_of-self-in-Err-Device g c =
       table = c.self.inside.branches;
       manager = g.M.ResourceManager.sight c.self.inside.manager;
     } in
-    let header : IsHeader c.replace.new.dest = subst IsHeader (sym c.replace.ensures.after) c.header.ensures in
-    let tied : IsTied c.replace.new.dest s = header_tied c.replace.new.dest s header c.self.invariant in
+    let header : IsHeader c.replace-front.new.dest = subst IsHeader (sym c.replace-front.ensures.after) c.header.ensures in
+    let tied : IsTied c.replace-front.new.dest s = header_tied c.replace-front.new.dest s header c.self.invariant in
     broken_tied s (g.M.ResourceManager.sight c.reopen.new.manager) c.args.keep tied
     (subst (λ e. NotRestartedBy s.manager (g.M.ResourceManager.sight c.reopen.new.manager) c.args.keep e)
     c.in-Err-Device.field-0-is c.in-Err-Device.ensures.err)
@@ -171,6 +185,23 @@ returns-clause-err g c =
     (broken s m c.args.keep
     (subst (λ e. NotRestartedBy s.manager m c.args.keep e) c.in-Err-Device.field-0-is
     c.in-Err-Device.ensures.err))
+
+pub returns-in-Err-Memory-clause-err : goal.returns-in-Err-Memory-clause-err
+returns-in-Err-Memory-clause-err g c =
+    let s : SubState = record {
+      me = c.self.inside.me;
+      parent = c.self.inside.parent;
+      tree = c.self.inside.tree;
+      given = c.self.inside.given;
+      table = c.self.inside.branches;
+      manager = g.M.ResourceManager.sight c.self.inside.manager;
+    } in
+    let m : ManagerSight = g.M.ResourceManager.sight c.reopen.new.manager in
+    let why = subst (λ e. NotRestartedBy s.manager m c.args.keep e) c.in-Err-Memory.field-0-is
+    c.in-Err-Memory.ensures.err in
+    subst (λ v. NotRestarted (state g.M.ResourceManager.sight v) c.args.keep
+    (core_of (behind s s.table m)) Memory) c.self.view_is
+    (same_keeps s m why).core
 
 pub returns-in-Err-Exhausted-clause-err : goal.returns-in-Err-Exhausted-clause-err
 returns-in-Err-Exhausted-clause-err g c =

@@ -44,7 +44,7 @@ invariant_of-self-in-Ok-true g c =
     fresh c.in_ok-key.ensures.ok in
     let h : HasBegun s.manager m c.child_xid-xid.result true = subst (λ r. HasBegun s.manager m
     c.child_xid-xid.result r) c.in-Ok-true.field-0-test c.in-Ok-true.ensures.ok in
-    subst (λ (t : Ticket). IsTied (numbered s c.open.new.self m t.number)) (sym fresh)
+    subst (λ (t : Ticket). IsTied c.self.inside.front (numbered s c.open.new.self m t.number)) (sym fresh)
     (begun_tied s c.args.case c.open.new.self m c.child_xid-xid.result c.self.invariant named opens h.1)
 
 pub invariant_of-self-in-Ok-false : goal.invariant_of-self-in-Ok-false
