@@ -128,8 +128,7 @@ class Carrier:
                 if fields and MESSAGE.fullmatch(fields[1]):
                     self.put(entry, fields[1])
                 else:  # it was answered and not yet acknowledged, or it is no message
-                    redis("XACK", self.stream, self.stream, entry)
-                    redis("XDEL", self.stream, entry)
+                    self.done(redis, entry)
                 begin = entry if begin != ">" else begin
             if begin != ">" and not entries:
                 begin = ">"
@@ -204,8 +203,12 @@ class Carrier:
                 lines.append(f"joined {words[3]} {words[1].split('->')[0]} {words[3].split('@')[0]}@{words[4]}")
                 self.tell(lines[-1])
             self.say(self.connected, lines)
-            redis("XACK", self.stream, self.stream, source)
-            redis("XDEL", self.stream, source)
+            self.done(redis, source)
+
+    def done(self, redis, entry):
+        """Deleted first: if this program is killed in between, the next one finds that it is no longer there, and acknowledges it."""
+        redis("XDEL", self.stream, entry)
+        redis("XACK", self.stream, self.stream, entry)
 
     def tell(self, line):
         print(line, flush=True)
