@@ -197,7 +197,7 @@ class World:
         self.a, self.folder, (self.pg, self.my), self.seed = arguments, folder, servers[:2], seed
         self.name, self.presumptions = f"bank{seed}{presumptions.replace(',', '')}", presumptions
         self.rstar = arguments.rstar or str(TOP / "crates" / "rstar" / "out" / "rstar")
-        self.tree = folder / "tree.toml"
+        self.tree, self.running = folder / "tree.toml", {}
         self.tree.write_text(TREE)
 
     def node(self, number):
@@ -318,13 +318,18 @@ class World:
     async def started(self, trace=None):
         """The application and the programs of the tree, all of them up."""
         net = self.net(trace)
-        programs = net.programs = self.programs(net)
+        programs = net.programs = self.running = self.programs(net)
         for program in programs.values():
             program.start()
         bank = Bank(self, net, self.seed, self.presumptions)
         for program in programs.values():
             await program.up()
         return bank, programs
+
+    def stop(self):
+        """Nothing of the tree outlives a trial that was told to end."""
+        for program in self.running.values():
+            program.kill()
 
     async def run(self, txns, kills):
         """Gives what is wrong, and what is to be said of the run."""
@@ -493,7 +498,10 @@ def runs(arguments, room, servers, make):
             folder = room / f"run{seed}{presumptions.replace(',', '')}"
             folder.mkdir()
             world = make(arguments, folder, servers, seed, presumptions)
-            wrong, says = asyncio.run(world.run(arguments.txns, arguments.kills))
+            try:
+                wrong, says = asyncio.run(world.run(arguments.txns, arguments.kills))
+            finally:
+                world.stop()
             print("\n".join(says))
             print("  WRONG: " + "; ".join(str(it) for it in wrong) if wrong
                   else f"  {world.money_says}; nothing prepared, {world.audit_says}", flush=True)
