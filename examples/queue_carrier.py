@@ -36,13 +36,14 @@ class Redis:
     """A connection that is made again when it is lost, and a command until it is answered: so a command may be made twice."""
 
     def __init__(self, host, port):
-        self.address, self.socket, self.unread = (host, port), None, None
+        self.address, self.socket, self.unread, self.connections = (host, port), None, None, 0
 
     def __call__(self, *words):
         while True:
             try:
                 if self.socket is None:
                     self.socket = socket.create_connection(self.address, 10)
+                    self.connections += 1
                     self.socket.settimeout(60)
                     self.unread = self.socket.makefile("rb")
                     if password := os.environ.get("REDISCLI_AUTH"):
@@ -114,22 +115,28 @@ class Carrier:
                 pass
 
     def take(self):
-        """Gives the process what waits in its stream: first what an earlier carrier took and did not acknowledge."""
+        """Gives the process what waits in its stream: first what was taken and not acknowledged, by an earlier carrier, or by this one if
+        the connection was lost with the answer in which it came."""
         redis, begin = Redis(*self.address), "0"
         redis("XGROUP", "CREATE", self.stream, self.stream, "0", "MKSTREAM")  # it may be there
+        connections = redis.connections
         self.opened.wait()
         while True:
             found = redis("XREADGROUP", "GROUP", self.stream, "one", "COUNT", IN_FLIGHT, "BLOCK", 1000, "STREAMS", self.stream, begin)
             if isinstance(found, Exception):  # Redis lost the group with its data
                 redis("XGROUP", "CREATE", self.stream, self.stream, "0", "MKSTREAM")
                 continue
+            if connections != redis.connections:
+                connections, begin = redis.connections, "0"
+                continue
             entries = found[0][1] if found else []
             for entry, fields in entries:
-                if fields and MESSAGE.fullmatch(fields[1]):
+                if any(source == entry for source, *_ in list(self.waiting)):
+                    pass  # the process has it
+                elif fields and MESSAGE.fullmatch(fields[1]):
                     self.put(entry, fields[1])
                 else:  # it was answered and not yet acknowledged, or it is no message
-                    redis("XACK", self.stream, self.stream, entry)
-                    redis("XDEL", self.stream, entry)
+                    self.done(redis, entry)
                 begin = entry if begin != ">" else begin
             if begin != ">" and not entries:
                 begin = ">"
@@ -204,8 +211,12 @@ class Carrier:
                 lines.append(f"joined {words[3]} {words[1].split('->')[0]} {words[3].split('@')[0]}@{words[4]}")
                 self.tell(lines[-1])
             self.say(self.connected, lines)
-            redis("XACK", self.stream, self.stream, source)
-            redis("XDEL", self.stream, source)
+            self.done(redis, source)
+
+    def done(self, redis, entry):
+        """Deleted first: if this program is killed in between, the next one finds that it is no longer there, and acknowledges it."""
+        redis("XDEL", self.stream, entry)
+        redis("XACK", self.stream, self.stream, entry)
 
     def tell(self, line):
         print(line, flush=True)

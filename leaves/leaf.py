@@ -21,15 +21,15 @@ class Leaf:
         self.db, self.me, self.parent, self.ask, self.idle, self.ending = database, me, parent, ask, idle, False
         self.given, self.sent, self.active, self.tickets, self.last = 0, 0, {}, {}, {}
         self.guard, self.ends, self.pool = threading.RLock(), queue.Queue(), ThreadPoolExecutor(threads)
-        self.note("Opened", database.boot)
-        self.decided = database.decided()
+        self.note("Opened", database.boot); self.decided = database.decided()
         for case, how in self.decided.items(): database.end(case, how)     # it was noted, and perhaps not made
         self.question(); self.put("ok")
     def put(self, *lines): print("\n".join(lines) + "\n", end="", flush=True)      # one write: lines of two threads do not mix
     def note(self, kind, of): self.put(f"log {self.me} {kind} {of} forced")
     def say(self, text):
         with self.guard: self.sent += 1; self.put(f"{self.sent} {self.me}->{self.parent} {text}")
-    def standing(self): return sorted(case for case in self.db.prepared() if case not in self.active)
+    def standing(self):   # also a case at work that its application has prepared itself: but ABORT is all that such a one may hear
+        return sorted(case for case in self.db.prepared() if case not in self.active or case[0] == "a")
     def doubts(self): return [case for case in self.standing() if case not in self.decided]
     def question(self):
         """Of what is in doubt, and of what an operator decided and was not told its outcome, the parent is asked."""
@@ -55,10 +55,9 @@ class Leaf:
             if not done: self.spoil(case, a)
         except Gone: a.session = None; a.spoiled = True               # it was not asked to promise: it is rolled back
     def spoil(self, case, a):
-        a.spoiled = True
-        try: a.session and self.db.rollback(a.session, case)
+        a.spoiled, a.session, session = True, None, a.session
+        try: session and self.db.rollback(session, case)
         except Gone: pass                                             # it is rolled back with its session
-        a.session = None
     def tire(self, case, a): self.active.get(case) is a and self.spoil(case, a)     # else its session is another's by now
     def drop(self, case):
         with self.guard:
@@ -91,6 +90,7 @@ class Leaf:
         if not presumed(case, how): self.say(f"ACK {case} {how}{found}")
     def decide(self, case, how):
         if case not in self.doubts(): return ["refused 7"]
+        case in self.active and self.spoil(case, self.drop(case))
         self.db.decide(case, how); self.decided[case] = how; self.db.end(case, how)
         self.note("HeurCommit" if how == "commit" else "HeurRollback", case)
     def forget(self, case):

@@ -22,13 +22,14 @@ class Ended(Exception):
 
 class Parent:
     """The parent of a leaf, as it is started by `command`. `value` gives the number as others see it, or None where nobody can look;
-    `kill_database` kills the leaf's database, and starts it again; `asks` is whether it asks again by itself."""
+    `kill_database` kills the leaf's database, and starts it again; `prepare` raises the number, and prepares that under a case's name, as
+    an application in its own session does; `asks` is whether it asks again by itself."""
 
     def __init__(self, command, me=3, parent=1, put="put n1 +1", get="get n1", bad="put nobody +1", value=None, ask=1.0, seed=1,
-                 env=None, kill_database=None, locks=True, show=None, asks=True):
+                 env=None, kill_database=None, locks=True, show=None, asks=True, prepare=None):
         self.command, self.me, self.parent, self.put, self.get, self.bad = command, me, parent, put, get, bad
         self.see, self.ask_after, self.env, self.kill_database, self.locks, self.show = value, ask, env, kill_database, locks, show
-        self.asks = asks
+        self.asks, self.prepare = asks, prepare
         self.chance, self.root = random.Random(seed), f"{int(time.time())}"  # as a root's boot: no name of an earlier run comes again
         self.process, self.unread, self.txns, self.tickets, self.asked, self.shown = None, b"", 0, set(), set(), []
         self.kills = self.lines = 0
@@ -242,6 +243,11 @@ class Parent:
 
     def listed(self, line, case, rule):
         """`doubt` has this line. A leaf may do without `doubt`."""
+        lines = self.doubts()
+        self.must(lines[-1] == "error" or line in lines, rule, case)
+
+    def doubts(self):
+        """The lines of `doubt`."""
         self.send("doubt")
         until, lines = time.time() + PATIENCE, []
         while not lines or lines[-1] not in ("ok", "error"):
@@ -252,7 +258,7 @@ class Parent:
             self.note(lines[-1])
             if "->" in lines[-1]:
                 self.read(lines[-1])
-        self.must(lines[-1] == "error" or line in lines, rule, case)
+        return lines
 
     def must(self, holds, rule, what=""):
         if not holds:
@@ -571,11 +577,40 @@ def locks_free_each_other(p, how):
     p.told(second, "abort")
 
 
+# an application's own session
+def votes_for_its_application(p, how):
+    if p.prepare is None or how == "c":
+        return
+    before, case = p.value(), p.new(how)
+    p.prepare(case)
+    p.must(p.tell(f"WORK {case} 1 put own-session 1") == [], "WORK is answered by no message")
+    p.votes(case, 1, "YES", "what its application has prepared itself is promised")
+    p.told(case, "commit")
+    p.is_value(after(before, 1), "the outcome is obeyed")
+
+
+def asks_for_its_application(p, how):
+    """The root has forgotten the transaction, as after a kill: no word of it comes to the leaf, unless it asks."""
+    if p.prepare is None or how == "c":
+        return
+    before, case = p.value(), p.new(how)
+    p.prepare(case)
+    until, is_left = time.time() + PATIENCE, True
+    while is_left and time.time() < until:
+        p.asked.discard(case)
+        p.listen(PATIENCE / 4, until_asked=case)
+        p.must(case in p.asked, "what its application has prepared itself is asked for", case)
+        p.told(case, "abort")
+        is_left = f"doubt {case}" in p.doubts()
+    p.must(not is_left, "ABORT is obeyed", case)
+    p.is_value(before, "ABORT is obeyed")
+
+
 SCENARIOS = [votes_once, counts_works, counts_works_in_order, does_a_work_once, late_works_are_passed_over, refused_work_is_no,
              reads_only, works_for_nothing, keeps_a_promise, decides_nothing_alone, obeys_before_it_acknowledges, rolls_back,
              aborts_at_work, knows_nothing, tickets, commit_at_work, noise, killed_at_prepare, killed_at_prepare, killed_at_prepare,
              killed_at_outcome, killed_after_its_word, killed_after_its_word, database_killed_at_prepare, operator, locks,
-             locks_free_each_other]
+             locks_free_each_other, votes_for_its_application, asks_for_its_application]
 
 
 def drive(p, rounds, only=(), first=False, out=print):

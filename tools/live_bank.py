@@ -122,7 +122,7 @@ class Bank:
                 return
             much, way = self.chance.randrange(1, 60), self.chance.choice("+-")
             back = "-" if way == "+" else "+"
-            if self.chance.random() < 0.02:
+            if self.chance.random() < self.a.reads:
                 works = [(self.root, txn, PG, "get", ""), (self.middle, below, MY, "get", "")]
             else:
                 works = [(self.root, txn, PG, "put", f" {way}{much}"), (self.middle, below, MY, "put", f" {back}{much}")]
@@ -197,7 +197,7 @@ class World:
         self.a, self.folder, (self.pg, self.my), self.seed = arguments, folder, servers[:2], seed
         self.name, self.presumptions = f"bank{seed}{presumptions.replace(',', '')}", presumptions
         self.rstar = arguments.rstar or str(TOP / "crates" / "rstar" / "out" / "rstar")
-        self.tree = folder / "tree.toml"
+        self.tree, self.running = folder / "tree.toml", {}
         self.tree.write_text(TREE)
 
     def node(self, number):
@@ -258,9 +258,9 @@ class World:
             await program.up()
         for txn in bank.begun:
             await bank.give_up(txn)
-        left = []
+        left, quiet = [], 0
         for _ in range(200):
-            left = []
+            left = self.under_way()
             for number, program in programs.items():
                 try:
                     doubts = [line.split(" ")[1] for line in await program.ask("doubt") if line.startswith("doubt ")]
@@ -269,10 +269,16 @@ class World:
                         await program.ask(f"ask {case}")
                 except Died:  # a leaf ends with its database, and is started again
                     left.append(f"process {number} ended")
-            if not left:
+            # at a second look: a leaf makes lines side by side, so a promise may be made while it says what is promised
+            quiet = 0 if left else quiet + 1
+            if quiet == 2:
                 break
             await asyncio.sleep(0.3)
         return left
+
+    def under_way(self):
+        """What still waits to be delivered."""
+        return []
 
     def audit(self):
         """A leaf's log is its database: to the audit it has a log with nothing in it."""
@@ -312,13 +318,18 @@ class World:
     async def started(self, trace=None):
         """The application and the programs of the tree, all of them up."""
         net = self.net(trace)
-        programs = net.programs = self.programs(net)
+        programs = net.programs = self.running = self.programs(net)
         for program in programs.values():
             program.start()
         bank = Bank(self, net, self.seed, self.presumptions)
         for program in programs.values():
             await program.up()
         return bank, programs
+
+    def stop(self):
+        """Nothing of the tree outlives a trial that was told to end."""
+        for program in self.running.values():
+            program.kill()
 
     async def run(self, txns, kills):
         """Gives what is wrong, and what is to be said of the run."""
@@ -408,7 +419,7 @@ def plain(pg, my, txns, at_once, name):
 
     def worker(number):
         chance = random.Random(number)
-        sessions = [leaf_postgres.Session("plain", "bank", 5), leaf_mariadb.Session(command, 5)]
+        sessions = [leaf_postgres.Session("plain", "bank", 0.5), leaf_mariadb.Session(command, 0.5)]  # the leaves' own wait for a lock
 
         def both(*texts):
             """A statement in each, both on their way at once."""
@@ -487,7 +498,10 @@ def runs(arguments, room, servers, make):
             folder = room / f"run{seed}{presumptions.replace(',', '')}"
             folder.mkdir()
             world = make(arguments, folder, servers, seed, presumptions)
-            wrong, says = asyncio.run(world.run(arguments.txns, arguments.kills))
+            try:
+                wrong, says = asyncio.run(world.run(arguments.txns, arguments.kills))
+            finally:
+                world.stop()
             print("\n".join(says))
             print("  WRONG: " + "; ".join(str(it) for it in wrong) if wrong
                   else f"  {world.money_says}; nothing prepared, {world.audit_says}", flush=True)
@@ -507,6 +521,7 @@ def parser_of(way, doc, **defaults):
     parser.add_argument("--patience", type=float, default=2.0, metavar="SECONDS", help="until a join is sent again; four times so long for an outcome")
     parser.add_argument("--own", type=float, default=0.05, metavar="P",
                         help="of a transfer under Presumed Abort: the application works and prepares in PostgreSQL by itself; 0.05")
+    parser.add_argument("--reads", type=float, default=0.02, metavar="P", help="of a transfer: it only reads; 0.02")
     parser.add_argument("--trim", type=int, default=0, metavar="N", help="the nodes are trimmed after each N transfers")
     parser.add_argument("--rstar", help="the program; crates/rstar/out/rstar if none is named")
     parser.add_argument("--keep", metavar="FOLDER", help="a folder for all files, which stays, with what was said by each process")
@@ -530,7 +545,7 @@ def main(words):
     try:
         with live_servers.Servers(room, live_servers.Postgres, live_servers.MariaDB) as servers:
             if arguments.pairs:
-                arguments.lose = arguments.again = arguments.late = arguments.own = 0.0
+                arguments.lose = arguments.again = arguments.late = arguments.own = arguments.reads = 0.0
                 arguments.presumptions = arguments.presumptions.split("/")[-1]
                 return pairs(arguments, room, servers)
             return runs(arguments, room, servers, World)

@@ -85,9 +85,14 @@ class Stage:
         def kill():
             server.kill()
             server.start()
+
+        def prepare(case):
+            gid = f"t{n}:{case}"
+            server.ask(f"BEGIN; UPDATE account SET balance = balance + 1 WHERE id = 'n{n}'; "
+                       f"INSERT INTO rstar_ended VALUES ('{gid}', 'commit'); PREPARE TRANSACTION '{gid}'")
         return Case(name, command, put=f"put n{n} +1", get=f"get n{n}", env={**server.env, **(env or {})},
                     value=lambda _: int(server.ask(f"SELECT balance FROM account WHERE id = 'n{n}'")[0]),
-                    kill_database=kill if own else None)
+                    kill_database=kill if own else None, prepare=prepare)
 
     def mariadb(self, name, words=None, own=False, env=None):
         server, n = (self.own if own else self.server)(live_servers.MariaDB), self.number()

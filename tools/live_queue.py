@@ -77,6 +77,10 @@ class Queue(World):
         """No net at all: the queue carries. What is lost and late is what kills make so."""
         return Net(random.Random(self.seed + 7), trace=trace, errors=open(self.folder / "errors", "ab"))
 
+    def under_way(self):
+        lengths = {f"{self.name}.{number}": self.redis.length(f"{self.name}.{number}") for number in NAMES}
+        return [f"{length} messages in {stream}" for stream, length in lengths.items() if length]
+
     def victims(self, programs):
         chance = random.Random(self.seed + 9)
 

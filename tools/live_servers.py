@@ -212,6 +212,13 @@ class Redis(Server):
         except OSError:
             return False
 
+    def length(self, stream):
+        """How many messages of a stream were not yet answered by their receiver."""
+        with socket.create_connection(("127.0.0.1", self.port), PATIENCE) as it, it.makefile("rwb") as lines:
+            lines.write(f"XLEN {stream}\r\n".encode())
+            lines.flush()
+            return int(lines.readline()[1:])
+
 
 class ActiveMQ(Server):
     name, polite = "mq", signal.SIGTERM
