@@ -17,7 +17,7 @@ use xa_xid::Xid;
 
 /// What a line answers, a value in the line.
 #[derive(Drop)]
-pub(crate) enum Said<'a> {
+pub enum Said<'a> {
     Code(Code),
     Given(Vec<Xid>),
     Found(&'a str),

@@ -14,7 +14,7 @@ use xa_xid::Xid;
 
 /// What a line asks for, its keys and values in the line.
 #[derive(Clone, Copy)]
-pub(crate) enum Asked<'a> {
+pub enum Asked<'a> {
     Open(Flags),
     Close(Flags),
     Branch(BranchVerb, u32, Xid, Flags),
@@ -32,7 +32,7 @@ pub(crate) const NONE: &str = "none";
 
 /// What the first word of a line asks for.
 #[derive(Clone, Copy)]
-pub(crate) enum Word {
+pub enum Word {
     Open,
     Close,
     Branch(BranchVerb),
