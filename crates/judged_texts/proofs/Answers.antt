@@ -1,7 +1,7 @@
 -- The words of an answer's line, and what they say.
 use Rattle.std.proofs.Common.{◌≡◌, ℕ, ◌<◌, ◌^◌, Bool, true, false, cond, List, [], ◌∷◌, ◌++◌, length, map, Bor, Option, Some, None, refl, suc, sym, ap, ◌∙◌, subst, codes, zero, arith, replicate, IsAscii, IsUtf8}
-use Rattle.std.specs.Prelude.{◌||◌, nat_eq, nat_le, ◌&&◌}
-use Rattle.std.specs.Cmp.Lexicographic.{bytes_decides, pointwise}
+use Rattle.std.specs.Prelude.{◌||◌}
+use Rattle.std.specs.Cmp.Lexicographic.{bytes_decides}
 use Rattle.std.specs.Fmt.{decimal}
 use Rattle.std.specs.Global.{Global, Vec}
 use Rattle.std.specs.String.{string_vec}
@@ -9,7 +9,7 @@ use Rattle.std.specs.Vec.{with_items}
 use Rattle.std.specs.Vec.Covariant.{in_vec}
 use Rattle.std.proofs.StringFromBytes.{spelled}
 use Rattle.std.proofs.lemmas.Str.{IsUtf8-from_ascii}
-use Rattle.std.specs.List.{AllByRecursion, flat_map, list_all}
+use Rattle.std.specs.List.{AllByRecursion, flat_map}
 use Rattle.std.proofs.lemmas.List.{append-nil, length-replicate, with_items_is}
 use Rattle.spellings.specs.Numerals.{number_at}
 use Rattle.spellings.proofs.Numerals.{number_again}

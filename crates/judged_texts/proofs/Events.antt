@@ -1,6 +1,6 @@
 -- A line of a transcript, read as the event that a request with its answer is.
-use Rattle.std.proofs.Common.{◌≡◌, ◌≢◌, ℕ, zero, suc, ◌<◌, Bool, true, false, cond, List, [], ◌∷◌, ◌++◌, length, map, Option, Some, None, refl, sym, ap, ◌∙◌, subst, arith, codes, inl, inr}
-use Rattle.std.specs.Prelude.{IsSomeAnd, is_some}
+use Rattle.std.proofs.Common.{◌≡◌, ◌≢◌, ℕ, ◌<◌, Bool, true, false, List, [], ◌∷◌, ◌++◌, length, map, Option, Some, None, refl, sym, ap, ◌∙◌, subst, codes, inl, inr}
+use Rattle.std.specs.Prelude.{IsSomeAnd}
 use Rattle.std.proofs.lemmas.Bool.{cases_Bool}
 use Rattle.xa_codes.specs.declared.flags.Flags.{Flags}
 use Rattle.xa_codes.specs.declared.code.Code.{Code as AnyCode}
@@ -8,7 +8,6 @@ use Rattle.xa_xid.specs.Xids.{null_xid}
 use Rattle.xa_xid.specs.declared.xid.Xid.{Xid}
 use Rattle.xa_branch.specs.Names.{same}
 use Rattle.xa_branch.proofs.Names.{same_is, same_refl}
-use Rattle.tree_model.specs.declared.messages.Op.{Op}
 use Rattle.tree_model.specs.declared.messages.Op.TheVariants.{Put, Get, Delete}
 use Rattle.judge_rules.specs.declared.calls.Answer.{Answer as Judged}
 use Rattle.judge_rules.specs.declared.calls.Answer.TheVariants as judged
@@ -17,7 +16,6 @@ use Rattle.judge_rules.specs.declared.calls.Call.{Call}
 use Rattle.judge_rules.specs.declared.calls.Call.TheVariants as call
 use Rattle.judge_rules.specs.declared.calls.Event.{Event}
 use Rattle.judge_rules.specs.declared.calls.Function.TheVariants as function
-use Rattle.judge_rules.specs.declared.calls.XidName.{XidName}
 use Rattle.judge_rules.specs.declared.calls.XidSort.{XidSort}
 use Rattle.judge_rules.specs.declared.calls.XidSort.TheVariants as sort
 use Rattle.judge_script.specs.declared.asking.Asked.{Asked}
@@ -26,14 +24,14 @@ use Rattle.judge_script.specs.declared.asking.Word.{Word}
 use Rattle.judge_script.specs.declared.answers.Said.{Said}
 use Rattle.judge_script.specs.declared.answers.Said.TheVariants as said
 use Rattle.judge_script.specs.Askings.{Asks, AsksBy, word_at}
-use Rattle.judge_script.specs.Answers.{Says, SaysBy}
+use Rattle.judge_script.specs.Answers.{Says}
 use Rattle.judge_script.specs.Numbers.{ArePlaces, IsAnswer, IsCall, IsEvent, IsPlace, IsSort, NameTable}
 use Rattle.xa_engine.specs.declared.script.request.Request.{Request}
 use Rattle.xa_engine.specs.declared.script.request.Request.TheVariants.{Open, Close, Branch, Recover, Work, Restart, Trim, Decide}
 use Rattle.xa_engine.specs.declared.answer.Answer.{Answer}
 use Rattle.xa_engine.specs.declared.answer.Answer.TheVariants as answer
-use Rattle.judged_deeds.specs.Deeds.{IsGiven, is_commit, on}
-use Rattle.judged_deeds.specs.Names.{Numbers, are_none, sort_of, value_number}
+use Rattle.judged_deeds.specs.Deeds.{IsGiven, on}
+use Rattle.judged_deeds.specs.Names.{Numbers, are_none, sort_of}
 use Rattle.judged_runs.specs.Events.{IsEvent as IsRequestEvent, Says as SaysNumbered, call_of, verb_of}
 use Rattle.judged_texts.proofs.Numbers.{append_one}
 use Rattle.judged_texts.proofs.Requests.{IsWorded, Same}

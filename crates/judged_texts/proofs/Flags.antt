@@ -1,8 +1,8 @@
 -- The texts of flags and of XIDs are words, and spell one thing.
-use Rattle.std.proofs.Common.{◌≡◌, ℕ, ◌+◌, ◌<◌, Bool, true, false, not, cond, eqb, List, [], ◌∷◌, ◌++◌, length, map, get_or, Option, Some, None, refl, ap, sym, ◌∙◌, subst, arith, codes, All, ℤ, pos, negsuc, suc, ◌/◌, ◌%◌}
+use Rattle.std.proofs.Common.{◌≡◌, ℕ, ◌+◌, ◌<◌, Bool, true, false, not, cond, eqb, List, [], ◌∷◌, ◌++◌, length, map, Option, Some, None, refl, ap, sym, ◌∙◌, subst, arith, codes, All, ℤ, pos, negsuc, suc, ◌/◌, ◌%◌}
 use Rattle.std.specs.Prelude.{bit_or, nat_le, ◌&&◌}
-use Rattle.std.specs.Fmt.{decimal, signed_decimal}
-use Rattle.std.specs.List.{AllByRecursion, list_all, slice_split, join_with_byte, fold}
+use Rattle.std.specs.Fmt.{signed_decimal}
+use Rattle.std.specs.List.{AllByRecursion, list_all, join_with_byte, fold}
 use Rattle.std.specs.Str.{bytes_eq}
 use Rattle.std.proofs.lemmas.Bool.{and_parts}
 use Rattle.std.proofs.lemmas.List.Elements.{All-cons, All-nil}
@@ -16,7 +16,7 @@ use Rattle.xa_codes.proofs.Names.{read, words}
 use Rattle.xa_xid.specs.Text.{xid_text}
 use Rattle.xa_xid.specs.Xids.{IsXid, XidParts}
 use Rattle.xa_xid.proofs.Spelling.{one_text}
-use Rattle.judged_texts.proofs.Words.{IsSeen, IsWord, decimal_word, index_seen, seen, word_append, word_is}
+use Rattle.judged_texts.proofs.Words.{IsWord, decimal_word, index_seen, seen, word_append, word_is}
 
 -- a byte of the name of a flag: visible, and no plus sign
 abbrev is_named : ℕ → Bool

@@ -2,12 +2,10 @@
 use Rattle.std.proofs.Common.{◌≡◌, ◌≢◌, ℕ, zero, suc, ◌+◌, ◌<◌, ◌⊎◌, Bool, true, false, cond, List, [], ◌∷◌, ◌++◌, length, map, take, Option, Some, None, refl, sym, ap, ◌∙◌, subst, arith, codes, inl, inr}
 use Rattle.std.specs.Prelude.{IsSomeAnd, nat_eq, slice_index_or}
 use Rattle.std.specs.Cmp.Lexicographic.{bytes_decides, pointwise}
-use Rattle.std.specs.Global.{Global, Vec}
+use Rattle.std.specs.Global.{Global}
 use Rattle.std.specs.Vec.{vec_allocator}
 use Rattle.std.specs.Vec.Covariant.{in_vec}
-use Rattle.std.specs.List.{AllByRecursion}
 use Rattle.std.specs.Str.Lines.{lines}
-use Rattle.std.proofs.lemmas.Bool.{cases_Bool}
 use Rattle.xa_xid.specs.Xids.{null_xid}
 use Rattle.xa_xid.specs.declared.xid.Xid.{Xid}
 use Rattle.xa_branch.specs.Names.{same}
@@ -30,7 +28,7 @@ use Rattle.judge_script.specs.declared.reading.Transcript.{Transcript}
 use Rattle.judge_script.specs.Askings.{AsksBy, word_at}
 use Rattle.judge_script.specs.Headers.{ruled}
 use Rattle.judge_script.specs.Numbers.{ArePlaces, IsAnswer, IsCall, IsEvent, IsPlace, IsSort, NameTable, table_of}
-use Rattle.judge_script.specs.Transcripts.{AreEvents, AreTranscript, IsBadLine, IsFirstBadLine, IsNoLine, kept_lines}
+use Rattle.judge_script.specs.Transcripts.{AreEvents, AreTranscript, IsBadLine, IsFirstBadLine, IsNoLine}
 use Rattle.judge_script.specs.Words.{words_in}
 use Rattle.xa_engine.specs.declared.script.request.Request.{Request}
 use Rattle.xa_engine.specs.declared.answer.Answer.{Answer}
@@ -41,7 +39,7 @@ use Rattle.judged_texts.proofs.Numbers.{number_by, xid_key, xid_key_one}
 use Rattle.judged_texts.proofs.Requests.{IsWorded}
 use Rattle.judged_texts.proofs.Answers.{IsSpoken}
 use Rattle.judged_texts.proofs.Events.{heads, words_with}
-use Rattle.judged_texts.proofs.Reading.{AreRows, Last, Row, answer_line, are_rows, calls_kept, first_no_event, made_lines, row_words, rows}
+use Rattle.judged_texts.proofs.Reading.{AreRows, Last, Row, are_rows, calls_kept, first_no_event, made_lines, row_words, rows}
 
 -- Names of a list.
 

@@ -1,8 +1,8 @@
 -- Numbers for all names, which those of a table keep.
-use Rattle.std.proofs.Common.{◌≡◌, ◌≢◌, ℕ, zero, suc, ◌+◌, ◌*◌, ◌<◌, Bool, true, false, cond, List, [], ◌∷◌, ◌++◌, length, refl, ap, sym, ◌∙◌, subst, arith, codes, ℤ, pos, negsuc, inl, inr}
-use Rattle.std.specs.Prelude.{nat_eq, slice_index_or}
+use Rattle.std.proofs.Common.{◌≡◌, ◌≢◌, ℕ, zero, suc, ◌+◌, ◌*◌, ◌<◌, Bool, true, false, cond, List, [], ◌∷◌, ◌++◌, length, refl, ap, sym, ◌∙◌, arith, ℤ, pos, negsuc, inl, inr}
+use Rattle.std.specs.Prelude.{nat_eq}
 use Rattle.std.specs.Cmp.Lexicographic.{bytes_decides, pointwise}
-use Rattle.std.proofs.lemmas.Bool.{cases_Bool, false≢true}
+use Rattle.std.proofs.lemmas.Bool.{cases_Bool}
 use Rattle.xa_xid.specs.Xids.{XidParts}
 use Rattle.judge_script.specs.Numbers.{AreApart, IsPlace}
 

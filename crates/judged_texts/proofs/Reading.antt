@@ -1,12 +1,11 @@
 -- The judge reads a script with its report as the requests with their answers.
-use Rattle.std.proofs.Common.{◌≡◌, ◌≢◌, ℕ, zero, suc, ◌+◌, ◌<◌, Bool, true, false, not, cond, List, [], ◌∷◌, ◌++◌, length, map, Option, Some, None, refl, sym, ap, ◌∙◌, subst, arith, append_assoc, codes, inl, inr}
-use Rattle.std.specs.Prelude.{◌||◌, ◌==◌, nat_eq, slice_index}
-use Rattle.std.specs.Cmp.Lexicographic.{bytes_decides, pointwise}
-use Rattle.std.specs.Global.{Global, Vec}
+use Rattle.std.proofs.Common.{◌≡◌, ◌≢◌, ℕ, suc, ◌+◌, ◌<◌, Bool, true, false, not, cond, List, [], ◌∷◌, ◌++◌, length, Option, Some, None, refl, sym, ap, ◌∙◌, subst, arith, append_assoc, codes}
+use Rattle.std.specs.Prelude.{◌||◌, ◌==◌}
+use Rattle.std.specs.Cmp.Lexicographic.{bytes_decides}
+use Rattle.std.specs.Global.{Global}
 use Rattle.std.specs.Vec.{vec_allocator}
-use Rattle.std.specs.List.{AllByRecursion, filter, flat_map}
+use Rattle.std.specs.List.{AllByRecursion, flat_map}
 use Rattle.std.specs.Str.Lines.{lines}
-use Rattle.std.proofs.lemmas.Bool.{cases_Bool}
 use Rattle.std.proofs.lemmas.Bool.Decides.{nat_tests}
 use Rattle.std.proofs.lemmas.List.{length-append}
 use Rattle.script_words.specs.Lines.{is_skipped}
@@ -16,7 +15,7 @@ use Rattle.judge_rules.specs.declared.words.Rules.{Rules}
 use Rattle.judge_script.specs.declared.asking.Word.{Word}
 use Rattle.judge_script.specs.declared.reading.Transcript.{Transcript}
 use Rattle.judge_script.specs.Askings.{word_at}
-use Rattle.judge_script.specs.Headers.{excuses, no_rules, promises, ruled}
+use Rattle.judge_script.specs.Headers.{no_rules, ruled}
 use Rattle.judge_script.specs.Numbers.{AreApart, IsEvent, IsPlace, NameTable, table_of}
 use Rattle.judge_script.specs.Transcripts.{AreEvents, AreTranscript, IsTranscript, kept_lines, ruled_by}
 use Rattle.judge_script.specs.Words.{is_blank, words_in}
@@ -24,12 +23,11 @@ use Rattle.xa_engine.specs.declared.script.request.Request.{Request}
 use Rattle.xa_engine.specs.declared.answer.Answer.{Answer}
 use Rattle.xa_engine.specs.Answers.{answer_text}
 use Rattle.xa_engine.specs.Runs.{report_text}
-use Rattle.xa_engine.specs.script.Requests.{Spells}
 use Rattle.xa_engine.specs.script.Scripts.{IsScript, SpellEach, call_lines}
 use Rattle.judged_deeds.specs.Names.{Numbers, lacks_forced}
-use Rattle.judged_runs.specs.Events.{AreEvents as AreRequests, IsEvent as IsRequestEvent}
-use Rattle.judged_texts.specs.Texts.{AreReadable, IsReadAs, IsReadable, header, joined, transcript, transcript_lines}
-use Rattle.judged_texts.proofs.Words.{AreLines, AreWords, IsLine, line_append, line_of, line_words, lines_again, lines_join, text_of, word_is, word_line, words_again, words_append}
+use Rattle.judged_runs.specs.Events.{AreEvents as AreRequests}
+use Rattle.judged_texts.specs.Texts.{AreReadable, IsReadAs, joined, transcript, transcript_lines}
+use Rattle.judged_texts.proofs.Words.{AreLines, AreWords, IsLine, line_of, line_words, lines_again, lines_join, text_of, word_is, word_line, words_again, words_append}
 use Rattle.judged_texts.proofs.Numbers.{number_by, number_one, number_place, word_key, word_key_one, xid_key, xid_key_one}
 use Rattle.judged_texts.proofs.Requests.{IsWorded, worded}
 use Rattle.judged_texts.proofs.Answers.{IsSpoken, spoken}

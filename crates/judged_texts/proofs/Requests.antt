@@ -1,7 +1,7 @@
 -- The words of a script's line, and what they ask for.
-use Rattle.std.proofs.Common.{◌≡◌, ℕ, zero, suc, ◌+◌, ◌<◌, ◌≤◌, ◌^◌, ◌⊎◌, Bool, true, false, not, cond, List, [], ◌∷◌, ◌++◌, length, All, Bor, Option, Some, None, refl, sym, ap, ◌∙◌, subst, inl, inr, arith, codes}
-use Rattle.std.specs.Prelude.{◌||◌, ◌&&◌, IsSome, IsSomeAnd, is_some, nat_eq, nat_le}
-use Rattle.std.specs.Cmp.Lexicographic.{bytes_decides, pointwise}
+use Rattle.std.proofs.Common.{◌≡◌, ℕ, ◌+◌, ◌<◌, ◌^◌, ◌⊎◌, Bool, true, false, cond, List, [], ◌∷◌, ◌++◌, length, All, Bor, Option, Some, None, refl, sym, ap, ◌∙◌, subst, inl, inr, arith, codes}
+use Rattle.std.specs.Prelude.{◌||◌, ◌&&◌, IsSome, IsSomeAnd, is_some, nat_le}
+use Rattle.std.specs.Cmp.Lexicographic.{bytes_decides}
 use Rattle.std.specs.Char.{IsAsciiAlphabetic}
 use Rattle.std.specs.List.{list_all}
 use Rattle.std.proofs.lemmas.List.Elements.{All-head}
@@ -19,7 +19,6 @@ use Rattle.tree_model.specs.declared.names.Outcome.TheVariants.{Committed, Abort
 use Rattle.xa_codes.specs.FlagNames.{IsFlagText}
 use Rattle.xa_codes.specs.declared.flags.Flags.{Flags}
 use Rattle.xa_xid.specs.declared.xid.Xid.{Xid}
-use Rattle.judge_rules.specs.declared.calls.BranchVerb.{BranchVerb}
 use Rattle.judge_script.specs.declared.asking.Asked.{Asked}
 use Rattle.judge_script.specs.declared.asking.Asked.TheVariants as asked
 use Rattle.judge_script.specs.declared.asking.Word.{Word}
@@ -36,7 +35,7 @@ use Rattle.xa_engine.specs.declared.script.request.Request.TheVariants.{Open, Cl
 use Rattle.xa_engine.specs.script.Requests.{IsInfo, IsName, IsNumber, IsOpenOf, Spells, SpellsBy, SpellsCall, SpellsCut, SpellsTask, alone_by, first_of_three, last_two, three_at, word_at}
 use Rattle.judged_deeds.specs.Deeds.{is_commit}
 use Rattle.judged_runs.specs.Events.{verb_of}
-use Rattle.judged_texts.proofs.Words.{AreWords, IsWord, index_seen, letters_word, line_of, word_is}
+use Rattle.judged_texts.proofs.Words.{AreWords, IsWord, letters_word, line_of, word_is}
 use Rattle.judged_texts.proofs.Flags.{flags_word, number_word, one_flags, one_name, one_number, xid_word}
 use Rattle.judged_texts.proofs.Numbers.{append_one}
 

@@ -1,15 +1,13 @@
 -- Words of visible bytes, and lines of such words.
-use Rattle.std.proofs.Common.{◌≡◌, ℕ, zero, suc, ◌+◌, ◌/◌, ◌%◌, ◌<◌, ◌≤◌, Bool, true, false, cond, eqb, List, [], ◌∷◌, ◌++◌, length, All, get_or, refl, sym, ap, ◌∙◌, arith, append_assoc, codes, IsAscii, IsUtf8, inl, inr, ◌-◌}
-use Rattle.std.specs.Prelude.{◌==◌, ◌&&◌, nat_le, nat_lt, slice_index}
+use Rattle.std.proofs.Common.{◌≡◌, ℕ, zero, suc, ◌+◌, ◌/◌, ◌%◌, ◌<◌, ◌≤◌, Bool, true, false, cond, List, [], ◌∷◌, ◌++◌, length, All, refl, sym, ap, ◌∙◌, arith, append_assoc, inl, inr, ◌-◌}
+use Rattle.std.specs.Prelude.{◌==◌, ◌&&◌, nat_le, slice_index}
 use Rattle.std.specs.Fmt.{decimal, digits, digits_onto, digit_glyph}
 use Rattle.std.specs.Char.{IsAsciiAlphabetic}
-use Rattle.std.specs.List.{AllByRecursion, flat_map, join_with_byte, list_all, onto_first, slice_split}
+use Rattle.std.specs.List.{AllByRecursion, flat_map, join_with_byte, list_all, slice_split}
 use Rattle.std.specs.Str.Lines.{lines, lines_of_parts, strip_carriage_return}
 use Rattle.std.proofs.lemmas.Bool.{and_parts}
 use Rattle.std.proofs.lemmas.Bool.Decides.{nat_tests}
 use Rattle.std.proofs.lemmas.List.Elements.{All-head, All-tail}
-use Rattle.std.proofs.lemmas.List.{append-nil}
-use Rattle.std.proofs.lemmas.Str.{IsUtf8-from_ascii}
 
 pub same_again : (w : List ℕ) → w ≡ w
 same_again w = refl
@@ -193,24 +191,3 @@ lines_ended (l ∷ ls) h =
 -- the lines of a text are the lines of which it is made
 pub lines_again : (ls : List (List ℕ)) → AreLines ls → lines (text_of ls) ≡ ls
 lines_again ls h = ap lines_of_parts (text_pieces ls h) ∙ lines_ended ls h
-
--- Such a text is UTF-8.
-
-abbrev AreAscii : List ℕ → Type 0
-AreAscii s = AllByRecursion (λ c. c < 128) s
-
-line_ascii : (line rest : List ℕ) → IsLine line → AreAscii rest → AreAscii ((line ++ 10 ∷ []) ++ rest)
-line_ascii [] rest h k = (omega arith, k)
-line_ascii (c ∷ line) rest h k = (h.0.ascii, line_ascii line rest h.1 k)
-
-text_ascii : (ls : List (List ℕ)) → AreLines ls → AreAscii (text_of ls)
-text_ascii [] h = tt
-text_ascii (l ∷ ls) h = line_ascii l (text_of ls) h.0 (text_ascii ls h.1)
-
-ascii : (s : List ℕ) → AreAscii s → IsAscii s
-ascii [] h i = omega arith
-ascii (c ∷ cs) h zero = h.0
-ascii (c ∷ cs) h (suc i) = ascii cs h.1 i
-
-pub text_utf8 : (ls : List (List ℕ)) → AreLines ls → IsUtf8 (text_of ls)
-text_utf8 ls h = IsUtf8-from_ascii (text_of ls) (ascii (text_of ls) (text_ascii ls h))
