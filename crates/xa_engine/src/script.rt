@@ -5,4 +5,4 @@ mod request;
 
 pub use reading::{ScriptError, asking_lines, requests_of};
 pub(crate) use request::request_of;
-pub use request::{BranchCall, Request};
+pub use request::{BranchCall, Call, Request, Word};

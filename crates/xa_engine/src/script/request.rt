@@ -73,7 +73,7 @@ pub enum Request {
 
 /// What the first word of a line asks for.
 #[derive(Clone, Copy, PartialEq, Eq)]
-enum Word {
+pub enum Word {
     Call(Call),
     /// An operation on data.
     Work,
@@ -81,7 +81,7 @@ enum Word {
 
 /// A call of a function, a restart, a trim or an operator's decision.
 #[derive(Clone, Copy, PartialEq, Eq)]
-enum Call {
+pub enum Call {
     Open,
     Close,
     Recover,

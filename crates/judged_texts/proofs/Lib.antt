@@ -1,0 +1,9 @@
+mod Words
+mod Flags
+mod Numbers
+mod Requests
+mod Answers
+mod Events
+mod Reading
+mod Lacking
+mod Conforming
