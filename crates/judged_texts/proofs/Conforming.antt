@@ -16,6 +16,7 @@ use Rattle.judged_deeds.specs.Names.{lacks_forced}
 use Rattle.judged_runs.proofs.Histories.{runs_legal}
 use Rattle.judged_texts.specs.Texts.{AreReadable, IsReadAs, transcript}
 use Rattle.judged_texts.proofs.Reading.{transcript_read}
+use Rattle.judged_texts.proofs.Naming.{next_named}
 
 -- a run has as many answers as requests
 answered : (m k : KvSight) (rs : List Request) (given : List Answer) → Leads m rs given k → length given ≡ length rs

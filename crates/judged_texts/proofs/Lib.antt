@@ -6,4 +6,5 @@ mod Answers
 mod Events
 mod Reading
 mod Lacking
+mod Naming
 mod Conforming
