@@ -7,4 +7,5 @@ mod Events
 mod Reading
 mod Lacking
 mod Naming
+mod Readable
 mod Conforming

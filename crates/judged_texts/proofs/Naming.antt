@@ -62,6 +62,11 @@ either_one : {X : Type 0} (P : X → Type 0) (b : Bool) (x y : X) → P x → P 
 either_one P true x y h k = h
 either_one P false x y h k = k
 
+-- an answer came
+abbrev pub Came : Answer → Type 0
+Came answer.Hung = ⊥
+Came _ = Unit {0}
+
 module _ (P Q : ℕ → Type 0) where
   abbrev OfBranch : Branch → Type 0
   OfBranch b = P b.name
@@ -329,11 +334,6 @@ module _ (P Q : ℕ → Type 0) where
       (all_filter OfBranch _ s.lost h.1) (u, tt)) (u, tt)
 
   -- The states that may follow.
-
-  -- an answer came
-  abbrev pub Came : Answer → Type 0
-  Came answer.Hung = ⊥
-  Came _ = Unit {0}
 
   rows_named : (r : Rules) (v : BranchVerb) (s : Sight) (o : On) (a : Reply) → P o.xid.number → IsNamed s
       → AreNamed (branch_rows r v s o a)
