@@ -107,7 +107,12 @@ module _ (P Q : ℕ → Type 0) where
   stands_named x to s h = (
     all_map OfBranch OfBranch (λ (b : Branch). if b.name == x then with_stand to b else b)
         (λ b k. either_one OfBranch (b.name == x) (with_stand to b) b k k) s.branches h.0,
-    h.1, h.2, h.3, h.4, h.5, h.6,
+    h.1,
+    h.2,
+    h.3,
+    h.4,
+    h.5,
+    h.6,
   )
 
   begun_named : (t x : ℕ) (s : Sight) → P x → IsNamed s → IsNamed (begun t x s)
@@ -115,10 +120,14 @@ module _ (P Q : ℕ → Type 0) where
 
   enlisted_named : (x : ℕ) (s : Sight) → P x → IsNamed s → IsNamed (enlisted x s)
   enlisted_named x s p h = (
-    h.0, h.1,
+    h.0,
+    h.1,
     all_append OfLine s.listed (new_lines x (scans_without x s.listed s.scans)) h.2
         (all_made OfLine _ (λ t. p) (scans_without x s.listed s.scans)),
-    h.3, h.4, h.5, h.6,
+    h.3,
+    h.4,
+    h.5,
+    h.6,
   )
 
   prepared_named : (x : ℕ) (s : Sight) → P x → IsNamed s → IsNamed (prepared x s)
@@ -126,21 +135,34 @@ module _ (P Q : ℕ → Type 0) where
 
   gone_named : (x : ℕ) (s : Sight) → IsNamed s → IsNamed (gone x s)
   gone_named x s h = (
-    all_filter OfBranch _ s.branches h.0, h.1,
+    all_filter OfBranch _ s.branches h.0,
+    h.1,
     all_map OfLine OfLine (λ (l : Listed). if l.branch == x then without_due l else l)
         (λ l k. either_one OfLine (l.branch == x) (without_due l) l k k) s.listed h.2,
-    all_filter OfWork _ s.works h.3, h.4, h.5, h.6,
+    all_filter OfWork _ s.works h.3,
+    h.4,
+    h.5,
+    h.6,
   )
 
   remembered_named : (x : ℕ) (s : Sight) → IsNamed s → IsNamed (remembered x s)
   remembered_named x s h = named_if (is_prepared_at x s) _ s (
-    h.0, all_append OfBranch _ _ (all_filter OfBranch _ s.lost h.1) (all_filter OfBranch _ s.branches h.0), h.2, h.3,
-    all_append OfWork _ _ (all_filter OfWork _ s.lost_works h.4) (all_filter OfWork _ s.works h.3), h.5, h.6,
+    h.0,
+    all_append OfBranch _ _ (all_filter OfBranch _ s.lost h.1) (all_filter OfBranch _ s.branches h.0),
+    h.2,
+    h.3,
+    all_append OfWork _ _ (all_filter OfWork _ s.lost_works h.4) (all_filter OfWork _ s.works h.3),
+    h.5,
+    h.6,
   ) h
 
   published_named : (x : ℕ) (sure : Bool) (s : Sight) → IsNamed s → IsNamed (published x sure s)
   published_named x sure s h = (
-    h.0, h.1, h.2, all_filter OfWork _ s.works h.3, h.4,
+    h.0,
+    h.1,
+    h.2,
+    all_filter OfWork _ s.works h.3,
+    h.4,
     all_append OfWrite s.values _ h.5
         (all_map OfWork OfWrite _ (λ w k. k) (works_of x s.works) (all_filter OfWork _ s.works h.3)),
     h.6,
@@ -172,8 +194,11 @@ module _ (P Q : ℕ → Type 0) where
   back_named : (b : Branch) (ws : List Work) (s : Sight) → OfBranch b → AllByRecursion OfWork ws → IsNamed s
       → IsNamed (brought_back b ws s)
   back_named b ws s p w h = (
-    all_append OfBranch s.branches (b ∷ []) h.0 (p, tt), h.1, h.2,
-    all_append OfWork s.works (works_of b.name ws) h.3 (all_filter OfWork _ ws w), h.4,
+    all_append OfBranch s.branches (b ∷ []) h.0 (p, tt),
+    h.1,
+    h.2,
+    all_append OfWork s.works (works_of b.name ws) h.3 (all_filter OfWork _ ws w),
+    h.4,
     all_map OfWrite OfWrite (λ (v : Write). if is_of b.name v.branch then without_surety v else v)
         (λ v k. either_one OfWrite (is_of b.name v.branch) (without_surety v) v k k) s.values h.5,
     h.6,
@@ -186,20 +211,28 @@ module _ (P Q : ℕ → Type 0) where
 
   scan_in_named : (t f : ℕ) (s : Sight) → IsNamed s → IsNamed (scan_in t f s)
   scan_in_named t f s h = named_if _ (scan_opened t s) s (
-    h.0, h.1,
+    h.0,
+    h.1,
     all_append OfLine _ _ (all_filter OfLine _ s.listed h.2)
         (all_map OfBranch OfLine _ (λ b k. k) (filter is_in_doubt s.branches) (all_filter OfBranch is_in_doubt s.branches h.0)),
-    h.3, h.4, h.5, h.6,
+    h.3,
+    h.4,
+    h.5,
+    h.6,
   ) h
 
   scan_after_named : (t f : ℕ) (xs : List ℕ) (s : Sight) → IsNamed s → IsNamed (scan_after t f xs s)
   scan_after_named t f xs s h = named_if _ (scan_closed t s) (scan_given t xs s)
       (h.0, h.1, all_filter OfLine _ s.listed h.2, h.3, h.4, h.5, h.6) (
-    h.0, h.1,
-    all_map OfLine OfLine (λ (l : Listed). if l.thread == t && lists_number xs l.branch then with_given l else l)
-        (λ l k. either_one OfLine (l.thread == t && lists_number xs l.branch) (with_given l) l k k) s.listed h.2,
-    h.3, h.4, h.5, h.6,
-  )
+        h.0,
+        h.1,
+        all_map OfLine OfLine (λ (l : Listed). if l.thread == t && lists_number xs l.branch then with_given l else l)
+            (λ l k. either_one OfLine (l.thread == t && lists_number xs l.branch) (with_given l) l k k) s.listed h.2,
+        h.3,
+        h.4,
+        h.5,
+        h.6,
+      )
 
   -- What a call that nothing refuses does.
 
@@ -466,8 +499,7 @@ module _ (P Q : ℕ → Type 0) where
   may_named t s [] h e = tt
   may_named t s (x ∷ xs) h e =
       let (here, more) = and_parts (may_give t s x) (list_all (may_give t s) xs) e in
-      let (l, test, p) = any_where OfLine (λ l. l.thread == t && l.branch == x && not l.given) s.listed here h.2 in
-      (
+      let (l, test, p) = any_where OfLine (λ l. l.thread == t && l.branch == x && not l.given) s.listed here h.2 in (
         subst P (eqb-true l.branch x (middle (l.thread == t) (l.branch == x) (not l.given) test)) p,
         may_named t s xs h more,
       )

@@ -307,8 +307,7 @@ module _ (n : Numbers) (heap : Global) where
       let names : Names OfXid OfValue e.call =
       subst (λ (c : JudgedCall). Names OfXid OfValue c) (sym are.0.calls) (named r spelled.0) in
       let tells : Tells OfXid OfValue e.call e.answer =
-      next_told OfXid OfValue no_value lacks_forced refl s e.call e.answer u named_so legal_so.1 in
-      (
+      next_told OfXid OfValue no_value lacks_forced refl s e.call e.answer u named_so legal_so.1 in (
         answer_read m h.0 r a e.answer h.2 (given_few m h.0 r a spelled.0 h.2) are.0.says
             (subst (λ (c : JudgedCall). Tells OfXid OfValue c e.answer) are.0.calls tells),
         run_read h.0 k rs given es u t h.3 spelled.1 are.1 came.1
