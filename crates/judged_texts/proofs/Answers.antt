@@ -13,6 +13,7 @@ use Rattle.std.specs.List.{AllByRecursion, flat_map}
 use Rattle.std.proofs.lemmas.List.{append-nil, length-replicate, with_items_is}
 use Rattle.spellings.specs.Numerals.{number_at}
 use Rattle.spellings.proofs.Numerals.{number_again}
+use Rattle.script_words.specs.Operations.{is_visible_word}
 use Rattle.script_words.specs.Steps.{same}
 use Rattle.xa_assoc.specs.Errors.{number_of}
 use Rattle.xa_assoc.specs.declared.errors.WorkError.{WorkError}
@@ -29,10 +30,20 @@ use Rattle.judge_script.specs.declared.answers.Said.TheVariants as said
 use Rattle.xa_engine.specs.Answers.{answer_text, branch_text, decide_number, holder_text, restart_number, trim_number}
 use Rattle.xa_engine.specs.declared.answer.Answer.{Answer}
 use Rattle.xa_engine.specs.declared.answer.Answer.TheVariants.{Code, Given, Found, Done, Refused, Booted, NotBooted, Trimmed, NotTrimmed, NotDecided}
-use Rattle.judged_texts.specs.Texts.{IsReadable}
 use Rattle.judged_texts.proofs.Requests.{visible_word}
 use Rattle.judged_texts.proofs.Words.{AreWords, IsWord, decimal_word, line_of, word_is}
 use Rattle.judged_texts.proofs.Flags.{one_name, xid_word}
+
+-- an answer whose line can be read: each branch that it gives is an XID, and they are fewer than 2^63; the value that it
+-- gives is one that a script can write
+abbrev pub IsReadable : Answer → Type 0
+IsReadable (Given xs) = (length xs < 2 ^ 63) × AllByRecursion IsXid xs
+IsReadable (Found (Some v)) = is_visible_word 256 v ≡ true
+IsReadable _ = Unit {0}
+
+-- so are all of them
+abbrev pub AreReadable : List Answer → Type 0
+AreReadable answers = AllByRecursion IsReadable answers
 
 -- what a line of a transcript says is an answer to a script
 abbrev pub Tells : Said → Answer → Type 0

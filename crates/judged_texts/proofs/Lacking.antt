@@ -34,10 +34,10 @@ use Rattle.xa_engine.specs.declared.script.request.Request.{Request}
 use Rattle.xa_engine.specs.declared.answer.Answer.{Answer}
 use Rattle.xa_engine.specs.Runs.{report_text}
 use Rattle.xa_engine.specs.script.Scripts.{IsScript, call_lines}
-use Rattle.judged_texts.specs.Texts.{AreReadable, transcript}
+use Rattle.judged_texts.specs.Texts.{transcript}
 use Rattle.judged_texts.proofs.Numbers.{number_by, xid_key, xid_key_one}
 use Rattle.judged_texts.proofs.Requests.{IsWorded}
-use Rattle.judged_texts.proofs.Answers.{IsSpoken}
+use Rattle.judged_texts.proofs.Answers.{AreReadable, IsSpoken}
 use Rattle.judged_texts.proofs.Events.{heads, words_with}
 use Rattle.judged_texts.proofs.Reading.{AreRows, Last, Row, are_rows, calls_kept, first_no_event, made_lines, row_words, rows}
 

@@ -6,4 +6,6 @@ mod Answers
 mod Events
 mod Reading
 mod Lacking
+mod Naming
+mod Readable
 mod Conforming

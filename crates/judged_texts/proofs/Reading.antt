@@ -26,11 +26,11 @@ use Rattle.xa_engine.specs.Runs.{report_text}
 use Rattle.xa_engine.specs.script.Scripts.{IsScript, SpellEach, call_lines}
 use Rattle.judged_deeds.specs.Names.{Numbers, lacks_forced}
 use Rattle.judged_runs.specs.Events.{AreEvents as AreRequests}
-use Rattle.judged_texts.specs.Texts.{AreReadable, IsReadAs, joined, transcript, transcript_lines}
+use Rattle.judged_texts.specs.Texts.{IsReadAs, joined, transcript, transcript_lines}
 use Rattle.judged_texts.proofs.Words.{AreLines, AreWords, IsLine, line_of, line_words, lines_again, lines_join, text_of, word_is, word_line, words_again, words_append}
 use Rattle.judged_texts.proofs.Numbers.{number_by, number_one, number_place, word_key, word_key_one, xid_key, xid_key_one}
 use Rattle.judged_texts.proofs.Requests.{IsWorded, worded}
-use Rattle.judged_texts.proofs.Answers.{IsSpoken, spoken}
+use Rattle.judged_texts.proofs.Answers.{AreReadable, IsSpoken, spoken}
 use Rattle.judged_texts.proofs.Events.{Keeps, heads, line_event, words_with}
 
 -- One line.

@@ -486,12 +486,12 @@ put_worded l x k v t is n w z =
     (word_is (codes "put") refl, (thread_word x t n, (w, (z, tt)))) refl refl (asked.Put t (bor k) (bor v))
     (n, refl, refl) (put_only x k v t n)
 
-bind_some : {A B : Type 0} (o : Option A) (f : A → Option B) (y : B) → (o >>= f) ≡ Some y
+pub bind_some : {A B : Type 0} (o : Option A) (f : A → Option B) (y : B) → (o >>= f) ≡ Some y
     → (x : A) × (o ≡ Some x) × (f x ≡ Some y)
 bind_some None f y e = absurd (let none : None ≡ Some y = e in cc)
 bind_some (Some x) f y e = (x, refl, e)
 
-visible_by : (b : Bool) (w k : List ℕ) → cond b (Some w) None ≡ Some k → (w ≡ k) × (b ≡ true)
+pub visible_by : (b : Bool) (w k : List ℕ) → cond b (Some w) None ≡ Some k → (w ≡ k) × (b ≡ true)
 visible_by true w k e = (cc, refl)
 visible_by false w k e = absurd (let none : None ≡ Some k = e in cc)
 
@@ -584,7 +584,7 @@ word_named w k e =
 
 -- Whole lines.
 
-some_and : {A : Type 0} (o : Option A) (P : A → Type 0) → IsSomeAnd o P → (x : A) × (o ≡ Some x) × P x
+pub some_and : {A : Type 0} (o : Option A) (P : A → Type 0) → IsSomeAnd o P → (x : A) × (o ≡ Some x) × P x
 some_and None P h = absurd h
 some_and (Some x) P h = (x, refl, h)
 

@@ -1,5 +1,5 @@
-use Rattle.judged_texts.proofs.Lacking.{no_bad_line}
+use Rattle.judged_texts.proofs.Conforming.{run_not_bad}
 use Rattle.judged_texts.proofs.law.transcripts_have_no_bad_line.Goals as goal
 
 pub returns : goal.returns
-returns c = no_bad_line
+returns c = run_not_bad
