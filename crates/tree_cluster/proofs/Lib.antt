@@ -4,3 +4,5 @@ mod Seating
 mod Leaving
 mod Passing
 mod Posting
+mod Listed
+mod Refused

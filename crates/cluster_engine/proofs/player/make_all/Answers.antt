@@ -5,4 +5,4 @@ pub loop-made-preserved : goal.loop-made-preserved
 loop-made-preserved g c =
     made_more g.N.Seats.tree c.args.events.now c.loop-made.made c.index-events-made.result c.args.pass.now
     c.loop-made.pass c.make.new.pass c.loop-made-test.true c.index-events-made.is c.loop-made.invariant
-    c.in_default.ensures
+    c.in_default.ensures.ok
