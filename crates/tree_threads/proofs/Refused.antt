@@ -1,5 +1,6 @@
 -- Why an event was not posted.
-use Rattle.std.proofs.Common.{◌≡◌, subst, inl, inr, ℕ, List, length}
+use Rattle.std.proofs.Common.{◌≡◌, subst, sym, inl, inr, ℕ, List, length, Result, Ok, Err, IfErr}
+use Rattle.std.specs.Result.{IsErrAnd}
 use Rattle.tree_model.specs.declared.names.ProcessId.{ProcessId}
 use Rattle.tree_model.specs.declared.events.Entry.{Entry}
 use Rattle.tree_model.specs.declared.events.Event.{Event}
@@ -53,3 +54,9 @@ not_made tree q event pass e journal own old new before behind m why run met is 
     };
   });
 }
+
+-- what the exit of a refused call answers
+pub answered_so : {A : Type 0} (Why : PostError → Type 0) (e : PostError) (r : Result A PostError)
+    → IsErrAnd r (λ f. f ≡ e) → Why e → IfErr r Why
+answered_so Why e (Ok a) is why = absurd is
+answered_so Why e (Err f) is why = subst Why (sym is) why

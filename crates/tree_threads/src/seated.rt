@@ -175,13 +175,14 @@ impl<N: Seats> Seated<N> {
         ensures err { OnErr result (pass.new ≡ pass.old) }
         ensures refused { IfErr result (NotPosted N.tree self.old.me event pass.old) }
     {
+        let me = self.me;
         let mut journal = ledger.lock(rt);
         journal.is_a_run();
         journal.meets(ties, pass);
         let marked = mark(
             alloc,
             ties,
-            self.me,
+            me,
             self.word,
             &self.node,
             &mut self.seat,
@@ -192,7 +193,7 @@ impl<N: Seats> Seated<N> {
         match make_step::<N>(
             alloc,
             ties,
-            self.me,
+            me,
             self.word,
             &mut self.node,
             &mut self.seat,
@@ -201,12 +202,12 @@ impl<N: Seats> Seated<N> {
             Err(error) => Err(PostError::from(error)),
             Ok(made) => {
                 let begun = made.begun();
-                gate.before(rt, self.me);
+                gate.before(rt, me);
                 let mut journal = ledger.lock(rt);
                 let place = enter(
                     rt,
                     ties,
-                    self.me,
+                    me,
                     self.word,
                     &self.node,
                     &mut self.seat,
@@ -214,7 +215,7 @@ impl<N: Seats> Seated<N> {
                     pass,
                     made,
                 );
-                let next = next_of(&mut *journal, self.me, turn, gate.holds());
+                let next = next_of(&mut *journal, me, turn, gate.holds());
                 let is_quiet = journal.is_quiet();
                 Ok(Posted {
                     place,

@@ -1,14 +1,18 @@
-use Rattle.std.proofs.Common.{◌∙◌, ◌++◌, ◌∷◌, [], ap, refl, rules, subst, sym}
+use Rattle.std.proofs.Common.{◌∙◌, ◌++◌, ◌∷◌, [], ap, rules, subst, sym}
 use Rattle.tree_model.specs.declared.events.Step.{Step}
 use Rattle.tree_model.specs.Trees.{root_of}
+use Rattle.cluster_journal.specs.Journals.{ClusterState}
 use Rattle.tree_cut.specs.Alone.{RunsAlone, stays_alone, steps_alone}
+use Rattle.tree_cut.specs.Owns.{CutHolds}
 use Rattle.tree_node.specs.Nodes.{core_of, data_of}
+use Rattle.tree_ties.specs.Views.{entries_in, pairs_by}
 use Rattle.tree_threads.specs.Locked.{SeatedState}
 use Rattle.tree_threads.specs.Marks.{ActsHere}
 use Rattle.tree_threads.specs.Passes.{NotesOne, PassState}
-use Rattle.tree_threads.specs.Posts.{AsksAt, PostsOne}
+use Rattle.tree_threads.specs.Posts.{AsksAt, NotPosted, PostsOne}
 use Rattle.tree_threads.proofs.Asked.{asks_it}
 use Rattle.tree_threads.proofs.OwnSteps.{step_alone}
+use Rattle.tree_threads.proofs.Refused.{answered_so, not_made, not_marked}
 use Rattle.tree_threads.proofs.seated.Seated.post.Goals as goal
 
 pub mark-requires-clause-acts : goal.mark-requires-clause-acts
@@ -86,3 +90,38 @@ invariant_of-self-in-Ok g c =
           (step_alone tree me (core_of old) (core_of new) (data_of old) (data_of new) m.keep m.wanted x
           c.in_ok-marked.ensures.ok.0.at c.in_ok-marked.ensures.mine c.in-Ok.ensures.ok.1 c.in-Ok.ensures.made)),
     )
+
+pub returns-in_err-marked-clause-refused : goal.returns-in_err-marked-clause-refused
+returns-in_err-marked-clause-refused g c =
+    let tree = g.N.Seats.tree in
+    let pass = c.args.pass.now in
+    let event = c.args.event in
+    let e = c.in_err-marked.field-0.0 in
+    let now = c.deref_mut-2.result.now in
+    let same = c.deref_mut-2.ensures.value ∙ c.meets.ensures.same.0 in
+    let first = c.deref.ensures ∙ sym c.deref_mut.ensures.value ∙ sym same in
+    let not = not_marked tree c.self.inside.me event pass e now.entries
+    (subst (λ (j : ClusterState). CutHolds tree (entries_in j.entries)) first c.is_a_run.ensures)
+    (c.meets.ensures.met ∙ ap (λ (j : ClusterState). pairs_by pass.caller 0 j.entries) (sym same))
+    c.in_err-marked.ensures.refused in
+    answered_so (NotPosted tree c.args.self.now.me event pass) e c.from_residual.result c.from_residual.ensures.1
+    (subst (λ (s : SeatedState). NotPosted tree s.me event pass e) c.self.view_is not)
+
+pub returns-in-Err-clause-refused : goal.returns-in-Err-clause-refused
+returns-in-Err-clause-refused g c =
+    let tree = g.N.Seats.tree in
+    let pass = c.args.pass.now in
+    let event = c.args.event in
+    let e = c.from.result in
+    let now = c.deref_mut-2.result.now in
+    let same = c.deref_mut-2.ensures.value ∙ c.meets.ensures.same.0 in
+    let first = c.deref.ensures ∙ sym c.deref_mut.ensures.value ∙ sym same in
+    let old = c.self.inside.node in
+    let new = c.make_step.new.node in
+    let not = not_made tree c.self.inside.me event pass e now.entries c.self.inside.seat.me.0.process.own (core_of old)
+    (core_of new) (data_of old) (data_of new) c.in_ok-marked.marked c.in-Err.error
+    (subst (λ (j : ClusterState). CutHolds tree (entries_in j.entries)) first c.is_a_run.ensures)
+    (c.meets.ensures.met ∙ ap (λ (j : ClusterState). pairs_by pass.caller 0 j.entries) (sym same))
+    c.in_ok-marked.ensures.tied c.self.invariant.6 c.in_ok-marked.ensures.ok.0 c.in-Err.ensures.refused
+    c.from.ensures in
+    subst (λ (s : SeatedState). NotPosted tree s.me event pass e) c.self.view_is not
