@@ -1,11 +1,13 @@
 -- Events made one after another with a pass.
-use Rattle.std.proofs.Common.{◌≡◌, ◌∙◌, ◌+◌, ◌<◌, ◌≤◌, ap, sym, subst, refl, ℕ, zero, suc, Some, List, [], ◌∷◌, ◌++◌, length, length-append, get_or, slice_get, take, arith}
+use Rattle.std.proofs.Common.{◌≡◌, ◌∙◌, ◌+◌, ◌<◌, ◌≤◌, ap, sym, subst, refl, ℕ, zero, suc, Some, Result, IfErr, List, [], ◌∷◌, ◌++◌, length, length-append, get_or, slice_get, take, arith}
 use Rattle.std.proofs.lemmas.List.{take_all, take_more}
 use Rattle.tree_model.specs.declared.trees.TreeEntry.{TreeEntry}
 use Rattle.tree_model.specs.declared.events.Event.{Event}
+use Rattle.tree_model.specs.declared.events.Event.TheVariants.{Act as ActOf, Deliver, Settle, Restart, Trim}
 use Rattle.tree_threads.specs.Passes.{PassState}
 use Rattle.tree_threads.specs.declared.errors.PostError.{PostError}
 use Rattle.tree_cluster.specs.Passes.{IsLonger, new_pass, new_passes}
+use Rattle.tree_cluster.specs.Refusals.{IsRefused, NotSettled}
 use Rattle.tree_cluster.proofs.Passing.{as_long}
 use Rattle.cluster_engine.specs.Made.{AreLonger, AreMade, FirstMade, FirstStops, IsMade, NotMade, StopsAt}
 
@@ -111,3 +113,17 @@ stops_here tree es i e old mid why lt is before not = record {
     next_at [] i e lt is = absurd (omega (arith, lt))
     next_at (x ∷ es) zero e lt is = ap Some (sym is)
     next_at (x ∷ es) (suc i) e lt is = next_at es i e (omega (arith, lt)) is
+
+-- an event that is no settle was refused
+pub not_made_so : {A : Type 0} (r : Result A PostError) (tree : List TreeEntry) (event : Event) (pass : PassState)
+    → (event ≡ Settle → ⊥) → IfErr r (IsRefused tree event pass) → IfErr r (NotMade tree event pass)
+not_made_so r tree (ActOf a) pass other h = h
+not_made_so r tree (Deliver k) pass other h = h
+not_made_so r tree Settle pass other h = absurd (other refl)
+not_made_so r tree (Restart p bytes) pass other h = h
+not_made_so r tree (Trim p) pass other h = h
+
+-- a settle went no further
+pub not_settled_so : {A : Type 0} (r : Result A PostError) (tree : List TreeEntry) (event : Event) (pass : PassState)
+    → event ≡ Settle → IfErr r (NotSettled tree) → IfErr r (NotMade tree event pass)
+not_settled_so r tree event pass is h = subst (λ (e : Event). IfErr r (NotMade tree e pass)) (sym is) h

@@ -1,6 +1,7 @@
 //! The events of a script, made by one caller; the others deliver.
 
-ghost use Rattle.std.specs.Prelude.{◌≡◌, ◌<◌, IfErr, IfSome, OnOk, length};
+ghost use Rattle.std.specs.Prelude.{◌≡◌, ◌<◌, ℕ, IfErr, IfSome, OnOk, length, slice_index_or};
+ghost use Rattle.tree_threads.specs.Passes.{PassState as AnyPass};
 ghost use Rattle.tree_cluster.specs.Passes.{IsLonger};
 ghost use Rattle.tree_cluster.specs.Refusals.{IsRefused};
 ghost use Rattle.cluster_engine.specs.Made.{AreLonger, AreMade, FirstMade, FirstStops, IsMade, IsPosted, NotMade, StopsAt};
@@ -95,7 +96,31 @@ fn lead<N: Seats, R: Wait, G: Gate>(
     refusal
 }
 
-/// The workers of a run, one for each of these passes: they deliver messages, and do nothing else.
+/// A worker for each of these passes, of which there are some: they deliver messages, and do nothing else.
+fn serve_each<N: Seats + Send + Sync, R: Threads + Wait + Sync, G: Gate + Sync>(
+    rt: &R,
+    cluster: &Cluster<N>,
+    rounds: &Rounds<N>,
+    gate: &G,
+    passes: &mut [Pass<N>],
+)
+    requires { 0 < length passes.old }
+    ensures longer { (i : ℕ) (d : AnyPass) → i < length passes.old
+        → IsLonger (slice_index_or passes.old i d) (slice_index_or passes.new i d) }
+    ensures long { length passes.new ≡ length passes.old }
+{
+    let threads = passes.len();
+    thread::for_each_mut(
+        rt,
+        passes,
+        threads,
+        &|_place, pass: &mut Pass<N>|
+            ensures { IsLonger pass.old pass.new }
+        { cluster.serve(rt, rounds, pass, gate) },
+    );
+}
+
+/// The workers of a run, if it has any.
 fn serve<N: Seats + Send + Sync, R: Threads + Wait + Sync, G: Gate + Sync>(
     rt: &R,
     cluster: &Cluster<N>,
@@ -105,17 +130,10 @@ fn serve<N: Seats + Send + Sync, R: Threads + Wait + Sync, G: Gate + Sync>(
 )
     ensures { AreLonger passes.old passes.new }
 {
-    let threads = passes.len();
-    if threads > 0 {
-        thread::for_each_mut(
-            rt,
-            passes,
-            threads,
-            &|_place, pass: &mut Pass<N>|
-                ensures { IsLonger pass.old pass.new }
-            { cluster.serve(rt, rounds, pass, gate) },
-        );
+    if passes.is_empty() {
+        return;
     }
+    serve_each(rt, cluster, rounds, gate, passes);
 }
 
 /// Makes these events with the first pass, while workers with the others deliver.
@@ -142,6 +160,29 @@ fn lead_and_serve<'a, N: Seats + Send + Sync, R: Threads + Wait + Sync, G: Gate 
     refusal
 }
 
+/// Makes these events with the first pass; each other pass is a worker's, and where there is none no thread is made.
+fn play_first<N: Seats + Send + Sync, R: Threads + Wait + Sync, G: Gate + Sync>(
+    rt: &R,
+    alloc: Global,
+    cluster: &Cluster<N>,
+    rounds: &Rounds<N>,
+    events: &[Event],
+    gate: &G,
+    first: &mut Pass<N>,
+    others: &mut [Pass<N>],
+) -> Refusal
+    ensures made { result ≡ None → AreMade N.tree events.now first.old first.new }
+    ensures stopped { IfSome result (λ r. StopsAt N.tree events.now first.old r.0 r.1) }
+    ensures others { AreLonger others.old others.new }
+    ensures within { IfSome result (λ r. r.0 < length events.now) }
+{
+    if others.is_empty() {
+        lead(rt, alloc, cluster, rounds, events, gate, first)
+    } else {
+        lead_and_serve(rt, alloc, cluster, rounds, events, gate, first, others)
+    }
+}
+
 /// Makes the script's events, by one caller; each other pass is a worker's. Threads are made once.
 pub(crate) fn play<N: Seats + Send + Sync, R: Threads + Wait + Sync, G: Gate + Sync>(
     rt: &R,
@@ -160,9 +201,5 @@ pub(crate) fn play<N: Seats + Send + Sync, R: Threads + Wait + Sync, G: Gate + S
     let Some((first, others)) = passes.split_first_mut() else {
         unreachable!()
     };
-    if others.is_empty() {
-        lead(rt, alloc, cluster, &rounds, events, gate, first)
-    } else {
-        lead_and_serve(rt, alloc, cluster, &rounds, events, gate, first, others)
-    }
+    play_first(rt, alloc, cluster, &rounds, events, gate, first, others)
 }

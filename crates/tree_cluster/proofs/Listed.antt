@@ -11,6 +11,9 @@ or_false : (b c : Bool) → (b || c) ≡ false → (b ≡ false) × (c ≡ false
 or_false true c h = absurd (cc)
 or_false false c h = (refl, h)
 
+pub not_true : false ≡ true → ⊥
+not_true h = cc
+
 pub none_listed : (q : ProcessId) → is_listed [] q ≡ false
 unfolding is_listed
 none_listed q = refl

@@ -8,7 +8,7 @@ ghost use Rattle.tree_model.specs.Trees.{IsTree, root_of as root_in};
 ghost use Rattle.tree_cut.specs.Cuts.{net_of};
 ghost use Rattle.tree_ties.specs.Views.{AreBelow, entries_in};
 ghost use Rattle.tree_threads.specs.Marks.{ActsHere};
-ghost use Rattle.tree_threads.specs.Posts.{PostsOne};
+ghost use Rattle.tree_threads.specs.Posts.{NotPosted, PostsOne};
 ghost use Rattle.tree_cluster.specs.Closing.{AreMet, IsClosed};
 ghost use Rattle.tree_cluster.specs.Opening.{SeatsTree};
 ghost use Rattle.tree_cluster.specs.Passes.{new_passes};
@@ -183,6 +183,25 @@ impl<N: Seats> Cluster<N> {
             unreachable!()
         };
         let mut seated = seated.lock(rt);
+        self.post_in(rt, &mut *seated, process, event, pass, gate, turn)
+    }
+
+    /// Posts an event of this process, which lies under its lock, if it is the one.
+    fn post_in<R: Wait, G: Gate>(
+        &self,
+        rt: &R,
+        seated: &mut Seated<N>,
+        process: ProcessId,
+        event: Event,
+        pass: &mut Pass<N>,
+        gate: &G,
+        turn: Turn,
+    ) -> Result<Posted, PostError>
+        requires { ActsHere (root_in N.tree) process event }
+        ensures ok { IfOk result (λ r. PostsOne N.tree process event pass.old pass.new r.place r.begun) }
+        ensures err { OnErr result (pass.new ≡ pass.old) }
+        ensures refused { IfErr result (NotPosted N.tree process event pass.old) }
+    {
         if !is_same(seated.me(), process) {
             for _ in rt.forever() {}
             unreachable!()

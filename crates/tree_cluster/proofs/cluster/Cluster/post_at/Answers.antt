@@ -1,23 +1,12 @@
-use Rattle.std.proofs.Common.{◌∙◌, IfOk, inl, inr, refl, subst, sym}
-use Rattle.std.proofs.lemmas.Result.{IfErr-weaker}
-use Rattle.tree_model.specs.Nodes.{is_listed}
-use Rattle.tree_model.specs.Trees.{root_of}
-use Rattle.tree_threads.specs.Marks.{ActsHere}
-use Rattle.tree_threads.specs.Posts.{NotPosted, PostsOne}
+use Rattle.std.proofs.Common.{◌∙◌}
+use Rattle.tree_cluster.proofs.Refused.{no_such, not_at}
 use Rattle.tree_cluster.proofs.cluster.Cluster.post_at.Goals as goal
 
-pub post-requires-clause-acts : goal.post-requires-clause-acts
-post-requires-clause-acts g c =
-    subst (λ q. ActsHere (root_of g.N.Seats.tree) q c.args.event)
-    (sym (c.if-not-is_same.ensures.yes refl) ∙ c.me.ensures) c.requires
-
-pub returns-clause-ok : goal.returns-clause-ok
-returns-clause-ok g c =
-    subst (λ q. IfOk c.post.result (λ r. PostsOne g.N.Seats.tree q c.args.event c.args.pass.now c.post.new.pass r.place
-    r.begun)) (sym c.me.ensures ∙ c.if-not-is_same.ensures.yes refl) c.post.ensures.ok
+pub returns-in_default-clause-refused : goal.returns-in_default-clause-refused
+returns-in_default-clause-refused g c =
+    no_such g.N.Seats.tree c.entries.result.now c.args.process c.args.event c.args.pass.now
+    (c.entries.ensures ∙ c.args.self.now.tree_is) c.in_default.ensures
 
 pub returns-clause-refused : goal.returns-clause-refused
 returns-clause-refused g c =
-    IfErr-weaker c.post.result _ _
-    (λ e not. inr (subst (λ q. NotPosted g.N.Seats.tree q c.args.event c.args.pass.now e)
-    (sym c.me.ensures ∙ c.if-not-is_same.ensures.yes refl) not)) c.post.ensures.refused
+    not_at c.post_in.result g.N.Seats.tree c.args.process c.args.event c.args.pass.now c.post_in.ensures.refused
