@@ -12,4 +12,5 @@ returns-else-posted g c =
 
 pub stop-requires : goal.stop-requires
 stop-requires g c =
-    not_delivered g.N.Seats.tree c.args.claim.to c.args.claim.number _ c.in-Err.why c.in-Err.ensures.refused
+    not_delivered g.N.Seats.tree c.args.claim.to c.args.claim.number c.args.pass.now c.in-Err.why
+    c.in-Err.ensures.refused
