@@ -201,18 +201,18 @@ asked_by (Some q) k ws a e h = let same : q ≡ k = cc in subst (λ (z : Word). 
 pub heads : {A : Type 0} (x y : A) (xs ys : List A) → x ∷ xs ≡ y ∷ ys → (x ≡ y) × (xs ≡ ys)
 heads x y xs ys e = (cc, cc)
 
-by_call : (l : List ℕ) (r : Request) (a : Answer) (w : IsWorded l r) (s : IsSpoken a) (calls behind : List (List ℕ)) (q : Asked)
-    (p : Said) → (w.first ∷ w.rest) ++ codes "->" ∷ (s.first ∷ s.rest) ≡ calls ++ codes "->" ∷ behind → Asks calls q → Says behind p
+by_call : (l : List ℕ) (r : Request) (a : Answer) (w : IsWorded l r) (s : IsSpoken a) (calls later : List (List ℕ)) (q : Asked)
+    (p : Said) → (w.first ∷ w.rest) ++ codes "->" ∷ (s.first ∷ s.rest) ≡ calls ++ codes "->" ∷ later → Asks calls q → Says later p
     → Same q r × Tells p a
-by_call l r a w s [] behind q p e h k = absurd h
-by_call l r a w s (f ∷ other) behind q p e h k =
-    let (first, tails) = heads w.first f (w.rest ++ codes "->" ∷ (s.first ∷ s.rest)) (other ++ codes "->" ∷ behind) e in
+by_call l r a w s [] later q p e h k = absurd h
+by_call l r a w s (f ∷ other) later q p e h k =
+    let (first, tails) = heads w.first f (w.rest ++ codes "->" ∷ (s.first ∷ s.rest)) (other ++ codes "->" ∷ later) e in
     let named : word_at f ≡ Some w.word = ap word_at (sym first) ∙ w.named in
     let asks : AsksBy w.word other q = asked_by (word_at f) w.word other q named h in
-    let is : w.rest ≡ other = w.place other behind (s.first ∷ s.rest) q asks
+    let is : w.rest ≡ other = w.place other later (s.first ∷ s.rest) q asks
     (λ z i. s.no_arrow (heads s.first (codes "->") s.rest z i).0) tails in
-    let cut = append_one w.rest (codes "->" ∷ (s.first ∷ s.rest)) other (codes "->" ∷ behind) (ap length is) tails in
-    let rest : s.first ∷ s.rest ≡ behind = (heads (codes "->") (codes "->") (s.first ∷ s.rest) behind cut.1).1 in
+    let cut = append_one w.rest (codes "->" ∷ (s.first ∷ s.rest)) other (codes "->" ∷ later) (ap length is) tails in
+    let rest : s.first ∷ s.rest ≡ later = (heads (codes "->") (codes "->") (s.first ∷ s.rest) later cut.1).1 in
     let says : Says (s.first ∷ s.rest) p = subst (λ (z : List (List ℕ)). Says z p) (sym rest) k in (
       w.only q (subst (λ (z : List (List ℕ)). AsksBy w.word z q) (sym is) asks),
       s.only p says,

@@ -477,7 +477,7 @@ module _ (P Q : ℕ → Type 0) where
   next_is r s c a u h is =
       subst (λ (b : Bool). Contains (if b then s ∷ [] else next_by r s c a) u) h.6 is
 
-  -- the state that follows names no more
+  -- the state that follows names nothing else
   pub next_named : (r : Rules) (s : Sight) (c : Call) (a : Answer) (u : Sight) → Came a → Names c → IsNamed s
       → Contains (next r s c a) u → IsNamed u
   next_named r s c a u came p h is =

@@ -233,15 +233,15 @@ rows_unruled _ _ _ (Row l r a ls rs given w s k more) = (λ q. row_unruled q l r
 no_event : (t : NameTable) (x y : List ℕ) (e : Event) → x ≢ codes "->" → y ≢ codes "->" → IsEvent t (x ∷ y ∷ []) e → ⊥
 no_event t x y e no_x no_y h = none h.call h.answer h.parts
   where
-    none : (calls behind : List (List ℕ)) → x ∷ y ∷ [] ≡ calls ++ codes "->" ∷ behind → ⊥
-    none [] behind e = no_x (heads x (codes "->") (y ∷ []) behind e).0
-    none (a ∷ []) behind e = no_y (heads y (codes "->") [] behind (heads x a (y ∷ []) (codes "->" ∷ behind) e).1).0
-    none (a ∷ b ∷ []) behind e =
-        let gone : [] ≡ codes "->" ∷ behind = (heads y b [] (codes "->" ∷ behind) (heads x a (y ∷ []) (b ∷ codes "->" ∷ behind) e).1).1 in
+    none : (calls later : List (List ℕ)) → x ∷ y ∷ [] ≡ calls ++ codes "->" ∷ later → ⊥
+    none [] later e = no_x (heads x (codes "->") (y ∷ []) later e).0
+    none (a ∷ []) later e = no_y (heads y (codes "->") [] later (heads x a (y ∷ []) (codes "->" ∷ later) e).1).0
+    none (a ∷ b ∷ []) later e =
+        let gone : [] ≡ codes "->" ∷ later = (heads y b [] (codes "->" ∷ later) (heads x a (y ∷ []) (b ∷ codes "->" ∷ later) e).1).1 in
         cc
-    none (a ∷ b ∷ c ∷ more) behind e =
-        let gone : [] ≡ c ∷ (more ++ codes "->" ∷ behind) =
-        (heads y b [] (c ∷ (more ++ codes "->" ∷ behind)) (heads x a (y ∷ []) (b ∷ c ∷ (more ++ codes "->" ∷ behind)) e).1).1 in
+    none (a ∷ b ∷ c ∷ more) later e =
+        let gone : [] ≡ c ∷ (more ++ codes "->" ∷ later) =
+        (heads y b [] (c ∷ (more ++ codes "->" ∷ later)) (heads x a (y ∷ []) (b ∷ c ∷ (more ++ codes "->" ∷ later)) e).1).1 in
         cc
 
 differ : (w v : List ℕ) → same w v ≡ false → w ≢ v

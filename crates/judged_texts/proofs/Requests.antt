@@ -67,8 +67,8 @@ pub record IsWorded (l : List ℕ) (r : Request) : Type 0 where
   pub asked : Asked
   pub asks : AsksBy word rest asked
   pub only : (a : Asked) → AsksBy word rest a → Same a r
-  pub place : (other behind answer : List (List ℕ)) (a : Asked) → AsksBy word other a → NoArrow answer
-      → rest ++ codes "->" ∷ answer ≡ other ++ codes "->" ∷ behind → rest ≡ other
+  pub place : (other later answer : List (List ℕ)) (a : Asked) → AsksBy word other a → NoArrow answer
+      → rest ++ codes "->" ∷ answer ≡ other ++ codes "->" ∷ later → rest ≡ other
 
 -- how many words stand after the first
 
@@ -139,10 +139,10 @@ has_arity word.Trim (x ∷ y ∷ []) a fixed h = absurd h
 has_arity word.Trim (x ∷ y ∷ z ∷ []) a fixed h = absurd h
 has_arity word.Trim (x ∷ y ∷ z ∷ t ∷ more) a fixed h = absurd h
 
-fixed_place : (w : Word) (rest other behind answer : List (List ℕ)) (a b : Asked) → is_fixed w ≡ true → AsksBy w rest a
-    → AsksBy w other b → rest ++ codes "->" ∷ answer ≡ other ++ codes "->" ∷ behind → rest ≡ other
-fixed_place w rest other behind answer a b fixed h k e =
-    (append_one rest (codes "->" ∷ answer) other (codes "->" ∷ behind)
+fixed_place : (w : Word) (rest other later answer : List (List ℕ)) (a b : Asked) → is_fixed w ≡ true → AsksBy w rest a
+    → AsksBy w other b → rest ++ codes "->" ∷ answer ≡ other ++ codes "->" ∷ later → rest ≡ other
+fixed_place w rest other later answer a b fixed h k e =
+    (append_one rest (codes "->" ∷ answer) other (codes "->" ∷ later)
     (has_arity w rest a fixed h ∙ sym (has_arity w other b fixed k)) e).0
 
 fixed_worded : (l f : List ℕ) (rest : List (List ℕ)) (w : Word) (r : Request) → l ≡ line_of (f ∷ rest)
@@ -158,7 +158,7 @@ fixed_worded l f rest w r line words named fixed a asks only = record {
   asked = a;
   asks = asks;
   only = only;
-  place = λ other behind answer b k lone e. fixed_place w rest other behind answer a b fixed asks k e;
+  place = λ other later answer b k lone e. fixed_place w rest other later answer a b fixed asks k e;
 }
 
 bor : List ℕ → Bor (List ℕ)
@@ -247,27 +247,27 @@ close_worded l x f is k =
 
 -- Opens and restarts: one word more or less.
 
-open_place : (rest other behind answer : List (List ℕ)) (a b : Asked) → AsksBy word.Open rest a → AsksBy word.Open other b
+open_place : (rest other later answer : List (List ℕ)) (a b : Asked) → AsksBy word.Open rest a → AsksBy word.Open other b
     → NoArrow answer → ((x y : List ℕ) → rest ≡ x ∷ y ∷ [] → y ≡ codes "->" → ⊥)
-    → rest ++ codes "->" ∷ answer ≡ other ++ codes "->" ∷ behind → rest ≡ other
-open_place [] other behind answer a b h k lone text e = absurd h
-open_place (x ∷ []) [] behind answer a b h k lone text e = absurd k
-open_place (x ∷ []) (u ∷ []) behind answer a b h k lone text e = let first : x ≡ u = cc in ap (λ (w : List ℕ). w ∷ []) first
-open_place (x ∷ []) (u ∷ v ∷ []) behind answer a b h k lone text e =
-    let past : answer ≡ codes "->" ∷ behind = cc in absurd (lone behind past)
-open_place (x ∷ []) (u ∷ v ∷ w ∷ []) behind answer a b h k lone text e = absurd k
-open_place (x ∷ []) (u ∷ v ∷ w ∷ z ∷ more) behind answer a b h k lone text e = absurd k
-open_place (x ∷ y ∷ []) [] behind answer a b h k lone text e = absurd k
-open_place (x ∷ y ∷ []) (u ∷ []) behind answer a b h k lone text e =
+    → rest ++ codes "->" ∷ answer ≡ other ++ codes "->" ∷ later → rest ≡ other
+open_place [] other later answer a b h k lone text e = absurd h
+open_place (x ∷ []) [] later answer a b h k lone text e = absurd k
+open_place (x ∷ []) (u ∷ []) later answer a b h k lone text e = let first : x ≡ u = cc in ap (λ (w : List ℕ). w ∷ []) first
+open_place (x ∷ []) (u ∷ v ∷ []) later answer a b h k lone text e =
+    let past : answer ≡ codes "->" ∷ later = cc in absurd (lone later past)
+open_place (x ∷ []) (u ∷ v ∷ w ∷ []) later answer a b h k lone text e = absurd k
+open_place (x ∷ []) (u ∷ v ∷ w ∷ z ∷ more) later answer a b h k lone text e = absurd k
+open_place (x ∷ y ∷ []) [] later answer a b h k lone text e = absurd k
+open_place (x ∷ y ∷ []) (u ∷ []) later answer a b h k lone text e =
     let here : y ≡ codes "->" = cc in absurd (text x y refl here)
-open_place (x ∷ y ∷ []) (u ∷ v ∷ []) behind answer a b h k lone text e =
+open_place (x ∷ y ∷ []) (u ∷ v ∷ []) later answer a b h k lone text e =
     let first : x ≡ u = cc in
     let second : y ≡ v = cc in
     ap (λ (w : List ℕ). w ∷ y ∷ []) first ∙ ap (λ (w : List ℕ). u ∷ w ∷ []) second
-open_place (x ∷ y ∷ []) (u ∷ v ∷ w ∷ []) behind answer a b h k lone text e = absurd k
-open_place (x ∷ y ∷ []) (u ∷ v ∷ w ∷ z ∷ more) behind answer a b h k lone text e = absurd k
-open_place (x ∷ y ∷ z ∷ []) other behind answer a b h k lone text e = absurd h
-open_place (x ∷ y ∷ z ∷ t ∷ more) other behind answer a b h k lone text e = absurd h
+open_place (x ∷ y ∷ []) (u ∷ v ∷ w ∷ []) later answer a b h k lone text e = absurd k
+open_place (x ∷ y ∷ []) (u ∷ v ∷ w ∷ z ∷ more) later answer a b h k lone text e = absurd k
+open_place (x ∷ y ∷ z ∷ []) other later answer a b h k lone text e = absurd h
+open_place (x ∷ y ∷ z ∷ t ∷ more) other later answer a b h k lone text e = absurd h
 
 open_one : (x : List ℕ) (f : Flags) (m : Bool) → IsFlagText x f.0 → (a : Asked) → AsksBy word.Open (x ∷ []) a
     → Same a (Open f m)
@@ -293,7 +293,7 @@ open_worded l x f m is k = record {
   asked = asked.Open f;
   asks = k;
   only = open_one x f m k;
-  place = λ other behind answer a h lone e. open_place (x ∷ []) other behind answer (asked.Open f) a k h lone
+  place = λ other later answer a h lone e. open_place (x ∷ []) other later answer (asked.Open f) a k h lone
       (λ u v i j. no_second x u v i) e;
 }
 
@@ -321,29 +321,29 @@ told_worded l x y f m is k info = record {
   asked = asked.Open f;
   asks = k;
   only = open_two x y f m k;
-  place = λ other behind answer a h lone e. open_place (x ∷ y ∷ []) other behind answer (asked.Open f) a k h lone
+  place = λ other later answer a h lone e. open_place (x ∷ y ∷ []) other later answer (asked.Open f) a k h lone
       (λ u v i j. arrow_no_letters y info.letters (second_is x y u v i ∙ j)) e;
 }
 
-restart_place : (rest other behind answer : List (List ℕ)) (a b : Asked) → AsksBy word.Restart rest a
+restart_place : (rest other later answer : List (List ℕ)) (a b : Asked) → AsksBy word.Restart rest a
     → AsksBy word.Restart other b → NoArrow answer → ((x : List ℕ) → rest ≡ x ∷ [] → x ≡ codes "->" → ⊥)
-    → rest ++ codes "->" ∷ answer ≡ other ++ codes "->" ∷ behind → rest ≡ other
-restart_place [] [] behind answer a b h k lone text e = refl
-restart_place [] (u ∷ []) behind answer a b h k lone text e =
-    let past : answer ≡ codes "->" ∷ behind = cc in absurd (lone behind past)
-restart_place [] (u ∷ v ∷ []) behind answer a b h k lone text e = absurd k
-restart_place [] (u ∷ v ∷ w ∷ []) behind answer a b h k lone text e = absurd k
-restart_place [] (u ∷ v ∷ w ∷ z ∷ more) behind answer a b h k lone text e = absurd k
-restart_place (x ∷ []) [] behind answer a b h k lone text e =
+    → rest ++ codes "->" ∷ answer ≡ other ++ codes "->" ∷ later → rest ≡ other
+restart_place [] [] later answer a b h k lone text e = refl
+restart_place [] (u ∷ []) later answer a b h k lone text e =
+    let past : answer ≡ codes "->" ∷ later = cc in absurd (lone later past)
+restart_place [] (u ∷ v ∷ []) later answer a b h k lone text e = absurd k
+restart_place [] (u ∷ v ∷ w ∷ []) later answer a b h k lone text e = absurd k
+restart_place [] (u ∷ v ∷ w ∷ z ∷ more) later answer a b h k lone text e = absurd k
+restart_place (x ∷ []) [] later answer a b h k lone text e =
     let here : x ≡ codes "->" = cc in absurd (text x refl here)
-restart_place (x ∷ []) (u ∷ []) behind answer a b h k lone text e =
+restart_place (x ∷ []) (u ∷ []) later answer a b h k lone text e =
     let first : x ≡ u = cc in ap (λ (w : List ℕ). w ∷ []) first
-restart_place (x ∷ []) (u ∷ v ∷ []) behind answer a b h k lone text e = absurd k
-restart_place (x ∷ []) (u ∷ v ∷ w ∷ []) behind answer a b h k lone text e = absurd k
-restart_place (x ∷ []) (u ∷ v ∷ w ∷ z ∷ more) behind answer a b h k lone text e = absurd k
-restart_place (x ∷ y ∷ []) other behind answer a b h k lone text e = absurd h
-restart_place (x ∷ y ∷ z ∷ []) other behind answer a b h k lone text e = absurd h
-restart_place (x ∷ y ∷ z ∷ t ∷ more) other behind answer a b h k lone text e = absurd h
+restart_place (x ∷ []) (u ∷ v ∷ []) later answer a b h k lone text e = absurd k
+restart_place (x ∷ []) (u ∷ v ∷ w ∷ []) later answer a b h k lone text e = absurd k
+restart_place (x ∷ []) (u ∷ v ∷ w ∷ z ∷ more) later answer a b h k lone text e = absurd k
+restart_place (x ∷ y ∷ []) other later answer a b h k lone text e = absurd h
+restart_place (x ∷ y ∷ z ∷ []) other later answer a b h k lone text e = absurd h
+restart_place (x ∷ y ∷ z ∷ t ∷ more) other later answer a b h k lone text e = absurd h
 
 restart_all : (a : Asked) → AsksBy word.Restart [] a → Same a (Restart None)
 restart_all (asked.Restart cut) h = h
@@ -367,7 +367,7 @@ restart_worded l is = record {
   asked = asked.Restart false;
   asks = refl;
   only = restart_all;
-  place = λ other behind answer a h lone e. restart_place [] other behind answer (asked.Restart false) a refl h lone
+  place = λ other later answer a h lone e. restart_place [] other later answer (asked.Restart false) a refl h lone
       (λ x i j. no_first x i) e;
 }
 
@@ -395,7 +395,7 @@ cut_worded l x n is num = record {
   asked = asked.Restart true;
   asks = (is_told (number_at x) n num, refl);
   only = restart_some x n;
-  place = λ other behind answer a h lone e. restart_place (x ∷ []) other behind answer (asked.Restart true) a
+  place = λ other later answer a h lone e. restart_place (x ∷ []) other later answer (asked.Restart true) a
       (is_told (number_at x) n num, refl) h lone (λ u i j. arrow_no_number x n num (one_only x u i ∙ j)) e;
 }
 

@@ -178,14 +178,14 @@ one_part : (x : List ℕ) (parts : List (List ℕ)) → 0 < length parts
 one_part x [] some = absurd (omega arith)
 one_part x (y ∷ more) some = refl
 
-some_behind : (fronts : List (List ℕ)) (p : List ℕ) (rest : List (List ℕ)) → 0 < length (fronts ++ p ∷ rest)
-some_behind [] p rest = omega arith
-some_behind (f ∷ fronts) p rest = omega arith
+some_later : (fronts : List (List ℕ)) (p : List ℕ) (rest : List (List ℕ)) → 0 < length (fronts ++ p ∷ rest)
+some_later [] p rest = omega arith
+some_later (f ∷ fronts) p rest = omega arith
 
 lines_ended : (ls : List (List ℕ)) → AreLines ls → lines_of_parts (ls ++ [] ∷ []) ≡ ls
 lines_ended [] h = refl
 lines_ended (l ∷ ls) h =
-    one_part l (ls ++ [] ∷ []) (some_behind ls [] [])
+    one_part l (ls ++ [] ∷ []) (some_later ls [] [])
     ∙ rw (unstripped l h.0, lines_ended ls h.1) refl
 
 -- the lines of a text are the lines of which it is made
