@@ -60,8 +60,8 @@ ended input text second h k =
     subst (λ (es : List TreeEntry). IsOpened k.runs.start es) one.0 k.runs.opens in
     one_logs h.tree h.runs.start k.runs.start h.runs.end k.runs.end h.events text second
     (script_tree input h.tree h.events h.script) h.runs.opens opens leads leads'
-    (subst (λ (r : Refusal). Tells false Logs h.runs.end r text) here h.runs.tells)
-    (subst (λ (r : Refusal). Tells false Logs k.runs.end r second) there k.runs.tells)
+    (subst (λ (r : Refusal). Tells false Logs h.events h.runs.end r text) here h.runs.tells)
+    (subst (λ (r : Refusal). Tells false Logs k.events k.runs.end r second) there k.runs.tells)
 
 -- Other runs, by their traces.
 
@@ -92,18 +92,18 @@ as_trace status input text h = record {
 }
 
 -- a run that was refused an event tells its trace
-told : (w : WorldState) (r : Refusal) (text : List ℕ) → Stopped ≡ ending r → Tells false Logs w r text
+told : (es : List Event) (w : WorldState) (r : Refusal) (text : List ℕ) → Stopped ≡ ending r → Tells false Logs es w r text
     → text ≡ trace_by false w ++ last_line r
-told w None text stops h = absurd (cc)
-told w (Some refused) text stops h = h
+told es w None text stops h = absurd (cc)
+told es w (Some refused) text stops h = h
 
 stopped : (input text second : List ℕ) → BeginsWithNone input → RunsScript Logs Stopped input text
     → RunsScript Logs Stopped input second → second ≡ text
 stopped input text second none h k =
-    told k.runs.end k.runs.refusal second k.runs.status_is k.runs.tells
+    told k.events k.runs.end k.runs.refusal second k.runs.status_is k.runs.tells
     ∙ (traces.one_input Trace Stopped Stopped input _ _ tt none (inl (as_trace Stopped input text h))
     (inl (as_trace Stopped input second k))).1
-    ∙ sym (told h.runs.end h.runs.refusal text h.runs.status_is h.runs.tells)
+    ∙ sym (told h.events h.runs.end h.runs.refusal text h.runs.status_is h.runs.tells)
 
 -- Inputs.
 

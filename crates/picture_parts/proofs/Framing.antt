@@ -1,41 +1,52 @@
 -- A picture with a caption is one of the same steps.
-use Rattle.std.proofs.Common.{◌≡◌, ◌∙◌, ap, sym, ℕ, List, ◌++◌}
+use Rattle.std.proofs.Common.{◌≡◌, ◌∙◌, ap, refl, ℕ, Option, List, ◌++◌}
 use Rattle.std.proofs.lemmas.List.{append_assoc}
 use Rattle.tree_model.specs.declared.events.Entry.{Entry}
-use Rattle.picture_shapes.specs.Svg.{squares_text, strokes_text}
+use Rattle.tree_model.specs.declared.events.Event.{Event}
+use Rattle.tree_model.specs.declared.trees.TreeEntry.{TreeEntry}
+use Rattle.picture_shapes.specs.Svg.{shapes_text, squares_text, strokes_text}
 use Rattle.run_picture.specs.Pictures.{IsPicture}
 use Rattle.picture_parts.specs.Captions.{Surrounds}
 
--- what stands before a text of five parts belongs to the first
-before : (x a b c d e : List ℕ) → x ++ (a ++ b ++ c ++ d ++ e) ≡ (x ++ a) ++ b ++ c ++ d ++ e
-before x a b c d e =
-    sym (append_assoc x (a ++ b ++ c ++ d) e)
-    ∙ ap (λ (xs : List ℕ). xs ++ e) (sym (append_assoc x (a ++ b ++ c) d)
-    ∙ ap (λ (xs : List ℕ). xs ++ d) (sym (append_assoc x (a ++ b) c)
-    ∙ ap (λ (xs : List ℕ). xs ++ c) (sym (append_assoc x a b))))
+-- what stands before a text of ten parts belongs to the first, and what stands after it to the last
+around : (x a b c d e f g h i j y : List ℕ)
+    → x ++ ((((((((((a ++ b) ++ c) ++ d) ++ e) ++ f) ++ g) ++ h) ++ i) ++ j) ++ y)
+    ≡ (((((((((x ++ a) ++ b) ++ c) ++ d) ++ e) ++ f) ++ g) ++ h) ++ i) ++ (j ++ y)
+around x a b c d e f g h i j y = simp append_assoc refl
 
-pub framed : (es : List Entry) (text whole : List ℕ) → IsPicture es text → Surrounds text whole → IsPicture es whole
-framed es text whole p s =
-    let upper = p.front ++ strokes_text p.strokes ++ p.middle ++ squares_text p.squares in
-    record {
+pub framed : (tree : List TreeEntry) (es : List Entry) (text whole : List ℕ)
+    → ((refused : Option Event) × IsPicture tree es refused text) → Surrounds text whole
+    → (refused : Option Event) × IsPicture tree es refused whole
+framed tree es text whole (refused, p) s =
+    (refused, record {
       grid = p.grid;
       apart = p.apart;
       seats = p.seats;
       in_order = p.in_order;
+      seated = p.seated;
       rows = p.rows;
       end = p.end;
       rise = p.rise;
       each = p.each;
-      front = s.head ++ p.front;
+      head = s.head ++ p.head;
+      below = p.below;
       strokes = p.strokes;
-      middle = p.middle;
+      lines = p.lines;
+      boxes = p.boxes;
+      openings = p.openings;
+      signs = p.signs;
       squares = p.squares;
-      rest = p.rest ++ s.tail;
+      words = p.words;
+      tail = p.tail ++ s.tail;
       arrows = p.arrows;
       ways = p.ways;
       marks = p.marks;
+      stubs = p.stubs;
+      others = p.others;
+      opened = p.opened;
       layers = s.is
           ∙ ap (λ (xs : List ℕ). s.head ++ (xs ++ s.tail)) p.layers
-          ∙ ap (λ (xs : List ℕ). s.head ++ xs) (append_assoc upper p.rest s.tail)
-          ∙ before s.head p.front (strokes_text p.strokes) p.middle (squares_text p.squares) (p.rest ++ s.tail);
-    }
+          ∙ around s.head p.head (shapes_text p.below) (strokes_text p.strokes) (strokes_text p.lines)
+          (shapes_text p.boxes) (squares_text p.openings) (shapes_text p.signs) (squares_text p.squares)
+          (shapes_text p.words) p.tail s.tail;
+    })

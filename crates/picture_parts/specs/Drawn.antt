@@ -30,7 +30,7 @@ pub record DrawsFrom (part : Part) (root : ProcessId) (start : WorldState) (even
   pub counts : List ℕ
   pub counted : CountsTo start events refusal end counts
   pub status_is : status ≡ ending refusal
-  pub drawn : IsDrawn part root (length start.entries) end.entries counts text
+  pub drawn : IsDrawn part end.tree root (length start.entries) end.entries counts text
 
 -- of that run the part is not drawn for this reason
 pub record RefusesFrom (part : Part) (root : ProcessId) (start : WorldState) (events : List Event) (fault : PartFault)

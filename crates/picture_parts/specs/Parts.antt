@@ -1,10 +1,12 @@
 -- Which part of a run is drawn, and how large it is.
-use Rattle.std.specs.Prelude.{◌≡◌, ℕ, ◌+◌, ◌-◌, ◌<◌, ◌≤◌, Bool, true, false, not, ◌==◌, ◌&&◌, leb, if◌then◌else◌, Some, None, Result, Ok, Err, List, count_by, fold, length, slice_get, unwrap_or}
+use Rattle.std.specs.Prelude.{◌≡◌, ℕ, ◌+◌, ◌-◌, ◌<◌, ◌≤◌, Bool, true, false, not, ◌==◌, ◌&&◌, leb, if◌then◌else◌, Option, Some, None, Result, Ok, Err, List, count_by, fold, length, slice_get, unwrap_or}
 use Rattle.std.specs.Global.{Vec}
 use Rattle.std.specs.List.{slice_range}
 use Rattle.tree_model.specs.declared.events.Entry.{Entry}
+use Rattle.tree_model.specs.declared.events.Event.{Event}
 use Rattle.tree_model.specs.declared.names.ProcessId.{ProcessId}
 use Rattle.tree_model.specs.declared.names.Txn.{Txn}
+use Rattle.tree_model.specs.declared.trees.TreeEntry.{TreeEntry}
 use Rattle.picture_parts.specs.declared.belonging.Choice.TheVariants.{Between, OfTxn}
 use Rattle.picture_parts.specs.declared.belonging.Marked.{Marked}
 use Rattle.picture_parts.specs.declared.fault.PartFault.{PartFault}
@@ -73,13 +75,15 @@ abbrev pub part_of : Part → ProcessId → ℕ → List Entry → List ℕ → 
 part_of (Case t) root start es counts = drawn_from (Some (at_root root t)) (marks_of_case root t es)
 part_of (Events r) root start es counts = drawn_from None (marks_of_events start counts r es)
 
--- the text is the picture of a part of a run that has this root: it made the first number of steps before its events, these
+-- the text is the picture of a part of a run of a tree that has this root: it made the first number of steps before its events, these
 -- steps in all, and the numbers of steps after each event
-pub record IsDrawn (part : Part) (root : ProcessId) (start : ℕ) (es : List Entry) (counts : List ℕ) (text : List ℕ)
-    : Type 0 where
+pub record IsDrawn (part : Part) (tree : List TreeEntry) (root : ProcessId) (start : ℕ) (es : List Entry)
+    (counts : List ℕ) (text : List ℕ) : Type 0 where
   pub has : HasPart part root es counts
   pub small : part_size part root es counts ≤ 2000
-  pub picture : IsPicture (part_of part root start es counts) text
+  -- the event that was refused, if it is drawn
+  pub refused : Option Event
+  pub picture : IsPicture tree (part_of part root start es counts) refused text
 
 -- why it is not drawn is so
 abbrev pub IsFault : Part → ProcessId → List Entry → List ℕ → PartFault → Type 0
@@ -89,6 +93,6 @@ IsFault (Events r) root es counts (faults.Beyond n) = (n ≡ length counts) × (
 IsFault part root es counts fault = ⊥
 
 -- the picture, or why there is none
-abbrev pub Answers : Part → ProcessId → ℕ → List Entry → List ℕ → Result (Vec ℕ) PartFault → Type 0
-Answers part root start es counts (Ok text) = IsDrawn part root start es counts text.items
-Answers part root start es counts (Err fault) = IsFault part root es counts fault
+abbrev pub Answers : Part → List TreeEntry → ProcessId → ℕ → List Entry → List ℕ → Result (Vec ℕ) PartFault → Type 0
+Answers part tree root start es counts (Ok text) = IsDrawn part tree root start es counts text.items
+Answers part tree root start es counts (Err fault) = IsFault part root es counts fault

@@ -1,6 +1,7 @@
 //! Draws a part of a run.
 
-ghost use Rattle.std.specs.Prelude.{◌≡◌, IfNone, IfOk, IfSome};
+ghost use Rattle.std.specs.Prelude.{◌≡◌, IfNone, IfOk, IfSome, Option};
+ghost use Rattle.tree_model.specs.declared.events.Event.{Event as AnyEvent};
 ghost use Rattle.run_picture.specs.Pictures.{IsPicture};
 ghost use Rattle.tree_world.specs.Worlds.{state};
 ghost use Rattle.tree_engine.specs.Trees.{ending};
@@ -90,7 +91,8 @@ fn draw_steps(
     entries: &[Entry],
     notes: &[Vec<u8>],
 ) -> Result<Vec<u8>, Failure>
-    ensures { IfOk result (λ text. IsPicture entries.now text.items) }
+    ensures { IfOk result (λ text. (refused : Option AnyEvent)
+        × IsPicture (state run.now.world.now).tree entries.now refused text.items) }
 {
     let scene = Scene {
         tree: run.world.tree().entries(),
@@ -98,7 +100,7 @@ fn draw_steps(
         turns,
         entries,
         notes,
-        refusal: cause_of(run.refusal),
+        refusal: cause_of(run.refusal).map(|cause| (turns.len().saturating_sub(1), cause)),
     };
     match picture(alloc, &scene) {
         Ok(text) => Ok(text),
@@ -117,7 +119,8 @@ fn draw_turns(
     entries: &[Entry],
     caption: &[u8],
 ) -> Result<Vec<u8>, Failure>
-    ensures { IfOk result (λ text. IsPicture entries.now text.items) }
+    ensures { IfOk result (λ text. (refused : Option AnyEvent)
+        × IsPicture (state run.now.world.now).tree entries.now refused text.items) }
 {
     let events = events_at(alloc, run.events, &turns.places)?;
     let notes = notes_shown(alloc, run, marks)?;
@@ -133,8 +136,8 @@ fn draw_case(
     start: usize,
     txn: &Txn,
 ) -> Result<Result<Vec<u8>, PartFault>, Failure>
-    ensures { IfOk result (Answers (Part.Case txn.now) root start (state run.now.world.now).entries
-        run.now.counts.now) }
+    ensures { IfOk result (Answers (Part.Case txn.now) (state run.now.world.now).tree root start
+        (state run.now.world.now).entries run.now.counts.now) }
 {
     let txn = at_root(root, txn);
     let marks = marks_of(alloc, run.world, &Choice::OfTxn(txn))?;
@@ -161,8 +164,8 @@ fn draw_range(
     start: usize,
     range: &Range,
 ) -> Result<Result<Vec<u8>, PartFault>, Failure>
-    ensures { IfOk result (Answers (Part.Events range.now) root start (state run.now.world.now).entries
-        run.now.counts.now) }
+    ensures { IfOk result (Answers (Part.Events range.now) (state run.now.world.now).tree root start
+        (state run.now.world.now).entries run.now.counts.now) }
 {
     let counts = run.counts;
     if range.last > counts.len() {
@@ -190,8 +193,8 @@ fn draw_part(
     start: usize,
     part: &Part,
 ) -> Result<Result<Vec<u8>, PartFault>, Failure>
-    ensures { IfOk result (Answers part.now root start (state run.now.world.now).entries
-        run.now.counts.now) }
+    ensures { IfOk result (Answers part.now (state run.now.world.now).tree root start
+        (state run.now.world.now).entries run.now.counts.now) }
 {
     match part {
         Part::Case(txn) => draw_case(alloc, run, root, start, txn),

@@ -1,9 +1,10 @@
 -- Where arrows and marks are drawn: at the places of processes, and at the rows of steps.
-use Rattle.std.specs.Prelude.{◌≡◌, ⊤, ℕ, ◌+◌, ◌-◌, ◌^◌, min, nat_lt, Option, None, Some, option_map, option_to_list, List, [], ◌∷◌, ◌++◌, find, get_or, length, map, replicate, slice_get}
+use Rattle.std.specs.Prelude.{◌≡◌, ⊤, ℕ, ◌+◌, ◌-◌, ◌^◌, min, nat_lt, true, Option, None, Some, is_some, option_map, option_to_list, List, [], ◌∷◌, ◌++◌, find, get_or, length, replicate, slice_get}
 use Rattle.tree_model.specs.declared.names.ProcessId.{ProcessId}
 use Rattle.tree_model.specs.declared.records.Logged.{Logged}
 use Rattle.tree_model.specs.declared.events.Entry.{Entry}
 use Rattle.tree_model.specs.declared.events.Happening.{Happening}
+use Rattle.tree_model.specs.declared.trees.TreeEntry.{TreeEntry}
 use Rattle.tree_model.specs.declared.events.Happening.TheVariants.{Restart}
 use Rattle.tree_model.specs.Names.{same_process}
 use Rattle.picture_rows.specs.declared.drawn.Mark.{Mark}
@@ -16,6 +17,10 @@ use Rattle.picture_rows.specs.Whole.{delivery}
 abbrev pub SitFrom : ℕ → List Seat → Type 0
 SitFrom place [] = ⊤
 SitFrom place (s ∷ ss) = (s.place ≡ place) × SitFrom (place + 1) ss
+
+-- a process of the tree has one of these seats
+abbrev pub HasSeat : List Seat → TreeEntry → Type 0
+HasSeat seats e = is_some (find (λ s. same_process s.process e.id) seats) ≡ true
 
 -- the place of a seat; the root's, if there is none
 abbrev pub place_or_root : Option Seat → ℕ

@@ -1,9 +1,9 @@
 //! The places of the processes, side by side.
 
-ghost use Rattle.std.specs.Prelude.{◌≡◌, ◌^◌, ◌≤◌, IfErr, IfOk, OnOk, find, length};
+ghost use Rattle.std.specs.Prelude.{◌≡◌, ◌^◌, ◌≤◌, All, IfErr, IfOk, IsTrue, OnOk, find, length};
 ghost use Rattle.std.specs.Option.{option_copied};
 ghost use Rattle.tree_model.specs.Names.{same_process};
-ghost use Rattle.picture_rows.specs.Ways.{SitFrom, place_in};
+ghost use Rattle.picture_rows.specs.Ways.{HasSeat, SitFrom, place_in};
 
 use crate::error::PictureError;
 use std::alloc::Global;
@@ -61,24 +61,65 @@ fn sit_below(
     Ok(())
 }
 
-/// The processes of a tree that lists each once, depth first, the children of each in the order of the tree.
-/// TooLong: it lists 2^32 processes.
-pub fn seats_of(alloc: Global, tree: &[TreeEntry]) -> Result<Vec<Seat>, PictureError>
-    ensures order { IfOk result (λ seats. SitFrom 0 seats.items) }
-    ensures few { IfOk result (λ seats. length seats.items ≤ length tree.now) }
-    ensures err { IfErr result (λ e. e ≡ PictureError.TooLong → 2 ^ 32 ≤ length tree.now) }
-{
-    let mut seats = Vec::new(alloc);
-    sit_below(tree, None, None, LEVELS, &mut seats)?;
-    Ok(seats)
-}
-
 /// The seat of a process, if it has one.
 #[tactic(auto, unfolding(tree_model::specs::Names::same_process))]
 fn seat_of(seats: &[Seat], process: ProcessId) -> Option<&Seat>
     ensures { option_copied result ≡ find (λ s. same_process s.process process) seats.now }
 {
     seats.iter().find(|seat| seat.process == process)
+}
+
+/// Whether each process of a tree has a seat.
+#[tactic(auto, using(crate::proofs::Seating::seated_more))]
+fn all_sit(tree: &[TreeEntry], seats: &[Seat]) -> bool
+    ensures { IsTrue result → All (HasSeat seats.now) tree.now }
+{
+    for entry in tree {
+        if seat_of(seats, entry.id).is_none() {
+            return false;
+        }
+    }
+    true
+}
+
+/// Seats the processes of a list in its order. TooLong: it lists 2^32 processes.
+#[tactic(auto, using(crate::proofs::Ways::sit_more, crate::proofs::Seating::sat_more))]
+fn sit_in_order(alloc: Global, tree: &[TreeEntry]) -> Result<Vec<Seat>, PictureError>
+    ensures order { IfOk result (λ seats. SitFrom 0 seats.items) }
+    ensures few { IfOk result (λ seats. length seats.items ≤ length tree.now) }
+    ensures all { IfOk result (λ seats. All (HasSeat seats.items) tree.now) }
+    ensures err { IfErr result (λ e. e ≡ PictureError.TooLong → 2 ^ 32 ≤ length tree.now) }
+{
+    let mut seats = Vec::new(alloc);
+    for entry in tree {
+        let Ok(place) = u32::try_from(seats.len()) else {
+            return Err(PictureError::TooLong);
+        };
+        seats.push(Seat {
+            place,
+            process: entry.id,
+            kind: entry.kind,
+            level: 0,
+            parent: None,
+        })?;
+    }
+    Ok(seats)
+}
+
+/// The processes of a tree, each at a place of its own: depth first, the children of each in the order of the tree. Those of
+/// a list that is no tree sit in its order. TooLong: it lists 2^32 processes.
+pub fn seats_of(alloc: Global, tree: &[TreeEntry]) -> Result<Vec<Seat>, PictureError>
+    ensures order { IfOk result (λ seats. SitFrom 0 seats.items) }
+    ensures few { IfOk result (λ seats. length seats.items ≤ length tree.now) }
+    ensures all { IfOk result (λ seats. All (HasSeat seats.items) tree.now) }
+    ensures err { IfErr result (λ e. e ≡ PictureError.TooLong → 2 ^ 32 ≤ length tree.now) }
+{
+    let mut seats = Vec::new(alloc);
+    sit_below(tree, None, None, LEVELS, &mut seats)?;
+    if all_sit(tree, &seats) {
+        return Ok(seats);
+    }
+    sit_in_order(alloc, tree)
 }
 
 /// The place of a process; the root's, where it has none.

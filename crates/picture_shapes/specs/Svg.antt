@@ -263,7 +263,7 @@ label_text l =
 
 -- Shapes.
 
--- the text of a shape
+-- the text of a shape: none is an arrow or the mark of a record
 unfoldable pub shape_text : Shape → List ℕ
 shape_text (shape.Rule r) = rule_text r
 shape_text (shape.Life l) = life_text l
@@ -271,10 +271,8 @@ shape_text (shape.Joint j) = joint_text j
 shape_text (shape.Plate p) = frame_text p ++ plate_words p
 shape_text (shape.Patch p) = patch_text p
 shape_text (shape.Bar b) = bar_text b
-shape_text (shape.Stroke s) = stroke_text s
 shape_text (shape.Ring r) = ring_text r
 shape_text (shape.Dot d) = dot_text d
-shape_text (shape.Square s) = square_text s
 shape_text (shape.Torn t) = torn_text t
 shape_text (shape.Note n) = note_text n
 shape_text (shape.Trim s) = trim_text s

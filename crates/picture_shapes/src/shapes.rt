@@ -189,7 +189,7 @@ pub struct Spot {
     pub y: u64,
 }
 
-/// A shape at its place.
+/// A shape at its place, but for arrows and marks of records, which have lists of their own.
 #[derive(Drop)]
 pub enum Shape {
     Rule(EventRule),
@@ -198,10 +198,8 @@ pub enum Shape {
     Plate(Plate),
     Patch(Patch),
     Bar(Bar),
-    Stroke(Stroke),
     Ring(Ring),
     Dot(Dot),
-    Square(Square),
     Torn(Torn),
     Note(Note),
     /// Two bars across a line, where a log was trimmed.

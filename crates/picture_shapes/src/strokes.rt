@@ -90,7 +90,7 @@ fn push_tip(out: &mut Vec<u8>, tip: Tip, right: bool, x: u64, y: u64) -> Result<
 }
 
 #[tactic(auto, unfolding(crate::specs::Svg::stroke_text))]
-pub(crate) fn push_stroke(out: &mut Vec<u8>, stroke: &Stroke) -> Result<(), AllocError>
+fn push_stroke(out: &mut Vec<u8>, stroke: &Stroke) -> Result<(), AllocError>
     ensures { OnOk result (out.new.items ≡ out.old.items ++ stroke_text stroke.now) }
 {
     push_tone(out, "<g class=\"", stroke.tone)?;

@@ -8,7 +8,6 @@ use crate::shapes::{
     Bar, Dot, EventRule, Joint, Label, Life, Look, Note, Patch, Plate, Ring, Shape, Spot, Square,
     Torn,
 };
-use crate::strokes::push_stroke;
 use crate::words::{push_pair, push_word};
 use picture_rows::Band;
 use std::alloc::AllocError;
@@ -341,10 +340,8 @@ fn push_shape(out: &mut Vec<u8>, shape: &Shape) -> Result<(), AllocError>
         Shape::Plate(plate) => push_plate(out, plate),
         Shape::Patch(patch) => push_patch(out, patch),
         Shape::Bar(bar) => push_bar(out, bar),
-        Shape::Stroke(stroke) => push_stroke(out, stroke),
         Shape::Ring(ring) => push_ring(out, ring),
         Shape::Dot(dot) => push_dot(out, dot),
-        Shape::Square(square) => push_square(out, square),
         Shape::Torn(torn) => push_torn(out, torn),
         Shape::Note(note) => push_note(out, note),
         Shape::Trim(spot) => push_trim(out, spot),

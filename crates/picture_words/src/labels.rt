@@ -3,7 +3,8 @@
 ghost use Rattle.std.specs.Prelude.{◌≡◌, ◌++◌, IfOk, OnOk, codes, decimal};
 ghost use Rattle.std.specs.Option.{option_copied};
 ghost use Rattle.tree_model.specs.Plays.{sent_as};
-ghost use Rattle.tree_model.specs.Texts.{case_text as text_of_case, envelope_text, message_text, op_text};
+ghost use Rattle.tree_model.specs.Texts.{case_text as text_of_case, conclusion_word as word_of_conclusion, envelope_text, message_text, op_text, told_text};
+ghost use Rattle.link_script.specs.Spellings.{act_text, decision_word as word_of_decision, event_text};
 ghost use Rattle.picture_words.specs.Labels.{record_name as name_of_record, subject_name, title_in, txn_name};
 
 use picture_shapes::{Tone, push_word};
@@ -271,7 +272,9 @@ pub fn told_tone(told: Told) -> Tone {
     }
 }
 
-fn conclusion_word(conclusion: Conclusion) -> &'static str {
+fn conclusion_word(conclusion: Conclusion) -> &'static str
+    ensures { result.now ≡ word_of_conclusion conclusion }
+{
     match conclusion {
         Conclusion::Committed => "committed",
         Conclusion::Aborted => "aborted",
@@ -288,8 +291,10 @@ pub fn told_label(alloc: Global, told: Told, room: usize) -> Result<Vec<u8>, All
     shortened(out, room)
 }
 
-/// The same, as a trace has it.
-pub fn told_title(alloc: Global, told: Told) -> Result<Vec<u8>, AllocError> {
+/// What the application is told, as a trace has it.
+pub fn told_title(alloc: Global, told: Told) -> Result<Vec<u8>, AllocError>
+    ensures { IfOk result (λ title. title.items ≡ told_text told) }
+{
     let mut out = Vec::new(alloc);
     push(&mut out, "told ")?;
     push_txn(&mut out, told.txn)?;
@@ -308,7 +313,9 @@ pub fn act_tone(act: &Act) -> Tone {
 }
 
 /// The word of an operator's decision.
-fn decision_word(outcome: Outcome) -> &'static str {
+fn decision_word(outcome: Outcome) -> &'static str
+    ensures { result.now ≡ word_of_decision outcome }
+{
     match outcome {
         Outcome::Committed => "commit",
         Outcome::Aborted => "rollback",
@@ -363,7 +370,9 @@ pub fn act_label(
 }
 
 /// The line of an act in a script.
-pub fn push_act(out: &mut Vec<u8>, act: &Act) -> Result<(), AllocError> {
+pub fn push_act(out: &mut Vec<u8>, act: &Act) -> Result<(), AllocError>
+    ensures { OnOk result (out.new.items ≡ out.old.items ++ act_text act.now) }
+{
     match act {
         Act::Begin(Presumption::PresumeAbort) => push(out, "begin pa"),
         Act::Begin(Presumption::PresumeCommit) => push(out, "begin pc"),
@@ -404,7 +413,9 @@ pub fn push_act(out: &mut Vec<u8>, act: &Act) -> Result<(), AllocError> {
     }
 }
 
-fn push_event(out: &mut Vec<u8>, event: &Event) -> Result<(), AllocError> {
+fn push_event(out: &mut Vec<u8>, event: &Event) -> Result<(), AllocError>
+    ensures { OnOk result (out.new.items ≡ out.old.items ++ event_text event.now) }
+{
     match event {
         Event::Act(act) => push_act(out, act),
         Event::Deliver(number) => push_word(out, "deliver ", *number),
@@ -419,14 +430,18 @@ fn push_event(out: &mut Vec<u8>, event: &Event) -> Result<(), AllocError> {
 }
 
 /// The line of an act.
-pub fn act_line(alloc: Global, act: &Act) -> Result<Vec<u8>, AllocError> {
+pub fn act_line(alloc: Global, act: &Act) -> Result<Vec<u8>, AllocError>
+    ensures { IfOk result (λ line. line.items ≡ act_text act.now) }
+{
     let mut out = Vec::new(alloc);
     push_act(&mut out, act)?;
     Ok(out)
 }
 
 /// The line of an event in a script.
-pub fn event_line(alloc: Global, event: &Event) -> Result<Vec<u8>, AllocError> {
+pub fn event_line(alloc: Global, event: &Event) -> Result<Vec<u8>, AllocError>
+    ensures { IfOk result (λ line. line.items ≡ event_text event.now) }
+{
     let mut out = Vec::new(alloc);
     push_event(&mut out, event)?;
     Ok(out)

@@ -1,3 +1,4 @@
 pub mod Along
 pub mod Ringing
 pub mod Wholes
+pub mod Adding

@@ -5,9 +5,15 @@ use Rattle.std.proofs.lemmas.List.{append-nil, append_assoc, map-append, take_mo
 use Rattle.std.specs.Global.{Vec}
 use Rattle.picture_shapes.specs.declared.shapes.Note.{Note}
 use Rattle.picture_shapes.specs.declared.shapes.Shape.{Shape}
+use Rattle.picture_shapes.specs.declared.shapes.Square.{Square}
+use Rattle.picture_shapes.specs.declared.shapes.Stroke.{Stroke}
 use Rattle.picture_shapes.specs.declared.shapes.Shape.TheVariants as shape
-use Rattle.picture_shapes.specs.Svg.{shapes_text}
+use Rattle.picture_shapes.specs.Svg.{shape_text, shapes_text, squares_text, strokes_text}
 use Rattle.run_picture.specs.Rings.{HasRings, ring_words, told, told_of}
+
+-- the line of a shape
+line_of : Shape → List ℕ
+line_of s = shape_text s ++ 10 ∷ []
 
 -- a step of which nothing is told
 pub no_ring : (rs : List Shape) (ws : List ℕ) → length ws ≡ 0
@@ -38,18 +44,36 @@ rings_more notes k v old new there at were is =
     ∙ ap (λ xs. map Some (told (take k notes)) ++ map Some xs) (sym one)
     ∙ sym (map-append Some (told (take k notes)) (told (v ∷ []))) ∙ ap (λ xs. map Some xs) (sym said)
 
-joined : (a c s d e f : List ℕ)
-    → ((a ++ ((c ++ s) ++ d)) ++ e) ++ f ≡ ((a ++ c) ++ s) ++ ((d ++ e) ++ f)
-joined a c s d e f = simp append_assoc refl
+joined : (h b s l x o a r d q w e : List ℕ)
+    → ((((((((h ++ b) ++ s) ++ l) ++ x) ++ o) ++ (a ++ r ++ d)) ++ q) ++ w) ++ e
+    ≡ ((((((h ++ b) ++ s) ++ l) ++ x) ++ o) ++ a) ++ r ++ (((d ++ q) ++ w) ++ e)
+joined h b s l x o a r d q w e = simp append_assoc refl
 
--- a text of these layers has the rings
-pub ringed : (notes : List (Vec ℕ)) (rings rs : List Shape) (a c d e f text : List ℕ) → rs ≡ rings
-    → map ring_words rings ≡ map Some (told notes)
-    → text ≡ a ++ (c ++ shapes_text rs ++ d) ++ e ++ f → HasRings notes text
-ringed notes rings rs a c d e f text same words is = record {
-  front = a ++ c;
-  rings = rs;
-  rest = d ++ e ++ f;
-  words = ap (λ xs. map ring_words xs) same ∙ words;
-  layer = is ∙ joined a c (shapes_text rs) d e f;
-}
+-- a text whose small marks are these, with the rings among them, has the rings
+pub ringed : (notes : List (Vec ℕ)) (rings before after below boxes words : List Shape) (strokes lines : List Stroke)
+    (openings squares : List Square) (h e text : List ℕ) → map ring_words rings ≡ map Some (told notes)
+    → text ≡ ((((((((h ++ shapes_text below) ++ strokes_text strokes) ++ strokes_text lines) ++ shapes_text boxes)
+    ++ squares_text openings) ++ shapes_text (before ++ rings ++ after)) ++ squares_text squares)
+    ++ shapes_text words) ++ e
+    → HasRings notes text
+unfolding line_of
+ringed notes rings before after below boxes words strokes lines openings squares h e text told_are is =
+    let b = shapes_text below in
+    let s = strokes_text strokes in
+    let l = strokes_text lines in
+    let x = shapes_text boxes in
+    let o = squares_text openings in
+    let q = squares_text squares in
+    let w = shapes_text words in
+    let parts : shapes_text (before ++ rings ++ after) ≡ shapes_text before ++ shapes_text rings ++ shapes_text after =
+    flat_map-append line_of (before ++ rings) after
+    ∙ ap (λ xs. xs ++ shapes_text after) (flat_map-append line_of before rings) in
+    record {
+      front = (((((h ++ b) ++ s) ++ l) ++ x) ++ o) ++ shapes_text before;
+      rings = rings;
+      rest = ((shapes_text after ++ q) ++ w) ++ e;
+      words = told_are;
+      layer = is
+          ∙ ap (λ xs. (((((((((h ++ b) ++ s) ++ l) ++ x) ++ o) ++ xs) ++ q) ++ w) ++ e)) parts
+          ∙ joined h b s l x o (shapes_text before) (shapes_text rings) (shapes_text after) q w e;
+    }

@@ -3,3 +3,4 @@ pub mod Plans
 pub mod Pictures
 pub mod Layers
 pub mod Rings
+pub mod Lines

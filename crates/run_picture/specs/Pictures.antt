@@ -1,18 +1,24 @@
 -- What a picture tells of its run.
-use Rattle.std.specs.Prelude.{◌≡◌, ℕ, ◌<◌, ◌-◌, Bool, List, ◌++◌, length, map}
+use Rattle.std.specs.Prelude.{◌≡◌, ℕ, ◌<◌, ◌-◌, Bool, true, Option, All, List, ◌++◌, length, map}
 use Rattle.tree_model.specs.declared.events.Entry.{Entry}
+use Rattle.tree_model.specs.declared.events.Event.{Event}
+use Rattle.tree_model.specs.declared.trees.TreeEntry.{TreeEntry}
+use Rattle.tree_model.specs.declared.records.RecordKind.TheVariants.{Opened}
+use Rattle.tree_model.specs.declared.records.Subject.TheVariants.{Boot}
 use Rattle.picture_rows.specs.declared.rows.StepRows.{StepRows}
 use Rattle.picture_rows.specs.declared.seats.Seat.{Seat}
 use Rattle.picture_rows.specs.Rising.{RiseTo}
-use Rattle.picture_rows.specs.Ways.{SitFrom, Spot, senders, spots_in, ways_in}
+use Rattle.picture_rows.specs.Ways.{HasSeat, SitFrom, Spot, senders, spots_in, ways_in}
 use Rattle.picture_rows.specs.Whole.{deliveries, sent_in}
 use Rattle.picture_shapes.specs.declared.frame.Grid.{Grid}
+use Rattle.picture_shapes.specs.declared.shapes.Shape.{Shape}
 use Rattle.picture_shapes.specs.declared.shapes.Square.{Square}
 use Rattle.picture_shapes.specs.declared.shapes.Stroke.{Stroke}
 use Rattle.picture_shapes.specs.Grids.{line_at, row_at}
 use Rattle.picture_words.specs.Labels.{record_name, title_in}
-use Rattle.picture_shapes.specs.Svg.{squares_text, strokes_text}
+use Rattle.picture_shapes.specs.Svg.{shapes_text, squares_text, strokes_text}
 use Rattle.run_picture.specs.Along.{RunAlong}
+use Rattle.run_picture.specs.Lines.{refused_lines, steps_lines}
 
 -- what a mark tells: a record's name, whether it is filled, and where its corner is
 abbrev pub square_key : Square → (List ℕ × Bool) × (ℕ × ℕ)
@@ -22,27 +28,54 @@ square_key s = ((s.name.items, s.forced), (s.x, s.y))
 abbrev pub spot_key : Grid → Spot → (List ℕ × Bool) × (ℕ × ℕ)
 spot_key g p = ((record_name p.logged, p.logged.forced), (line_at g p.place - 5, row_at g p.row - 5))
 
--- The text is a picture of these steps: a part of it is an arrow for each delivery, with all of its message, from the line
--- of its sender and the row of the step that sent it to the line of its receiver and the row of the step that it made; and
--- a later part a mark for each record, filled where it was forced, at the line of its process and the row of its step; both
--- in the order of the steps. Each process that sits has a line of its own, and each step has rows of its own, below those
--- of the step before it.
-pub record IsPicture (entries : List Entry) (text : List ℕ) : Type 0 where
+-- the words that strokes show where the pointer rests
+abbrev pub titles_of : List Stroke → List (List ℕ)
+titles_of strokes = map (λ s. s.title.items) strokes
+
+-- where the Opened with which a process began is drawn: at its line, above the first step
+abbrev pub opening_of : Seat → Spot
+opening_of s = record {
+  place = s.place;
+  row = 0;
+  logged = record { subject = Boot 1; kind = Opened; forced = true };
+}
+
+-- The text is a picture of these steps of a tree: it has an arrow for each delivery, with all of its message, from the line of its
+-- sender and the row of the step that sent it to the line of its receiver and the row of the step that it made; and a mark
+-- for each record, filled where it was forced, at the line of its process and the row of its step; both in the order of the
+-- steps. Each process of the tree has a line of its own, and each step has rows of its own, below those of the step before it.
+-- The other strokes are those of messages of these steps where they were sent, of what each step was asked and told the
+-- application, in the order of the steps, and of the event that was refused, if one was; the other marks are those of each
+-- process's Opened. What is drawn besides has no stroke and no mark of a record.
+pub record IsPicture (tree : List TreeEntry) (entries : List Entry) (refused : Option Event) (text : List ℕ) : Type 0 where
   pub grid : Grid
   pub apart : 0 < grid.gap
   pub seats : List Seat
   pub in_order : SitFrom 0 seats
+  pub seated : All (HasSeat seats) tree
   pub rows : List StepRows
   pub end : ℕ
   pub rise : RiseTo 1 rows end
   pub each : length rows ≡ length entries
-  pub front : List ℕ
+  -- what stands before the shapes, and after them
+  pub head : List ℕ
+  pub below : List Shape
   pub strokes : List Stroke
-  pub middle : List ℕ
+  pub lines : List Stroke
+  pub boxes : List Shape
+  pub openings : List Square
+  pub signs : List Shape
   pub squares : List Square
-  pub rest : List ℕ
-  pub arrows : map (λ s. s.title.items) strokes
-      ≡ map (title_in (sent_in entries)) (deliveries (length (sent_in entries)) entries)
+  pub words : List Shape
+  pub tail : List ℕ
+  pub arrows : titles_of strokes ≡ map (title_in (sent_in entries)) (deliveries (length (sent_in entries)) entries)
   pub ways : RunAlong grid (ways_in seats rows (senders entries) entries) strokes
   pub marks : map square_key squares ≡ map (spot_key grid) (spots_in seats rows entries)
-  pub layers : text ≡ front ++ strokes_text strokes ++ middle ++ squares_text squares ++ rest
+  -- the messages that are drawn where they were sent
+  pub stubs : List ℕ
+  pub others : titles_of lines
+      ≡ (map (title_in (sent_in entries)) stubs ++ steps_lines entries) ++ refused_lines refused
+  pub opened : map square_key openings ≡ map (λ s. spot_key grid (opening_of s)) seats
+  pub layers : text ≡ ((((((((head ++ shapes_text below) ++ strokes_text strokes) ++ strokes_text lines)
+      ++ shapes_text boxes) ++ squares_text openings) ++ shapes_text signs) ++ squares_text squares)
+      ++ shapes_text words) ++ tail

@@ -1,13 +1,18 @@
 //! Draws the steps of a run: its messages, its records, and what was asked.
 
-ghost use Rattle.std.specs.Prelude.{◌≡◌, IfOk, map};
+ghost use Rattle.std.specs.Prelude.{◌≡◌, ◌++◌, ◌∷◌, [], IfOk, OnOk, length, map};
 ghost use Rattle.picture_rows.specs.declared.drawn.Arrow.{Arrow as AnyArrow};
 ghost use Rattle.picture_rows.specs.declared.drawn.Mark.{Mark as AnyMark};
+ghost use Rattle.picture_rows.specs.declared.drawn.Stub.{Stub as AnyStub};
+ghost use Rattle.picture_rows.specs.declared.seats.Seat.{Seat as AnySeat};
 ghost use Rattle.picture_shapes.specs.declared.shapes.Stroke.{Stroke as AnyStroke};
 ghost use Rattle.picture_words.specs.Labels.{title_in};
 ghost use Rattle.picture_rows.specs.Ways.{spot_of};
+ghost use Rattle.link_script.specs.Spellings.{act_text};
+ghost use Rattle.tree_model.specs.Texts.{told_lines, told_text};
 ghost use Rattle.run_picture.specs.Along.{RunAlong, RunsAlong};
-ghost use Rattle.run_picture.specs.Pictures.{spot_key, square_key};
+ghost use Rattle.run_picture.specs.Lines.{asked_lines, step_lines, steps_lines};
+ghost use Rattle.run_picture.specs.Pictures.{opening_of, spot_key, square_key, titles_of};
 
 use crate::plan::{Plan, Scene};
 use crate::room::is_call;
@@ -24,7 +29,7 @@ use picture_words::{
 };
 use std::alloc::{AllocError, Global};
 use trace_lines::{push, push_number};
-use tree_model::{Act, Entry, Envelope, Happening, Input, Logged, RecordKind, Subject};
+use tree_model::{Act, Entry, Envelope, Happening, Input, Logged, RecordKind, Subject, Told};
 
 /// A sheet that is drawn on, and what its rows and places are.
 #[derive(Drop)]
@@ -109,6 +114,22 @@ impl Drawing {
         Ok(())
     }
 
+    /// The colour of the message with this number, and what stands along its line after the number, which has N
+    /// characters; nothing, if there is no such message.
+    fn tone_and_label(
+        &self,
+        messages: &[Envelope],
+        number: u64,
+        characters: usize,
+    ) -> Result<(Tone, Vec<u8>), AllocError> {
+        let Some(envelope) = message_with(messages, number) else {
+            return Ok((Tone::Dim, Vec::new(self.alloc)));
+        };
+        let room = self.frame.room.messages;
+        let label = message_label(self.alloc, characters, &envelope.message, room)?;
+        Ok((message_tone(&envelope.message), label))
+    }
+
     /// The line of a message that was delivered; its words are laid.
     fn draw_arrow(&mut self, messages: &[Envelope], arrow: &Arrow) -> Result<Stroke, AllocError>
         ensures title { IfOk result (λ stroke. stroke.title.items ≡ title_in messages.now arrow.now.number) }
@@ -117,18 +138,7 @@ impl Drawing {
     {
         let title = message_title(self.alloc, arrow.number, messages)?;
         let number = number_label(self.alloc, arrow.number)?;
-        let (tone, label) = match message_with(messages, arrow.number) {
-            None => (Tone::Dim, Vec::new(self.alloc)),
-            Some(envelope) => (
-                message_tone(&envelope.message),
-                message_label(
-                    self.alloc,
-                    number.len(),
-                    &envelope.message,
-                    self.frame.room.messages,
-                )?,
-            ),
-        };
+        let (tone, label) = self.tone_and_label(messages, arrow.number, number.len())?;
         let draft = Draft {
             tone,
             title,
@@ -164,26 +174,18 @@ impl Drawing {
         Ok(strokes)
     }
 
-    pub(crate) fn draw_stub(
-        &mut self,
-        messages: &[Envelope],
-        stub: &Stub,
-    ) -> Result<(), AllocError> {
-        let Some(envelope) = message_with(messages, stub.number) else {
-            return Ok(());
-        };
+    /// The line of a message where it was sent; its words are laid.
+    fn draw_stub(&mut self, messages: &[Envelope], stub: &Stub) -> Result<Stroke, AllocError>
+        ensures { IfOk result (λ stroke. stroke.title.items ≡ title_in messages.now stub.now.number) }
+    {
+        let title = message_title(self.alloc, stub.number, messages)?;
         let number = number_label(self.alloc, stub.number)?;
-        let label = message_label(
-            self.alloc,
-            number.len(),
-            &envelope.message,
-            self.frame.room.messages,
-        )?;
+        let (tone, label) = self.tone_and_label(messages, stub.number, number.len())?;
         let size = width_of(number.len().saturating_add(label.len())).saturating_add(48);
         let x = self.frame.x_of(stub.from);
         let draft = Draft {
-            tone: message_tone(&envelope.message),
-            title: message_title(self.alloc, stub.number, messages)?,
+            tone,
+            title,
             x,
             y: self.frame.y_of(stub.left),
             to_x: if stub.to > stub.from {
@@ -198,7 +200,23 @@ impl Drawing {
             again: false,
             far: false,
         };
-        self.sheet.draw_line(self.alloc, draft)
+        self.sheet.draw(self.alloc, draft)
+    }
+
+    /// The lines of all messages that are drawn where they were sent.
+    pub(crate) fn draw_stubs(
+        &mut self,
+        messages: &[Envelope],
+        stubs: &[Stub],
+    ) -> Result<Vec<Stroke>, AllocError>
+        ensures { IfOk result (λ lines. titles_of lines.items
+            ≡ map (λ (s : AnyStub). title_in messages.now s.number) stubs.now) }
+    {
+        let mut lines = Vec::new(self.alloc);
+        for stub in stubs {
+            lines.push(self.draw_stub(messages, stub)?)?;
+        }
+        Ok(lines)
     }
 
     /// The mark of a record, which a crash takes or not; its words are laid.
@@ -254,10 +272,13 @@ impl Drawing {
         Ok(squares)
     }
 
-    /// The mark of the Opened with which each process began.
-    pub(crate) fn draw_openings(&mut self, seats: &[Seat]) -> Result<(), AllocError>
-        ensures { self.new.frame ≡ self.old.frame }
+    /// The marks of the Opened with which each process began.
+    pub(crate) fn draw_openings(&mut self, seats: &[Seat]) -> Result<Vec<Square>, AllocError>
+        ensures keys { IfOk result (λ squares. map square_key squares.items
+            ≡ map (λ (s : AnySeat). spot_key self.old.frame.grid (opening_of s)) seats.now) }
+        ensures frame { self.new.frame ≡ self.old.frame }
     {
+        let mut squares = Vec::new(self.alloc);
         for seat in seats {
             let mark = Mark {
                 place: seat.place,
@@ -269,10 +290,9 @@ impl Drawing {
                 },
                 right: true,
             };
-            let square = self.draw_mark(&mark, false)?;
-            self.sheet.marks.push(Shape::Square(square))?;
+            squares.push(self.draw_mark(&mark, false)?)?;
         }
-        Ok(())
+        Ok(squares)
     }
 
     pub(crate) fn draw_stretch(
@@ -329,33 +349,40 @@ impl Drawing {
                 radius: 4,
             }))?;
         }
-        if let Some(told) = reaction.told {
-            let draft = Draft {
-                tone: told_tone(told),
-                title: told_title(self.alloc, told)?,
-                x,
-                y: last,
-                to_x: self.frame.application(),
-                to_y: last,
-                number: Vec::new(self.alloc),
-                label: told_label(self.alloc, told, self.frame.room.calls)?,
-                tip: Tip::Head,
-                again: false,
-                far: false,
-            };
-            self.sheet.draw_line(self.alloc, draft)?;
-        }
         Ok(())
     }
 
-    /// What an application or an operator asks.
+    /// The line of what the root tells the application; its words are laid.
+    fn draw_told(&mut self, place: u32, told: Told, row: u32) -> Result<Stroke, AllocError>
+        ensures { IfOk result (λ stroke. stroke.title.items ≡ told_text told) }
+    {
+        let (x, y) = (self.frame.x_of(place), self.frame.y_of(row));
+        let draft = Draft {
+            tone: told_tone(told),
+            title: told_title(self.alloc, told)?,
+            x,
+            y,
+            to_x: self.frame.application(),
+            to_y: y,
+            number: Vec::new(self.alloc),
+            label: told_label(self.alloc, told, self.frame.room.calls)?,
+            tip: Tip::Head,
+            again: false,
+            far: false,
+        };
+        self.sheet.draw(self.alloc, draft)
+    }
+
+    /// The line of what an application or an operator asks; its words are laid.
     fn draw_act(
         &mut self,
         place: u32,
         act: &Act,
         entry: &Entry,
         row: u32,
-    ) -> Result<(), AllocError> {
+    ) -> Result<Stroke, AllocError>
+        ensures { IfOk result (λ stroke. stroke.title.items ≡ act_text act.now) }
+    {
         let tone = act_tone(act);
         let called = is_call(place, act);
         let room = if called {
@@ -396,7 +423,44 @@ impl Drawing {
             again: false,
             far: false,
         };
-        self.sheet.draw_line(self.alloc, draft)
+        self.sheet.draw(self.alloc, draft)
+    }
+
+    /// Adds the line of what a step was asked, if it was asked something, or what a trim left.
+    fn draw_cause(
+        &mut self,
+        lines: &mut Vec<Stroke>,
+        place: u32,
+        entry: &Entry,
+        row: u32,
+    ) -> Result<(), AllocError>
+        ensures { OnOk result (titles_of lines.new.items
+            ≡ titles_of lines.old.items ++ asked_lines entry.now.step.happening) }
+    {
+        match &entry.step.happening {
+            Happening::Input(Input::Act(act)) => {
+                lines.push(self.draw_act(place, act, entry, row)?)?;
+                Ok(())
+            }
+            Happening::Trim => self.draw_trim(place, entry, row),
+            _ => Ok(()),
+        }
+    }
+
+    /// Adds the line of what a step told the application, if it told something.
+    fn draw_word(
+        &mut self,
+        lines: &mut Vec<Stroke>,
+        place: u32,
+        told: Option<Told>,
+        row: u32,
+    ) -> Result<(), AllocError>
+        ensures { OnOk result (titles_of lines.new.items ≡ titles_of lines.old.items ++ told_lines told) }
+    {
+        if let Some(told) = told {
+            lines.push(self.draw_told(place, told, row)?)?;
+        }
+        Ok(())
     }
 
     fn draw_trim(&mut self, place: u32, entry: &Entry, row: u32) -> Result<(), AllocError> {
@@ -417,17 +481,38 @@ impl Drawing {
         )
     }
 
-    pub(crate) fn draw_steps(&mut self, scene: &Scene, plan: &Plan) -> Result<(), AllocError> {
-        for (entry, rows) in scene.entries.iter().zip(plan.rows.steps.iter()) {
-            let place = place_of(&plan.seats, entry.step.process);
-            match &entry.step.happening {
-                Happening::Input(Input::Act(act)) => {
-                    self.draw_act(place, act, entry, rows.first)?;
-                }
-                Happening::Trim => self.draw_trim(place, entry, rows.first)?,
-                _ => {}
-            }
-            self.draw_step(place, entry, *rows)?;
+    /// Adds the lines of a step.
+    fn draw_entry(
+        &mut self,
+        lines: &mut Vec<Stroke>,
+        plan: &Plan,
+        entry: &Entry,
+        rows: StepRows,
+    ) -> Result<(), AllocError>
+        ensures { OnOk result (titles_of lines.new.items ≡ titles_of lines.old.items ++ step_lines entry.now) }
+    {
+        let place = place_of(&plan.seats, entry.step.process);
+        self.draw_cause(lines, place, entry, rows.first)?;
+        self.draw_step(place, entry, rows)?;
+        self.draw_word(lines, place, entry.reaction.told, rows.last)
+    }
+
+    /// Adds the lines of all steps.
+    #[tactic(auto, using(crate::proofs::Adding::no_steps, crate::proofs::Adding::steps_more))]
+    pub(crate) fn draw_steps(
+        &mut self,
+        lines: &mut Vec<Stroke>,
+        scene: &Scene,
+        plan: &Plan,
+    ) -> Result<(), AllocError>
+        requires { length plan.now.rows.steps.items ≡ length scene.now.entries.now }
+        ensures { OnOk result (titles_of lines.new.items
+            ≡ titles_of lines.old.items ++ steps_lines scene.now.entries.now) }
+    {
+        let entries = scene.entries;
+        let rows = plan.rows.steps.as_slice();
+        for place in 0..entries.len() {
+            self.draw_entry(lines, plan, &entries[place], rows[place])?;
         }
         Ok(())
     }

@@ -1,10 +1,15 @@
 //! Draws crashes, mismatches, what a run leaves, and the event that was refused.
 
+ghost use Rattle.std.specs.Prelude.{◌≡◌, ◌++◌, IfOk, OnOk};
+ghost use Rattle.link_script.specs.Spellings.{event_text};
+ghost use Rattle.run_picture.specs.Lines.{refused_in, refused_lines};
+ghost use Rattle.run_picture.specs.Pictures.{titles_of};
+
 use crate::drawing::{Drawing, bytes_of};
 use crate::plan::{Plan, Scene};
 use crate::sheet::Draft;
 use picture_rows::{Ending, Seat, place_of};
-use picture_shapes::{Label, Look, Shape, Spot, Tip, Tone, Torn, push_word, width_of};
+use picture_shapes::{Label, Look, Shape, Spot, Stroke, Tip, Tone, Torn, push_word, width_of};
 use picture_words::{
     event_line, message_with, outcome_label, record_names, refusal_words, shortened,
 };
@@ -131,14 +136,16 @@ impl Drawing {
         )
     }
 
-    /// The event that was refused.
+    /// The line of the event that was refused; its words are laid.
     fn draw_refused(
         &mut self,
         place: u32,
         event: &Event,
         row: u32,
         refusal: StepError,
-    ) -> Result<(), AllocError> {
+    ) -> Result<Stroke, AllocError>
+        ensures { IfOk result (λ stroke. stroke.title.items ≡ event_text event.now) }
+    {
         let (x, y) = (self.frame.x_of(place), self.frame.y_of(row));
         let mut label = Vec::new(self.alloc);
         push_word(&mut label, "REFUSED ", u64::from(refusal.number()))?;
@@ -159,7 +166,7 @@ impl Drawing {
             again: false,
             far: false,
         };
-        self.sheet.draw_line(self.alloc, draft)?;
+        let stroke = self.sheet.draw(self.alloc, draft)?;
         let words = bytes_of(self.alloc, refusal_words(refusal))?;
         self.say(
             Tone::No,
@@ -167,7 +174,8 @@ impl Drawing {
             (x.saturating_add(12), y.saturating_sub(5)),
             true,
             words,
-        )
+        )?;
+        Ok(stroke)
     }
 }
 
@@ -191,24 +199,28 @@ fn asked_process(messages: &[Envelope], event: &Event) -> Option<ProcessId> {
     }
 }
 
-/// Draws the event that was refused, if one was.
+/// Adds the line of the event that was refused, if one was.
+#[tactic(auto, using(crate::proofs::Adding::none_refused))]
 pub(crate) fn draw_refusal(
     drawing: &mut Drawing,
+    lines: &mut Vec<Stroke>,
     scene: &Scene,
     plan: &Plan,
-) -> Result<(), AllocError> {
-    let Some(refusal) = scene.refusal else {
+) -> Result<(), AllocError>
+    ensures { OnOk result (titles_of lines.new.items
+        ≡ titles_of lines.old.items ++ refused_lines (refused_in scene.now.events.now scene.now.refusal)) }
+{
+    let Some((refused, why)) = scene.refusal else {
         return Ok(());
     };
-    let Some(row) = plan.rows.refused else {
+    let Some(event) = scene.events.get(refused) else {
         return Ok(());
     };
-    let Some(event) = scene.events.get(scene.turns.len().saturating_sub(1)) else {
-        return Ok(());
-    };
+    let row = plan.rows.refused.unwrap_or(plan.rows.end);
     let place = match asked_process(&plan.messages, event) {
         None => 0,
         Some(process) => place_of(&plan.seats, process),
     };
-    drawing.draw_refused(place, event, row, refusal)
+    lines.push(drawing.draw_refused(place, event, row, why)?)?;
+    Ok(())
 }

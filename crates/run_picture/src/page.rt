@@ -1,10 +1,13 @@
 //! A whole picture.
 
-ghost use Rattle.std.specs.Prelude.{◌≡◌, ◌++◌, ◌^◌, ◌<◌, ◌≤◌, IfErr, IfOk, OnOk, codes, length};
+ghost use Rattle.std.specs.Prelude.{◌≡◌, ◌++◌, ◌^◌, ◌<◌, ◌≤◌, IfErr, IfOk, OnOk, codes, drop, length, map, take};
+ghost use Rattle.picture_rows.specs.declared.drawn.Stub.{Stub as AnyStub};
 ghost use Rattle.picture_rows.specs.Long.{IsLong};
 ghost use Rattle.picture_shapes.specs.Svg.{shapes_text, squares_text, strokes_text};
-ghost use Rattle.run_picture.specs.Layers.{after_rings, before_rings, below_text};
-ghost use Rattle.run_picture.specs.Pictures.{IsPicture};
+ghost use Rattle.picture_words.specs.Labels.{title_in};
+ghost use Rattle.run_picture.specs.Layers.{below_shapes};
+ghost use Rattle.run_picture.specs.Lines.{refused_in, refused_lines, steps_lines};
+ghost use Rattle.run_picture.specs.Pictures.{IsPicture, titles_of};
 ghost use Rattle.run_picture.specs.Rings.{HasRings};
 
 use crate::drawing::Drawing;
@@ -17,33 +20,42 @@ use crate::sheet::Sheet;
 use crate::tree::draw_tree;
 use picture_rows::{PictureError, Seat, place_of};
 use picture_shapes::{
-    Frame, Room, Shape, Signs, Square, Stroke, Summary, keys_of, push_head, push_squares,
-    push_strokes,
+    Frame, Room, Shape, Signs, Square, Stroke, Summary, keys_of, push_head, push_shapes,
+    push_squares, push_strokes,
 };
 use std::alloc::{AllocError, Global};
 use trace_lines::push;
 
-/// Draws all of a run but its tree, its arrows, its rings and its marks: how many small marks are below the rings.
-fn draw_run(drawing: &mut Drawing, scene: &Scene, plan: &Plan) -> Result<usize, AllocError> {
+/// Draws all of a run but its tree, its deliveries, its rings and its marks: the other lines, and how many small marks are
+/// below the rings.
+fn draw_run(
+    drawing: &mut Drawing,
+    scene: &Scene,
+    plan: &Plan,
+) -> Result<(Vec<Stroke>, usize), AllocError>
+    requires { length plan.now.rows.steps.items ≡ length scene.now.entries.now }
+    ensures { IfOk result (λ drawn. titles_of drawn.0.items
+        ≡ (map (λ (s : AnyStub). title_in plan.now.messages.items s.number) plan.now.stubs.items
+        ++ steps_lines scene.now.entries.now)
+        ++ refused_lines (refused_in scene.now.events.now scene.now.refusal)) }
+{
     drawing.draw_rules(scene, &plan.rows)?;
     for row in &plan.rows.rulers {
         drawing.draw_ruler(&plan.seats, *row)?;
     }
-    for stub in &plan.stubs {
-        drawing.draw_stub(&plan.messages, stub)?;
-    }
+    let mut lines = drawing.draw_stubs(&plan.messages, &plan.stubs)?;
     for stretch in &plan.stretches {
         drawing.draw_stretch(&plan.seats, stretch)?;
     }
-    drawing.draw_steps(scene, plan)?;
+    drawing.draw_steps(&mut lines, scene, plan)?;
     let below = drawing.sheet.marks.len();
     drawing.draw_crashes(scene, plan)?;
     drawing.draw_mismatches(scene, plan)?;
-    draw_refusal(drawing, scene, plan)?;
+    draw_refusal(drawing, &mut lines, scene, plan)?;
     for ending in &plan.history.endings {
         drawing.draw_ending(ending, plan.rows.end)?;
     }
-    Ok(below)
+    Ok((lines, below))
 }
 
 /// How many levels a tree has.
@@ -114,37 +126,41 @@ fn head_of(
     Ok(out)
 }
 
-/// The text of a picture of these parts.
-fn text_of(
-    head: Vec<u8>,
-    sheet: &Sheet,
-    strokes: &[Stroke],
+/// The arrows of a picture, and the marks of its records.
+#[derive(Drop)]
+struct Drawn {
+    /// The deliveries.
+    arrows: Vec<Stroke>,
+    /// What was asked and told, messages where they were sent, and the event that was refused.
+    lines: Vec<Stroke>,
+    openings: Vec<Square>,
+    records: Vec<Square>,
+    /// How many small marks are below the rings.
     below: usize,
-    rings: &[Shape],
-    squares: &[Square],
-) -> Result<Vec<u8>, AllocError>
-    requires { below ≤ length sheet.now.marks.items }
-    ensures { IfOk result (λ text. text.items ≡ (head.items ++ below_text sheet.now)
-        ++ strokes_text strokes.now
-        ++ (before_rings sheet.now below ++ shapes_text rings.now ++ after_rings sheet.now below)
-        ++ squares_text squares.now ++ (shapes_text sheet.now.words.items ++ codes "</svg>\n")) }
+    rings: Vec<Shape>,
+}
+
+/// The text of a picture of these parts.
+fn text_of(head: Vec<u8>, sheet: &Sheet, drawn: &Drawn) -> Result<Vec<u8>, AllocError>
+    requires { drawn.now.below ≤ length sheet.now.marks.items }
+    ensures { IfOk result (λ text. text.items ≡ ((((((((head.items ++ shapes_text (below_shapes sheet.now))
+        ++ strokes_text drawn.now.arrows.items) ++ strokes_text drawn.now.lines.items)
+        ++ shapes_text sheet.now.boxes.items) ++ squares_text drawn.now.openings.items)
+        ++ shapes_text (take drawn.now.below sheet.now.marks.items ++ drawn.now.rings.items
+        ++ drop drawn.now.below sheet.now.marks.items)) ++ squares_text drawn.now.records.items)
+        ++ shapes_text sheet.now.words.items) ++ codes "</svg>\n") }
 {
     let mut out = head;
     sheet.push_below(&mut out)?;
-    push_strokes(&mut out, strokes)?;
-    sheet.push_between(&mut out, below, rings)?;
-    push_squares(&mut out, squares)?;
-    push_end(&mut out, sheet)?;
+    push_strokes(&mut out, &drawn.arrows)?;
+    push_strokes(&mut out, &drawn.lines)?;
+    push_shapes(&mut out, &sheet.boxes)?;
+    push_squares(&mut out, &drawn.openings)?;
+    sheet.push_marks(&mut out, drawn.below, &drawn.rings)?;
+    push_squares(&mut out, &drawn.records)?;
+    sheet.push_above(&mut out)?;
+    push(&mut out, "</svg>\n")?;
     Ok(out)
-}
-
-/// The words of a picture, and its end.
-fn push_end(out: &mut Vec<u8>, sheet: &Sheet) -> Result<(), AllocError>
-    ensures { OnOk result (out.new.items
-        ≡ out.old.items ++ (shapes_text sheet.now.words.items ++ codes "</svg>\n")) }
-{
-    sheet.push_above(out)?;
-    push(out, "</svg>\n")
 }
 
 /// A sheet for a plan, with so much room, and N entries in its legend. TooLong: it has 2^32 processes.
@@ -165,7 +181,8 @@ fn drawing_of(alloc: Global, plan: &Plan, room: Room, keys: u64) -> Result<Drawi
 /// The picture of a run, as one SVG file: time goes downward; each process is a line, each delivery an arrow
 /// and each record a mark. TooLong: it has 2^32 rows or more, or its tree 2^32 processes.
 pub fn picture(alloc: Global, scene: &Scene) -> Result<Vec<u8>, PictureError>
-    ensures text { IfOk result (λ text. IsPicture scene.now.entries.now text.items) }
+    ensures text { IfOk result (λ text. IsPicture scene.now.tree.now scene.now.entries.now
+        (refused_in scene.now.events.now scene.now.refusal) text.items) }
     ensures rings { IfOk result (λ text. HasRings scene.now.notes.now text.items) }
     ensures err { IfErr result (λ e. e ≡ PictureError.TooLong
         → IsLong scene.now.tree.now (length scene.now.turns.now) scene.now.entries.now) }
@@ -174,14 +191,21 @@ pub fn picture(alloc: Global, scene: &Scene) -> Result<Vec<u8>, PictureError>
     let room = room_of(alloc, scene, &plan)?;
     let signs = signs_of(scene, &plan);
     let mut drawing = drawing_of(alloc, &plan, room, keys_of(&signs))?;
-    drawing.draw_openings(&plan.seats)?;
-    let strokes = drawing.draw_arrows(&plan.messages, &plan.arrows)?;
-    let squares = drawing.draw_marks(&plan.marks, &plan.history.lost)?;
-    let below = draw_run(&mut drawing, scene, &plan)?;
+    let openings = drawing.draw_openings(&plan.seats)?;
+    let arrows = drawing.draw_arrows(&plan.messages, &plan.arrows)?;
+    let records = drawing.draw_marks(&plan.marks, &plan.history.lost)?;
+    let (lines, below) = draw_run(&mut drawing, scene, &plan)?;
     draw_lines(&mut drawing, scene, &plan)?;
     let rings = rings_of(alloc, drawing.frame, scene, &plan)?;
     let head = head_of(alloc, drawing.frame, scene, &plan, &signs)?;
-    let below = below.min(drawing.sheet.marks.len());
-    let text = text_of(head, &drawing.sheet, &strokes, below, &rings, &squares)?;
+    let drawn = Drawn {
+        arrows,
+        lines,
+        openings,
+        records,
+        below: below.min(drawing.sheet.marks.len()),
+        rings,
+    };
+    let text = text_of(head, &drawing.sheet, &drawn)?;
     Ok(text)
 }

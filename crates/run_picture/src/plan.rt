@@ -1,7 +1,8 @@
 //! What is drawn of a run, by rows and places.
 
-ghost use Rattle.std.specs.Prelude.{◌≡◌, ◌≤◌, IfErr, IfOk, length, map};
+ghost use Rattle.std.specs.Prelude.{◌≡◌, ◌≤◌, All, IfErr, IfOk, length, map};
 ghost use Rattle.picture_rows.specs.declared.drawn.Arrow.{Arrow as AnyArrow};
+ghost use Rattle.picture_rows.specs.Ways.{HasSeat};
 ghost use Rattle.picture_rows.specs.Whole.{deliveries, sent_in};
 ghost use Rattle.picture_rows.specs.Long.{IsLong};
 ghost use Rattle.run_picture.specs.Plans.{IsPlaced};
@@ -14,7 +15,7 @@ use std::alloc::Global;
 use tree_model::{Entry, Envelope, Event, StepError, TreeEntry};
 
 /// What is drawn: a tree, the events of its script, how many steps were made after each of them up to the
-/// refused one, the steps, and why the last of these events was refused, if it was.
+/// refused one, the steps, and which of these events was refused, from 0, and why, if one was.
 #[derive(Clone, Copy)]
 pub struct Scene<'a> {
     pub tree: &'a [TreeEntry],
@@ -23,7 +24,7 @@ pub struct Scene<'a> {
     pub entries: &'a [Entry],
     /// What is told of each step beside, in their order; of one of which nothing is, no bytes.
     pub notes: &'a [Vec<u8>],
-    pub refusal: Option<StepError>,
+    pub refusal: Option<(usize, StepError)>,
 }
 
 /// All that is drawn of a run, by rows and places.
@@ -47,6 +48,7 @@ pub(crate) fn plan_of(alloc: Global, scene: &Scene) -> Result<Plan, PictureError
     ensures places { IfOk result (IsPlaced scene.now.entries.now) }
     ensures messages { IfOk result (λ plan. plan.messages.items ≡ sent_in scene.now.entries.now) }
     ensures seats { IfOk result (λ plan. length plan.seats.items ≤ length scene.now.tree.now) }
+    ensures all { IfOk result (λ plan. All (HasSeat plan.seats.items) scene.now.tree.now) }
     ensures err { IfErr result (λ e. e ≡ PictureError.TooLong
         → IsLong scene.now.tree.now (length scene.now.turns.now) scene.now.entries.now) }
 {

@@ -1,8 +1,8 @@
 //! A sheet on which shapes are laid, one layer over the other.
 
-ghost use Rattle.std.specs.Prelude.{◌≡◌, ◌≤◌, ◌+◌, ◌-◌, ◌^◌, ◌++◌, if◌then◌else◌, false, min, nat_lt, IfOk, OnOk, length};
+ghost use Rattle.std.specs.Prelude.{◌≡◌, ◌≤◌, ◌+◌, ◌-◌, ◌^◌, ◌++◌, if◌then◌else◌, drop, false, min, nat_lt, IfOk, OnOk, length, take};
 ghost use Rattle.run_picture.specs.Along.{IsDrawn, tip_of};
-ghost use Rattle.run_picture.specs.Layers.{after_rings, before_rings, below_text};
+ghost use Rattle.run_picture.specs.Layers.{below_shapes};
 ghost use Rattle.picture_shapes.specs.Svg.{shapes_text};
 
 use picture_shapes::{
@@ -17,7 +17,6 @@ pub(crate) struct Sheet {
     pub(crate) tree: Vec<Shape>,
     pub(crate) bands: Vec<Shape>,
     pub(crate) bars: Vec<Shape>,
-    pub(crate) lines: Vec<Shape>,
     pub(crate) boxes: Vec<Shape>,
     pub(crate) marks: Vec<Shape>,
     pub(crate) words: Vec<Shape>,
@@ -108,7 +107,6 @@ impl Sheet {
             tree: Vec::new(alloc),
             bands: Vec::new(alloc),
             bars: Vec::new(alloc),
-            lines: Vec::new(alloc),
             boxes: Vec::new(alloc),
             marks: Vec::new(alloc),
             words: Vec::new(alloc),
@@ -161,16 +159,9 @@ impl Sheet {
         })
     }
 
-    /// Draws an arrow, its line among the other lines.
-    pub(crate) fn draw_line(&mut self, alloc: Global, draft: Draft) -> Result<(), AllocError> {
-        let stroke = self.draw(alloc, draft)?;
-        self.lines.push(Shape::Stroke(stroke))?;
-        Ok(())
-    }
-
     /// The text of the layers below the arrows.
     pub(crate) fn push_below(&self, out: &mut Vec<u8>) -> Result<(), AllocError>
-        ensures { OnOk result (out.new.items ≡ out.old.items ++ below_text self.now) }
+        ensures { OnOk result (out.new.items ≡ out.old.items ++ shapes_text (below_shapes self.now)) }
     {
         push_shapes(out, &self.back)?;
         push_shapes(out, &self.tree)?;
@@ -178,28 +169,18 @@ impl Sheet {
         push_shapes(out, &self.bars)
     }
 
-    /// The text of the layers between the arrows and the rings: the first N small marks are below the rings.
-    fn push_before_rings(&self, out: &mut Vec<u8>, below: usize) -> Result<(), AllocError>
-        requires { below ≤ length self.now.marks.items }
-        ensures { OnOk result (out.new.items ≡ out.old.items ++ before_rings self.now below) }
-    {
-        push_shapes(out, &self.lines)?;
-        push_shapes(out, &self.boxes)?;
-        push_shapes(out, &self.marks[..below])
-    }
-
-    /// The text of the layers between the arrows and the marks of records, these rings among them.
-    pub(crate) fn push_between(
+    /// The text of the small marks, these rings among them: the first N marks are below the rings.
+    pub(crate) fn push_marks(
         &self,
         out: &mut Vec<u8>,
         below: usize,
         rings: &[Shape],
     ) -> Result<(), AllocError>
         requires { below ≤ length self.now.marks.items }
-        ensures { OnOk result (out.new.items ≡ out.old.items ++ before_rings self.now below
-            ++ shapes_text rings.now ++ after_rings self.now below) }
+        ensures { OnOk result (out.new.items ≡ out.old.items
+            ++ shapes_text (take below self.now.marks.items ++ rings.now ++ drop below self.now.marks.items)) }
     {
-        self.push_before_rings(out, below)?;
+        push_shapes(out, &self.marks[..below])?;
         push_shapes(out, rings)?;
         push_shapes(out, &self.marks[below..])
     }

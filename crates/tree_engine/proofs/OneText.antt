@@ -32,18 +32,18 @@ one_count v w tree entries =
     ∙ ap (λ (es : List Entry). counts_text (record w { tree = v.tree; entries = es })) entries
 
 -- what is told of two states that show the same is the same
-told : (output : Output) (v w : WorldState) (r s : Refusal) (text second : List ℕ) → IsTrace output
-    → w.tree ≡ v.tree → w.entries ≡ v.entries → s ≡ r → Tells false output v r text → Tells false output w s second
+told : (output : Output) (es fs : List Event) (v w : WorldState) (r s : Refusal) (text second : List ℕ) → IsTrace output
+    → w.tree ≡ v.tree → w.entries ≡ v.entries → s ≡ r → Tells false output es v r text → Tells false output fs w s second
     → second ≡ text
-told Trace v w r s text second is tree entries same h k =
+told Trace es fs v w r s text second is tree entries same h k =
     k ∙ ap (λ (t : List ℕ). t ++ last_line s) (one_trace v w tree entries)
     ∙ ap (λ (x : Refusal). trace_of v ++ last_line x) same ∙ sym h
-told Counts v w r s text second is tree entries same h k =
+told Counts es fs v w r s text second is tree entries same h k =
     k ∙ ap (λ (t : List ℕ). (t ++ last_line s) ++ counts_text w) (one_trace v w tree entries)
     ∙ ap (λ (x : Refusal). (trace_of v ++ last_line x) ++ counts_text w) same
     ∙ ap (λ (t : List ℕ). (trace_of v ++ last_line r) ++ t) (one_count v w tree entries) ∙ sym h
-told Logs v w r s text second is tree entries same h k = absurd is
-told Picture v w r s text second is tree entries same h k = absurd is
+told Logs es fs v w r s text second is tree entries same h k = absurd is
+told Picture es fs v w r s text second is tree entries same h k = absurd is
 
 runs_alike : (output : Output) (status other : Status) (input text second : List ℕ) → IsTrace output
     → RunsScript output status input text → RunsScript output other input second
@@ -58,7 +58,7 @@ runs_alike output status other input text second is h k =
     k.runs.refusal (script_tree input h.tree h.events h.script) h.runs.opens opens h.runs.leads leads h.runs.itself
     k.runs.itself in (
       k.runs.status_is ∙ ap ending same.0 ∙ sym h.runs.status_is,
-      told output h.runs.end k.runs.end h.runs.refusal k.runs.refusal text second is
+      told output h.events k.events h.runs.end k.runs.end h.runs.refusal k.runs.refusal text second is
           (k.runs.tree_is ∙ one.0 ∙ sym h.runs.tree_is) same.1.entries same.0 h.runs.tells k.runs.tells,
     )
 

@@ -1,6 +1,7 @@
 -- What is written of a tree script.
 use Rattle.std.proofs.Common.{◌≡◌, ◌∙◌, ◌⊎◌, ◌+◌, ◌<◌, ◌≤◌, ◌^◌, ap, sym, subst, inl, inr, refl, ℕ, Bool, is_some, Option, Some, None, List, [], ◌++◌, length, Result, Ok, Err, IfOk, arith}
 use Rattle.tree_model.specs.Trees.{IsTree}
+use Rattle.run_picture.specs.Lines.{refused_in}
 use Rattle.run_picture.specs.Pictures.{IsPicture}
 use Rattle.tree_model.specs.declared.trees.TreeEntry.{TreeEntry}
 use Rattle.tree_model.specs.declared.events.Entry.{Entry}
@@ -160,7 +161,7 @@ pub run_reported : {A : Type 0} (text_of : A × Status → List ℕ) (output : O
     (input : List ℕ) (tree : List TreeEntry) (logs : Option (List ProcessLog))
     (events : List Event) (refusal : Refusal) (end : WorldState) (over : Bool) (r : A × Status)
     → IsReopenScript input tree logs events → PlaysBy tree logs events refusal end → over ≡ is_some logs
-    → Tells over output end refusal (text_of r) → r.1 ≡ ending refusal
+    → Tells over output events end refusal (text_of r) → r.1 ≡ ending refusal
     → IsTreeReport output r.1 input (text_of r)
 run_reported text_of output input tree None events refusal end over r script plays is text status =
     let runs : RunsOver output tree events r.1 (text_of r) = record {
@@ -208,11 +209,11 @@ pub reported : {A E : Type 0} (text_of : A × Status → List ℕ) (output : Out
     (input : List ℕ) (tree : List TreeEntry) (logs : Option (List ProcessLog))
     (events : List Event) (refusal : Refusal) (end : WorldState) (over : Bool) (made : Result (A × Status) E)
     → IsReopenScript input tree logs events → PlaysBy tree logs events refusal end → over ≡ is_some logs
-    → IfOk made (λ r. Tells over output end refusal (text_of r)) → IfOk made (λ r. r.1 ≡ ending refusal)
+    → IfOk made (λ r. (given : List Event) → Tells over output given end refusal (text_of r)) → IfOk made (λ r. r.1 ≡ ending refusal)
     → IfOk made (λ r. IsTreeReport output r.1 input (text_of r))
 reported text_of output input tree logs events refusal end over (Err e) script plays is text status = text
 reported text_of output input tree logs events refusal end over (Ok r) script plays is text status =
-    run_reported text_of output input tree logs events refusal end over r script plays is text status
+    run_reported text_of output input tree logs events refusal end over r script plays is (text events) status
 
 -- the picture of a script's run is the report of the script
 pub drawn_reported : {E : Type 0} {A : Type 0} (text_of : A × Status → List ℕ) (input : List ℕ)
@@ -236,7 +237,7 @@ script_tree input tree events (fronts, behind, text, is, few, asks) = is
 pub draws_run : {A E : Type 0} (text_of : A × Status → List ℕ) (events : List Event)
     (first run : Run) (made : Result (A × Status) E)
     → HasCome (state first.world) events run
-    → IfOk made (λ r. r.1 ≡ ending run.refusal) → IfOk made (λ r. IsPicture (state run.world).entries (text_of r))
+    → IfOk made (λ r. r.1 ≡ ending run.refusal) → IfOk made (λ r. IsPicture (state run.world).tree (state run.world).entries (refused_in events run.refusal) (text_of r))
     → IfOk made (λ r. Draws (state first.world) events r.1 (text_of r))
 draws_run text_of events first run (Err e) come is drawn = is
 draws_run text_of events first run (Ok r) come is drawn = record {

@@ -26,7 +26,7 @@ pub record ReopensOver (output : Output) (tree : List TreeEntry) (logs : List Pr
   pub end : WorldState
   pub plays : Replays tree logs events refusal end
   pub status_is : status ≡ ending refusal
-  pub tells : Tells true output end refusal text
+  pub tells : Tells true output events end refusal text
 
 -- the text is that of the run of the script that the input is, which begins its events with logs
 pub record ReopensScript (output : Output) (status : Status) (input text : List ℕ) : Type 0 where

@@ -13,6 +13,7 @@ use Rattle.tree_engine.specs.declared.run.Run.{Run}
 use Rattle.report_io.specs.declared.status.Status.{Status}
 use Rattle.report_io.specs.declared.streams.Failure.{Failure}
 use Rattle.report_io.specs.declared.streams.Failure.TheVariants as failure
+use Rattle.run_picture.specs.Lines.{refused_in}
 use Rattle.run_picture.specs.Pictures.{IsPicture}
 use Rattle.tree_model.specs.declared.names.ProcessId.{ProcessId}
 use Rattle.link_script.specs.Inputs.{LinesState, asked_by}
@@ -93,4 +94,4 @@ pub record Draws (start : WorldState) (events : List Event) (status : Status) (t
   pub end : WorldState
   pub come : ComesTo start events refusal count end
   pub status_is : status ≡ ending refusal
-  pub picture : IsPicture end.entries text
+  pub picture : IsPicture end.tree end.entries (refused_in events refusal) text

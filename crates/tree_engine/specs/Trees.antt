@@ -29,6 +29,7 @@ use Rattle.tree_engine.specs.declared.tree.LineOutput.{LineOutput}
 use Rattle.tree_engine.specs.declared.tree.LineOutput.TheVariants as lines
 use Rattle.tree_engine.specs.declared.tree.Output.{Output}
 use Rattle.tree_engine.specs.declared.tree.Output.TheVariants.{Counts, Logs, Picture, Trace}
+use Rattle.run_picture.specs.Lines.{refused_in}
 use Rattle.run_picture.specs.Pictures.{IsPicture}
 use Rattle.tree_engine.specs.Logs.{LeavesLogs}
 
@@ -100,14 +101,14 @@ output_of lines.Trace = Trace
 output_of lines.Logs = Logs
 output_of lines.Counts = Counts
 
--- what is written of a run that ended so, of a tree that was opened over logs or not: its trace and the last line, or
--- these and the counts, or a picture of its steps, or, where it was to its end, the logs it leaves
-abbrev pub Tells : Bool → Output → WorldState → Refusal → List ℕ → Type 0
-Tells over Logs w None text = LeavesLogs w text
-Tells over Logs w (Some refused) text = text ≡ trace_by over w ++ last_line (Some refused)
-Tells over Trace w refusal text = text ≡ trace_by over w ++ last_line refusal
-Tells over Picture w refusal text = IsPicture w.entries text
-Tells over Counts w refusal text = text ≡ (trace_by over w ++ last_line refusal) ++ counts_text w
+-- what is written of a run of these events that ended so, of a tree that was opened over logs or not: its trace and the last line, or
+-- these and the counts, or a picture of its steps and of the refused event, or, where it was to its end, the logs it leaves
+abbrev pub Tells : Bool → Output → List Event → WorldState → Refusal → List ℕ → Type 0
+Tells over Logs events w None text = LeavesLogs w text
+Tells over Logs events w (Some refused) text = text ≡ trace_by over w ++ last_line (Some refused)
+Tells over Trace events w refusal text = text ≡ trace_by over w ++ last_line refusal
+Tells over Picture events w refusal text = IsPicture w.tree w.entries (refused_in events refusal) text
+Tells over Counts events w refusal text = text ≡ (trace_by over w ++ last_line refusal) ++ counts_text w
 
 -- The text is that of the run of just these events: they led the tree, opened, to a state that stands for a
 -- run of the model, with its journal, its messages and its processes; of this run the headline holds, each End
@@ -129,7 +130,7 @@ pub record RunsOver (output : Output) (tree : List TreeEntry) (events : List Eve
   pub mismatches_are_reported : EndsReported end.tree moves world follows.is_run
   pub refuses : RefusesIn tree world end.delivered events refusal
   pub status_is : status ≡ ending refusal
-  pub tells : Tells false output end refusal text
+  pub tells : Tells false output events end refusal text
 
 -- the line of a refused script
 abbrev pub fault_text : ScriptFault → List ℕ

@@ -5,6 +5,7 @@ ghost use Rattle.tree_model.specs.declared.events.Event.{Event as AnyEvent};
 ghost use Rattle.report_io.specs.Streams.{IsOfRun};
 ghost use Rattle.picture_rows.specs.Long.{IsLong};
 ghost use Rattle.core_law.specs.worlds.Worlds.{WorldState};
+ghost use Rattle.run_picture.specs.Lines.{refused_in};
 ghost use Rattle.run_picture.specs.Pictures.{IsPicture};
 ghost use Rattle.tree_world.specs.Worlds.{state};
 ghost use Rattle.tree_engine.specs.Failures.{BreaksOff, CannotMake, DrawsTooLong};
@@ -89,7 +90,8 @@ fn drawn(
     turns: &[Turn],
     logs: &[Vec<LogRecord>],
 ) -> Result<Vec<u8>, Failure>
-    ensures text { IfOk result (λ text. IsPicture (state world.now).entries text.items) }
+    ensures text { IfOk result (λ text. IsPicture (state world.now).tree (state world.now).entries
+        (refused_in events.now refusal) text.items) }
     ensures err { IfErr result (λ why. (why ≡ Failure.Memory) ⊎ ((why ≡ Failure.Exhausted)
         × IsLong (state world.now).tree (length turns.now) (state world.now).entries)) }
 {
@@ -101,7 +103,7 @@ fn drawn(
         turns,
         entries: &entries,
         notes: &notes,
-        refusal: cause_of(refusal),
+        refusal,
     };
     match picture(alloc, &scene) {
         Ok(text) => Ok(text),
@@ -118,7 +120,8 @@ fn drawn_run(
     turns: &[Turn],
     logs: &[Vec<LogRecord>],
 ) -> Result<(Vec<u8>, Status), Failure>
-    ensures text { IfOk result (λ r. IsPicture (state run.now.world).entries r.0.items) }
+    ensures text { IfOk result (λ r. IsPicture (state run.now.world).tree (state run.now.world).entries
+        (refused_in events.now run.now.refusal) r.0.items) }
     ensures status { IfOk result (λ r. r.1 ≡ ending run.now.refusal) }
     ensures err { IfErr result (λ why. (why ≡ Failure.Memory) ⊎ ((why ≡ Failure.Exhausted)
         × IsLong (state run.now.world).tree (length turns.now) (state run.now.world).entries)) }

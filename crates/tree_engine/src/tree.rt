@@ -308,8 +308,8 @@ fn told(
     refusal: Refusal,
 ) -> Result<(Vec<u8>, Status), Failure>
     requires { IsNumbered refusal }
-    ensures text { IfOk result (λ r. Tells world.now.reopened (output_of output) (state world.now) refusal
-        r.0.items) }
+    ensures text { IfOk result (λ r. (events : List AnyEvent) → Tells world.now.reopened (output_of output)
+        events (state world.now) refusal r.0.items) }
     ensures status { IfOk result (λ r. r.1 ≡ ending refusal) }
     ensures err { IfErr result (λ why. (why ≡ Failure.Memory) ⊎ ((why ≡ Failure.Exhausted)
         × ((events : List AnyEvent) → IsBeyond (output_of output) events (state world.now)))) }
