@@ -40,7 +40,7 @@ pub(crate) fn refused_line(
     why: PostError,
 ) -> Result<(Vec<u8>, Status), Failure>
     requires { made + 1 < 2 ^ 64 }
-    ensures line { IfOk result (λ r. RefusesBehind made r.0.items) }
+    ensures line { IfOk result (λ r. RefusesBehind made why r.0.items) }
     ensures status { IfOk result (λ r. r.1 ≡ ends.Stopped) }
     ensures err { IfErr result (λ e. (e ≡ Failure.Memory) ⊎ IsPostFailure why e) }
     ensures why { IfErr result IsOfRun }
@@ -60,7 +60,7 @@ pub(crate) fn closed_text<N: Seats>(
     tree: Tree,
 ) -> Result<(Vec<u8>, Status), Failure>
     requires { (tree ≡ N.tree) × IsTree tree }
-    ensures text { IfOk result (λ r. TellsClosed output r.1 tree passes.old r.0.items) }
+    ensures text { IfOk result (λ r. TellsClosed output r.1 tree N.callers passes.old r.0.items) }
     ensures err { IfErr result (λ e. (e ≡ Failure.Memory)
         ⊎ ((e ≡ Failure.Exhausted) × ClosesUnnumbered tree)) }
     ensures why { IfErr result IsOfRun }
