@@ -60,7 +60,7 @@ refused_written text_of output tree events workers given count why (Ok r) some n
       stops = stops_first tree events workers given count why some new stops;
       tells = line;
     } in
-    subst (λ s. Writes output s tree events (text_of r)) (sym status) (inl refuses)
+    subst (λ s. Writes output s tree events (text_of r)) (sym status) refuses
 refused_written text_of output tree events workers given count why (Err e) some new stops line status = tt
 
 -- a pass that was new, with which messages were delivered alone, has deliveries alone
@@ -107,11 +107,10 @@ all_asked n k (x ∷ xs) below others =
     rest c true all = λ i d within. all (suc i) d (omega (arith, within))
     rest c false all = all
 
-runs_tree : (output : Output) (status : Status) (tree : List TreeEntry) (events : List Event) (n : ℕ)
-    (rest : List PassState) (q : PassState) (qs : List PassState) (text : List ℕ) → AreNext n 1 rest
-    → AreMade tree events (new_pass 0) q → AreLonger rest qs
-    → TellsClosed output status tree (suc n) (q ∷ qs) text → RunsTree output status tree events text
-runs_tree output status tree events n rest q qs text next made long told = record {
+runs_tree : (output : Output) (tree : List TreeEntry) (events : List Event) (n : ℕ) (rest : List PassState)
+    (q : PassState) (qs : List PassState) (text : List ℕ) → AreNext n 1 rest → AreMade tree events (new_pass 0) q
+    → AreLonger rest qs → TellsClosed output tree (suc n) (q ∷ qs) text → RunsTree output tree events text
+runs_tree output tree events n rest q qs text next made long told = record {
   journal = told.journal;
   logs = told.logs;
   closed = told.closed;
@@ -124,31 +123,28 @@ runs_tree output status tree events n rest q qs text next made long told = recor
   tells = told.tells;
 }
 
-told_so : (output : Output) (status : Status) (tree : List TreeEntry) (events : List Event) (n : ℕ)
-    (rest passes : List PassState) (text : List ℕ) → AreNext n 1 rest
-    → FirstMade tree events (new_pass 0 ∷ rest) passes → TellsClosed output status tree (suc n) passes text
-    → Writes output status tree events text
-told_so output status tree events n rest [] text next made told = absurd made
-told_so output Ended tree events n rest (q ∷ qs) text next made told =
-    runs_tree output Ended tree events n rest q qs text next made.0 made.1 told
-told_so output Stopped tree events n rest (q ∷ qs) text next made told =
-    inr (runs_tree output Stopped tree events n rest q qs text next made.0 made.1 told)
-told_so output Refused tree events n rest (q ∷ qs) text next made told = absurd told.tells
+told_so : (output : Output) (tree : List TreeEntry) (events : List Event) (n : ℕ) (rest passes : List PassState)
+    (text : List ℕ) → AreNext n 1 rest → FirstMade tree events (new_pass 0 ∷ rest) passes
+    → TellsClosed output tree (suc n) passes text → RunsTree output tree events text
+told_so output tree events n rest [] text next made told = absurd made
+told_so output tree events n rest (q ∷ qs) text next made told =
+    runs_tree output tree events n rest q qs text next made.0 made.1 told
 
 -- what a closed cluster tells is what is written of its run
 pub closed_written : {A E : Type 0} (text_of : A × Status → List ℕ) (output : Output) (tree : List TreeEntry)
     (events : List Event) (workers callers : ℕ) (given passes : List PassState) (made : Result (A × Status) E)
     → 0 < workers → workers ≡ callers → given ≡ new_passes workers → FirstMade tree events given passes
-    → IfOk made (λ r. TellsClosed output r.1 tree callers passes (text_of r))
+    → IfOk made (λ r. TellsClosed output tree callers passes (text_of r)) → IfOk made (λ r. r.1 ≡ Ended)
     → IfOk made (λ r. Writes output r.1 tree events (text_of r))
-closed_written text_of output tree events zero callers given passes made some as_many new first told =
+closed_written text_of output tree events zero callers given passes made some as_many new first told status =
     absurd (omega (arith, some))
-closed_written text_of output tree events (suc n) callers given passes (Ok r) some as_many new first told =
+closed_written text_of output tree events (suc n) callers given passes (Ok r) some as_many new first told status =
     let rest = first_new n in
-    told_so output r.1 tree events n rest.0 passes (text_of r) rest.2
+    subst (λ s. Writes output s tree events (text_of r)) (sym status)
+    (told_so output tree events n rest.0 passes (text_of r) rest.2
     (subst (λ l. FirstMade tree events l passes) (new ∙ rest.1) first)
-    (subst (λ k. TellsClosed output r.1 tree k passes (text_of r)) (sym as_many) told)
-closed_written text_of output tree events (suc n) callers given passes (Err e) some as_many new first told = tt
+    (subst (λ k. TellsClosed output tree k passes (text_of r)) (sym as_many) told))
+closed_written text_of output tree events (suc n) callers given passes (Err e) some as_many new first told status = tt
 
 -- Why nothing is written.
 

@@ -25,14 +25,11 @@ use Rattle.cluster_engine.specs.declared.engine.Output.{Output}
 use Rattle.cluster_engine.specs.declared.engine.Output.TheVariants.{Told, Trace}
 use Rattle.cluster_engine.specs.Told.{TellsAll}
 use Rattle.cluster_engine.specs.Made.{AreMade, StopsAt}
-use Rattle.cluster_engine.specs.Replays.{Replays}
 
--- the last line: the journal, made once more on one thread, left the same logs, or others
+-- the last line, which is so of each cluster that closes: a tree on one thread that makes the events of the journal leaves
+-- the same logs
 abbrev pub same_line : List ℕ
 same_line = codes "replay same" ++ 10 ∷ []
-
-abbrev pub different_line : List ℕ
-different_line = codes "replay different" ++ 10 ∷ []
 
 -- the journal as a trace
 abbrev pub journal_text : List TreeEntry → List (ℕ × Entry) → List ℕ
@@ -43,36 +40,30 @@ journal_text tree journal =
 abbrev pub TellsJournal : List (ℕ × Entry) → List ℕ → List ℕ → Type 0
 TellsJournal journal last text = (lines : List ℕ) × TellsAll journal lines × (text ≡ lines ++ last)
 
--- what is written of a journal and the logs left, where nothing is wrong
-abbrev pub TellsWhole : Output → List TreeEntry → List (ℕ × Entry) → List (List LogRecord) → List ℕ → Type 0
-TellsWhole Told tree journal logs text = TellsJournal journal same_line text × Replays tree journal logs
-TellsWhole Trace tree journal logs text = text ≡ journal_text tree journal
-
--- what is written of them, by how the run ends
-abbrev pub Tells : Output → Status → List TreeEntry → List (ℕ × Entry) → List (List LogRecord) → List ℕ → Type 0
-Tells output Ended tree journal logs text = TellsWhole output tree journal logs text
-Tells output Stopped tree journal logs text = (output ≡ Told) × TellsJournal journal different_line text
-Tells output Refused tree journal logs text = ⊥
+-- what is written of a journal
+abbrev pub Tells : Output → List TreeEntry → List (ℕ × Entry) → List ℕ → Type 0
+Tells Told tree journal text = TellsJournal journal same_line text
+Tells Trace tree journal text = text ≡ journal_text tree journal
 
 -- A cluster of this tree, of N callers, was closed with these passes: the text tells its journal.
-pub record TellsClosed (output : Output) (status : Status) (tree : List TreeEntry) (callers : ℕ)
-    (passes : List PassState) (text : List ℕ) : Type 0 where
+pub record TellsClosed (output : Output) (tree : List TreeEntry) (callers : ℕ) (passes : List PassState)
+    (text : List ℕ) : Type 0 where
   pub journal : List (ℕ × Entry)
   pub logs : List (List LogRecord)
   pub closed : IsClosed tree journal logs
   pub met : AreMet journal passes
   pub known : AreBelow callers journal
-  pub tells : Tells output status tree journal logs text
+  pub tells : Tells output tree journal text
 
 -- each of these entries was asked for: it is under the number of the caller who leads, or a message is delivered in it
 abbrev pub AreAsked : List (ℕ × Entry) → Type 0
 AreAsked journal = All (λ x. (x.0 ≡ 0) ⊎ IsDelivery x) journal
 
 -- The text tells the journal of a closed cluster on this tree. It is a run of the tree, of which the headline holds,
--- and in which mismatches are reported, and the logs are those that it leaves. These events were made with one pass,
--- in order; the journal has just the pairs of that pass under its caller's number, and besides deliveries alone.
-pub record RunsTree (output : Output) (status : Status) (tree : List TreeEntry) (events : List Event)
-    (text : List ℕ) : Type 0 where
+-- and in which mismatches are reported; a tree on one thread that makes its events leaves the same logs. These events were
+-- made with one pass, in order; the journal has just the pairs of that pass under its caller's number, and besides
+-- deliveries alone.
+pub record RunsTree (output : Output) (tree : List TreeEntry) (events : List Event) (text : List ℕ) : Type 0 where
   pub journal : List (ℕ × Entry)
   pub logs : List (List LogRecord)
   pub closed : IsClosed tree journal logs
@@ -80,7 +71,7 @@ pub record RunsTree (output : Output) (status : Status) (tree : List TreeEntry) 
   pub made : AreMade tree events (new_pass 0) pass
   pub met : IsMet journal pass
   pub asked : AreAsked journal
-  pub tells : Tells output status tree journal logs text
+  pub tells : Tells output tree journal text
 
 -- the number of a refusal as it is printed, if it is one of the event itself: a step's own; 9 for what the journal
 -- has not; 10 where it is full
@@ -109,8 +100,8 @@ pub record RefusesOne (tree : List TreeEntry) (events : List Event) (text : List
 
 -- what is written of a tree and its events, by how the run ends
 abbrev pub Writes : Output → Status → List TreeEntry → List Event → List ℕ → Type 0
-Writes output Ended tree events text = RunsTree output Ended tree events text
-Writes output Stopped tree events text = RefusesOne tree events text ⊎ RunsTree output Stopped tree events text
+Writes output Ended tree events text = RunsTree output tree events text
+Writes output Stopped tree events text = RefusesOne tree events text
 Writes output Refused tree events text = ⊥
 
 -- the input is a script, and this is written of its tree and its events

@@ -5,7 +5,7 @@ ghost use Rattle.tree_cluster.specs.Opening.{SeatsTree};
 
 use crate::deliveries::{MANAGERS, invite};
 use crate::opening::{begin, close, deliver_by, tree};
-use cluster_engine::is_replayed;
+use crate::replay::is_replayed;
 use std::alloc::Global;
 use std::marker::Brand;
 use std::sync::Wait;

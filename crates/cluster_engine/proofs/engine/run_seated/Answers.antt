@@ -17,9 +17,6 @@ play-requires-after_bounds g c κs within =
     some_passes c.args.workers c.as_mut_slice-passes.result.now c.requires.workers.0
     (c.as_mut_slice-passes.ensures.value ∙ c.in-Ok.ensures.passes)
 
-pub closed_text-requires : goal.closed_text-requires
-closed_text-requires g c = (c.requires.seats.tree_is, c.requires.seats.is_tree)
-
 pub returns-in-None-clause-text : goal.returns-in-None-clause-text
 returns-in-None-clause-text g c =
     closed_written (λ r. r.0.items) c.args.output c.args.tree c.args.events.now c.args.workers g.N.Seats.callers
@@ -27,7 +24,7 @@ returns-in-None-clause-text g c =
     (c.as_mut_slice-passes.ensures.value ∙ c.in-Ok.ensures.passes)
     (subst (λ t. FirstMade t c.args.events.now c.as_mut_slice-passes.result.now c.play.new.passes)
     (sym c.requires.seats.tree_is) (c.in-None.ensures.made refl))
-    c.closed_text.ensures.text
+    c.closed_text.ensures.text c.closed_text.ensures.status
 
 pub returns-in-None-clause-err : goal.returns-in-None-clause-err
 returns-in-None-clause-err g c =
