@@ -1,5 +1,4 @@
 pub mod Tellings
 pub mod Tracing
 pub mod Making
-pub mod Repeating
 pub mod Reporting

@@ -1,4 +1,3 @@
 pub mod Told
 pub mod Made
-pub mod Replays
 pub mod Reports

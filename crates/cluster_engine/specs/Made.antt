@@ -1,12 +1,14 @@
 -- What the caller who leads a run has made.
-use Rattle.std.specs.Prelude.{◌≡◌, ◌⊎◌, ℕ, Option, List, [], ◌∷◌}
+use Rattle.std.specs.Prelude.{◌≡◌, ◌⊎◌, ℕ, Option, Some, List, [], ◌∷◌, slice_get, take}
 use Rattle.tree_model.specs.declared.names.Txn.{Txn}
 use Rattle.tree_model.specs.declared.events.Event.{Event}
 use Rattle.tree_model.specs.declared.events.Event.TheVariants.{Settle}
 use Rattle.tree_model.specs.declared.trees.TreeEntry.{TreeEntry}
+use Rattle.tree_threads.specs.declared.errors.PostError.{PostError}
 use Rattle.tree_threads.specs.Passes.{PassState}
 use Rattle.tree_cluster.specs.Passes.{IsLonger}
 use Rattle.tree_cluster.specs.Posts.{Posts}
+use Rattle.tree_cluster.specs.Refusals.{IsRefused, NotSettled}
 use Rattle.tree_cluster.specs.Settling.{IsSettled}
 
 -- the event was posted in this tree: the pass has one pair more, of an entry of it
@@ -22,8 +24,36 @@ abbrev pub AreMade : List TreeEntry → List Event → PassState → PassState �
 AreMade tree [] old new = new ≡ old
 AreMade tree (e ∷ es) old new = (mid : PassState) × IsMade tree e old mid × AreMade tree es mid new
 
--- whoever has the first of these passes made these events
+-- with each of these passes messages were delivered, and nothing else was done
+abbrev pub AreLonger : List PassState → List PassState → Type 0
+AreLonger [] [] = Unit {0}
+AreLonger [] (q ∷ qs) = ⊥
+AreLonger (p ∷ ps) [] = ⊥
+AreLonger (p ∷ ps) (q ∷ qs) = IsLonger p q × AreLonger ps qs
+
+-- whoever has the first of these passes made these events, and those with the others delivered
 abbrev pub FirstMade : List TreeEntry → List Event → List PassState → List PassState → Type 0
 FirstMade tree es [] new = ⊥
 FirstMade tree es (p ∷ ps) [] = ⊥
-FirstMade tree es (p ∷ ps) (q ∷ qs) = AreMade tree es p q
+FirstMade tree es (p ∷ ps) (q ∷ qs) = AreMade tree es p q × AreLonger ps qs
+
+-- Refusals.
+
+-- why the event was not made with this pass: a settle went no further, or the event was refused
+abbrev pub NotMade : List TreeEntry → Event → PassState → PostError → Type 0
+NotMade tree Settle pass e = NotSettled tree e
+NotMade tree event pass e = IsRefused tree event pass e
+
+-- N of these events were made with a pass, and the next was not, for this reason
+pub record StopsAt (tree : List TreeEntry) (events : List Event) (old : PassState) (made : ℕ) (e : PostError)
+    : Type 0 where
+  pub event : Event
+  pub next : slice_get events made ≡ Some event
+  pub before : PassState
+  pub made_before : AreMade tree (take made events) old before
+  pub not_made : NotMade tree event before e
+
+-- so it was with the first of these passes
+abbrev pub FirstStops : List TreeEntry → List Event → List PassState → ℕ → PostError → Type 0
+FirstStops tree es [] made e = ⊥
+FirstStops tree es (p ∷ ps) made e = StopsAt tree es p made e

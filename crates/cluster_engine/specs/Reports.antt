@@ -1,5 +1,5 @@
 -- What the engine of `rstar run` writes.
-use Rattle.std.specs.Prelude.{◌≡◌, ◌+◌, ◌<◌, ◌≤◌, ◌^◌, ◌⊎◌, ℕ, Option, Some, None, List, [], ◌∷◌, ◌++◌, codes, length}
+use Rattle.std.specs.Prelude.{◌≡◌, ◌+◌, ◌≤◌, ◌^◌, ◌⊎◌, ℕ, All, Option, Some, None, List, [], ◌∷◌, ◌++◌, codes}
 use Rattle.tree_model.specs.declared.events.Entry.{Entry}
 use Rattle.tree_model.specs.declared.events.Event.{Event}
 use Rattle.tree_model.specs.declared.events.StepError.TheVariants as steps
@@ -12,27 +12,24 @@ use Rattle.report_io.specs.declared.status.Status.{Status}
 use Rattle.report_io.specs.declared.status.Status.TheVariants.{Ended, Refused, Stopped}
 use Rattle.report_io.specs.declared.streams.Failure.{Failure}
 use Rattle.report_io.specs.declared.streams.Failure.TheVariants as failure
-use Rattle.tree_ties.specs.Views.{entries_in}
+use Rattle.tree_ties.specs.Views.{AreBelow, entries_in}
 use Rattle.tree_threads.specs.Passes.{PassState}
 use Rattle.tree_threads.specs.declared.errors.PostError.{PostError}
 use Rattle.tree_threads.specs.declared.errors.PostError.TheVariants.{Stranger, JournalFull, Step, Memory}
 use Rattle.tree_cluster.specs.Closing.{AreMet, IsClosed, IsMet}
-use Rattle.tree_cluster.specs.Passes.{new_pass}
+use Rattle.tree_cluster.specs.Passes.{IsDelivery, new_pass}
 use Rattle.tree_engine.specs.Failures.{message_count}
 use Rattle.tree_engine.specs.Runs.{IsFailure}
 use Rattle.tree_engine.specs.Trees.{RefusesScript, opened_text, refused_text}
 use Rattle.cluster_engine.specs.declared.engine.Output.{Output}
 use Rattle.cluster_engine.specs.declared.engine.Output.TheVariants.{Told, Trace}
 use Rattle.cluster_engine.specs.Told.{TellsAll}
-use Rattle.cluster_engine.specs.Made.{AreMade}
-use Rattle.cluster_engine.specs.Replays.{Replays}
+use Rattle.cluster_engine.specs.Made.{AreMade, StopsAt}
 
--- the last line: the journal, made once more on one thread, left the same logs, or others
+-- the last line, which is so of each cluster that closes: a tree on one thread that makes the events of the journal leaves
+-- the same logs
 abbrev pub same_line : List ℕ
 same_line = codes "replay same" ++ 10 ∷ []
-
-abbrev pub different_line : List ℕ
-different_line = codes "replay different" ++ 10 ∷ []
 
 -- the journal as a trace
 abbrev pub journal_text : List TreeEntry → List (ℕ × Entry) → List ℕ
@@ -43,38 +40,38 @@ journal_text tree journal =
 abbrev pub TellsJournal : List (ℕ × Entry) → List ℕ → List ℕ → Type 0
 TellsJournal journal last text = (lines : List ℕ) × TellsAll journal lines × (text ≡ lines ++ last)
 
--- what is written of a journal and the logs left, where nothing is wrong
-abbrev pub TellsWhole : Output → List TreeEntry → List (ℕ × Entry) → List (List LogRecord) → List ℕ → Type 0
-TellsWhole Told tree journal logs text = TellsJournal journal same_line text × Replays tree journal logs
-TellsWhole Trace tree journal logs text = text ≡ journal_text tree journal
+-- what is written of a journal
+abbrev pub Tells : Output → List TreeEntry → List (ℕ × Entry) → List ℕ → Type 0
+Tells Told tree journal text = TellsJournal journal same_line text
+Tells Trace tree journal text = text ≡ journal_text tree journal
 
--- what is written of them, by how the run ends
-abbrev pub Tells : Output → Status → List TreeEntry → List (ℕ × Entry) → List (List LogRecord) → List ℕ → Type 0
-Tells output Ended tree journal logs text = TellsWhole output tree journal logs text
-Tells output Stopped tree journal logs text = (output ≡ Told) × TellsJournal journal different_line text
-Tells output Refused tree journal logs text = ⊥
-
--- A cluster of this tree was closed with these passes: the text tells its journal.
-pub record TellsClosed (output : Output) (status : Status) (tree : List TreeEntry) (passes : List PassState)
+-- A cluster of this tree, of N callers, was closed with these passes: the text tells its journal.
+pub record TellsClosed (output : Output) (tree : List TreeEntry) (callers : ℕ) (passes : List PassState)
     (text : List ℕ) : Type 0 where
   pub journal : List (ℕ × Entry)
   pub logs : List (List LogRecord)
   pub closed : IsClosed tree journal logs
   pub met : AreMet journal passes
-  pub tells : Tells output status tree journal logs text
+  pub known : AreBelow callers journal
+  pub tells : Tells output tree journal text
+
+-- each of these entries was asked for: it is under the number of the caller who leads, or a message is delivered in it
+abbrev pub AreAsked : List (ℕ × Entry) → Type 0
+AreAsked journal = All (λ x. (x.0 ≡ 0) ⊎ IsDelivery x) journal
 
 -- The text tells the journal of a closed cluster on this tree. It is a run of the tree, of which the headline holds,
--- and in which mismatches are reported, and the logs are those that it leaves. These events were made with one pass,
--- in order, and the journal has each pair of that pass, under its caller's number.
-pub record RunsTree (output : Output) (status : Status) (tree : List TreeEntry) (events : List Event)
-    (text : List ℕ) : Type 0 where
+-- and in which mismatches are reported; a tree on one thread that makes its events leaves the same logs. These events were
+-- made with one pass, in order; the journal has just the pairs of that pass under its caller's number, and besides
+-- deliveries alone.
+pub record RunsTree (output : Output) (tree : List TreeEntry) (events : List Event) (text : List ℕ) : Type 0 where
   pub journal : List (ℕ × Entry)
   pub logs : List (List LogRecord)
   pub closed : IsClosed tree journal logs
   pub pass : PassState
   pub made : AreMade tree events (new_pass 0) pass
   pub met : IsMet journal pass
-  pub tells : Tells output status tree journal logs text
+  pub asked : AreAsked journal
+  pub tells : Tells output tree journal text
 
 -- the number of a refusal as it is printed, if it is one of the event itself: a step's own; 9 for what the journal
 -- has not; 10 where it is full
@@ -88,20 +85,23 @@ refusal_number (Step e) = Some (step_error_number e)
 refusal_number Memory = None
 
 -- the text is the one line of an event that was refused so, after N that were made
-pub record RefusesBehind (made : ℕ) (text : List ℕ) : Type 0 where
-  pub why : PostError
+pub record RefusesBehind (made : ℕ) (why : PostError) (text : List ℕ) : Type 0 where
   pub number : ℕ
   pub number_is : refusal_number why ≡ Some number
   pub line : text ≡ refused_text (made + 1) number
 
--- the text is the one line of one of these events, which was refused
-abbrev pub RefusesOne : List Event → List ℕ → Type 0
-RefusesOne events text = (made : ℕ) × (made < length events) × RefusesBehind made text
+-- the text is the one line of that of these events which was refused: those before it were made, and it was not, for
+-- the reason whose number is told
+pub record RefusesOne (tree : List TreeEntry) (events : List Event) (text : List ℕ) : Type 0 where
+  pub made : ℕ
+  pub why : PostError
+  pub stops : StopsAt tree events (new_pass 0) made why
+  pub tells : RefusesBehind made why text
 
 -- what is written of a tree and its events, by how the run ends
 abbrev pub Writes : Output → Status → List TreeEntry → List Event → List ℕ → Type 0
-Writes output Ended tree events text = RunsTree output Ended tree events text
-Writes output Stopped tree events text = RefusesOne events text ⊎ RunsTree output Stopped tree events text
+Writes output Ended tree events text = RunsTree output tree events text
+Writes output Stopped tree events text = RefusesOne tree events text
 Writes output Refused tree events text = ⊥
 
 -- the input is a script, and this is written of its tree and its events
@@ -125,9 +125,12 @@ IsPostFailure (Step e) why = IsFailure e why
 IsPostFailure Memory why = why ≡ failure.Memory
 IsPostFailure _ why = ⊥
 
--- one of these events was refused so
-abbrev pub PostFails : List Event → Failure → Type 0
-PostFails events why = (made : ℕ) × (made < length events) × (refusal : PostError) × IsPostFailure refusal why
+-- one of these events was refused so, after those before it were made
+pub record PostFails (tree : List TreeEntry) (events : List Event) (why : Failure) : Type 0 where
+  pub made : ℕ
+  pub refusal : PostError
+  pub stops : StopsAt tree events (new_pass 0) made refusal
+  pub fails : IsPostFailure refusal why
 
 -- 2^64 messages or more were sent in this journal
 abbrev pub IsUnnumbered : List (ℕ × Entry) → Type 0
@@ -140,7 +143,7 @@ ClosesUnnumbered tree =
 
 -- why nothing is written of a tree and these events
 abbrev pub CannotWrite : List TreeEntry → List Event → Failure → Type 0
-CannotWrite tree events why = PostFails events why ⊎ ((why ≡ failure.Exhausted) × ClosesUnnumbered tree)
+CannotWrite tree events why = PostFails tree events why ⊎ ((why ≡ failure.Exhausted) × ClosesUnnumbered tree)
 
 -- why nothing is written of an input, which is a script
 pub record CannotReport (input : List ℕ) (why : Failure) : Type 0 where

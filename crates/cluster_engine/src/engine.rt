@@ -42,7 +42,8 @@ pub enum Output {
 ///
 /// What is told is that of a journal which is a run of the script's tree in the model, of which the
 /// headline holds, and in which mismatches are reported; it has the script's events in order, each under
-/// one caller's number. After a failed read, or where memory is refused, a device fails or numbers are used up,
+/// one caller's number, and besides deliveries alone. An event is refused as its process stood, once those before it
+/// were made. After a failed read, or where memory is refused, a device fails or numbers are used up,
 /// nothing was written; after a failed write, a beginning of the text. The call may wait.
 pub fn run_cluster<R: Threads + Wait + Sync, G: Gate + Sync, I: Read, W: Write>(
     rt: &R,
@@ -130,6 +131,7 @@ fn run_seated<N: Seats + Send + Sync, R: Threads + Wait + Sync, G: Gate + Sync>(
 ) -> Result<(Vec<u8>, Status), Failure>
     requires workers { (0 < workers) × (workers ≤ 16) }
     requires seats { SeatsTree N.table N.tree tree opened.ties.shared.table_id opened.ties.shared.key.items }
+    requires callers { workers ≡ N.callers }
     ensures text { IfOk result (λ r. Writes output r.1 tree events.now r.0.items) }
     ensures err { IfErr result (λ e. (e ≡ Failure.Memory) ⊎ CannotWrite tree events.now e) }
     ensures why { IfErr result IsOfRun }

@@ -6,10 +6,7 @@
 mod ending;
 mod engine;
 mod player;
-mod records;
-mod replay;
 mod told;
 mod trace;
 
 pub use engine::{Output, run_cluster};
-pub use replay::is_replayed;

@@ -1,9 +1,10 @@
 //! The events of a script, made by one caller; the others deliver.
 
-ghost use Rattle.std.specs.Prelude.{◌≡◌, ◌<◌, ℕ, IfSome, OnOk, length, slice_index_or};
+ghost use Rattle.std.specs.Prelude.{◌≡◌, ◌<◌, ℕ, IfErr, IfSome, OnOk, length, slice_index_or};
 ghost use Rattle.tree_threads.specs.Passes.{PassState as AnyPass};
 ghost use Rattle.tree_cluster.specs.Passes.{IsLonger};
-ghost use Rattle.cluster_engine.specs.Made.{AreMade, FirstMade, IsMade, IsPosted};
+ghost use Rattle.tree_cluster.specs.Refusals.{IsRefused};
+ghost use Rattle.cluster_engine.specs.Made.{AreLonger, AreMade, FirstMade, FirstStops, IsMade, IsPosted, NotMade, StopsAt};
 
 use std::alloc::Global;
 use std::sync::Wait;
@@ -26,7 +27,8 @@ fn post<N: Seats, R: Wait, G: Gate>(
     gate: &G,
     pass: &mut Pass<N>,
 ) -> Result<(), PostError>
-    ensures { OnOk result (IsPosted N.tree event.now pass.old pass.new) }
+    ensures ok { OnOk result (IsPosted N.tree event.now pass.old pass.new) }
+    ensures err { IfErr result (IsRefused N.tree event.now pass.old) }
 {
     let copy = event.copied(alloc)?;
     cluster.post(rt, copy, pass, gate)?;
@@ -38,12 +40,13 @@ fn make<N: Seats, R: Wait, G: Gate>(
     rt: &R,
     alloc: Global,
     cluster: &Cluster<N>,
-    rounds: &Rounds,
+    rounds: &Rounds<N>,
     event: &Event,
     gate: &G,
     pass: &mut Pass<N>,
 ) -> Result<(), PostError>
-    ensures { OnOk result (IsMade N.tree event.now pass.old pass.new) }
+    ensures ok { OnOk result (IsMade N.tree event.now pass.old pass.new) }
+    ensures err { IfErr result (NotMade N.tree event.now pass.old) }
 {
     match event {
         Event::Settle => cluster.settle(rt, rounds, pass, gate),
@@ -56,12 +59,13 @@ fn make_all<N: Seats, R: Wait, G: Gate>(
     rt: &R,
     alloc: Global,
     cluster: &Cluster<N>,
-    rounds: &Rounds,
+    rounds: &Rounds<N>,
     events: &[Event],
     gate: &G,
     pass: &mut Pass<N>,
 ) -> Refusal
     ensures made { result ≡ None → AreMade N.tree events.now pass.old pass.new }
+    ensures stopped { IfSome result (λ r. StopsAt N.tree events.now pass.old r.0 r.1) }
     ensures within { IfSome result (λ r. r.0 < length events.now) }
 {
     for (made, event) in events.iter().enumerate() {
@@ -77,12 +81,13 @@ fn lead<N: Seats, R: Wait, G: Gate>(
     rt: &R,
     alloc: Global,
     cluster: &Cluster<N>,
-    rounds: &Rounds,
+    rounds: &Rounds<N>,
     events: &[Event],
     gate: &G,
     pass: &mut Pass<N>,
 ) -> Refusal
     ensures made { result ≡ None → AreMade N.tree events.now pass.old pass.new }
+    ensures stopped { IfSome result (λ r. StopsAt N.tree events.now pass.old r.0 r.1) }
     ensures within { IfSome result (λ r. r.0 < length events.now) }
 {
     cluster.lead(rounds);
@@ -91,28 +96,44 @@ fn lead<N: Seats, R: Wait, G: Gate>(
     refusal
 }
 
-/// The workers of a run, one for each of these passes: they deliver messages, and do nothing else.
-fn serve<N: Seats + Send + Sync, R: Threads + Wait + Sync, G: Gate + Sync>(
+/// A worker for each of these passes, of which there are some: they deliver messages, and do nothing else.
+fn serve_each<N: Seats + Send + Sync, R: Threads + Wait + Sync, G: Gate + Sync>(
     rt: &R,
     cluster: &Cluster<N>,
-    rounds: &Rounds,
+    rounds: &Rounds<N>,
     gate: &G,
     passes: &mut [Pass<N>],
 )
-    ensures { (i : ℕ) (d : AnyPass) → i < length passes.old
+    requires { 0 < length passes.old }
+    ensures longer { (i : ℕ) (d : AnyPass) → i < length passes.old
         → IsLonger (slice_index_or passes.old i d) (slice_index_or passes.new i d) }
+    ensures long { length passes.new ≡ length passes.old }
 {
     let threads = passes.len();
-    if threads > 0 {
-        thread::for_each_mut(
-            rt,
-            passes,
-            threads,
-            &|_place, pass: &mut Pass<N>|
-                ensures { IsLonger pass.old pass.new }
-            { cluster.serve(rt, rounds, pass, gate) },
-        );
+    thread::for_each_mut(
+        rt,
+        passes,
+        threads,
+        &|_place, pass: &mut Pass<N>|
+            ensures { IsLonger pass.old pass.new }
+        { cluster.serve(rt, rounds, pass, gate) },
+    );
+}
+
+/// The workers of a run, if it has any.
+fn serve<N: Seats + Send + Sync, R: Threads + Wait + Sync, G: Gate + Sync>(
+    rt: &R,
+    cluster: &Cluster<N>,
+    rounds: &Rounds<N>,
+    gate: &G,
+    passes: &mut [Pass<N>],
+)
+    ensures { AreLonger passes.old passes.new }
+{
+    if passes.is_empty() {
+        return;
     }
+    serve_each(rt, cluster, rounds, gate, passes);
 }
 
 /// Makes these events with the first pass, while workers with the others deliver.
@@ -120,13 +141,15 @@ fn lead_and_serve<'a, N: Seats + Send + Sync, R: Threads + Wait + Sync, G: Gate 
     rt: &'a R,
     alloc: Global,
     cluster: &'a Cluster<N>,
-    rounds: &'a Rounds,
+    rounds: &'a Rounds<N>,
     events: &'a [Event],
     gate: &'a G,
     first: &'a mut Pass<N>,
     others: &'a mut [Pass<N>],
 ) -> Refusal
     ensures made { result ≡ None → AreMade N.tree events.now first.old first.new }
+    ensures stopped { IfSome result (λ r. StopsAt N.tree events.now first.old r.0 r.1) }
+    ensures others { AreLonger others.old others.new }
     ensures within { IfSome result (λ r. r.0 < length events.now) }
 {
     let (_, refusal) = thread::join_mut(
@@ -135,6 +158,29 @@ fn lead_and_serve<'a, N: Seats + Send + Sync, R: Threads + Wait + Sync, G: Gate 
         &mut || lead(rt, alloc, cluster, rounds, events, gate, first),
     );
     refusal
+}
+
+/// Makes these events with the first pass; each other pass is a worker's, and where there is none no thread is made.
+fn play_first<N: Seats + Send + Sync, R: Threads + Wait + Sync, G: Gate + Sync>(
+    rt: &R,
+    alloc: Global,
+    cluster: &Cluster<N>,
+    rounds: &Rounds<N>,
+    events: &[Event],
+    gate: &G,
+    first: &mut Pass<N>,
+    others: &mut [Pass<N>],
+) -> Refusal
+    ensures made { result ≡ None → AreMade N.tree events.now first.old first.new }
+    ensures stopped { IfSome result (λ r. StopsAt N.tree events.now first.old r.0 r.1) }
+    ensures others { AreLonger others.old others.new }
+    ensures within { IfSome result (λ r. r.0 < length events.now) }
+{
+    if others.is_empty() {
+        lead(rt, alloc, cluster, rounds, events, gate, first)
+    } else {
+        lead_and_serve(rt, alloc, cluster, rounds, events, gate, first, others)
+    }
 }
 
 /// Makes the script's events, by one caller; each other pass is a worker's. Threads are made once.
@@ -148,15 +194,12 @@ pub(crate) fn play<N: Seats + Send + Sync, R: Threads + Wait + Sync, G: Gate + S
 ) -> Refusal
     requires { 0 < length passes.old }
     ensures made { result ≡ None → FirstMade N.tree events.now passes.old passes.new }
+    ensures stopped { IfSome result (λ r. FirstStops N.tree events.now passes.old r.0 r.1) }
     ensures within { IfSome result (λ r. r.0 < length events.now) }
 {
-    let rounds = Rounds::new();
+    let rounds = Rounds::<N>::new();
     let Some((first, others)) = passes.split_first_mut() else {
         unreachable!()
     };
-    if others.is_empty() {
-        lead(rt, alloc, cluster, &rounds, events, gate, first)
-    } else {
-        lead_and_serve(rt, alloc, cluster, &rounds, events, gate, first, others)
-    }
+    play_first(rt, alloc, cluster, &rounds, events, gate, first, others)
 }

@@ -1,5 +1,6 @@
 //! Several callers at the same time.
 
+ghost use Rattle.std.specs.Prelude.{◌≡◌};
 ghost use Rattle.tree_cluster.specs.Opening.{SeatsTree};
 
 use crate::opening::{close, tree};
@@ -65,7 +66,8 @@ fn begin_at_once<N: Seats + Send + Sync, R: Threads + Wait + Sync>(
     tree: Tree,
     opened: Opened,
 ) -> Option<bool>
-    requires { SeatsTree N.table N.tree tree opened.ties.shared.table_id opened.ties.shared.key.items }
+    requires seats { SeatsTree N.table N.tree tree opened.ties.shared.table_id opened.ties.shared.key.items }
+    requires callers { 4 ≡ N.callers }
 {
     let Ok((cluster, mut passes)) = Cluster::<N>::new(alloc, tree, opened, 4) else {
         return None;

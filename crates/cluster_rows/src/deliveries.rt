@@ -1,6 +1,6 @@
 //! Workers deliver each message, and none twice.
 
-ghost use Rattle.std.specs.Prelude.{◌<◌, ◌≤◌};
+ghost use Rattle.std.specs.Prelude.{◌≡◌, ◌<◌, ◌≤◌};
 ghost use Rattle.tree_cluster.specs.Opening.{SeatsTree};
 
 use crate::opening::{begin, close, deliver_by, tree};
@@ -80,6 +80,7 @@ fn deliver_all<N: Seats + Send + Sync, R: Threads + Wait + Sync>(
 ) -> Option<bool>
     requires workers { (0 < workers) × (workers ≤ 16) }
     requires seats { SeatsTree N.table N.tree tree opened.ties.shared.table_id opened.ties.shared.key.items }
+    requires callers { workers ≡ N.callers }
 {
     let Ok((cluster, mut passes)) = Cluster::<N>::new(alloc, tree, opened, workers) else {
         return None;

@@ -1,5 +1,6 @@
 //! A journal that is full.
 
+ghost use Rattle.std.specs.Prelude.{◌≡◌};
 ghost use Rattle.tree_cluster.specs.Opening.{SeatsTree};
 
 use crate::opening::{begin, close, deliver_by, tree};
@@ -49,7 +50,8 @@ fn fill<N: Seats + Send + Sync, R: Threads + Wait + Sync>(
     tree: Tree,
     opened: Opened,
 ) -> Option<bool>
-    requires { SeatsTree N.table N.tree tree opened.ties.shared.table_id opened.ties.shared.key.items }
+    requires seats { SeatsTree N.table N.tree tree opened.ties.shared.table_id opened.ties.shared.key.items }
+    requires callers { 1 ≡ N.callers }
 {
     let Ok((cluster, mut passes)) = Cluster::<N>::new(alloc, tree, opened, 1) else {
         return None;

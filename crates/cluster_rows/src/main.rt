@@ -13,6 +13,8 @@ mod edges;
 mod floods;
 mod meeting;
 mod opening;
+mod records;
+mod replay;
 mod restarts;
 mod scripts;
 mod works;

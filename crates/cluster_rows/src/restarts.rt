@@ -1,10 +1,11 @@
 //! Restarts under way.
 
+ghost use Rattle.std.specs.Prelude.{◌≡◌};
 ghost use Rattle.tree_cluster.specs.Opening.{SeatsTree};
 
 use crate::deliveries::{MANAGERS, invite};
 use crate::opening::{begin, close, deliver_by, tree};
-use cluster_engine::is_replayed;
+use crate::replay::is_replayed;
 use std::alloc::Global;
 use std::marker::Brand;
 use std::sync::Wait;
@@ -73,7 +74,8 @@ fn restart_under_way<N: Seats + Send + Sync, R: Threads + Wait + Sync>(
     tree: Tree,
     opened: Opened,
 ) -> Option<bool>
-    requires { SeatsTree N.table N.tree tree opened.ties.shared.table_id opened.ties.shared.key.items }
+    requires seats { SeatsTree N.table N.tree tree opened.ties.shared.table_id opened.ties.shared.key.items }
+    requires callers { 5 ≡ N.callers }
 {
     let copy = copied_tree(alloc, tree.entries()).ok()?;
     let Ok((cluster, mut passes)) = Cluster::<N>::new(alloc, copy, opened, 5) else {

@@ -1,6 +1,6 @@
 //! Works of one case at one manager keep their order.
 
-ghost use Rattle.std.specs.Prelude.{◌<◌, ◌≤◌};
+ghost use Rattle.std.specs.Prelude.{◌≡◌, ◌<◌, ◌≤◌};
 ghost use Rattle.tree_cluster.specs.Opening.{SeatsTree};
 
 use crate::opening::{begin, close, deliver_by, tree};
@@ -128,6 +128,7 @@ fn commit_by<N: Seats + Send + Sync, R: Threads + Wait + Sync>(
 ) -> Option<bool>
     requires workers { (0 < workers) × (workers ≤ 16) }
     requires seats { SeatsTree N.table N.tree tree opened.ties.shared.table_id opened.ties.shared.key.items }
+    requires callers { workers ≡ N.callers }
 {
     let Ok((cluster, mut passes)) = Cluster::<N>::new(alloc, tree, opened, workers) else {
         return None;

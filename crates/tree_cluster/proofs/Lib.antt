@@ -2,5 +2,7 @@ mod Apart
 mod MemoryAlone
 mod Seating
 mod Leaving
-mod Passing
+pub mod Passing
 mod Posting
+mod Listed
+mod Refused

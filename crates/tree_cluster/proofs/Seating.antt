@@ -156,6 +156,11 @@ pub opened_is : (table : TableId) (tree : List TreeEntry) (opened given : ℕ) (
     → KeepsSeats table tree opened given journal → journal.me.0.journal.opened ≡ opened
 opened_is table tree opened given journal k = ap (λ m. m.0.journal.opened) k.keeps
 
+-- N passes were given
+pub given_is : (table : TableId) (tree : List TreeEntry) (opened given : ℕ) (journal : Seat Entry View)
+    → KeepsSeats table tree opened given journal → journal.me.0.journal.given ≡ given
+given_is table tree opened given journal k = ap (λ m. m.0.journal.given) k.keeps
+
 -- there is a name for the next
 pub has_name : (table : TableId) (tree : List TreeEntry) (id : TableId) (names : List ProcessId) (place given : ℕ)
     (journal : Seat Entry View) → IsTableOf table tree id names → KeepsSeats table tree place given journal

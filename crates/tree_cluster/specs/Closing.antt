@@ -11,7 +11,7 @@ use Rattle.core_law.specs.worlds.Ties.{IsModelled}
 use Rattle.core_law.specs.worlds.Worlds.{WorldState}
 use Rattle.tree_cut.specs.Alone.{AskForAll, LeadsOn}
 use Rattle.tree_cut.specs.Owns.{CutHolds}
-use Rattle.tree_ties.specs.Views.{AllIn, Rise, entries_in}
+use Rattle.tree_ties.specs.Views.{entries_in, pairs_by}
 use Rattle.tree_threads.specs.Locked.{LeavesLog}
 use Rattle.tree_threads.specs.Passes.{PassState}
 
@@ -47,10 +47,10 @@ pub record IsClosed (tree : List TreeEntry) (journal : List (ℕ × Entry)) (log
   pub modelled : IsModelled state
   pub logs_are : logs ≡ logs_in state tree
 
--- the journal has each pair of this pass, under its caller's number, and their places rise
+-- the pass's pairs are just those of the journal's entries under its caller's number, with their places
 abbrev pub IsMet : List (ℕ × Entry) → PassState → Type 0
-IsMet journal p = AllIn p.caller journal p.pairs × Rise 0 p.pairs
+IsMet journal p = p.pairs ≡ pairs_by p.caller 0 journal
 
--- it has those of each of these passes
+-- so it is of each of these passes
 abbrev pub AreMet : List (ℕ × Entry) → List PassState → Type 0
 AreMet journal passes = All (IsMet journal) passes

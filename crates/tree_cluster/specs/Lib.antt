@@ -3,3 +3,4 @@ pub mod Posts
 pub mod Closing
 pub mod Opening
 pub mod Settling
+pub mod Refusals

@@ -8,8 +8,8 @@ use Rattle.tree_ties.specs.Views.{entries_in}
 use Rattle.tree_threads.specs.Passes.{PassState}
 use Rattle.tree_cluster.specs.Closing.{IsMet}
 
--- A settle with this pass came to its end: the journal was a run of the tree, it had each pair of the pass, and each
--- message that it sent was delivered in it.
+-- A settle with this pass came to its end: the journal was a run of the tree, it had just the pass's pairs under its
+-- number, and each message that it sent was delivered in it.
 pub record IsSettled (tree : List TreeEntry) (pass : PassState) : Type 0 where
   pub journal : List (ℕ × Entry)
   pub run : CutHolds tree (entries_in journal)

@@ -1,14 +1,19 @@
 //! A tree whose processes run at the same time.
 
-ghost use Rattle.std.specs.Prelude.{◌≡◌, ◌+◌, ◌<◌, ◌≤◌, IfErr, IfOk, OnErr, map};
-ghost use Rattle.tree_model.specs.Plays.{process_of_act};
+ghost use Rattle.std.specs.Prelude.{◌≡◌, ◌⊎◌, ◌+◌, ◌<◌, ◌≤◌, None, Some, IfErr, IfNone, IfOk, OnErr, false, map};
+ghost use Rattle.tree_model.specs.declared.messages.Envelope.{Envelope as AnyEnvelope};
+ghost use Rattle.tree_model.specs.Nodes.{is_listed};
+ghost use Rattle.tree_model.specs.Plays.{process_of_act, sent_as};
 ghost use Rattle.tree_model.specs.Trees.{IsTree, root_of as root_in};
+ghost use Rattle.tree_cut.specs.Cuts.{net_of};
+ghost use Rattle.tree_ties.specs.Views.{AreBelow, entries_in};
 ghost use Rattle.tree_threads.specs.Marks.{ActsHere};
-ghost use Rattle.tree_threads.specs.Posts.{PostsOne};
+ghost use Rattle.tree_threads.specs.Posts.{NotPosted, PostsOne};
 ghost use Rattle.tree_cluster.specs.Closing.{AreMet, IsClosed};
 ghost use Rattle.tree_cluster.specs.Opening.{SeatsTree};
 ghost use Rattle.tree_cluster.specs.Passes.{new_passes};
 ghost use Rattle.tree_cluster.specs.Posts.{IsOf, Posts};
+ghost use Rattle.tree_cluster.specs.Refusals.{IsAddressed, IsReceiver, IsRefused, NoMessage, NotAt};
 
 use crate::closing::{left_logs, let_go, meet_all};
 use crate::opening::{give_passes, open_all};
@@ -59,10 +64,12 @@ fn process_of(root: ProcessId, act: &Act) -> ProcessId
     }
 }
 
-/// The place of a process in the tree.
-fn place_of(entries: &[TreeEntry], process: ProcessId) -> Option<usize> {
-    for (place, entry) in entries.iter().enumerate() {
-        if is_same(entry.id, process) {
+/// The place of a process in the tree, if it is there.
+fn place_of(entries: &[TreeEntry], process: ProcessId) -> Option<usize>
+    ensures { IfNone result (is_listed entries.now process ≡ false) }
+{
+    for place in 0..entries.len() {
+        if is_same(entries[place].id, process) {
             return Some(place);
         }
     }
@@ -84,7 +91,8 @@ fn number_of<R: Wait>(rt: &R, place: usize) -> usize
 
 impl<N: Seats> Cluster<N> {
     /// A tree that has opened, and a pass for each of N callers, whose numbers begin at 0. The table has
-    /// the names of the tree's processes, in the order of the tree. Memory is the only refusal that comes.
+    /// the names of the tree's processes, in the order of the tree, and is the one for N callers. Memory is the only
+    /// refusal that comes.
     pub fn new(
         alloc: Global,
         tree: Tree,
@@ -92,7 +100,7 @@ impl<N: Seats> Cluster<N> {
         callers: usize,
     ) -> Result<(Cluster<N>, Vec<Pass<N>>), OpenError>
         requires seats { SeatsTree N.table N.tree tree opened.ties.shared.table_id opened.ties.shared.key.items }
-        requires callers { (0 < callers) × (callers ≤ 64) }
+        requires callers { (0 < callers) × (callers ≤ 64) × (callers ≡ N.callers) }
         ensures passes { IfOk result (λ r. r.1.items ≡ new_passes callers) }
         ensures err { IfErr result (λ e. e ≡ OpenError.Memory) }
     {
@@ -113,12 +121,20 @@ impl<N: Seats> Cluster<N> {
 
     /// The process of an event: an act's, the receiver of a message, or the one that is named. Stranger: there is
     /// none. Memory: a growth was refused.
-    fn process_by<R: Wait>(&self, rt: &R, event: &Event) -> Result<ProcessId, PostError>
-        ensures { IfOk result (λ q. IsOf (root_in N.tree) q event.now) }
+    fn process_by<R: Wait>(
+        &self,
+        rt: &R,
+        event: &Event,
+        pass: &mut Pass<N>,
+    ) -> Result<ProcessId, PostError>
+        ensures ok { IfOk result (λ q. IsOf (root_in N.tree) q event.now) }
+        ensures addressed { IfOk result (λ q. IsAddressed N.tree pass.old q event.now) }
+        ensures err { IfErr result (IsRefused N.tree event.now pass.old) }
+        ensures same { pass.new ≡ pass.old }
     {
         match event {
             Event::Act(act) => Ok(process_of(self.tree.root(), act)),
-            Event::Deliver(number) => self.receiver(rt, *number),
+            Event::Deliver(number) => self.receiver(rt, *number, pass),
             Event::Settle => Err(PostError::Stranger),
             Event::Restart(process, _) => Ok(*process),
             Event::Trim(process) => Ok(*process),
@@ -126,12 +142,25 @@ impl<N: Seats> Cluster<N> {
     }
 
     /// The receiver of the message with this number. Stranger: the journal has none.
-    fn receiver<R: Wait>(&self, rt: &R, number: u64) -> Result<ProcessId, PostError> {
+    fn receiver<R: Wait>(
+        &self,
+        rt: &R,
+        number: u64,
+        pass: &mut Pass<N>,
+    ) -> Result<ProcessId, PostError>
+        ensures ok { IfOk result (λ q. IsReceiver N.tree pass.old q number) }
+        ensures err { IfErr result (λ e. (e ≡ PostError.Memory)
+            ⊎ NoMessage N.tree (Event.Deliver number) pass.old e) }
+        ensures same { pass.new ≡ pass.old }
+    {
         let mut ledger = self.ledger.lock(rt);
+        ledger.is_a_run();
+        ledger.meets(&self.ties, pass);
         receiver_in(&mut *ledger, number)
     }
 
-    /// Posts an event of this process, or of none where no process has this name. An act is this process's.
+    /// Posts an event of this process, or of none where no process has this name. An act is this process's. The processes
+    /// lie in the order of the tree, so what waits for ever here never comes.
     pub(crate) fn post_at<R: Wait, G: Gate>(
         &self,
         rt: &R,
@@ -144,20 +173,44 @@ impl<N: Seats> Cluster<N> {
         requires { ActsHere (root_in N.tree) process event }
         ensures ok { IfOk result (λ r. PostsOne N.tree process event pass.old pass.new r.place r.begun) }
         ensures err { OnErr result (pass.new ≡ pass.old) }
+        ensures refused { IfErr result (NotAt N.tree process event pass.old) }
     {
         let Some(place) = place_of(self.tree.entries(), process) else {
             return Err(PostError::Step(StepError::NoSuch));
         };
         let Some(seated) = self.processes.get(place) else {
-            return Err(PostError::Step(StepError::NoSuch));
+            for _ in rt.forever() {}
+            unreachable!()
         };
         let mut seated = seated.lock(rt);
+        self.post_in(rt, &mut *seated, process, event, pass, gate, turn)
+    }
+
+    /// Posts an event of this process, which lies under its lock, if it is the one.
+    fn post_in<R: Wait, G: Gate>(
+        &self,
+        rt: &R,
+        seated: &mut Seated<N>,
+        process: ProcessId,
+        event: Event,
+        pass: &mut Pass<N>,
+        gate: &G,
+        turn: Turn,
+    ) -> Result<Posted, PostError>
+        requires { ActsHere (root_in N.tree) process event }
+        ensures ok { IfOk result (λ r. PostsOne N.tree process event pass.old pass.new r.place r.begun) }
+        ensures err { OnErr result (pass.new ≡ pass.old) }
+        ensures refused { IfErr result (NotPosted N.tree process event pass.old) }
+    {
+        if !is_same(seated.me(), process) {
+            for _ in rt.forever() {}
+            unreachable!()
+        }
         seated.post(
             rt,
             self.alloc,
             &self.ties,
             &self.ledger,
-            process,
             event,
             pass,
             gate,
@@ -169,8 +222,8 @@ impl<N: Seats> Cluster<N> {
     /// answered from 1, and the transaction that was begun, if one was.
     ///
     /// Stranger: a settle, or a message that the journal has not. JournalFull: the journal has 1,000,000 entries
-    /// or more. Step: the process refused it, or there is none of its name. Memory: a growth was refused. After
-    /// a refusal the pass is as before.
+    /// or more. Step: the process refused it, as it stood with just the entries that the journal had of it, or there is
+    /// none of its name. Memory: a growth was refused. After a refusal the pass is as before.
     pub fn post<R: Wait, G: Gate>(
         &self,
         rt: &R,
@@ -180,8 +233,9 @@ impl<N: Seats> Cluster<N> {
     ) -> Result<(usize, Option<Txn>), PostError>
         ensures ok { IfOk result (λ r. Posts N.tree event pass.old pass.new r.0 r.1) }
         ensures err { OnErr result (pass.new ≡ pass.old) }
+        ensures refused { IfErr result (IsRefused N.tree event pass.old) }
     {
-        let process = self.process_by(rt, &event)?;
+        let process = self.process_by(rt, &event, pass)?;
         let posted = self.post_at(rt, process, event, pass, gate, Turn::Once)?;
         self.moved.notify_one();
         Ok((number_of(rt, posted.place), posted.begun))
@@ -189,14 +243,14 @@ impl<N: Seats> Cluster<N> {
 
     /// The journal, which is a run, with the caller's number beside each entry; and the logs that this run
     /// leaves, in the order of the tree. A tree on one thread that makes the events of the journal leaves them, too. The
-    /// journal has each pair of each of these passes, under its caller's number. Memory: a growth was refused, and the
-    /// cluster goes on.
+    /// journal has just the pairs of each of these passes under its caller's number, and no entry under that of no
+    /// caller. Memory: a growth was refused, and the cluster goes on.
     pub fn close(
         self,
         passes: &mut [Pass<N>],
     ) -> Result<(Journal, Vec<Vec<LogRecord>>), (Cluster<N>, AllocError)>
         ensures ok { IfOk result (λ r. IsClosed N.tree r.0.items (map (λ log. log.items) r.1.items)
-            × AreMet r.0.items passes.old) }
+            × AreMet r.0.items passes.old × AreBelow N.callers r.0.items) }
     {
         let Cluster {
             alloc,
@@ -209,6 +263,7 @@ impl<N: Seats> Cluster<N> {
         } = self;
         let mut ledger = ledger.into_inner();
         meet_all(&ties, &mut ledger, passes);
+        ledger.callers_are_known(&ties);
         match left_logs(
             alloc,
             &ties,
@@ -237,7 +292,12 @@ impl<N: Seats> Cluster<N> {
 }
 
 /// The receiver of the message with this number, of those that the journal has.
-fn receiver_in<N: Seats>(ledger: &mut Ledger<N>, number: u64) -> Result<ProcessId, PostError> {
+fn receiver_in<N: Seats>(ledger: &mut Ledger<N>, number: u64) -> Result<ProcessId, PostError>
+    ensures ok { IfOk result (λ q. (l : AnyEnvelope)
+        × (sent_as (net_of (entries_in ledger.old.entries)) number ≡ Some l) × (q ≡ l.to)) }
+    ensures err { IfErr result (λ e. (e ≡ PostError.Memory)
+        ⊎ ((e ≡ PostError.Stranger) × (sent_as (net_of (entries_in ledger.old.entries)) number ≡ None))) }
+{
     ledger.place()?;
     match ledger.message(number) {
         None => Err(PostError::Stranger),

@@ -1,25 +1,65 @@
 //! What the workers of one call share.
 
-ghost use Rattle.std.specs.Prelude.{IsTrue, OnOk};
+ghost use Rattle.std.specs.Prelude.{IfErr, IsTrue, OnOk};
+ghost use Rattle.tree_cluster.specs.Refusals.{NotSettled};
 
+use std::marker::{Model, PhantomData};
 use std::sync::atomic::{AtomicBool, Ordering};
 use std::sync::{Mutex, Wait};
 use tree_threads::PostError;
+use tree_ties::seats::Seats;
+
+/// Why the workers stopped: a delivery was refused, or memory. To a contract it is the refusal.
+#[derive(Drop)]
+struct Stop<N: Seats> {
+    why: PostError,
+    name: PhantomData<N>,
+}
+
+impl<N: Seats> Model for Stop<N> {
+    ghost use Rattle.tree_threads.specs.declared.errors.PostError.{PostError as AnyError};
+    ghost use Rattle.tree_cluster.specs.Refusals.{NotSettled};
+
+    ghost Value = { AnyError };
+
+    ghost view = { λ s. s.why };
+
+    ghost invariant = { λ s. NotSettled N.tree s.why };
+}
+
+impl<N: Seats> Stop<N> {
+    /// They stop for this reason.
+    fn new(why: PostError) -> Stop<N>
+        requires { NotSettled N.tree why }
+    {
+        Stop {
+            why,
+            name: PhantomData,
+        }
+    }
+
+    /// The reason.
+    fn why(&self) -> PostError
+        ensures { NotSettled N.tree result }
+    {
+        self.why
+    }
+}
 
 /// What the workers of one call, or of one run of a script, share: whether they are to deliver now, whether all
 /// is done, and the first refusal. It changes under the journal's lock alone, so that no wake is lost.
 #[derive(Drop)]
-pub struct Rounds {
+pub struct Rounds<N: Seats> {
     begun: AtomicBool,
     open: AtomicBool,
     done: AtomicBool,
     stopped: AtomicBool,
-    why: Mutex<Option<PostError>>,
+    why: Mutex<Option<Stop<N>>>,
 }
 
-impl Rounds {
+impl<N: Seats> Rounds<N> {
     /// Nothing is delivered yet.
-    pub fn new() -> Rounds {
+    pub fn new() -> Rounds<N> {
         Rounds {
             begun: AtomicBool::new(false),
             open: AtomicBool::new(false),
@@ -61,21 +101,25 @@ impl Rounds {
         self.stopped.load(Ordering::SeqCst)
     }
 
-    /// A delivery was refused. The first refusal is kept.
-    pub(crate) fn stop<R: Wait>(&self, rt: &R, why: PostError) {
+    /// A delivery was refused, or memory. The first refusal is kept.
+    pub(crate) fn stop<R: Wait>(&self, rt: &R, why: PostError)
+        requires { NotSettled N.tree why }
+    {
         let mut kept = self.why.lock(rt);
         if kept.is_none() {
-            *kept = Some(why);
+            *kept = Some(Stop::new(why));
         }
         self.stopped.store(true, Ordering::SeqCst);
     }
 
     /// How the deliveries ended, where the last worker found that every message is delivered, or did not.
     pub(crate) fn ended<R: Wait>(&self, rt: &R, is_settled: bool) -> Result<(), PostError>
-        ensures { OnOk result (IsTrue is_settled) }
+        ensures ok { OnOk result (IsTrue is_settled) }
+        ensures err { IfErr result (NotSettled N.tree) }
     {
-        match *self.why.lock(rt) {
-            Some(why) => Err(why),
+        let kept = self.why.lock(rt);
+        match kept.as_ref() {
+            Some(stop) => Err(stop.why()),
             None if is_settled => Ok(()),
             None => Err(PostError::Memory),
         }

@@ -1,8 +1,9 @@
 //! Workers: they deliver the messages of the journal.
 
-ghost use Rattle.std.specs.Prelude.{◌≡◌, ◌<◌, ◌≤◌, ℕ, IfOk, IsTrue, OnOk, length, slice_index_or};
+ghost use Rattle.std.specs.Prelude.{◌≡◌, ◌<◌, ◌≤◌, ℕ, IfErr, IfOk, IsTrue, OnOk, length, slice_index_or};
 ghost use Rattle.tree_threads.specs.Passes.{PassState as AnyPass};
 ghost use Rattle.tree_cluster.specs.Passes.{IsLonger};
+ghost use Rattle.tree_cluster.specs.Refusals.{NotSettled};
 ghost use Rattle.tree_cluster.specs.Settling.{IsSettled};
 
 use crate::cluster::Cluster;
@@ -57,7 +58,13 @@ fn next_in<N: Seats>(
 impl<N: Seats> Cluster<N> {
     /// A message that is open at a process to which nobody delivers; or none, once all are delivered or a delivery was
     /// refused. It waits while others deliver.
-    fn next_claim<R: Wait>(&self, rt: &R, rounds: &Rounds, pass: &mut Pass<N>, holds: bool) -> Next
+    fn next_claim<R: Wait>(
+        &self,
+        rt: &R,
+        rounds: &Rounds<N>,
+        pass: &mut Pass<N>,
+        holds: bool,
+    ) -> Next
         ensures settled { result ≡ Next.Settled → IsSettled N.tree pass.new }
         ensures same { pass.new ≡ pass.old }
     {
@@ -86,7 +93,7 @@ impl<N: Seats> Cluster<N> {
     fn deliver<R: Wait, G: Gate>(
         &self,
         rt: &R,
-        rounds: &Rounds,
+        rounds: &Rounds<N>,
         claim: Claim,
         pass: &mut Pass<N>,
         gate: &G,
@@ -113,7 +120,9 @@ impl<N: Seats> Cluster<N> {
     }
 
     /// A delivery was refused: its claim is given back, and the workers stop.
-    fn stop<R: Wait>(&self, rt: &R, rounds: &Rounds, claim: Claim, why: PostError) {
+    fn stop<R: Wait>(&self, rt: &R, rounds: &Rounds<N>, claim: Claim, why: PostError)
+        requires { NotSettled N.tree why }
+    {
         let mut ledger = self.ledger.lock(rt);
         ledger.give_back(claim);
         rounds.stop(rt, why);
@@ -126,7 +135,7 @@ impl<N: Seats> Cluster<N> {
     fn deliver_from<R: Wait, G: Gate>(
         &self,
         rt: &R,
-        rounds: &Rounds,
+        rounds: &Rounds<N>,
         first: Claim,
         pass: &mut Pass<N>,
         gate: &G,
@@ -143,7 +152,13 @@ impl<N: Seats> Cluster<N> {
     }
 
     /// Delivers messages until every one is delivered, or a delivery was refused. Whether every one is.
-    fn work<R: Wait, G: Gate>(&self, rt: &R, rounds: &Rounds, pass: &mut Pass<N>, gate: &G) -> bool
+    fn work<R: Wait, G: Gate>(
+        &self,
+        rt: &R,
+        rounds: &Rounds<N>,
+        pass: &mut Pass<N>,
+        gate: &G,
+    ) -> bool
         ensures longer { IsLonger pass.old pass.new }
         ensures settled { IsTrue result → IsSettled N.tree pass.new }
     {
@@ -158,16 +173,18 @@ impl<N: Seats> Cluster<N> {
     }
 
     /// Delivers every message, as the call that leads the workers, and calls those that are served to help. At Ok each
-    /// message of the journal was delivered, and the journal had each pair of the pass.
+    /// message of the journal was delivered, and the journal had just the pairs of the pass under its number. Else memory
+    /// was refused, or a delivery, as its process stood.
     pub fn settle<R: Wait, G: Gate>(
         &self,
         rt: &R,
-        rounds: &Rounds,
+        rounds: &Rounds<N>,
         pass: &mut Pass<N>,
         gate: &G,
     ) -> Result<(), PostError>
         ensures longer { IsLonger pass.old pass.new }
         ensures settled { OnOk result (IsSettled N.tree pass.new) }
+        ensures refused { IfErr result (NotSettled N.tree) }
     {
         rounds.set_open(true);
         let is_settled = self.work(rt, rounds, pass, gate);
@@ -176,12 +193,12 @@ impl<N: Seats> Cluster<N> {
     }
 
     /// The call that leads the workers has begun.
-    pub fn lead(&self, rounds: &Rounds) {
+    pub fn lead(&self, rounds: &Rounds<N>) {
         rounds.begin();
     }
 
     /// There is nothing more to come: the workers that are served go.
-    pub fn dismiss<R: Wait>(&self, rt: &R, rounds: &Rounds) {
+    pub fn dismiss<R: Wait>(&self, rt: &R, rounds: &Rounds<N>) {
         let ledger = self.ledger.lock(rt);
         rounds.finish();
         drop(ledger);
@@ -189,7 +206,7 @@ impl<N: Seats> Cluster<N> {
     }
 
     /// A message to deliver in an open round; or none, once all is done.
-    fn next_call<R: Wait>(&self, rt: &R, rounds: &Rounds, holds: bool) -> Option<Claim> {
+    fn next_call<R: Wait>(&self, rt: &R, rounds: &Rounds<N>, holds: bool) -> Option<Claim> {
         for _ in rt.forever() {
             let mut ledger = self.ledger.lock(rt);
             if rounds.is_done() || rounds.is_stopped() {
@@ -215,7 +232,7 @@ impl<N: Seats> Cluster<N> {
     /// Delivers messages in each round, until all is done. A worker leaves where the call that leads it does not
     /// begin, since then both may be one thread's.
     #[tactic(auto, using(crate::proofs::Passing::as_long))]
-    pub fn serve<R: Wait, G: Gate>(&self, rt: &R, rounds: &Rounds, pass: &mut Pass<N>, gate: &G)
+    pub fn serve<R: Wait, G: Gate>(&self, rt: &R, rounds: &Rounds<N>, pass: &mut Pass<N>, gate: &G)
         ensures { IsLonger pass.old pass.new }
     {
         if !has_begun(rounds) {
@@ -231,8 +248,8 @@ impl<N: Seats> Cluster<N> {
 
     /// Delivers every message of the journal that was not delivered, by as many workers as there are passes, the
     /// calling thread among them; where a thread cannot be made, its worker comes after another. At Ok each message of
-    /// the journal was delivered, and the journal had each pair of the first pass. At the first refusal the workers stop,
-    /// and it is answered.
+    /// the journal was delivered, and the journal had just the pairs of the first pass under its number. At the first
+    /// refusal the workers stop, and it is answered.
     pub fn run_workers<R: Threads + Wait + Sync, G: Gate + Sync>(
         &self,
         rt: &R,
@@ -245,6 +262,7 @@ impl<N: Seats> Cluster<N> {
         ensures longer { (i : ℕ) (d : AnyPass) → i < length passes.old
             → IsLonger (slice_index_or passes.old i d) (slice_index_or passes.new i d) }
         ensures settled { OnOk result ((d : AnyPass) → IsSettled N.tree (slice_index_or passes.new 0 d)) }
+        ensures refused { IfErr result (NotSettled N.tree) }
     {
         let rounds = Rounds::new();
         self.work_each(rt, &rounds, passes, gate);
@@ -256,7 +274,7 @@ impl<N: Seats> Cluster<N> {
     fn work_each<R: Threads + Wait + Sync, G: Gate + Sync>(
         &self,
         rt: &R,
-        rounds: &Rounds,
+        rounds: &Rounds<N>,
         passes: &mut [Pass<N>],
         gate: &G,
     )
@@ -282,7 +300,7 @@ impl<N: Seats> Cluster<N> {
 }
 
 /// Whether the call that leads the workers begins.
-fn has_begun(rounds: &Rounds) -> bool {
+fn has_begun<N: Seats>(rounds: &Rounds<N>) -> bool {
     for _ in 0..LOOKS {
         if rounds.has_begun() {
             return true;

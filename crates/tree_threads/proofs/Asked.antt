@@ -1,5 +1,5 @@
 -- What is asked of a process may be wanted.
-use Rattle.std.proofs.Common.{◌≡◌, ◌≢◌, ◌∙◌, ◌+◌, ◌-◌, ◌≤◌, ap, sym, subst, refl, ℕ, zero, suc, Option, Some, None, List, slice_get, arith}
+use Rattle.std.proofs.Common.{◌≡◌, ◌∙◌, ◌+◌, ◌-◌, ap, sym, subst, refl, ℕ, zero, suc, Some, List, slice_get, arith}
 use Rattle.tree_model.specs.declared.names.ProcessId.{ProcessId}
 use Rattle.tree_model.specs.declared.messages.Envelope.{Envelope}
 use Rattle.tree_model.specs.declared.events.Event.{Event}
@@ -12,7 +12,7 @@ use Rattle.core_model.specs.States.{CoreState}
 use Rattle.tree_cut.specs.Alone.{IsMine}
 use Rattle.tree_cut.specs.Cuts.{FindsMessage}
 use Rattle.tree_threads.specs.Makes.{FitsNode}
-use Rattle.tree_threads.specs.Marks.{ActsHere, Happens, IsNotFor, IsStrange}
+use Rattle.tree_threads.specs.Marks.{ActsHere, Happens, IsNotFor}
 use Rattle.tree_threads.specs.Posts.{AsksAt}
 
 sent_finds : (net : List Envelope) (me : ProcessId) (k : ℕ) (l : Envelope) → sent_as net k ≡ Some l → l.to ≡ me

@@ -1,5 +1,5 @@
 -- What is made alone may be entered.
-use Rattle.std.proofs.Common.{◌≡◌, ◌∙◌, ap, sym, subst, refl, ℕ, ◌+◌, true, false, inl, inr, Option, Some, None, List, [], ◌∷◌, ◌++◌, length, arith}
+use Rattle.std.proofs.Common.{◌≡◌, ◌∙◌, ap, sym, subst, ℕ, true, Option, Some, None, List, [], ◌∷◌, ◌++◌}
 use Rattle.tree_model.specs.declared.names.ProcessId.{ProcessId}
 use Rattle.tree_model.specs.declared.messages.Envelope.{Envelope}
 use Rattle.tree_model.specs.declared.events.Entry.{Entry}
@@ -14,28 +14,12 @@ use Rattle.tree_cut.specs.Owns.{OwnMakes, OwnRun}
 use Rattle.tree_cut.proofs.Cuts.{cuts_grow, own_more, self}
 use Rattle.tree_cut.proofs.Owns.{enters_own}
 use Rattle.tree_ties.specs.declared.views.View.{View}
-use Rattle.tree_ties.specs.Views.{entries_in, last_pair, own_of}
+use Rattle.tree_ties.specs.Views.{entries_in, own_of}
 use Rattle.tree_ties.specs.Rule.{IsStepOf, IsWanted}
-use Rattle.tree_ties.specs.Plays.{IsOffered}
-use Rattle.tree_ties.proofs.Lists.{in_more, last_of, own_one}
+use Rattle.tree_ties.specs.Plays.{IsLate}
+use Rattle.tree_ties.proofs.Lists.{fronts, in_more}
 use Rattle.tree_threads.specs.Locked.{HasCut}
 use Rattle.tree_threads.specs.Makes.{IsAt}
-use Rattle.tree_threads.specs.Passes.{NotesOne, PassState}
-
-nil_snoc : {A : Type 0} (xs : List A) (x : A) → xs ++ x ∷ [] ≡ [] → ⊥
-nil_snoc [] x h = absurd (cc)
-nil_snoc (y ∷ ys) x h = absurd (cc)
-
-tails : {A : Type 0} (x y : A) (xs ys : List A) → x ∷ xs ≡ y ∷ ys → (x ≡ y) × (xs ≡ ys)
-tails x y xs ys h = (cc, cc)
-
-fronts : {A : Type 0} (xs ys : List A) (x y : A) → xs ++ x ∷ [] ≡ ys ++ y ∷ [] → xs ≡ ys
-fronts [] [] x y h = refl
-fronts [] (b ∷ ys) x y h = absurd (nil_snoc ys y (sym (tails x b [] (ys ++ y ∷ []) h).1))
-fronts (a ∷ xs) [] x y h = absurd (nil_snoc xs x (tails a y (xs ++ x ∷ []) [] h).1)
-fronts (a ∷ xs) (b ∷ ys) x y h =
-    let t = tails a b (xs ++ x ∷ []) (ys ++ y ∷ []) h in
-    ap (λ l. a ∷ l) (fronts xs ys x y t.1) ∙ ap (λ c. c ∷ ys) t.0
 
 finds_as : (o : Option Entry) (x : Entry) (net : List Envelope) → IsStepOf o x → IsWanted o net
     → FindsMessage net x.step.process x.step.happening
@@ -50,13 +34,13 @@ pub record Entered (tree : List TreeEntry) (me : ProcessId) (all : List (ℕ × 
   pub runs : OwnRun tree me (own ++ x ∷ []) new
 
 pub entering : (tree : List TreeEntry) (me : ProcessId) (v : View) (own : List Entry) (x : Entry) (c : ℕ)
-    (new : CoreState) → v.process.name ≡ Some me → IsOffered v → v.process.own ≡ own ++ x ∷ []
+    (new : CoreState) → v.process.name ≡ Some me → IsLate v → v.process.own ≡ own ++ x ∷ []
     → IsStepOf v.process.wanted x → IsAt me x → is_listed tree me ≡ true → OwnMakes tree me own new x
     → HasCut tree (entries_in v.journal.all) → Entered tree me v.journal.all c x own new
 entering tree me v own x c new name o is_own step is listed made has =
     let all = v.journal.all in
     let xs = entries_in all in
-    let front = fronts own (own_of v.process.name xs) x o.entry (sym is_own ∙ o.own) in
+    let front = (fronts own (own_of v.process.name xs) x o.entry (sym is_own ∙ o.own)).0 in
     let at : own ≡ entries_of me xs = front ∙ ap (λ n. own_of n xs) name in
     let given : IsGiven tree (net_of xs) x = record {
       listed = ap (λ q. is_listed tree q) is.process ∙ listed;
@@ -75,30 +59,4 @@ entering tree me v own x c new name o is_own step is listed made has =
       runs = subst (λ l. OwnRun tree me l new)
           (own_more me xs x here ∙ ap (λ l. l ++ x ∷ []) (sym at))
           (enters_own tree xs x me new grown.0 made.node grown.1 grown.2.own made.place made.stands);
-    }
-
--- the entries of the process after the entry are its own
-pub own_behind : (me : ProcessId) (v : View) (own : List Entry) (x : Entry) (c : ℕ) → v.process.name ≡ Some me
-    → IsOffered v → v.process.own ≡ own ++ x ∷ [] → IsAt me x
-    → v.process.own ≡ own_of v.process.name (entries_in (v.journal.all ++ (c, x) ∷ []))
-own_behind me v own x c name o is_own is =
-    let front = fronts own (own_of v.process.name (entries_in v.journal.all)) x o.entry (sym is_own ∙ o.own) in
-    is_own ∙ ap (λ l. l ++ x ∷ []) front
-    ∙ sym (own_one v.process.name v.journal.all c x (name ∙ ap Some (sym is.process)))
-
--- what is offered is what may be put
-pub own_before : (v : View) (own : List Entry) (x : Entry) → IsOffered v → v.process.own ≡ own ++ x ∷ []
-    → v.process.own ≡ own_of v.process.name (entries_in v.journal.all) ++ x ∷ []
-own_before v own x o is_own =
-    let front = fronts own (own_of v.process.name (entries_in v.journal.all)) x o.entry (sym is_own ∙ o.own) in
-    is_own ∙ ap (λ l. l ++ x ∷ []) front
-
-pub notes_one : (old new : PassState) (all : List (ℕ × Entry)) (x : Entry)
-    → new.caller ≡ old.caller → new.pairs ≡ old.pairs ++ last_pair 0 (all ++ (old.caller, x) ∷ [])
-    → NotesOne old new (length all) x
-notes_one old new all x caller pairs =
-    let zeroed : 0 + length all ≡ length all = omega arith in
-    record {
-      caller = caller;
-      pairs = pairs ∙ ap (λ l. old.pairs ++ l) (last_of 0 all (old.caller, x) ∙ ap (λ k. (k, x) ∷ []) zeroed);
     }

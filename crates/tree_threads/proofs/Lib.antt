@@ -3,3 +3,4 @@ pub mod Empty
 pub mod Entered
 pub mod OwnSteps
 pub mod Refusing
+mod Refused

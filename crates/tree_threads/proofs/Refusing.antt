@@ -1,13 +1,13 @@
 -- A process over a store in memory is refused for memory or for numbers that are used up, or by the table of
 -- reactions.
-use Rattle.std.proofs.Common.{◌≡◌, ◌≢◌, refl, ℕ, Result, Ok, Err, IfErr, IfOk, OnOk, arith}
+use Rattle.std.proofs.Common.{◌≡◌, ℕ, Result, Ok, Err, IfErr, IfOk, OnOk, arith}
 use Rattle.tree_model.specs.declared.events.Input.{Input}
 use Rattle.tree_model.specs.declared.events.Happening.TheVariants.{Input as Handles, Restart, Trim}
 use Rattle.tree_model.specs.declared.events.Reaction.{Reaction}
 use Rattle.tree_model.specs.declared.events.StepError.{StepError}
 use Rattle.tree_model.specs.declared.events.StepError.TheVariants as steps
 use Rattle.rec_log.specs.Sights.{left_by}
-use Rattle.core_model.specs.States.{CoreState, SameCore}
+use Rattle.core_model.specs.States.{CoreState}
 use Rattle.core_model.specs.Restarting.{NotRestarted, Restarts}
 use Rattle.core_law.specs.Steps.{records_kept}
 use Rattle.core_law.specs.worlds.Worlds.{RestartsData}

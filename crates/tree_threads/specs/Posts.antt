@@ -1,5 +1,5 @@
 -- What was posted.
-use Rattle.std.specs.Prelude.{◌≡◌, ℕ, Option, List}
+use Rattle.std.specs.Prelude.{◌≡◌, ◌⊎◌, ℕ, Option, List, length}
 use Rattle.tree_model.specs.declared.names.ProcessId.{ProcessId}
 use Rattle.tree_model.specs.declared.names.Txn.{Txn}
 use Rattle.tree_model.specs.declared.events.Entry.{Entry}
@@ -8,14 +8,21 @@ use Rattle.tree_model.specs.declared.events.Event.TheVariants.{Restart}
 use Rattle.tree_model.specs.declared.events.Happening.{Happening}
 use Rattle.tree_model.specs.declared.events.StepError.{StepError}
 use Rattle.tree_model.specs.declared.events.StepError.TheVariants as steps
+use Rattle.tree_model.specs.declared.messages.Envelope.{Envelope}
 use Rattle.tree_model.specs.declared.trees.TreeEntry.{TreeEntry}
+use Rattle.tree_model.specs.World.{entries_of}
 use Rattle.core_model.specs.States.{CoreState}
 use Rattle.core_law.specs.Steps.{restart_of}
 use Rattle.core_law.specs.worlds.Worlds.{KeepsBytes}
 use Rattle.manager_model.specs.Data.{ManagerData}
 use Rattle.tree_cut.specs.Alone.{AsksFor, RunsAlone, StepAlone}
+use Rattle.tree_cut.specs.Cuts.{net_of}
+use Rattle.tree_cut.specs.Owns.{CutHolds}
+use Rattle.tree_ties.specs.Views.{entries_in, pairs_by}
 use Rattle.tree_threads.specs.declared.errors.PostError.{PostError}
 use Rattle.tree_threads.specs.declared.errors.PostError.TheVariants.{Stranger, JournalFull, Step, Memory}
+use Rattle.tree_threads.specs.Makes.{NotMadeIt}
+use Rattle.tree_threads.specs.Marks.{Happens, NotMarked}
 use Rattle.tree_threads.specs.Passes.{NotesOne, PassState}
 
 -- how a step's refusal is answered
@@ -52,3 +59,33 @@ pub record PostsOne (tree : List TreeEntry) (q : ProcessId) (event : Event) (old
   pub step : StepAlone tree q before behind held kept entry
   pub is_for : AsksAt before event entry.step.happening
   pub begun_is : begun ≡ entry.reaction.begun
+
+-- Of what the event asks of a process that stands so, where these messages were sent, nothing was made: the process
+-- refused it, as its data answer, and is as it was.
+pub record RefusesThere (net : List Envelope) (q : ProcessId) (stood : CoreState) (held : ManagerData) (event : Event)
+    (e : PostError) : Type 0 where
+  pub happening : Happening
+  pub keep : ℕ
+  pub asks : Happens net q stood event happening keep
+  pub why : StepError
+  pub left : CoreState
+  pub left_data : ManagerData
+  pub not_made : NotMadeIt stood left held left_data happening why
+  pub answered : e ≡ post_error why
+
+-- The process refused the event: it had made just the entries that this journal has of it, by itself.
+pub record RefusedBy (tree : List TreeEntry) (q : ProcessId) (journal : List (ℕ × Entry)) (event : Event)
+    (e : PostError) : Type 0 where
+  pub stood : CoreState
+  pub held : ManagerData
+  pub ran : RunsAlone tree q (entries_of q (entries_in journal)) stood held
+  pub refuses : RefusesThere (net_of (entries_in journal)) q stood held event e
+
+-- Why an event was not posted at this process with this pass: when its step was to be marked, the journal was a run of
+-- the tree, and had just the pass's pairs under its number; and either the step was not marked, or the process refused it.
+pub record NotPosted (tree : List TreeEntry) (q : ProcessId) (event : Event) (pass : PassState)
+    (e : PostError) : Type 0 where
+  pub journal : List (ℕ × Entry)
+  pub run : CutHolds tree (entries_in journal)
+  pub met : pass.pairs ≡ pairs_by pass.caller 0 journal
+  pub why : NotMarked (net_of (entries_in journal)) (length journal) q event e ⊎ RefusedBy tree q journal event e

@@ -20,10 +20,10 @@ use std::sync::Wait;
 use tree_model::{Entry, ProcessId};
 use tree_node::Node;
 use tree_ties::seats::{Place, Seats, Ties};
-use tree_ties::ties::{clear, meet, note, offer, put};
+use tree_ties::ties::put;
 
-/// The process offers its entry, the journal's seat takes it, and the pass notes it: what all three seats know of
-/// it. The journal is a run with it, and the process's entries in it are its own again.
+/// The journal's seat takes the process's entry, and the pass notes it: what all three seats know of it. The journal is
+/// a run with it, and the process's entries in it are its own again.
 fn enter_seats<N: Seats>(
     ties: &Ties,
     me: ProcessId,
@@ -62,11 +62,8 @@ fn enter_seats<N: Seats>(
     ensures own { OwnRun N.tree me seat.new.me.0.process.own (core_of node.now) }
 {
     let _ = node;
-    meet(ties, journal, pass);
-    offer(ties, seat, journal, word);
-    put(ties, journal, seat, word, caller, entry);
-    clear(ties, seat, journal, word);
-    note(ties, pass, journal);
+    let _ = caller;
+    put(ties, journal, seat, pass, word, entry);
 }
 
 /// Enters what a process made, under its lock and the journal's, in the room that was taken at its mark, and

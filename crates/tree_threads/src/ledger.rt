@@ -6,7 +6,7 @@ ghost use Rattle.tree_model.specs.Plays.{sent_as};
 ghost use Rattle.tree_model.specs.Trees.{IsTree};
 ghost use Rattle.tree_cut.specs.Cuts.{net_of};
 ghost use Rattle.tree_cut.specs.Owns.{CutHolds};
-ghost use Rattle.tree_ties.specs.Views.{AllIn, Rise, entries_in, keeper};
+ghost use Rattle.tree_ties.specs.Views.{AreBelow, entries_in, keeper, pairs_by};
 ghost use Rattle.cluster_journal.specs.Journals.{AllDelivered};
 ghost use Rattle.cluster_journal.specs.Marks.{NoneToClaim};
 ghost use Rattle.tree_threads.specs.Locked.{IsClaimed};
@@ -17,7 +17,7 @@ use std::alloc::{AllocError, Global};
 use std::marker::{Model, PhantomData};
 use tree_model::{Entry, Envelope, ProcessId};
 use tree_ties::seats::{Place, Seats, Ties};
-use tree_ties::ties::meet;
+use tree_ties::ties::{look, meet};
 
 /// How busy the workers are. No contract speaks of it.
 #[derive(Clone, Copy, PartialEq, Eq)]
@@ -95,7 +95,8 @@ impl<N: Seats> Model for Ledger<N> {
           [],
         ))
         × IsTree N.tree
-        × HasCut N.tree (entries_in l.journal.entries) };
+        × HasCut N.tree (entries_in l.journal.entries)
+        × (l.seat.me.0.journal.given ≡ N.callers) };
 }
 
 impl<N: Seats> Ledger<N> {
@@ -108,6 +109,7 @@ impl<N: Seats> Ledger<N> {
           [],
         ) }
         requires tree { IsTree N.tree }
+        requires callers { seat.me.0.journal.given ≡ N.callers }
         ensures { result.entries ≡ [] }
     {
         Ledger {
@@ -224,13 +226,22 @@ impl<N: Seats> Ledger<N> {
         self.journal.are_delivered()
     }
 
-    /// The journal has every pair of the pass, under its caller's number, and their places rise.
+    /// The pass's pairs are just those of the journal's entries under its caller's number, with their places.
     pub fn meets(&mut self, ties: &Ties, pass: &mut Pass<N>)
         requires { (ties.now.shared.table_id ≡ N.table) × (0 < N.table.words) }
-        ensures met { AllIn pass.old.caller self.old.entries pass.old.pairs × Rise 0 pass.old.pairs }
+        ensures met { pass.old.pairs ≡ pairs_by pass.old.caller 0 self.old.entries }
         ensures same { (self.new ≡ self.old) × (pass.new ≡ pass.old) }
     {
         meet(ties, &mut self.seat, &mut pass.seat);
+    }
+
+    /// Whoever has the journal knows: each entry is under the number of one of the callers.
+    pub fn callers_are_known(&mut self, ties: &Ties)
+        requires { (ties.now.shared.table_id ≡ N.table) × (0 < N.table.words) }
+        ensures known { AreBelow N.callers self.old.entries }
+        ensures same { self.new ≡ self.old }
+    {
+        look(ties, &mut self.seat);
     }
 
     /// The entries, as plain data, where all of them are placed.

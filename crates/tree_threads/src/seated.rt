@@ -11,19 +11,19 @@ ghost use Rattle.tree_node.specs.Nodes.{core_of, data_of};
 ghost use Rattle.tree_ties.specs.Views.{entries_in, idle_at, worker};
 ghost use Rattle.tree_threads.specs.Locked.{LeavesLog};
 ghost use Rattle.tree_threads.specs.Marks.{ActsHere};
-ghost use Rattle.tree_threads.specs.Posts.{PostsOne};
+ghost use Rattle.tree_threads.specs.Posts.{NotPosted, PostsOne};
 
 use crate::entering::enter;
 use crate::errors::PostError;
 use crate::ledger::{Claim, Ledger};
 use crate::making::make_step;
-use crate::marking::{is_same, mark};
+use crate::marking::mark;
 use crate::pass::Pass;
 use log_store::MemoryStore;
 use std::alloc::{AllocError, Global};
 use std::marker::{Model, PhantomData};
 use std::sync::{Mutex, Wait};
-use tree_model::{Event, LogRecord, ProcessId, StepError, Txn};
+use tree_model::{Event, LogRecord, ProcessId, Txn};
 use tree_node::Node;
 use tree_ties::seats::{Place, Seats, Ties};
 use tree_ties::ties::compare;
@@ -157,41 +157,43 @@ impl<N: Seats> Seated<N> {
 
     /// Marks, makes and enters an event of this process, under its lock, which the caller has; the journal's is
     /// taken for the mark and for the entry. A worker's claim ends with the entry, and it makes the next there. An act is
-    /// this process's.
+    /// this process's. After a refusal the pass and the process are as before.
     pub fn post<R: Wait, G: Gate>(
         &mut self,
         rt: &R,
         alloc: Global,
         ties: &Ties,
         ledger: &Mutex<Ledger<N>>,
-        process: ProcessId,
         event: Event,
         pass: &mut Pass<N>,
         gate: &G,
         turn: Turn,
     ) -> Result<Posted, PostError>
         requires here { ties.now.shared.table_id ≡ N.table }
-        requires acts { ActsHere (root_of N.tree) process event }
-        ensures ok { IfOk result (λ r. PostsOne N.tree process event pass.old pass.new r.place r.begun) }
+        requires acts { ActsHere (root_of N.tree) self.old.me event }
+        ensures ok { IfOk result (λ r. PostsOne N.tree self.old.me event pass.old pass.new r.place r.begun) }
         ensures err { OnErr result (pass.new ≡ pass.old) }
+        ensures refused { IfErr result (NotPosted N.tree self.old.me event pass.old) }
     {
-        if !is_same(self.me, process) {
-            return Err(PostError::Step(StepError::NoSuch));
-        }
+        let me = self.me;
+        let mut journal = ledger.lock(rt);
+        journal.is_a_run();
+        journal.meets(ties, pass);
         let marked = mark(
             alloc,
             ties,
-            self.me,
+            me,
             self.word,
             &self.node,
             &mut self.seat,
-            &mut *ledger.lock(rt),
+            &mut *journal,
             event,
         )?;
+        drop(journal);
         match make_step::<N>(
             alloc,
             ties,
-            self.me,
+            me,
             self.word,
             &mut self.node,
             &mut self.seat,
@@ -200,12 +202,12 @@ impl<N: Seats> Seated<N> {
             Err(error) => Err(PostError::from(error)),
             Ok(made) => {
                 let begun = made.begun();
-                gate.before(rt, self.me);
+                gate.before(rt, me);
                 let mut journal = ledger.lock(rt);
                 let place = enter(
                     rt,
                     ties,
-                    self.me,
+                    me,
                     self.word,
                     &self.node,
                     &mut self.seat,
@@ -213,7 +215,7 @@ impl<N: Seats> Seated<N> {
                     pass,
                     made,
                 );
-                let next = next_of(&mut *journal, self.me, turn, gate.holds());
+                let next = next_of(&mut *journal, me, turn, gate.holds());
                 let is_quiet = journal.is_quiet();
                 Ok(Posted {
                     place,

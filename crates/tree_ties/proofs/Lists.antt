@@ -1,11 +1,11 @@
 -- Lists of entries, and functions of words of which one value is changed.
-use Rattle.std.proofs.Common.{◌≡◌, ◌≢◌, ◌⊎◌, ℕ, zero, suc, ◌+◌, ◌-◌, ◌<◌, ◌≤◌, List, [], ◌∷◌, ◌++◌, length, set, true, false, true≢false, refl, sym, ap, ◌∙◌, subst, ⊎_elim, inl, inr, arith, eqb, eq-eqb, ne_eqb, if◌then◌else◌, Option, Some, None}
+use Rattle.std.proofs.Common.{◌≡◌, ◌≢◌, ◌⊎◌, ℕ, zero, suc, ◌+◌, ◌-◌, ◌<◌, ◌≤◌, List, [], ◌∷◌, ◌++◌, length, set, Bool, true, false, true≢false, refl, sym, ap, ◌∙◌, subst, ⊎_elim, inl, inr, arith, eqb, eq-eqb, ne_eqb, if◌then◌else◌, Option, Some, None}
 use Rattle.std.specs.Prelude.{slice_get}
 use mathlib.Core.Option.{some, some-ne-none, some-injective}
 use mathlib.Core.Logic.{dite}
 use native.Mathlib.Decide.{ℕ_discrete}
 use lib.ListN.{get_elem?}
-use Rattle.atomic_table.proofs.Lists.{at_set, at_longer}
+use Rattle.atomic_table.proofs.Lists.{at_set}
 use Rattle.tree_model.specs.declared.names.ProcessId.{ProcessId}
 use Rattle.tree_model.specs.declared.messages.Envelope.{Envelope}
 use Rattle.tree_model.specs.declared.events.Entry.{Entry}
@@ -17,7 +17,7 @@ use Rattle.tree_model.specs.World.{entries_of}
 use Rattle.tree_cut.specs.Cuts.{FindsMessage, net_of}
 use Rattle.tree_cut.proofs.Cuts.{net_more, none_more, own_more, self}
 use Rattle.tree_ties.specs.declared.views.View.{View}
-use Rattle.tree_ties.specs.Views.{AllIn, AreBelow, Rise, entries_in, last_pair, own_of}
+use Rattle.tree_ties.specs.Views.{AreBelow, entries_in, own_of, pairs_by}
 use Rattle.tree_ties.specs.Rule.{IsWanted}
 
 pub off : false ≡ true → ⊥
@@ -104,37 +104,71 @@ wanted_longer (Some x) net more h = stands_longer net more x.step.process x.step
 
 -- What a pass knows.
 
-pub all_longer : (c : ℕ) (log more ps : List (ℕ × Entry)) → AllIn c log ps → AllIn c (log ++ more) ps
-all_longer c log more [] a = tt
-all_longer c log more (x ∷ xs) a = (at_longer log more x.0 (c, x.1) a.0, all_longer c log more xs a.1)
+-- an entry under its number is its next pair
+pub pairs_mine : (c n : ℕ) (log : List (ℕ × Entry)) (x : Entry)
+    → pairs_by c n (log ++ (c, x) ∷ []) ≡ pairs_by c n log ++ (n + length log, x) ∷ []
+pairs_mine c n [] x =
+    ap (λ b. if b then (n, x) ∷ [] else []) (eq-eqb c c refl) ∙ ap (λ k. (k, x) ∷ []) (omega arith)
+pairs_mine c n (y ∷ ys) x =
+    let rest = pairs_mine c (suc n) ys x in
+    let here : suc n + length ys ≡ n + suc (length ys) = omega arith in
+    let more = rest ∙ ap (λ k. pairs_by c (suc n) ys ++ (k, x) ∷ []) here in
+    by_test (eqb c y.0) (n, y.1) (pairs_by c (suc n) (ys ++ (c, x) ∷ [])) (pairs_by c (suc n) ys)
+    ((n + suc (length ys), x) ∷ []) more
+  where
+    by_test : (b : Bool) (z : ℕ × Entry) (ls ms more : List (ℕ × Entry)) → ls ≡ ms ++ more
+        → (if b then z ∷ ls else ls) ≡ (if b then z ∷ ms else ms) ++ more
+    by_test true z ls ms more e = ap (λ l. z ∷ l) e
+    by_test false z ls ms more e = e
 
-pub all_two : (c : ℕ) (log ps qs : List (ℕ × Entry)) → AllIn c log ps → AllIn c log qs
-    → AllIn c log (ps ++ qs)
-all_two c log [] qs a b = b
-all_two c log (x ∷ xs) qs a b = (a.0, all_two c log xs qs a.1 b)
+-- one under another's is none of it
+pub pairs_other : (c d n : ℕ) (log : List (ℕ × Entry)) (x : Entry) → c ≢ d
+    → pairs_by c n (log ++ (d, x) ∷ []) ≡ pairs_by c n log
+pairs_other c d n [] x ne = ap (λ b. if b then (n, x) ∷ [] else []) (ne_eqb c d ne)
+pairs_other c d n (y ∷ ys) x ne =
+    by_test (eqb c y.0) (n, y.1) (pairs_by c (suc n) (ys ++ (d, x) ∷ [])) (pairs_by c (suc n) ys)
+    (pairs_other c d (suc n) ys x ne)
+  where
+    by_test : (b : Bool) (z : ℕ × Entry) (ls ms : List (ℕ × Entry)) → ls ≡ ms
+        → (if b then z ∷ ls else ls) ≡ (if b then z ∷ ms else ms)
+    by_test true z ls ms e = ap (λ l. z ∷ l) e
+    by_test false z ls ms e = e
 
-pub last_of : (n : ℕ) (front : List (ℕ × Entry)) (e : ℕ × Entry)
-    → last_pair n (front ++ e ∷ []) ≡ (n + length front, e.1) ∷ []
-last_of n [] e = ap (λ k. (k, e.1) ∷ []) (omega arith)
-last_of n (x ∷ []) e = ap (λ k. (k, e.1) ∷ []) (omega arith)
-last_of n (x ∷ y ∷ ys) e = last_of (suc n) (y ∷ ys) e ∙ ap (λ k. (k, e.1) ∷ []) (omega arith)
+-- no entry is under a number that was not given
+pub no_pairs : (g n : ℕ) (log : List (ℕ × Entry)) → AreBelow g log → pairs_by g n log ≡ []
+no_pairs g n [] below = refl
+no_pairs g n (y ∷ ys) below =
+    let ne : g ≢ y.0 = λ e. (let lt = below.0 in absurd (omega (arith, lt, e))) in
+    ap (λ b. if b then (n, y.1) ∷ pairs_by g (suc n) ys else pairs_by g (suc n) ys) (ne_eqb g y.0 ne)
+    ∙ no_pairs g (suc n) ys below.1
 
--- the places of pairs rise on, where each was below the next
-pub rise_more : (low n : ℕ) (e : Entry) (ps : List (ℕ × Entry)) → low ≤ n → Rise low ps → AreBelow n ps
-    → Rise low (ps ++ (n, e) ∷ [])
-rise_more low n e [] le rise below = (le, tt)
-rise_more low n e (x ∷ xs) le rise below =
-    (rise.0, rise_more (suc x.0) n e xs (let lt = below.0 in omega arith) rise.1 below.1)
+pub below_one : (g c : ℕ) (log : List (ℕ × Entry)) (x : Entry) → AreBelow g log → c < g
+    → AreBelow g (log ++ (c, x) ∷ [])
+below_one g c [] x below lt = (lt, tt)
+below_one g c (y ∷ ys) x below lt = (below.0, below_one g c ys x below.1 lt)
 
--- what stands in the journal stands below its end
-within : {A : Type 0} (l : List A) (i : ℕ) (a : A) → get_elem? l i ≡ some a → i < length l
-within [] i a e = absurd (some-ne-none a (sym e))
-within (x ∷ xs) zero a e = omega arith
-within (x ∷ xs) (suc i) a e = let lt = within xs i a e in omega arith
+pub below_next : (g : ℕ) (log : List (ℕ × Entry)) → AreBelow g log → AreBelow (suc g) log
+below_next g [] below = tt
+below_next g (y ∷ ys) below = (let lt = below.0 in omega (arith, lt), below_next g ys below.1)
 
-pub all_below : (c : ℕ) (log ps : List (ℕ × Entry)) → AllIn c log ps → AreBelow (length log) ps
-all_below c log [] a = tt
-all_below c log (x ∷ xs) a = (within log x.0 (c, x.1) a.0, all_below c log xs a.1)
+-- The last of a list.
+
+nil_snoc : {A : Type 0} (xs : List A) (x : A) → xs ++ x ∷ [] ≡ [] → ⊥
+nil_snoc [] x h = absurd (cc)
+nil_snoc (y ∷ ys) x h = absurd (cc)
+
+tails : {A : Type 0} (x y : A) (xs ys : List A) → x ∷ xs ≡ y ∷ ys → (x ≡ y) × (xs ≡ ys)
+tails x y xs ys h = (cc, cc)
+
+-- two lists are the same, if they are with one more each, and so are these
+pub fronts : {A : Type 0} (xs ys : List A) (x y : A) → xs ++ x ∷ [] ≡ ys ++ y ∷ [] → (xs ≡ ys) × (x ≡ y)
+fronts [] [] x y h = (refl, (tails x y [] [] h).0)
+fronts [] (b ∷ ys) x y h = absurd (nil_snoc ys y (sym (tails x b [] (ys ++ y ∷ []) h).1))
+fronts (a ∷ xs) [] x y h = absurd (nil_snoc xs x (tails a y (xs ++ x ∷ []) [] h).1)
+fronts (a ∷ xs) (b ∷ ys) x y h =
+    let t = tails a b (xs ++ x ∷ []) (ys ++ y ∷ []) h in
+    let rest = fronts xs ys x y t.1 in
+    (ap (λ l. a ∷ l) rest.0 ∙ ap (λ c. c ∷ ys) t.0, rest.1)
 
 -- Views.
 

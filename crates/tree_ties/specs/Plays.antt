@@ -5,7 +5,7 @@ use Rattle.atomic_table.specs.Table.{Step, Me}
 use Rattle.tree_model.specs.declared.events.Entry.{Entry}
 use Rattle.tree_cut.specs.Cuts.{net_of}
 use Rattle.tree_ties.specs.declared.views.View.{View}
-use Rattle.tree_ties.specs.Views.{AllIn, Rise, cleared, entries_in, made, noted, offered, own_of, wanting, with_entry, with_process}
+use Rattle.tree_ties.specs.Views.{AreBelow, cleared, entered, entries_in, made, own_of, pairs_by, wanting, with_process}
 use Rattle.tree_ties.specs.Rule.{IsStepOf, IsWanted}
 
 abbrev pub Telling : Type 1
@@ -30,32 +30,29 @@ Makes s v found w = w ≡ (made_of v.0 s.said, v.1)
 abbrev pub Drops : Telling
 Drops s v found w = w ≡ (with_process v.0 (cleared v.0.process), v.1)
 
--- the process offers: its entries are the journal's and one of the wanted step, which may come after them
-pub record IsOffered (v : View) : Type 0 where
+-- what a process made may be entered: its entries are the journal's and one of the wanted step, which may come after
+-- them
+pub record IsLate (v : View) : Type 0 where
   pub entry : Entry
   pub own : v.process.own ≡ own_of v.process.name (entries_in v.journal.all) ++ entry ∷ []
   pub step : IsStepOf v.process.wanted entry
   pub stands : IsWanted v.process.wanted (net_of (entries_in v.journal.all))
 
-abbrev pub Offers : Telling
-Offers s v found w = (w ≡ (with_process v.0 (offered v.0.process), v.1)) × IsOffered v.0
+abbrev pub entered_of : View → Option Entry → View
+entered_of v none = v
+entered_of v (some x) = entered v x
 
-abbrev pub entered_of : View → ℕ → Option Entry → View
-entered_of v c none = v
-entered_of v c (some x) = with_entry v c x
-
--- the journal has one entry more, under the number that the step was given
+-- the journal has one entry more, which the pass notes, and the process is idle
 abbrev pub Puts : Telling
-Puts s v found w = w ≡ (entered_of v.0 s.first s.said, v.1)
+Puts s v found w = (w ≡ (entered_of v.0 s.said, v.1)) × IsLate v.0
 
--- the pass has one pair more
-abbrev pub Notes : Telling
-Notes s v found w = w ≡ (noted v.0, v.1)
-
--- the pass's pairs stand in the journal, and their places rise
+-- the pass's pairs are just the journal's under its number
 abbrev pub Meets : Telling
-Meets s v found w =
-    (w ≡ v) × AllIn v.0.pass.caller v.0.journal.all v.0.pass.pairs × Rise 0 v.0.pass.pairs
+Meets s v found w = (w ≡ v) × (v.0.pass.pairs ≡ pairs_by v.0.pass.caller 0 v.0.journal.all)
+
+-- each entry is under the number of a pass that was given
+abbrev pub Looks : Telling
+Looks s v found w = (w ≡ v) × AreBelow v.0.journal.given v.0.journal.all
 
 -- an idle process's entries are the journal's
 abbrev pub Sees : Telling

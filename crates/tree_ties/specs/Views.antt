@@ -1,7 +1,5 @@
 -- What seats know.
-use Rattle.std.specs.Prelude.{◌≡◌, ◌<◌, ◌≤◌, ℕ, suc, true, false, Option, Some, None, List, [], ◌∷◌, ◌++◌, map, slice_get}
-use mathlib.Core.Option.{some}
-use lib.ListN.{get_elem?}
+use Rattle.std.specs.Prelude.{◌≡◌, ◌<◌, ℕ, suc, eqb, if◌then◌else◌, true, false, Option, Some, None, List, [], ◌∷◌, ◌++◌, length, map, slice_get}
 use Rattle.atomic_table.specs.Seated.{TableId}
 use Rattle.tree_model.specs.declared.names.ProcessId.{ProcessId}
 use Rattle.tree_model.specs.declared.events.Entry.{Entry}
@@ -24,17 +22,12 @@ abbrev pub own_of : Option ProcessId → List Entry → List Entry
 own_of None xs = []
 own_of (Some q) xs = entries_of q xs
 
--- the journal has each of these pairs of a place and an entry, under this caller's number
-abbrev pub AllIn : ℕ → List (ℕ × Entry) → List (ℕ × Entry) → Type 0
-AllIn c log [] = Unit {0}
-AllIn c log (x ∷ xs) = (get_elem? log x.0 ≡ some (c, x.1)) × AllIn c log xs
+-- the entries under this caller's number, each with its place, the first of them all having this place
+abbrev pub pairs_by : ℕ → ℕ → List (ℕ × Entry) → List (ℕ × Entry)
+pairs_by c n [] = []
+pairs_by c n (x ∷ xs) = if eqb c x.0 then (n, x.1) ∷ pairs_by c (suc n) xs else pairs_by c (suc n) xs
 
--- the places of these pairs rise, from this one on
-abbrev pub Rise : ℕ → List (ℕ × Entry) → Type 0
-Rise low [] = Unit {0}
-Rise low (x ∷ xs) = (low ≤ x.0) × Rise (suc x.0) xs
-
--- each place of these pairs is below this one
+-- each entry is under a number below this one
 abbrev pub AreBelow : ℕ → List (ℕ × Entry) → Type 0
 AreBelow n [] = Unit {0}
 AreBelow n (x ∷ xs) = (x.0 < n) × AreBelow n xs
@@ -48,7 +41,7 @@ abbrev pub no_process : ProcessView
 no_process = record { works = false; word = 0; name = None; own = []; phase = 0; wanted = None }
 
 abbrev pub no_pass : PassView
-no_pass = record { caller = 0; pairs = [] }
+no_pass = record { holds = false; caller = 0; pairs = [] }
 
 -- the journal's seat
 abbrev pub keeper : List ProcessId → ℕ → ℕ → List (ℕ × Entry) → View
@@ -64,21 +57,35 @@ worker p = record { journal = no_journal; process = p; pass = no_pass }
 
 -- a pass
 abbrev pub holder : ℕ → List (ℕ × Entry) → View
-holder c ps = record { journal = no_journal; process = no_process; pass = record { caller = c; pairs = ps } }
+holder c ps = record {
+  journal = no_journal;
+  process = no_process;
+  pass = record { holds = true; caller = c; pairs = ps };
+}
 
 -- a seat that knows nothing
 abbrev pub spent : View
 spent = record { journal = no_journal; process = no_process; pass = no_pass }
 
--- a seat with another's process and pass beside its own journal
+-- a seat with another's process beside what it has
 abbrev pub beside : View → View → View
-beside v w = record { journal = v.journal; process = w.process; pass = w.pass }
+beside v w = record v { process = w.process }
 
-abbrev pub journal_part : View → View
-journal_part v = record { journal = v.journal; process = no_process; pass = no_pass }
+abbrev pub without_process : View → View
+without_process v = record v { process = no_process }
 
-abbrev pub other_part : View → View
-other_part v = record { journal = no_journal; process = v.process; pass = v.pass }
+abbrev pub process_part : View → View
+process_part v = record { journal = no_journal; process = v.process; pass = no_pass }
+
+-- a seat with another's pass beside what it has
+abbrev pub beside_pass : View → View → View
+beside_pass v w = record v { pass = w.pass }
+
+abbrev pub without_pass : View → View
+without_pass v = record v { pass = no_pass }
+
+abbrev pub pass_part : View → View
+pass_part v = record { journal = no_journal; process = no_process; pass = v.pass }
 
 -- A process between steps.
 
@@ -94,10 +101,6 @@ wanting p x = record p { phase = 1; wanted = Some x }
 -- it made this
 abbrev pub made : ProcessView → Entry → ProcessView
 made p x = record p { own = p.own ++ x ∷ []; phase = 2 }
-
--- it offers what it made
-abbrev pub offered : ProcessView → ProcessView
-offered p = record p { phase = 3 }
 
 -- it wants nothing any more
 abbrev pub cleared : ProcessView → ProcessView
@@ -125,16 +128,10 @@ new_pass v = holder v.journal.given []
 abbrev pub with_process : View → ProcessView → View
 with_process v p = record v { process = p }
 
--- the journal has one entry more
-abbrev pub with_entry : View → ℕ → Entry → View
-with_entry v c x = record v { journal = record v.journal { all = v.journal.all ++ (c, x) ∷ [] } }
-
--- the place and the entry of the last
-abbrev pub last_pair : ℕ → List (ℕ × Entry) → List (ℕ × Entry)
-last_pair n [] = []
-last_pair n (x ∷ []) = (n, x.1) ∷ []
-last_pair n (x ∷ y ∷ ys) = last_pair (suc n) (y ∷ ys)
-
--- the pass has the last entry's pair after its own
-abbrev pub noted : View → View
-noted v = record v { pass = record v.pass { pairs = v.pass.pairs ++ last_pair 0 v.journal.all } }
+-- the journal has one entry more, under the pass's number, the pass notes it, and its process is idle
+abbrev pub entered : View → Entry → View
+entered v x = record {
+  journal = record v.journal { all = v.journal.all ++ (v.pass.caller, x) ∷ [] };
+  process = cleared v.process;
+  pass = record v.pass { pairs = v.pass.pairs ++ (length v.journal.all, x) ∷ [] };
+}

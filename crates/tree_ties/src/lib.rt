@@ -7,11 +7,13 @@
 //! one atomic operation on the word of a process, and keeps the rule that ties them.
 //!
 //! ```text
-//! idle --want--> wanting --make--> made --offer--> offered --put, clear--> idle
+//! idle --want--> wanting --make--> made --put--> idle
 //!                   \--drop_want--> idle
 //! ```
 //!
-//! An idle or wanting process has just the journal's entries of it; one that made a step has one more.
+//! An idle or wanting process has just the journal's entries of it; one that made a step has one more. A pass has
+//! just the pairs of the journal's entries under its caller's number, and each entry is under the number of a pass that
+//! was given.
 #![tactic(auto)]
 
 mod plays;

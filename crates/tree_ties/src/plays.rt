@@ -30,29 +30,11 @@ impl Play<Entry, View> for Drops {
     ghost then = { Telling };
 }
 
-/// It offers what it made.
-pub struct Offers;
-
-impl Play<Entry, View> for Offers {
-    ghost use Rattle.tree_ties.specs.Plays.{Offers as Telling};
-
-    ghost then = { Telling };
-}
-
-/// The journal enters what is offered.
+/// The journal has what the process made, and the pass notes it.
 pub struct Puts;
 
 impl Play<Entry, View> for Puts {
     ghost use Rattle.tree_ties.specs.Plays.{Puts as Telling};
-
-    ghost then = { Telling };
-}
-
-/// A pass notes the last entry.
-pub struct Notes;
-
-impl Play<Entry, View> for Notes {
-    ghost use Rattle.tree_ties.specs.Plays.{Notes as Telling};
 
     ghost then = { Telling };
 }
@@ -62,6 +44,15 @@ pub struct Meets;
 
 impl Play<Entry, View> for Meets {
     ghost use Rattle.tree_ties.specs.Plays.{Meets as Telling};
+
+    ghost then = { Telling };
+}
+
+/// The journal is looked at alone.
+pub struct Looks;
+
+impl Play<Entry, View> for Looks {
+    ghost use Rattle.tree_ties.specs.Plays.{Looks as Telling};
 
     ghost then = { Telling };
 }
@@ -97,10 +88,10 @@ impl Split<View> for Gives {
     ghost right = { new_pass };
 }
 
-/// The journal's seat with another beside it.
-pub struct Both;
+/// A seat with a process's beside it.
+pub struct WithProcess;
 
-impl Join<View> for Both {
+impl Join<View> for WithProcess {
     ghost use Rattle.tree_ties.specs.Views.{beside, spent};
 
     ghost both = { beside };
@@ -108,12 +99,31 @@ impl Join<View> for Both {
     ghost spent = { spent };
 }
 
-impl Split<View> for Both {
-    ghost use Rattle.tree_ties.specs.Views.{journal_part, other_part};
+impl Split<View> for WithProcess {
+    ghost use Rattle.tree_ties.specs.Views.{process_part, without_process};
 
-    ghost left = { journal_part };
+    ghost left = { without_process };
 
-    ghost right = { other_part };
+    ghost right = { process_part };
+}
+
+/// A seat with a pass beside it.
+pub struct WithPass;
+
+impl Join<View> for WithPass {
+    ghost use Rattle.tree_ties.specs.Views.{beside_pass, spent};
+
+    ghost both = { beside_pass };
+
+    ghost spent = { spent };
+}
+
+impl Split<View> for WithPass {
+    ghost use Rattle.tree_ties.specs.Views.{pass_part, without_pass};
+
+    ghost left = { without_pass };
+
+    ghost right = { pass_part };
 }
 
 /// A seat that knows nothing, to stand in for one that is lent.

@@ -12,16 +12,18 @@ use std::alloc::{AllocError, Global};
 use std::marker::Brand;
 use tree_model::{Entry, ProcessId};
 
-/// Names one table, and the tree whose processes have seats there. What works with seats is generic over it,
-/// and is called with `Brand`.
+/// Names one table, the tree whose processes have seats there, and how many passes are given. What works with seats is
+/// generic over it, and is called with `Brand`.
 pub trait Seats {
-    ghost use Rattle.std.specs.Prelude.{List};
+    ghost use Rattle.std.specs.Prelude.{List, ℕ};
     ghost use Rattle.atomic_table.specs.Seated.{TableId};
     ghost use Rattle.tree_model.specs.declared.trees.TreeEntry.{TreeEntry};
 
     ghost table: { TableId };
 
     ghost tree: { List TreeEntry };
+
+    ghost callers: { ℕ };
 }
 
 impl Seats for Brand {
@@ -31,9 +33,12 @@ impl Seats for Brand {
     ghost table = { no_table };
 
     ghost tree = { [] };
+
+    ghost callers = { 0 };
 }
 
-/// The rule of the table: each process's entries are the journal's of it, and then what it has not entered.
+/// The rule of the table: each process's entries are the journal's of it, and then what it has not entered; each pass's
+/// pairs are the journal's under its number.
 pub struct Tie;
 
 impl TableRule<Entry, View, Vec<ProcessId>> for Tie {

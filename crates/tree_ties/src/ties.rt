@@ -1,31 +1,29 @@
 //! The steps: each one atomic operation, and what it tells of what others know.
 //!
-//! A step is told one seat. Where it speaks of two, the other is lent to the journal's for the time of the step.
+//! A step is told one seat. Where it speaks of more, the others are lent to the journal's for the time of the step.
 
-ghost use Rattle.std.specs.Prelude.{◌≡◌, ℕ, List, ◌++◌, true, false, [], ◌∷◌, Some, length};
+ghost use Rattle.std.specs.Prelude.{◌≡◌, List, ◌++◌, true, [], ◌∷◌, Some, length};
 ghost use Rattle.tree_cut.specs.Cuts.{net_of};
 ghost use Rattle.tree_model.specs.declared.events.Entry.{Entry as AnyEntry};
 ghost use Rattle.tree_ties.specs.Views.{
-  AllIn,
   AreBelow,
-  Rise,
   beside,
+  beside_pass,
   cleared,
   entries_in,
   holder,
   keeper,
-  last_pair,
   made,
-  offered,
   own_of,
+  pairs_by,
   wanting,
   worker,
 };
 ghost use Rattle.tree_ties.specs.Rule.{IsStepOf, IsWanted};
-ghost use Rattle.tree_ties.specs.Plays.{IsOffered};
+ghost use Rattle.tree_ties.specs.Plays.{IsLate};
 ghost use Rattle.tree_ties.specs.Seats.{HasWord, IsPass, KeepsJournal, SitTogether, SitsAt, WorksIn};
 
-use crate::plays::{Both, Drops, Makes, Meets, Notes, Offers, Puts, Sees, Spare, Wants};
+use crate::plays::{Drops, Looks, Makes, Meets, Puts, Sees, Spare, Wants, WithPass, WithProcess};
 use crate::seats::{Place, Ties};
 use tree_model::Entry;
 
@@ -38,19 +36,19 @@ fn lend(ties: &Ties, journal: &mut Place, seat: &mut Place)
 {
     let spare = ties.shared.split_seat::<Spare>(journal);
     let taken = std::mem::replace(seat, spare);
-    ties.shared.join_seat::<Both>(journal, taken);
+    ties.shared.join_seat::<WithProcess>(journal, taken);
 }
 
-/// A pass is lent to the journal's seat.
+/// A pass is lent to the journal's seat, with what is lent to it already.
 fn lend_pass(ties: &Ties, journal: &mut Place, pass: &mut Place)
     requires here { SitTogether ties.now.shared.table_id journal.old.table_id pass.old.table_id }
-    requires views { (pass.old.me.0.process.works ≡ false) × (pass.old.me.1 ≡ []) }
+    requires views { (pass.old.me.0.pass.holds ≡ true) × (pass.old.me.1 ≡ []) }
     ensures journal { (journal.new.table_id ≡ journal.old.table_id)
-        × (journal.new.me ≡ (beside journal.old.me.0 pass.old.me.0, journal.old.me.1)) }
+        × (journal.new.me ≡ (beside_pass journal.old.me.0 pass.old.me.0, journal.old.me.1)) }
 {
     let spare = ties.shared.split_seat::<Spare>(journal);
     let taken = std::mem::replace(pass, spare);
-    ties.shared.join_seat::<Both>(journal, taken);
+    ties.shared.join_seat::<WithPass>(journal, taken);
 }
 
 /// An idle process comes to want this entry's step; a message that it delivers is the journal's. The
@@ -70,7 +68,7 @@ pub fn want(ties: &Ties, seat: &mut Place, journal: &mut Place, word: usize, ent
     lend(ties, journal, seat);
     ties.shared
         .compare_exchange_with::<Wants>(journal, word, 0, 1, entry);
-    *seat = ties.shared.split_seat::<Both>(journal);
+    *seat = ties.shared.split_seat::<WithProcess>(journal);
 }
 
 /// The process has made an entry of the step that it wanted, under its own lock alone.
@@ -97,68 +95,47 @@ pub fn drop_want(ties: &Ties, seat: &mut Place, word: usize)
     ties.shared.store::<Drops>(seat, word, 0);
 }
 
-/// The process offers what it made: its entries are the journal's of it, and one of the wanted step, which
-/// may come after them all.
-pub fn offer(ties: &Ties, seat: &mut Place, journal: &mut Place, word: usize)
-    requires here { SitTogether ties.now.shared.table_id journal.old.table_id seat.old.table_id }
-    requires journal { KeepsJournal journal.old.me }
-    requires seat { WorksIn 2 seat.old.me }
-    requires word { HasWord ties.now.shared.table_id word seat.old.me }
-    ensures offered { IsOffered (beside journal.old.me.0 seat.old.me.0) }
-    ensures journal { (journal.new.table_id ≡ journal.old.table_id) × (journal.new.me ≡ journal.old.me) }
-    ensures seat { (seat.new.table_id ≡ seat.old.table_id)
-        × (seat.new.me ≡ (worker (offered seat.old.me.0.process), [])) }
-{
-    lend(ties, journal, seat);
-    ties.shared.store::<Offers>(journal, word, 3);
-    *seat = ties.shared.split_seat::<Both>(journal);
-}
-
-/// The journal enters the offered entry, under the caller's number.
+/// The journal enters what the process made, under the pass's number, and the pass notes it, with its place: the process
+/// is idle. Its entries before this one were the journal's of it, and the entry may come after them all.
 pub fn put(
     ties: &Ties,
     journal: &mut Place,
     seat: &mut Place,
+    pass: &mut Place,
     word: usize,
-    caller: u64,
     entry: &Entry,
 )
     requires here { SitTogether ties.now.shared.table_id journal.old.table_id seat.old.table_id }
+    requires pass_here { pass.old.table_id ≡ ties.now.shared.table_id }
     requires journal { KeepsJournal journal.old.me }
-    requires seat { WorksIn 3 seat.old.me }
+    requires seat { WorksIn 2 seat.old.me }
+    requires pass { IsPass pass.old.me }
     requires word { HasWord ties.now.shared.table_id word seat.old.me }
-    requires offered { (seat.old.me.0.process.own ≡ own_of seat.old.me.0.process.name
-        (entries_in journal.old.me.0.journal.all) ++ entry.now ∷ [])
-        × (seat.old.me.0.process.name ≡ Some entry.now.step.process) }
+    requires made { (own : List AnyEntry) × (seat.old.me.0.process.own ≡ own ++ entry.now ∷ []) }
+    requires mine { seat.old.me.0.process.name ≡ Some entry.now.step.process }
+    ensures late { IsLate (beside journal.old.me.0 seat.old.me.0) }
     ensures journal { (journal.new.table_id ≡ journal.old.table_id)
         × (journal.new.me ≡ (
           keeper journal.old.me.0.journal.names journal.old.me.0.journal.opened
-              journal.old.me.0.journal.given (journal.old.me.0.journal.all ++ (caller, entry.now) ∷ []),
+              journal.old.me.0.journal.given
+              (journal.old.me.0.journal.all ++ (pass.old.me.0.pass.caller, entry.now) ∷ []),
           [],
         )) }
-    ensures seat { (seat.new.table_id ≡ seat.old.table_id) × (seat.new.me ≡ seat.old.me) }
-{
-    lend(ties, journal, seat);
-    ties.shared
-        .compare_exchange_with::<Puts>(journal, word, caller, caller, entry);
-    *seat = ties.shared.split_seat::<Both>(journal);
-}
-
-/// What was offered is entered: the process is idle.
-pub fn clear(ties: &Ties, seat: &mut Place, journal: &mut Place, word: usize)
-    requires here { SitTogether ties.now.shared.table_id journal.old.table_id seat.old.table_id }
-    requires journal { KeepsJournal journal.old.me }
-    requires seat { WorksIn 3 seat.old.me }
-    requires word { HasWord ties.now.shared.table_id word seat.old.me }
-    requires entered { seat.old.me.0.process.own
-        ≡ own_of seat.old.me.0.process.name (entries_in journal.old.me.0.journal.all) }
-    ensures journal { (journal.new.table_id ≡ journal.old.table_id) × (journal.new.me ≡ journal.old.me) }
     ensures seat { (seat.new.table_id ≡ seat.old.table_id)
         × (seat.new.me ≡ (worker (cleared seat.old.me.0.process), [])) }
+    ensures pass { (pass.new.table_id ≡ pass.old.table_id)
+        × (pass.new.me ≡ (
+          holder pass.old.me.0.pass.caller
+              (pass.old.me.0.pass.pairs ++ (length journal.old.me.0.journal.all, entry.now) ∷ []),
+          [],
+        )) }
 {
     lend(ties, journal, seat);
-    ties.shared.store::<Drops>(journal, word, 0);
-    *seat = ties.shared.split_seat::<Both>(journal);
+    lend_pass(ties, journal, pass);
+    ties.shared
+        .compare_exchange_with::<Puts>(journal, word, 2, 0, entry);
+    *pass = ties.shared.split_seat::<WithPass>(journal);
+    *seat = ties.shared.split_seat::<WithProcess>(journal);
 }
 
 /// Whoever has both locks knows: the entries of an idle process are the journal's of it.
@@ -173,42 +150,29 @@ pub fn compare(ties: &Ties, seat: &mut Place, journal: &mut Place)
 {
     lend(ties, journal, seat);
     ties.shared.load::<Sees>(journal, 0);
-    *seat = ties.shared.split_seat::<Both>(journal);
+    *seat = ties.shared.split_seat::<WithProcess>(journal);
 }
 
-/// The pass notes the journal's last entry, which was entered under its caller's number. Its other pairs were
-/// noted before.
-pub fn note(ties: &Ties, pass: &mut Place, journal: &mut Place)
-    requires here { SitTogether ties.now.shared.table_id journal.old.table_id pass.old.table_id }
-    requires journal { KeepsJournal journal.old.me }
-    requires pass { IsPass pass.old.me }
-    requires last { (front : List (ℕ × AnyEntry)) × (e : AnyEntry)
-        × (journal.old.me.0.journal.all ≡ front ++ (pass.old.me.0.pass.caller, e) ∷ [])
-        × AreBelow (length front) pass.old.me.0.pass.pairs }
-    ensures journal { (journal.new.table_id ≡ journal.old.table_id) × (journal.new.me ≡ journal.old.me) }
-    ensures pass { (pass.new.table_id ≡ pass.old.table_id)
-        × (pass.new.me ≡ (
-          holder pass.old.me.0.pass.caller
-              (pass.old.me.0.pass.pairs ++ last_pair 0 journal.old.me.0.journal.all),
-          [],
-        )) }
-{
-    lend_pass(ties, journal, pass);
-    ties.shared.load::<Notes>(journal, 0);
-    *pass = ties.shared.split_seat::<Both>(journal);
-}
-
-/// The journal has every pair of the pass, under its caller's number, and their places rise.
+/// The pass's pairs are just those of the journal's entries under its caller's number, with their places.
 pub fn meet(ties: &Ties, journal: &mut Place, pass: &mut Place)
     requires here { SitTogether ties.now.shared.table_id journal.old.table_id pass.old.table_id }
     requires journal { KeepsJournal journal.old.me }
     requires pass { IsPass pass.old.me }
-    ensures met { AllIn pass.old.me.0.pass.caller journal.old.me.0.journal.all pass.old.me.0.pass.pairs }
-    ensures rise { Rise 0 pass.old.me.0.pass.pairs }
+    ensures met { pass.old.me.0.pass.pairs ≡ pairs_by pass.old.me.0.pass.caller 0 journal.old.me.0.journal.all }
     ensures journal { (journal.new.table_id ≡ journal.old.table_id) × (journal.new.me ≡ journal.old.me) }
     ensures pass { (pass.new.table_id ≡ pass.old.table_id) × (pass.new.me ≡ pass.old.me) }
 {
     lend_pass(ties, journal, pass);
     ties.shared.load::<Meets>(journal, 0);
-    *pass = ties.shared.split_seat::<Both>(journal);
+    *pass = ties.shared.split_seat::<WithPass>(journal);
+}
+
+/// Whoever has the journal knows: each entry is under the number of a pass that was given.
+pub fn look(ties: &Ties, journal: &mut Place)
+    requires here { SitsAt ties.now.shared.table_id journal.old.table_id }
+    requires journal { KeepsJournal journal.old.me }
+    ensures known { AreBelow journal.old.me.0.journal.given journal.old.me.0.journal.all }
+    ensures journal { (journal.new.table_id ≡ journal.old.table_id) × (journal.new.me ≡ journal.old.me) }
+{
+    ties.shared.load::<Looks>(journal, 0);
 }

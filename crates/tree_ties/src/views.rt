@@ -27,21 +27,23 @@ pub struct ProcessView {
     pub name: Option<ProcessId>,
     /// The entries that it made, the oldest first.
     pub own: LinkedList<Entry>,
-    /// 0 idle, 1 wanting, 2 made, 3 offered.
+    /// 0 idle, 1 wanting, 2 made.
     pub phase: u64,
     /// The step that it wants, as an entry that shows nothing yet.
     pub wanted: Option<Entry>,
 }
 
-/// What a pass knows: its caller's number, and the places of entries, from 0, with the entries.
+/// What a pass knows: its caller's number, and the places of the entries under it, from 0, with the entries.
 pub struct PassView {
+    /// Whether the seat is a pass.
+    pub holds: bool,
     /// The caller's number.
     pub caller: u64,
     /// The places and the entries, in the order in which they were noted.
     pub pairs: LinkedList<(u64, Entry)>,
 }
 
-/// What a seat knows: one of the three parts, or, while one seat is lent to the journal's, two.
+/// What a seat knows: one of the three parts, or, while seats are lent to the journal's, more.
 pub struct View {
     /// The journal's part.
     pub journal: JournalView,

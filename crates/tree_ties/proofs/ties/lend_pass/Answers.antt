@@ -15,5 +15,5 @@ join_seat-requires c =
       ap (λ x. x.me.1) same ∙ r.1,
       c.requires.here.2,
       λ s h at apart there. parting.joins_pass _ s.words s.views _ _ h at _ _
-          (ap (λ x. x.me.0.process.works) same ∙ r.0) apart there,
+          (ap (λ x. x.me.0.pass.holds) same ∙ r.0) apart there,
     )

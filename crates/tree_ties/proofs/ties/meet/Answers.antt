@@ -11,18 +11,19 @@ load-requires c =
     let e = c.lend_pass.ensures.journal in
     let v = c.lend_pass.new.journal.me.0 in
     let kept = ap (λ m. m.0.journal.keeps) e.1 ∙ ap (λ m. m.0.journal.keeps) c.requires.journal in
+    let holds = ap (λ m. m.0.pass.holds) e.1 ∙ ap (λ m. m.0.pass.holds) c.requires.pass in
     let key = c.args.ties.now.shared.key.items in
     let id = c.lend_pass.new.journal.id in (
       e.0 ∙ c.requires.here.0,
       c.requires.here.2,
       λ s h long at fits.
           let now = subst (IsTied key s.words) (sym (set_again s.views id v at)) h in
-          let met = parting.met _ s.words s.views _ v h at kept in (
+          let met = parting.met _ s.words s.views _ v h at kept holds in (
             v,
             keeps,
             tt,
             subst (λ l. IsTied key l (set s.views id v)) (sym (set-get_or s.words 0 0)) now,
-            (refl, met.0, met.1),
+            (refl, met),
           ),
     )
 
@@ -30,9 +31,9 @@ pub split_seat-requires : goal.split_seat-requires
 split_seat-requires c =
     let e = c.lend_pass.ensures.journal in
     let l = c.load.ensures in
-    let idle = ap (λ m. m.0.process.works) l.2.0 ∙ ap (λ m. m.0.process.works) e.1
-    ∙ ap (λ m. m.0.process.works) c.requires.pass in (
+    let holds = ap (λ m. m.0.pass.holds) l.2.0 ∙ ap (λ m. m.0.pass.holds) e.1
+    ∙ ap (λ m. m.0.pass.holds) c.requires.pass in (
       l.0 ∙ e.0 ∙ c.requires.here.0,
       c.requires.here.2,
-      λ s h at. parting.parts_pass _ s.words s.views _ _ h at idle,
+      λ s h at. parting.parts_pass _ s.words s.views _ _ h at holds,
     )

@@ -1,7 +1,7 @@
 use Rattle.std.proofs.Common.{◌∙◌, subst, sym}
 use Rattle.tree_model.specs.Trees.{IsTree}
 use Rattle.tree_cluster.specs.Opening.{IsTableOf, KeepsSeats}
-use Rattle.tree_cluster.proofs.Seating.{regiven, seats_opened, some_words, table_opened}
+use Rattle.tree_cluster.proofs.Seating.{given_is, regiven, seats_opened, some_words, table_opened}
 use Rattle.tree_cluster.proofs.cluster.Cluster.new.Goals as goal
 
 pub give_passes-requires-clause-table : goal.give_passes-requires-clause-table
@@ -35,3 +35,8 @@ open_all-requires-clause-journal g c =
     let j = c.give_passes.new.journal in
     subst (λ t. KeepsSeats g.N.Seats.table t 0 j.me.0.journal.given j) (c.entries.ensures ∙ sym c.entries-2.ensures)
     (regiven _ _ _ _ j c.in_ok-passes.ensures.journal)
+
+pub new-requires-clause-callers : goal.new-requires-clause-callers
+new-requires-clause-callers g c =
+    given_is _ _ _ _ _ c.in_ok-processes.ensures.seats ∙ given_is _ _ _ _ _ c.in_ok-passes.ensures.journal
+    ∙ c.requires.callers.2

@@ -12,4 +12,5 @@ invariant_of-result g c =
       c.requires.seat ∙ (λ i. (keeper j.names j.opened j.given (sym none i), [])),
       c.requires.tree,
       subst (λ l. HasCut g.N.Seats.tree (entries_in l)) (sym none) (empty_cut g.N.Seats.tree),
+      c.requires.callers,
     )

@@ -1,17 +1,24 @@
-use Rattle.std.proofs.Common.{◌∙◌, ◌++◌, ◌∷◌, [], ap, refl, rules, subst, sym}
+use Rattle.std.proofs.Common.{◌∙◌, ◌++◌, ◌∷◌, [], ap, rules, subst, sym}
 use Rattle.tree_model.specs.declared.events.Step.{Step}
 use Rattle.tree_model.specs.Trees.{root_of}
-use Rattle.tree_cut.specs.Alone.{RunsAlone, StepAlone, stays_alone, steps_alone}
+use Rattle.cluster_journal.specs.Journals.{ClusterState}
+use Rattle.tree_cut.specs.Alone.{RunsAlone, stays_alone, steps_alone}
+use Rattle.tree_cut.specs.Owns.{CutHolds}
 use Rattle.tree_node.specs.Nodes.{core_of, data_of}
+use Rattle.tree_ties.specs.Views.{entries_in, pairs_by}
+use Rattle.tree_threads.specs.Locked.{SeatedState}
 use Rattle.tree_threads.specs.Marks.{ActsHere}
-use Rattle.tree_threads.specs.Posts.{AsksAt}
+use Rattle.tree_threads.specs.Passes.{NotesOne, PassState}
+use Rattle.tree_threads.specs.Posts.{AsksAt, NotPosted, PostsOne}
 use Rattle.tree_threads.proofs.Asked.{asks_it}
 use Rattle.tree_threads.proofs.OwnSteps.{step_alone}
+use Rattle.tree_threads.proofs.Refused.{answered_so, not_made, not_marked}
 use Rattle.tree_threads.proofs.seated.Seated.post.Goals as goal
 
 pub mark-requires-clause-acts : goal.mark-requires-clause-acts
 mark-requires-clause-acts g c =
-    subst (λ q. ActsHere (root_of g.N.Seats.tree) q c.args.event) (sym (c.if-not-is_same.ensures.yes refl)) c.requires.acts
+    subst (λ (s : SeatedState). ActsHere (root_of g.N.Seats.tree) s.me c.args.event) (sym c.self.view_is)
+    c.requires.acts
 
 pub returns-in-Ok-clause-ok : goal.returns-in-Ok-clause-ok
 returns-in-Ok-clause-ok g c =
@@ -19,27 +26,27 @@ returns-in-Ok-clause-ok g c =
     let m = c.in_ok-marked.marked in
     let x = c.in-Ok.made.entry in
     let step = c.in-Ok.ensures.ok.1 in
-    let same = c.if-not-is_same.ensures.yes refl in
+    let me = c.self.inside.me in
     let tree = g.N.Seats.tree in
     let old = c.self.inside.node in
-    record {
+    let place = c.enter-place.result in
+    let notes = subst (λ (p : PassState). NotesOne p c.enter-place.new.pass place x) c.meets.ensures.same.1
+    c.enter-place.ensures.pass in
+    subst (λ (s : SeatedState). PostsOne tree s.me c.args.event c.args.pass.now c.enter-place.new.pass place
+    c.begun-begun.result) c.self.view_is (record {
       entry = x;
-      notes = c.enter-place.ensures.pass;
+      notes = notes;
       own = c.self.inside.seat.me.0.process.own;
       before = core_of old;
       behind = core_of c.make_step.new.node;
       held = data_of old;
       kept = data_of c.make_step.new.node;
-      ran = subst (λ q. RunsAlone tree q c.self.inside.seat.me.0.process.own (core_of old) (data_of old)) same
-          c.self.invariant.6;
-      step = subst (λ q. StepAlone tree q (core_of old) (core_of c.make_step.new.node) (data_of old)
-          (data_of c.make_step.new.node) x) same
-          (step_alone tree c.self.inside.me _ _ _ _ m.keep m.wanted x marked.at c.in_ok-marked.ensures.mine step
-          c.in-Ok.ensures.made);
+      ran = c.self.invariant.6;
+      step = step_alone tree me _ _ _ _ m.keep m.wanted x marked.at c.in_ok-marked.ensures.mine step c.in-Ok.ensures.made;
       is_for = subst (λ (s : Step). AsksAt (core_of old) c.args.event s.happening) (sym step)
-          (asks_it _ c.self.inside.me (core_of old) c.args.event m.wanted.step.happening m.keep marked.happens);
+          (asks_it _ me (core_of old) c.args.event m.wanted.step.happening m.keep marked.happens);
       begun_is = c.begun-begun.ensures;
-    }
+    })
 
 pub invariant_of-self-in-Err : goal.invariant_of-self-in-Err
 invariant_of-self-in-Err g c =
@@ -83,3 +90,38 @@ invariant_of-self-in-Ok g c =
           (step_alone tree me (core_of old) (core_of new) (data_of old) (data_of new) m.keep m.wanted x
           c.in_ok-marked.ensures.ok.0.at c.in_ok-marked.ensures.mine c.in-Ok.ensures.ok.1 c.in-Ok.ensures.made)),
     )
+
+pub returns-in_err-marked-clause-refused : goal.returns-in_err-marked-clause-refused
+returns-in_err-marked-clause-refused g c =
+    let tree = g.N.Seats.tree in
+    let pass = c.args.pass.now in
+    let event = c.args.event in
+    let e = c.in_err-marked.field-0.0 in
+    let now = c.deref_mut-2.result.now in
+    let same = c.deref_mut-2.ensures.value ∙ c.meets.ensures.same.0 in
+    let first = c.deref.ensures ∙ sym c.deref_mut.ensures.value ∙ sym same in
+    let not = not_marked tree c.self.inside.me event pass e now.entries
+    (subst (λ (j : ClusterState). CutHolds tree (entries_in j.entries)) first c.is_a_run.ensures)
+    (c.meets.ensures.met ∙ ap (λ (j : ClusterState). pairs_by pass.caller 0 j.entries) (sym same))
+    c.in_err-marked.ensures.refused in
+    answered_so (NotPosted tree c.args.self.now.me event pass) e c.from_residual.result c.from_residual.ensures.1
+    (subst (λ (s : SeatedState). NotPosted tree s.me event pass e) c.self.view_is not)
+
+pub returns-in-Err-clause-refused : goal.returns-in-Err-clause-refused
+returns-in-Err-clause-refused g c =
+    let tree = g.N.Seats.tree in
+    let pass = c.args.pass.now in
+    let event = c.args.event in
+    let e = c.from.result in
+    let now = c.deref_mut-2.result.now in
+    let same = c.deref_mut-2.ensures.value ∙ c.meets.ensures.same.0 in
+    let first = c.deref.ensures ∙ sym c.deref_mut.ensures.value ∙ sym same in
+    let old = c.self.inside.node in
+    let new = c.make_step.new.node in
+    let not = not_made tree c.self.inside.me event pass e now.entries c.self.inside.seat.me.0.process.own (core_of old)
+    (core_of new) (data_of old) (data_of new) c.in_ok-marked.marked c.in-Err.error
+    (subst (λ (j : ClusterState). CutHolds tree (entries_in j.entries)) first c.is_a_run.ensures)
+    (c.meets.ensures.met ∙ ap (λ (j : ClusterState). pairs_by pass.caller 0 j.entries) (sym same))
+    c.in_ok-marked.ensures.tied c.self.invariant.6 c.in_ok-marked.ensures.ok.0 c.in-Err.ensures.refused
+    c.from.ensures in
+    subst (λ (s : SeatedState). NotPosted tree s.me event pass e) c.self.view_is not

@@ -1,4 +1,4 @@
-use Rattle.std.proofs.Common.{◌≡◌, ◌∙◌, ap, subst}
+use Rattle.std.proofs.Common.{◌∙◌, ap, subst}
 use Rattle.cluster_journal.specs.Journals.{ClusterState}
 use Rattle.tree_model.specs.World.{entries_of}
 use Rattle.tree_cut.specs.Owns.{OwnRun, StandsInRun}

@@ -1,23 +1,18 @@
 //! Whether two records of logs are one.
 
-ghost use Rattle.std.specs.Prelude.{◌≡◌, IsTrue, map};
-
 use tree_model::{
     Branch, Bytes, Case, LogRecord, Outcome, ProcessId, Record, Reports, Ticket, Write,
 };
 use xa_xid::Xid;
 
-/// What can be compared: where it says that two values are the same, they are.
+/// What can be compared.
 pub(crate) trait Same {
     /// Whether the other value is the same.
-    fn is_same(&self, other: &Self) -> bool
-        ensures { IsTrue result → self.now ≡ other.now };
+    fn is_same(&self, other: &Self) -> bool;
 }
 
 /// Whether two lists have the same values in the same order.
-pub(crate) fn are_same<T: Same>(one: &[T], other: &[T]) -> bool
-    ensures { IsTrue result → one.now ≡ other.now }
-{
+pub(crate) fn are_same<T: Same>(one: &[T], other: &[T]) -> bool {
     if one.len() != other.len() {
         return false;
     }
@@ -30,22 +25,18 @@ pub(crate) fn are_same<T: Same>(one: &[T], other: &[T]) -> bool
 }
 
 impl Same for Ticket {
-    #[tactic(auto, using(tree_model::specs::NameLaws::same_ticket_tells))]
     fn is_same(&self, other: &Ticket) -> bool {
         self.is(other)
     }
 }
 
 impl Same for Case {
-    #[tactic(auto, using(tree_model::specs::NameLaws::same_case_tells))]
     fn is_same(&self, other: &Case) -> bool {
         self.is(other)
     }
 }
 
-fn is_same_xid(one: &Xid, other: &Xid) -> bool
-    ensures { IsTrue result → one.now ≡ other.now }
-{
+fn is_same_xid(one: &Xid, other: &Xid) -> bool {
     one == other
 }
 
@@ -150,10 +141,7 @@ impl Same for LogRecord {
 }
 
 /// Whether these are the same logs.
-pub(crate) fn are_same_logs(one: &[Vec<LogRecord>], other: &[Vec<LogRecord>]) -> bool
-    ensures { IsTrue result
-        → map (λ log. log.items) one.now ≡ map (λ log. log.items) other.now }
-{
+pub(crate) fn are_same_logs(one: &[Vec<LogRecord>], other: &[Vec<LogRecord>]) -> bool {
     if one.len() != other.len() {
         return false;
     }
