@@ -1,16 +1,16 @@
 //! The set of all states that are possible.
 
-ghost use Rattle.std.specs.Prelude.{◌≡◌, ◌∷◌, [], true, Contains, IfOk, OnOk};
+ghost use Rattle.std.specs.Prelude.{◌≡◌, ◌↔◌, ◌∷◌, [], Contains, IfErr, IfOk, IsTrue, OnOk};
 ghost use Rattle.judge_state.specs.Sights.{first_sight};
-ghost use Rattle.judge_set.specs.Sets.{Adds, Follows};
+ghost use Rattle.judge_set.specs.Sets.{Adds, AreApart, FollowTooMany, Follows};
 
 use judge_rules::{Event, MOST_STATES, Rules, StepError, next};
 use judge_state::{State, are_same};
 use std::alloc::{AllocError, Global};
 
-/// Whether a state is among these. It may be there although it is not found.
+/// Whether a state is among these.
 fn is_found(states: &[State], state: &State) -> bool
-    ensures { result ≡ true → Contains states.now state.now }
+    ensures { IsTrue result ↔ Contains states.now state.now }
 {
     for other in states {
         if are_same(other, state) {
@@ -22,7 +22,8 @@ fn is_found(states: &[State], state: &State) -> bool
 
 /// Adds a state, unless it is found.
 fn add(states: &mut Vec<State>, state: State) -> Result<(), AllocError>
-    ensures { OnOk result (Adds states.old.items states.new.items (state ∷ [])) }
+    ensures adds { OnOk result (Adds states.old.items states.new.items (state ∷ [])) }
+    ensures apart { OnOk result (AreApart states.old.items → AreApart states.new.items) }
 {
     if !is_found(states, &state) {
         states.push(state)?;
@@ -32,7 +33,8 @@ fn add(states: &mut Vec<State>, state: State) -> Result<(), AllocError>
 
 /// Adds states, each unless it is found.
 fn add_all(states: &mut Vec<State>, more: Vec<State>) -> Result<(), AllocError>
-    ensures { OnOk result (Adds states.old.items states.new.items more.items) }
+    ensures adds { OnOk result (Adds states.old.items states.new.items more.items) }
+    ensures apart { OnOk result (AreApart states.old.items → AreApart states.new.items) }
 {
     for state in more {
         add(states, state)?;
@@ -49,15 +51,17 @@ pub fn start(alloc: Global) -> Result<Vec<State>, AllocError>
     Ok(states)
 }
 
-/// The states that may follow one of these, by a call and its answer. It is refused where memory is, and where
-/// there are too many of them.
+/// The states that may follow one of these, by a call and its answer, each once. It is refused where memory is, and
+/// where there are too many of them.
 pub fn follow(
     alloc: Global,
     rules: Rules,
     states: &[State],
     event: &Event,
 ) -> Result<Vec<State>, StepError>
-    ensures { IfOk result (λ v. Follows rules states.now event.now v.items) }
+    ensures states { IfOk result (λ v. Follows rules states.now event.now v.items) }
+    ensures apart { IfOk result (λ v. AreApart v.items) }
+    ensures too_many { IfErr result (λ e. e ≡ StepError.TooMany → FollowTooMany rules states.now event.now) }
 {
     let mut after = Vec::new(alloc);
     for state in states {

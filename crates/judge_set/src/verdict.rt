@@ -1,7 +1,8 @@
 //! The first answer that no history admits.
 
-ghost use Rattle.std.specs.Prelude.{◌<◌, IfOk, length};
-ghost use Rattle.judge_set.specs.Sets.{IsVerdict, IsWalk};
+ghost use Rattle.std.specs.Prelude.{◌≡◌, ◌<◌, ◌∷◌, [], IfErr, IfOk, length};
+ghost use Rattle.judge_state.specs.Sights.{first_sight};
+ghost use Rattle.judge_set.specs.Sets.{AreLeft, IsVerdict, IsWalk, LeadTooFar, walked};
 
 use crate::set::{follow, start};
 use judge_rules::{Event, Rules, StepError};
@@ -25,7 +26,10 @@ pub fn follow_all(
     events: &[Event],
 ) -> Result<Walk, StepError>
     requires { 0 < length starts.items }
-    ensures { IfOk result (λ walk. IsWalk rules starts.items events.now walk.fault) }
+    ensures fault { IfOk result (λ walk. IsWalk rules starts.items events.now walk.fault) }
+    ensures states { IfOk result (λ walk.
+        AreLeft rules starts.items (walked walk.fault events.now) walk.states.items) }
+    ensures too_many { IfErr result (λ e. e ≡ StepError.TooMany → LeadTooFar rules starts.items events.now) }
 {
     let mut states = starts;
     for (i, event) in events.iter().enumerate() {
@@ -44,9 +48,14 @@ pub fn follow_all(
     })
 }
 
-/// Judges a history: whether it is legal, or which of its events is the first that no legal history has there.
+/// Judges a history: whether it is legal, or which of its events is the first that no legal history has there. It is
+/// refused where memory is, and where too many states are possible.
 pub fn judge(alloc: Global, rules: Rules, events: &[Event]) -> Result<Walk, StepError>
-    ensures { IfOk result (λ walk. IsVerdict rules events.now walk.fault) }
+    ensures fault { IfOk result (λ walk. IsVerdict rules events.now walk.fault) }
+    ensures states { IfOk result (λ walk.
+        AreLeft rules (first_sight ∷ []) (walked walk.fault events.now) walk.states.items) }
+    ensures too_many { IfErr result (λ e. e ≡ StepError.TooMany
+        → LeadTooFar rules (first_sight ∷ []) events.now) }
 {
     follow_all(alloc, rules, start(alloc)?, events)
 }
