@@ -40,7 +40,7 @@ pub(crate) fn is_among(refusals: Refusals, reply: Reply) -> bool
     match reply {
         Reply::Inval => refusals.inval,
         Reply::Async => refusals.asynchronous,
-        Reply::Proto => refusals.proto || refusals.inval,
+        Reply::Proto => refusals.proto,
         Reply::DupId => refusals.dup_id,
         Reply::NotA => refusals.not_a,
         Reply::Outside => refusals.outside,
