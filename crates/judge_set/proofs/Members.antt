@@ -1,7 +1,6 @@
 -- Sets of states as lists, and the histories that lead to them.
-use Rattle.std.proofs.Common.{◌≡◌, ℕ, ◌+◌, ◌<◌, zero, suc, Option, Some, None, List, [], ◌∷◌, ◌++◌, length, get_or, take, drop, refl, sym, subst, ◌∙◌, inl, inr, arith}
+use Rattle.std.proofs.Common.{◌≡◌, ℕ, ◌+◌, ◌<◌, zero, suc, Option, Some, None, List, [], ◌∷◌, ◌++◌, length, get_or, take, refl, sym, subst, ◌∙◌, inl, inr, arith}
 use Rattle.std.specs.Prelude.{Contains, IfOk, Result, Ok, Err}
-use Rattle.std.proofs.lemmas.List.{take-append-drop}
 use Rattle.std.proofs.lemmas.List.Elements.{Contains-get_or, Contains-append_left, Contains-append_right, Contains-push, Contains-push_cases, Contains-append_cases}
 use Rattle.judge_state.specs.Sights.{Sight, first_sight}
 use Rattle.judge_rules.specs.declared.calls.Event.{Event}
@@ -10,7 +9,7 @@ use Rattle.judge_rules.specs.Histories.{IsLegal, Leads, Step}
 use Rattle.judge_rules.specs.Steps.{next}
 use Rattle.judge_rules.specs.declared.errors.StepError.{StepError}
 use Rattle.judge_set.specs.declared.verdict.Walk.{Walk}
-use Rattle.judge_set.specs.Sets.{Adds, AreApart, AreLeft, Follows, IsVerdict, IsWalk, LeadsOn}
+use Rattle.judge_set.specs.Sets.{Adds, AreLeft, Follows, IsVerdict, IsWalk, LeadsOn}
 
 -- an element that is found is among them
 pub contains_here : (xs : List Sight) (i : ℕ) (y x : Sight) → i < length xs → y ≡ get_or xs i y → y ≡ x
@@ -22,22 +21,6 @@ none_in x c = omega (arith, c.1)
 
 one_is : (y x : Sight) → Contains (y ∷ []) x → y ≡ x
 one_is y x c = elim (Contains-push_cases [] y x c) [ inl a ↦ absurd (none_in x a) | inr e ↦ e ]
-
--- an element of a front is one of the list
-pub in_front : (n : ℕ) (xs : List Sight) (x : Sight) → Contains (take n xs) x → Contains xs x
-in_front n xs x c = subst (λ (l : List Sight). Contains l x) (take-append-drop n xs)
-    (Contains-append_left (take n xs) (drop n xs) x c)
-
--- one more state that is not there leaves them apart
-pub apart_push : (xs : List Sight) (x : Sight) → (Contains xs x → ⊥) → AreApart xs → AreApart (xs ++ x ∷ [])
-apart_push [] x new h = (none_in x, tt)
-apart_push (y ∷ xs) x new (first, rest) = (
-  λ c. elim (Contains-append_cases xs (x ∷ []) y c) [
-    | inl a ↦ first a
-    | inr a ↦ new (subst (λ (q : Sight). Contains (y ∷ xs) q) (sym (one_is x y a)) (Contains-append_left (y ∷ []) xs y (Contains-push [] y)))
-  ],
-  apart_push xs x (λ c. new (Contains-append_right (y ∷ []) xs x c)) rest,
-)
 
 -- nothing is added
 pub adds_none : (old : List Sight) → Adds old old []

@@ -1,20 +1,13 @@
 -- The states that are possible after a front of a history, and the first fault of a history.
-use Rattle.std.specs.Prelude.{◌≡◌, ℕ, false, ◌+◌, ◌<◌, ◌↔◌, ◌⊎◌, List, [], ◌∷◌, ◌++◌, length, take, Contains, Option, Some, None}
+use Rattle.std.specs.Prelude.{ℕ, false, ◌+◌, ◌<◌, ◌↔◌, ◌⊎◌, List, length, take, Contains, Option, Some, None}
 use Rattle.judge_state.specs.Sights.{Sight}
 use Rattle.judge_rules.specs.declared.calls.Event.{Event}
 use Rattle.judge_rules.specs.declared.words.Rules.{Rules}
-use Rattle.judge_rules.specs.Falls.{AreTooMany}
 use Rattle.judge_rules.specs.Histories.{IsLegal, Leads, Step}
-use Rattle.judge_rules.specs.Steps.{next}
 
 -- a list has what it had, and these states
 abbrev pub Adds : List Sight → List Sight → List Sight → Type 0
 Adds old new more = (t : Sight) → Contains new t ↔ (Contains old t ⊎ Contains more t)
-
--- no state is twice in a list
-abbrev pub AreApart : List Sight → Type 0
-AreApart [] = Unit {0}
-AreApart (u ∷ us) = (Contains us u → ⊥) × AreApart us
 
 -- a list has exactly the states that may follow one of these
 abbrev pub Follows : Rules → List Sight → Event → List Sight → Type 0
@@ -23,28 +16,6 @@ Follows r old e new = (t : Sight) → Contains new t ↔ ((s : Sight) × Contain
 -- a list has exactly the states to which a history may lead from one of these
 abbrev pub AreLeft : Rules → List Sight → List Event → List Sight → Type 0
 AreLeft r starts es states = (t : Sight) → Contains states t ↔ ((s : Sight) × Contains starts s × Leads r s es t)
-
--- more states follow these than are gone through: there are as many, none of them twice; or as many are listed of one
-abbrev pub FollowTooMany : Rules → List Sight → Event → Type 0
-FollowTooMany r old e =
-    ((us : List Sight) × AreTooMany us × AreApart us
-    × ((t : Sight) → Contains us t → (s : Sight) × Contains old s × Step r s e t))
-    ⊎ ((s : Sight) × Contains old s × AreTooMany (next r s e.call e.answer))
-
--- after some front of a history that begins in one of these states too many states follow those that are left
-pub record LeadTooFar (r : Rules) (starts : List Sight) (es : List Event) : Type 0 where
-  pub front : List Event
-  pub event : Event
-  pub rest : List Event
-  pub parts : es ≡ front ++ event ∷ rest
-  pub states : List Sight
-  pub left : AreLeft r starts front states
-  pub many : FollowTooMany r states event
-
--- the events up to this one, or all
-abbrev pub walked : Option ℕ → List Event → List Event
-walked None es = es
-walked (Some i) es = take i es
 
 -- a history leads from one of these states to some state
 abbrev pub LeadsOn : Rules → List Sight → List Event → Type 0

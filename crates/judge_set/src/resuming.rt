@@ -1,21 +1,15 @@
 //! How the judge goes on after a fault.
 //!
 //! After an answer that no history admits, anything may be true. To go on, the states are taken in which the call
-//! had no effect, and those in which the answer is taken at its word; so one fault does not breed others. What is
-//! found after the first fault says no more than that.
-
-ghost use Rattle.std.specs.Prelude.{◌≡◌, IfOk};
-ghost use Rattle.judge_state.specs.Questions.{branch_at};
-ghost use Rattle.judge_set.specs.Resuming.{at_word, branch_word, known_by, resumed, started, tells, told};
+//! had no effect, and those in which the answer is taken at its word; so one fault does not breed others. Nothing is
+//! promised of what is found after the first fault.
 
 use judge_rules::{Answer, BranchVerb, Call, Event, Function, On, Reply, reply_of};
 use judge_state::State;
 use std::alloc::{AllocError, Global};
 
 /// A state, with a branch of this name: begun by the thread, where it was not known.
-fn known(state: State, on: On) -> Result<State, AllocError>
-    ensures { IfOk result (λ u. u ≡ known_by (branch_at on.xid.number state) on state) }
-{
+fn known(state: State, on: On) -> Result<State, AllocError> {
     match state.branch(on.xid.number) {
         Some(_) => Ok(state),
         None => state.begun(on.thread, on.xid.number),
@@ -23,9 +17,7 @@ fn known(state: State, on: On) -> Result<State, AllocError>
 }
 
 /// A start that was told XA_OK: the thread is active in the branch, and in no other.
-fn started(alloc: Global, state: &State, on: On) -> Result<State, AllocError>
-    ensures { IfOk result (λ u. u ≡ started on state.now) }
-{
+fn started(alloc: Global, state: &State, on: On) -> Result<State, AllocError> {
     let state = known(state.copied(alloc)?, on)?;
     let state = state.inactive(alloc, on.thread)?;
     let state = state.unlinked(alloc, on.thread, on.xid.number)?;
@@ -39,9 +31,7 @@ fn told(
     verb: BranchVerb,
     on: On,
     reply: Reply,
-) -> Result<State, AllocError>
-    ensures { IfOk result (λ u. u ≡ told verb reply on state.now) }
-{
+) -> Result<State, AllocError> {
     let x = on.xid.number;
     let copy = state.copied(alloc)?;
     match (verb, reply) {
@@ -55,9 +45,7 @@ fn told(
 }
 
 /// Whether a code tells something of a branch.
-fn tells(reply: Reply) -> bool
-    ensures { result ≡ tells reply }
-{
+fn tells(reply: Reply) -> bool {
     matches!(
         reply,
         Reply::Ok | Reply::RolledBack | Reply::RdOnly | Reply::NotA
@@ -71,9 +59,7 @@ fn branch_word(
     verb: BranchVerb,
     on: On,
     reply: Reply,
-) -> Result<State, AllocError>
-    ensures { IfOk result (λ u. u ≡ branch_word verb on reply state.now) }
-{
+) -> Result<State, AllocError> {
     if !tells(reply) {
         return state.copied(alloc);
     }
@@ -90,9 +76,7 @@ fn branch_word(
 }
 
 /// The state by the word of an event.
-fn at_word(alloc: Global, state: &State, event: &Event) -> Result<State, AllocError>
-    ensures { IfOk result (λ u. u ≡ at_word event.now.call event.now.answer state.now) }
-{
+fn at_word(alloc: Global, state: &State, event: &Event) -> Result<State, AllocError> {
     match (event.call, &event.answer) {
         (Call::Function(Function::Branch(verb, on)), Answer::Code(code)) => {
             branch_word(alloc, state, verb, on, reply_of(*code))
@@ -108,9 +92,7 @@ fn at_word(alloc: Global, state: &State, event: &Event) -> Result<State, AllocEr
 }
 
 /// The states from which the judge goes on after a fault. They are not none, where these are not.
-pub fn resumed(alloc: Global, states: &[State], event: &Event) -> Result<Vec<State>, AllocError>
-    ensures { IfOk result (λ v. v.items ≡ resumed event.now states.now) }
-{
+pub fn resumed(alloc: Global, states: &[State], event: &Event) -> Result<Vec<State>, AllocError> {
     let mut after = Vec::new(alloc);
     for state in states {
         after.push(at_word(alloc, state, event)?)?;

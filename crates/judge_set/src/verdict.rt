@@ -1,8 +1,7 @@
 //! The first answer that no history admits.
 
-ghost use Rattle.std.specs.Prelude.{◌≡◌, ◌<◌, ◌∷◌, [], IfErr, IfOk, length};
-ghost use Rattle.judge_state.specs.Sights.{first_sight};
-ghost use Rattle.judge_set.specs.Sets.{AreLeft, IsVerdict, IsWalk, LeadTooFar, walked};
+ghost use Rattle.std.specs.Prelude.{◌<◌, IfOk, length};
+ghost use Rattle.judge_set.specs.Sets.{IsVerdict, IsWalk};
 
 use crate::set::{follow, start};
 use judge_rules::{Event, Rules, StepError};
@@ -26,10 +25,7 @@ pub fn follow_all(
     events: &[Event],
 ) -> Result<Walk, StepError>
     requires { 0 < length starts.items }
-    ensures fault { IfOk result (λ walk. IsWalk rules starts.items events.now walk.fault) }
-    ensures states { IfOk result (λ walk.
-        AreLeft rules starts.items (walked walk.fault events.now) walk.states.items) }
-    ensures too_many { IfErr result (λ e. e ≡ StepError.TooMany → LeadTooFar rules starts.items events.now) }
+    ensures { IfOk result (λ walk. IsWalk rules starts.items events.now walk.fault) }
 {
     let mut states = starts;
     for (i, event) in events.iter().enumerate() {
@@ -48,14 +44,9 @@ pub fn follow_all(
     })
 }
 
-/// Judges a history: whether it is legal, or which of its events is the first that no legal history has there. It is
-/// refused where memory is, and where too many states are possible.
+/// Judges a history: whether it is legal, or which of its events is the first that no legal history has there.
 pub fn judge(alloc: Global, rules: Rules, events: &[Event]) -> Result<Walk, StepError>
-    ensures fault { IfOk result (λ walk. IsVerdict rules events.now walk.fault) }
-    ensures states { IfOk result (λ walk.
-        AreLeft rules (first_sight ∷ []) (walked walk.fault events.now) walk.states.items) }
-    ensures too_many { IfErr result (λ e. e ≡ StepError.TooMany
-        → LeadTooFar rules (first_sight ∷ []) events.now) }
+    ensures { IfOk result (λ walk. IsVerdict rules events.now walk.fault) }
 {
     follow_all(alloc, rules, start(alloc)?, events)
 }
