@@ -3,6 +3,11 @@
 //! The rules of the judge themselves steer the choice: a state is kept that the manager may be in, and of most calls it
 //! is seen to that they may be answered XA_OK there.
 
+ghost use Rattle.std.specs.Prelude.{◌≡◌, ◌⊎◌, ◌∷◌, [], ℕ, List, IfErr, IfOk, OnOk};
+ghost use Rattle.std.specs.Io.KnownBytes.{Appends, Keeps};
+ghost use Rattle.report_io.specs.Streams.{WritesFront};
+ghost use Rattle.judge_engine.specs.Plans.{IsPlan, OpensFirst};
+
 use crate::random::Random;
 use crate::script::push_call;
 use judge_rules::{
@@ -349,6 +354,17 @@ impl Plan {
         Ok(self.call_of(kind))
     }
 
+    /// The call at a place: the first opens the manager.
+    fn call_at(&mut self, place: u32) -> Result<Call, StepError>
+        ensures { IfOk result (λ call. place ≡ 0 → OpensFirst (call ∷ [])) }
+    {
+        if place == 0 {
+            Ok(Call::Function(Function::Open(Flags::TMNOFLAGS)))
+        } else {
+            self.chosen()
+        }
+    }
+
     /// Goes on to a state that the call may lead to, if it need not be refused.
     fn follow(&mut self, call: Call) -> Result<(), StepError> {
         if let Some(state) = self.passed(call)? {
@@ -366,7 +382,9 @@ impl Plan {
 }
 
 /// The calls of a plan, each a line.
-fn script(alloc: Global, seed: u64, count: u32) -> Result<Vec<u8>, StepError> {
+fn script(alloc: Global, seed: u64, count: u32) -> Result<Vec<u8>, StepError>
+    ensures { IfOk result (λ text. IsPlan seed count text.items) }
+{
     let mut random = Random::new(seed);
     let sure = 5 + random.below(3) * 2;
     let mut plan = Plan {
@@ -378,11 +396,7 @@ fn script(alloc: Global, seed: u64, count: u32) -> Result<Vec<u8>, StepError> {
     };
     let mut out = Vec::new(alloc);
     for i in 0..count {
-        let call = if i == 0 {
-            Call::Function(Function::Open(Flags::TMNOFLAGS))
-        } else {
-            plan.chosen()?
-        };
+        let call = plan.call_at(i)?;
         plan.note(call);
         push_call(alloc, &mut out, seed, call)?;
         plan.follow(call)?;
@@ -390,13 +404,22 @@ fn script(alloc: Global, seed: u64, count: u32) -> Result<Vec<u8>, StepError> {
     Ok(out)
 }
 
-/// Writes a script of this many calls, the same for the same seed.
+/// Writes a script of this many calls, the same for the same seed. Where memory is refused, nothing was written; after
+/// a failed write, a beginning of the script.
 pub fn run_plan<W: Write>(
     alloc: Global,
     seed: u64,
     count: u32,
     writer: &mut W,
-) -> Result<(), Failure> {
+) -> Result<(), Failure>
+    ensures written { OnOk result ((text : List ℕ) × IsPlan seed count text
+        × Appends (W.contents writer.old) (W.contents writer.new) text) }
+    ensures cut { IfErr result (λ e. e ≡ Failure.Write → (text : List ℕ) × IsPlan seed count text
+        × WritesFront (W.contents writer.old) (W.contents writer.new) text) }
+    ensures failure { IfErr result (λ e. (e ≡ Failure.Memory) ⊎ (e ≡ Failure.Write)) }
+    ensures memory { IfErr result (λ e. e ≡ Failure.Memory
+        → Keeps (W.contents writer.old) (W.contents writer.new)) }
+{
     match script(alloc, seed, count) {
         Ok(text) => write_all(writer, &text),
         Err(_) => Err(Failure::Memory),

@@ -1,8 +1,8 @@
 //! Failures, restarts and lost connections.
 
-ghost use Rattle.std.specs.Prelude.{◌≡◌, ◌++◌, IfOk, map, filter, fold, Option};
+ghost use Rattle.std.specs.Prelude.{◌≡◌, ◌++◌, IfErr, IfOk, map, filter, fold, Option};
 ghost use Rattle.judge_state.specs.Moves.{brought_back, gone, marked};
-ghost use Rattle.judge_rules.specs.Falls.{after_cut, after_restart, done_failing, effects, effects_rows, failed, failed_rows, half_done, hangs_on, is_decided, may_return, maybe_back, maybe_gone};
+ghost use Rattle.judge_rules.specs.Falls.{AreTooMany, after_cut, after_restart, done_failing, effects, effects_rows, failed, failed_rows, half_done, hangs_on, is_decided, may_return, maybe_back, maybe_gone};
 
 use crate::branch::{both, one, two};
 use crate::calls::{BranchVerb, On};
@@ -186,7 +186,9 @@ fn all_maybe_back(
     states: Vec<State>,
     lost: &[Branch],
 ) -> Result<Vec<State>, StepError>
-    ensures { IfOk result (λ v. v.items ≡ fold (maybe_back works.now) states.items lost.now) }
+    ensures states { IfOk result (λ v. v.items ≡ fold (maybe_back works.now) states.items lost.now) }
+    ensures too_many { IfErr result (λ e. e ≡ StepError.TooMany
+        → AreTooMany (fold (maybe_back works.now) states.items lost.now)) }
 {
     let mut back = states;
     for branch in lost {
@@ -205,7 +207,8 @@ pub(crate) fn after_restart(
     cut: bool,
     state: &State,
 ) -> Result<Vec<State>, StepError>
-    ensures { IfOk result (λ v. v.items ≡ after_restart rules cut state.now) }
+    ensures states { IfOk result (λ v. v.items ≡ after_restart rules cut state.now) }
+    ensures too_many { IfErr result (λ e. e ≡ StepError.TooMany → AreTooMany (after_restart rules cut state.now)) }
 {
     let restarted = state.copied(alloc)?.restarted(alloc)?;
     if cut && rules.lacks.forced {
@@ -273,7 +276,9 @@ fn all_maybe_gone(
     states: Vec<State>,
     branches: &[Branch],
 ) -> Result<Vec<State>, StepError>
-    ensures { IfOk result (λ v. v.items ≡ fold maybe_gone states.items branches.now) }
+    ensures states { IfOk result (λ v. v.items ≡ fold maybe_gone states.items branches.now) }
+    ensures too_many { IfErr result (λ e. e ≡ StepError.TooMany
+        → AreTooMany (fold maybe_gone states.items branches.now)) }
 {
     let mut left = states;
     for branch in branches {
@@ -287,7 +292,8 @@ fn all_maybe_gone(
 
 /// The states after the connection of a thread is gone.
 pub(crate) fn after_cut(alloc: Global, thread: u32, state: &State) -> Result<Vec<State>, StepError>
-    ensures { IfOk result (λ v. v.items ≡ after_cut thread state.now) }
+    ensures states { IfOk result (λ v. v.items ≡ after_cut thread state.now) }
+    ensures too_many { IfErr result (λ e. e ≡ StepError.TooMany → AreTooMany (after_cut thread state.now)) }
 {
     let hanging = all_hanging(alloc, thread, state)?;
     let states = one(alloc, state.copied(alloc)?.cut_off(alloc, thread)?)?;

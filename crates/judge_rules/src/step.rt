@@ -1,7 +1,8 @@
 //! The states that may follow a state, by a call and its answer.
 
-ghost use Rattle.std.specs.Prelude.{◌≡◌, IfOk};
+ghost use Rattle.std.specs.Prelude.{◌≡◌, IfErr, IfOk};
 ghost use Rattle.judge_state.specs.Moves.{hung};
+ghost use Rattle.judge_rules.specs.Falls.{AreTooMany};
 ghost use Rattle.judge_rules.specs.Passes.{one};
 ghost use Rattle.judge_rules.specs.Steps.{branch_next, branch_rows, by_defects, decide_next, disconnect_next, function_next, get_next, is_answered, next, open_next, outcome, put_next, recover_next, recover_rows, restart_next, trim_next, waits};
 
@@ -263,7 +264,9 @@ fn restart_next(
     state: &State,
     answer: &Answer,
 ) -> Result<Vec<State>, StepError>
-    ensures { IfOk result (λ v. v.items ≡ restart_next rules cut state.now answer.now) }
+    ensures states { IfOk result (λ v. v.items ≡ restart_next rules cut state.now answer.now) }
+    ensures too_many { IfErr result (λ e. e ≡ StepError.TooMany
+        → AreTooMany (restart_next rules cut state.now answer.now)) }
 {
     if is_answered(answer) {
         after_restart(alloc, rules, cut, state)
@@ -279,7 +282,9 @@ fn disconnect_next(
     state: &State,
     answer: &Answer,
 ) -> Result<Vec<State>, StepError>
-    ensures { IfOk result (λ v. v.items ≡ disconnect_next thread state.now answer.now) }
+    ensures states { IfOk result (λ v. v.items ≡ disconnect_next thread state.now answer.now) }
+    ensures too_many { IfErr result (λ e. e ≡ StepError.TooMany
+        → AreTooMany (disconnect_next thread state.now answer.now)) }
 {
     if is_answered(answer) {
         after_cut(alloc, thread, state)
@@ -326,7 +331,8 @@ fn function_next(
     }
 }
 
-/// The states that may follow a state, by a call and its answer: none, where the answer is not admitted.
+/// The states that may follow a state, by a call and its answer: none, where the answer is not admitted. It is refused
+/// where memory is, and where there are too many of them.
 pub fn next(
     alloc: Global,
     rules: Rules,
@@ -334,7 +340,9 @@ pub fn next(
     call: Call,
     answer: &Answer,
 ) -> Result<Vec<State>, StepError>
-    ensures { IfOk result (λ v. v.items ≡ next rules state.now call answer.now) }
+    ensures states { IfOk result (λ v. v.items ≡ next rules state.now call answer.now) }
+    ensures too_many { IfErr result (λ e. e ≡ StepError.TooMany
+        → AreTooMany (next rules state.now call answer.now)) }
 {
     if state.is_hung() {
         return Ok(one(alloc, state.copied(alloc)?)?);

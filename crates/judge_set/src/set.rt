@@ -1,6 +1,6 @@
 //! The set of all states that are possible.
 
-ghost use Rattle.std.specs.Prelude.{◌≡◌, ◌∷◌, [], true, Contains, IfOk, OnOk};
+ghost use Rattle.std.specs.Prelude.{◌≡◌, ◌↔◌, ◌∷◌, [], Contains, IfOk, IsTrue, OnOk};
 ghost use Rattle.judge_state.specs.Sights.{first_sight};
 ghost use Rattle.judge_set.specs.Sets.{Adds, Follows};
 
@@ -8,9 +8,9 @@ use judge_rules::{Event, MOST_STATES, Rules, StepError, next};
 use judge_state::{State, are_same};
 use std::alloc::{AllocError, Global};
 
-/// Whether a state is among these. It may be there although it is not found.
+/// Whether a state is among these.
 fn is_found(states: &[State], state: &State) -> bool
-    ensures { result ≡ true → Contains states.now state.now }
+    ensures { IsTrue result ↔ Contains states.now state.now }
 {
     for other in states {
         if are_same(other, state) {

@@ -1,8 +1,5 @@
 -- Two states with the same parts are one.
-use Rattle.std.proofs.Common.{◌≡◌, ℕ, Bool, true, List, [], ◌∷◌, refl}
-use Rattle.std.proofs.lemmas.Bool.{false≢true}
-use Rattle.std.specs.Cmp.{first_so, second_so}
-use Rattle.std.specs.Cmp.Lexicographic.{pointwise}
+use Rattle.std.proofs.Common.{◌≡◌, ℕ, Bool, List}
 use Rattle.judge_state.specs.declared.parts.Branch.{Branch}
 use Rattle.judge_state.specs.declared.parts.Link.{Link}
 use Rattle.judge_state.specs.declared.parts.Listed.{Listed}
@@ -36,13 +33,3 @@ one_sight a b o t s d p =
     let e : sight_of a.opened a.hung a.links a.migrated a.branches a.works a.scans a.listed a.values a.outside a.lost a.lost_works
     ≡ sight_of b.opened b.hung b.links b.migrated b.branches b.works b.scans b.listed b.values b.outside b.lost b.lost_works =
     cc in e
-
--- lists of equal elements are one
-pub same_each : {A : Type 0} {E : A → A → Bool} → ((a b : A) → E a b ≡ true → a ≡ b) → (xs ys : List A)
-    → pointwise E xs ys ≡ true → xs ≡ ys
-same_each sound [] [] h = refl
-same_each sound [] (y ∷ ys) h = absurd (false≢true h)
-same_each sound (x ∷ xs) [] h = absurd (false≢true h)
-same_each {E = E} sound (x ∷ xs) (y ∷ ys) h =
-    let a = sound x y (first_so (E x y) (pointwise E xs ys) h) in
-    let b = same_each sound xs ys (second_so (E x y) (pointwise E xs ys) h) in cc

@@ -1,6 +1,6 @@
 //! One state that a manager may be in.
 
-ghost use Rattle.std.specs.Prelude.{◌≡◌, IfOk, true};
+ghost use Rattle.std.specs.Prelude.{◌≡◌, ◌↔◌, IfOk, IsTrue};
 ghost use Rattle.judge_state.specs.Sights.{first_sight};
 
 use crate::parts::{Branch, Link, Listed, Work, Write};
@@ -90,8 +90,8 @@ impl State {
 
 /// Whether the same branches are known, with the same associations.
 fn have_same_tables(a: &State, b: &State) -> bool
-    ensures { result ≡ true → (a.now.links ≡ b.now.links) × (a.now.migrated ≡ b.now.migrated)
-        × (a.now.branches ≡ b.now.branches) }
+    ensures { IsTrue result ↔ ((a.now.links ≡ b.now.links) × (a.now.migrated ≡ b.now.migrated)
+        × (a.now.branches ≡ b.now.branches)) }
 {
     are_links(&a.links, &b.links)
         && are_numbers(&a.migrated, &b.migrated)
@@ -100,8 +100,8 @@ fn have_same_tables(a: &State, b: &State) -> bool
 
 /// Whether the scans are the same, and who worked outside of any branch.
 fn have_same_scans(a: &State, b: &State) -> bool
-    ensures { result ≡ true → (a.now.scans ≡ b.now.scans) × (a.now.listed ≡ b.now.listed)
-        × (a.now.outside ≡ b.now.outside) }
+    ensures { IsTrue result ↔ ((a.now.scans ≡ b.now.scans) × (a.now.listed ≡ b.now.listed)
+        × (a.now.outside ≡ b.now.outside)) }
 {
     are_numbers(&a.scans, &b.scans)
         && are_listed(&a.listed, &b.listed)
@@ -110,21 +110,21 @@ fn have_same_scans(a: &State, b: &State) -> bool
 
 /// Whether the same was written and committed.
 fn have_same_data(a: &State, b: &State) -> bool
-    ensures { result ≡ true → (a.now.works ≡ b.now.works) × (a.now.values ≡ b.now.values) }
+    ensures { IsTrue result ↔ ((a.now.works ≡ b.now.works) × (a.now.values ≡ b.now.values)) }
 {
     are_works(&a.works, &b.works) && are_values(&a.values, &b.values)
 }
 
 /// Whether the same may come back.
 fn have_same_past(a: &State, b: &State) -> bool
-    ensures { result ≡ true → (a.now.lost ≡ b.now.lost) × (a.now.lost_works ≡ b.now.lost_works) }
+    ensures { IsTrue result ↔ ((a.now.lost ≡ b.now.lost) × (a.now.lost_works ≡ b.now.lost_works)) }
 {
     are_branches(&a.lost, &b.lost) && are_works(&a.lost_works, &b.lost_works)
 }
 
 /// Whether both are open, or neither, and in both a call got no answer, or in neither.
 fn have_same_ends(a: &State, b: &State) -> bool
-    ensures { result ≡ true → (a.now.opened ≡ b.now.opened) × (a.now.hung ≡ b.now.hung) }
+    ensures { IsTrue result ↔ ((a.now.opened ≡ b.now.opened) × (a.now.hung ≡ b.now.hung)) }
 {
     a.opened == b.opened && a.hung == b.hung
 }
@@ -132,7 +132,7 @@ fn have_same_ends(a: &State, b: &State) -> bool
 /// Whether two states are one.
 #[tactic(auto, using(crate::proofs::Sameness::one_sight))]
 pub fn are_same(a: &State, b: &State) -> bool
-    ensures { result ≡ true → a.now ≡ b.now }
+    ensures { IsTrue result ↔ (a.now ≡ b.now) }
 {
     have_same_ends(a, b)
         && have_same_tables(a, b)

@@ -19,7 +19,7 @@ loop-state-preserved c =
     subst (λ (l : List Sight). Follows c.args.rules l c.args.event.now c.add_all.new.states.items) (sym front)
     (follows_more c.args.rules c.args.event.now (take i all) c.loop-state.after.items c.add_all.new.states.items s
     c.loop-state.invariant
-    (subst (λ (m : List Sight). Adds c.loop-state.after.items c.add_all.new.states.items m) c.in_ok-more.ensures
+    (subst (λ (m : List Sight). Adds c.loop-state.after.items c.add_all.new.states.items m) c.in_ok-more.ensures.states
     c.in_ok-add_all.ensures))
 
 pub returns : goal.returns

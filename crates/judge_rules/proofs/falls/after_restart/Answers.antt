@@ -1,0 +1,13 @@
+use Rattle.std.proofs.Common.{◌≡◌, List, rules, subst}
+use Rattle.std.specs.Prelude.{IfErr, fold}
+use Rattle.judge_state.specs.Sights.{Sight}
+use Rattle.judge_rules.specs.declared.errors.StepError.TheVariants.{TooMany}
+use Rattle.judge_rules.specs.Falls.{AreTooMany, after_restart, maybe_back}
+use Rattle.judge_rules.proofs.falls.after_restart.Goals as goal
+
+pub returns-in_ok-states-clause-too_many : goal.returns-in_ok-states-clause-too_many
+returns-in_ok-states-clause-too_many c =
+    let is : fold (maybe_back c.lost_works.result.now) c.in_ok-states.states.items c.deref.result.now
+    ≡ after_restart c.args.rules c.args.cut c.args.state.now = search rules in
+    subst (λ (us : List Sight). IfErr c.all_maybe_back.result (λ e. e ≡ TooMany → AreTooMany us)) is
+    c.all_maybe_back.ensures.too_many
