@@ -17,36 +17,38 @@ around x a b c d e f g h i j y = simp append_assoc refl
 pub framed : (tree : List TreeEntry) (es : List Entry) (text whole : List ℕ)
     → ((refused : Option Event) × IsPicture tree es refused text) → Surrounds text whole
     → (refused : Option Event) × IsPicture tree es refused whole
-framed tree es text whole (refused, p) s =
-    (refused, record {
-      grid = p.grid;
-      apart = p.apart;
-      seats = p.seats;
-      in_order = p.in_order;
-      seated = p.seated;
-      rows = p.rows;
-      end = p.end;
-      rise = p.rise;
-      each = p.each;
-      head = s.head ++ p.head;
-      below = p.below;
-      strokes = p.strokes;
-      lines = p.lines;
-      boxes = p.boxes;
-      openings = p.openings;
-      signs = p.signs;
-      squares = p.squares;
-      words = p.words;
-      tail = p.tail ++ s.tail;
-      arrows = p.arrows;
-      ways = p.ways;
-      marks = p.marks;
-      stubs = p.stubs;
-      others = p.others;
-      opened = p.opened;
-      layers = s.is
-          ∙ ap (λ (xs : List ℕ). s.head ++ (xs ++ s.tail)) p.layers
-          ∙ around s.head p.head (shapes_text p.below) (strokes_text p.strokes) (strokes_text p.lines)
-          (shapes_text p.boxes) (squares_text p.openings) (shapes_text p.signs) (squares_text p.squares)
-          (shapes_text p.words) p.tail s.tail;
-    })
+framed tree es text whole (refused, p) s = (
+  refused,
+  record {
+    grid = p.grid;
+    apart = p.apart;
+    seats = p.seats;
+    in_order = p.in_order;
+    seated = p.seated;
+    rows = p.rows;
+    end = p.end;
+    rise = p.rise;
+    each = p.each;
+    head = s.head ++ p.head;
+    below = p.below;
+    strokes = p.strokes;
+    lines = p.lines;
+    boxes = p.boxes;
+    openings = p.openings;
+    signs = p.signs;
+    squares = p.squares;
+    words = p.words;
+    tail = p.tail ++ s.tail;
+    arrows = p.arrows;
+    ways = p.ways;
+    marks = p.marks;
+    stubs = p.stubs;
+    others = p.others;
+    opened = p.opened;
+    layers = s.is
+        ∙ ap (λ (xs : List ℕ). s.head ++ (xs ++ s.tail)) p.layers
+        ∙ around s.head p.head (shapes_text p.below) (strokes_text p.strokes) (strokes_text p.lines)
+        (shapes_text p.boxes) (squares_text p.openings) (shapes_text p.signs) (squares_text p.squares)
+        (shapes_text p.words) p.tail s.tail;
+  },
+)
