@@ -17,7 +17,7 @@ use Rattle.tree_threads.specs.declared.errors.PostError.TheVariants.{Stranger, S
 use Rattle.tree_threads.specs.Passes.{PassState}
 use Rattle.tree_threads.specs.Posts.{NotPosted}
 use Rattle.tree_cluster.specs.Posts.{IsOf}
-use Rattle.tree_cluster.specs.Refusals.{IsAddressed, IsReceiver, IsRefused, NoMessage, NotAt, NotDelivered, NotSettled, WasJournal}
+use Rattle.tree_cluster.specs.Refusals.{IsAddressed, IsReceiver, IsRefused, NoMessage, NotAt, NotSettled, WasJournal}
 
 -- the receiver of a message of the journal
 pub received : {E : Type 0} (r : Result ProcessId E) (tree : List TreeEntry) (pass : PassState) (k : ℕ)

@@ -1,7 +1,7 @@
 use Rattle.std.proofs.Common.{subst}
 use Rattle.tree_threads.specs.Passes.{PassState}
 use Rattle.tree_threads.specs.Posts.{PostsOne}
-use Rattle.tree_cluster.specs.Refusals.{IsRefused, NotAt}
+use Rattle.tree_cluster.specs.Refusals.{IsRefused}
 use Rattle.tree_cluster.proofs.Posting.{acts_of}
 use Rattle.tree_cluster.proofs.Refused.{answered_so, not_there}
 use Rattle.tree_cluster.proofs.cluster.Cluster.post.Goals as goal

@@ -10,7 +10,7 @@ use Rattle.tree_cluster.proofs.cluster.Cluster.process_by.Goals as goal
 pub returns-in-Deliver-clause-ok : goal.returns-in-Deliver-clause-ok
 returns-in-Deliver-clause-ok g c =
     subst (λ (e : Event). IfOk c.receiver.result (λ (q : ProcessId). IsOf (root_of g.N.Seats.tree) q e))
-    (sym c.in-Deliver.is) (of_any c.receiver.result (root_of g.N.Seats.tree) c.in-Deliver.number.now)
+    (sym c.in-Deliver.is) (of_any c.receiver.result (root_of g.N.Seats.tree) c.in-Deliver.number)
 
 pub returns-in-Deliver-clause-addressed : goal.returns-in-Deliver-clause-addressed
 returns-in-Deliver-clause-addressed g c =
@@ -21,4 +21,4 @@ pub returns-in-Deliver-clause-err : goal.returns-in-Deliver-clause-err
 returns-in-Deliver-clause-err g c =
     subst (λ (e : Event). IfErr c.receiver.result (IsRefused g.N.Seats.tree e c.args.pass.now))
     (sym c.in-Deliver.is)
-    (no_receiver c.receiver.result g.N.Seats.tree c.args.pass.now c.in-Deliver.number.now c.receiver.ensures.err)
+    (no_receiver c.receiver.result g.N.Seats.tree c.args.pass.now c.in-Deliver.number c.receiver.ensures.err)
