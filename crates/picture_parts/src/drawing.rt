@@ -110,7 +110,6 @@ fn draw_steps(
 }
 
 /// The picture of these steps, of which these are the events, below its caption.
-#[tactic(auto, using(crate::proofs::Framing::framed))]
 fn draw_turns(
     alloc: Global,
     run: &Run,
