@@ -1,5 +1,5 @@
 -- Events made one after another with a pass.
-use Rattle.std.proofs.Common.{◌≡◌, ◌∙◌, ◌+◌, ◌<◌, ◌≤◌, ap, sym, subst, refl, ℕ, zero, suc, Some, Result, IfErr, List, [], ◌∷◌, ◌++◌, length, length-append, get_or, slice_get, take, arith}
+use Rattle.std.proofs.Common.{◌≡◌, ◌∙◌, ◌+◌, ◌<◌, ◌≤◌, ap, sym, subst, refl, ℕ, zero, suc, Option, Some, None, Result, IfErr, IfSome, List, [], ◌∷◌, ◌++◌, length, length-append, get_or, slice_get, take, arith}
 use Rattle.std.proofs.lemmas.List.{take_all, take_more}
 use Rattle.tree_model.specs.declared.trees.TreeEntry.{TreeEntry}
 use Rattle.tree_model.specs.declared.events.Event.{Event}
@@ -82,6 +82,13 @@ first_made tree es p q ps qs old new was is made long =
 pub first_stops : (tree : List TreeEntry) (es : List Event) (p : PassState) (ps old : List PassState) (made : ℕ)
     (why : PostError) → old ≡ p ∷ ps → StopsAt tree es p made why → FirstStops tree es old made why
 first_stops tree es p ps old made why was stops = subst (λ l. FirstStops tree es l made why) (sym was) stops
+
+-- likewise, if something was refused at all
+pub some_stops : (tree : List TreeEntry) (es : List Event) (p : PassState) (ps old : List PassState)
+    (r : Option (ℕ × PostError)) → old ≡ p ∷ ps → IfSome r (λ x. StopsAt tree es p x.0 x.1)
+    → IfSome r (λ x. FirstStops tree es old x.0 x.1)
+some_stops tree es p ps old None was stops = stops
+some_stops tree es p ps old (Some x) was stops = first_stops tree es p ps old x.0 x.1 was stops
 
 -- passes that are as they were
 pub as_they_were : (ps : List PassState) → AreLonger ps ps
