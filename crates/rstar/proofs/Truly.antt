@@ -172,7 +172,7 @@ ended : (start end : WorldState) (tree : List TreeEntry) (events : List Event)
     → AllByRecursion FitsEntry end.tree → (es : List Made) (w : World) → Follows es w end
     → (refusal : Refusal) → LeadsTo start events refusal end → Ended ≡ ending refusal
     → (text report : List ℕ) (d : Detail) (e : Ending)
-    → (tells : Tells false Logs end refusal text) → IsAuditReport d e text report
+    → (tells : Tells false Logs events end refusal text) → IsAuditReport d e text report
     → AuditsTruly d end.tree w text e report
 ended start end tree events opens t fit es w follows None leads status text report d e tells a =
     left_audit end t fit es w follows (none_failed tree start end events es opens leads
