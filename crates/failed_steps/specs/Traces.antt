@@ -45,16 +45,18 @@ abbrev pub TracesShowFaults : Type 0
 TracesShowFaults = (s t : WorldState) (event : Event) (x : Entry) (es : List Made) (w : World) (trace : List Entry)
     → IsTree s.tree → Follows es w (with_trace s trace) → FailsAt s event t x → TraceGoesOn es w s trace t (x ∷ [])
 
--- the same of lists of events
+-- a list of events that were made lengthens the trace by what was entered
 abbrev pub TracesLead : Type 0
 TracesLead = (s t : WorldState) (events : List Event) (es : List Made) (w : World) (trace : List Entry)
     → IsTree s.tree → Follows es w (with_trace s trace) → Leads s events t → TraceGoesOn es w s trace t []
 
+-- so does one of which an event was refused, where no device failed
 abbrev pub TracesLeadUntil : Type 0
 TracesLeadUntil = (s t : WorldState) (events : List Event) (n : ℕ) (e : StepError) (es : List Made) (w : World)
     (trace : List Entry) → IsTree s.tree → e ≢ Device → Follows es w (with_trace s trace) → LeadsUntil s events n e t
     → TraceGoesOn es w s trace t []
 
+-- where a device failed in the event that was refused, the entry of that step stands after the others
 abbrev pub TracesFailAfter : Type 0
 TracesFailAfter = (s t : WorldState) (events : List Event) (n : ℕ) (x : Entry) (es : List Made) (w : World)
     (trace : List Entry) → IsTree s.tree → Follows es w (with_trace s trace) → FailsAfter s events n t x
