@@ -9,7 +9,7 @@ use Rattle.rec_log.specs.Trimming.{Trimmed, trim_of}
 use Rattle.tree_model.specs.LogNames.{unnamed}
 use Rattle.kv_manager.specs.Sights.{KvSight, logged}
 use Rattle.kv_manager.proofs.Trimmed.{AreOfData, kept_again, kept_trimmed, kept_untrimmed, own_is_data}
-use Rattle.kv_manager.proofs.manager.KvManager.trim.Goals as goal
+use Rattle.kv_manager.proofs.manager.KvManager.trim_log.Goals as goal
 
 pub trim_again-requires-clause-managers : goal.trim_again-requires-clause-managers
 trim_again-requires-clause-managers g c = c.self.invariant.kind
