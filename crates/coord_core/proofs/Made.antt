@@ -1,5 +1,5 @@
 -- What each turn makes of a coordinator.
-use Rattle.std.proofs.Common.{◌≡◌, ◌+◌, ◌∷◌, [], true, false, Option, None, Some, List, map, if◌then◌else◌, Result, Ok, Err, IfOk, IfErr, refl, subst, sym, ap, ◌∙◌}
+use Rattle.std.proofs.Common.{◌≡◌, ◌≢◌, is_some, ◌+◌, ◌∷◌, [], true, false, Option, None, Some, List, map, if◌then◌else◌, Result, Ok, Err, IfOk, IfErr, refl, subst, sym, ap, ◌∙◌}
 use Rattle.std.proofs.lemmas.List.{append-nil}
 use Rattle.tree_model.specs.declared.names.Case.{Case}
 use Rattle.tree_model.specs.declared.names.Kind.TheVariants.{Coordinator}
@@ -26,7 +26,7 @@ use Rattle.tree_model.specs.SameViews.{SameView, open_view}
 use Rattle.live_table.specs.Tables.{AreApart, live_value}
 use Rattle.rec_log.specs.Sights.{Breaks, LogSight, LogState}
 use Rattle.core_model.specs.States.{CoreState, SameCore, kind_of_role, logged, wrote}
-use Rattle.core_model.specs.Turns.{Says as SaysTurn, Takes as TakesTurn, clear_turn, kept_records, reacted, seat_in, no_answer, this_version}
+use Rattle.core_model.specs.Turns.{Says as SaysTurn, Takes as TakesTurn, clear_turn, is_refusal, kept_records, reacted, seat_in, no_answer, this_version}
 use Rattle.core_model.specs.Bounds.{FitsBounds}
 use Rattle.core_model.specs.Makes.{BreaksIn, Makes, NotMade, OpensCase, Unbounded, retired_by}
 use Rattle.core_model.proofs.Alike.{same_view}
@@ -44,7 +44,7 @@ use Rattle.coord_core.specs.declared.turn.Turn.{Turn}
 use Rattle.coord_core.specs.declared.turn.Turn.TheVariants.{Refuses, Begins as BeginsOne, Issues as IssuesOne, Clears}
 use Rattle.coord_core.specs.States.{CoordinatorValue, own_ticket, own_txn, role_below, state}
 use Rattle.coord_core.specs.Meets.{Meets, RetiresAs, RetiresNone, meant, met}
-use Rattle.coord_core.specs.Turned.{Stopped, Turned, WritesDown, framed_of}
+use Rattle.coord_core.specs.Turned.{BreaksUnder, IsBrokenUnder, Stopped, Turned, WritesDown, framed_of}
 
 -- The step.
 
@@ -70,7 +70,7 @@ not_made v new i turn Memory meets stopped = stopped
 not_made v new i turn Device meets stopped = record {
   found = meets.found;
   finds = meets.finds;
-  breaks = rw meets.is stopped;
+  breaks = rw meets.is stopped.breaks;
 }
 not_made v new i turn UnknownTxn meets stopped = record {
   same = stopped.0;
@@ -186,7 +186,35 @@ refused_by v i NoSuch meets = record {
   refuses = meets.is;
 }
 
+-- what stopped the turn, where the device failed
+broken_under : (v : CoordinatorValue) (new : CoreState) (i : Input) (turn : Turn) → Meets v i turn
+    → BreaksUnder (state v) new (meant v turn) → IsBrokenUnder (state v) new i
+broken_under v new i turn meets stopped =
+    let under = subst (BreaksUnder (state v) new) (sym meets.is) stopped in
+    record {
+      broken = record { found = meets.found; finds = meets.finds; breaks = under.breaks };
+      writes = under.writes;
+    }
+
+-- a row that frames a record has one
+writes_some : (w : Option Framed) (ws : List Written) → is_some w ≡ true → written_of w ≡ ws → ws ≢ []
+writes_some None ws some same = absurd (cc)
+writes_some (Some w) ws some same = λ none. let clash : written_of (Some w) ≡ [] = same ∙ none in absurd (cc)
+
 -- Results.
+
+pub step_under : (v : CoordinatorValue) (new : CoreState) (i : Input) (turn : Turn)
+    (made : Result Reaction StepError) → Meets v i turn
+    → IfErr made (Stopped (state v) new (meant v turn))
+    → IfErr made (λ e. e ≡ Device → IsBrokenUnder (state v) new i)
+step_under v new i turn (Ok reaction) meets stopped = stopped
+step_under v new i turn (Err e) meets stopped = λ is. broken_under v new i turn meets
+    (subst (Stopped (state v) new (meant v turn)) is stopped)
+
+-- a refusal is none of the device
+pub refuses_under : {A : Type 0} (v : CoordinatorValue) (i : Input) (e : StepError) → Meets v i (Refuses e)
+    → e ≡ Device → A
+refuses_under v i e meets is = let clash : false ≡ true = subst (λ x. is_refusal x ≡ true) is meets.may in absurd (cc)
 
 pub step_ok : (v : CoordinatorValue) (new : CoreState) (i : Input) (turn : Turn)
     (made : Result Reaction StepError) → Meets v i turn
@@ -382,30 +410,34 @@ module _ (v : CoordinatorValue) (log : LogState) (slots : Slots) (c : Case) (ask
       }
 
   -- the device failed under the record
-  pub row_breaks : Breaks mid log (framed_of effect.written)
-      → BreaksIn (state v) (state (record v { log = log; slots = slots })) (TakesTurn c (met v c asked))
-  row_breaks breaks =
+  pub row_breaks : is_some effect.written ≡ true → Breaks mid log (framed_of effect.written)
+      → BreaksUnder (state v) (state (record v { log = log; slots = slots })) (TakesTurn c (met v c asked))
+  row_breaks some breaks =
       let records = logged_is v effect.written (met v c asked).written takes.does.framed does_met.written in
       let at : Breaks (record mid { sight = v.log.sight }) log
       (logged (state v) (entries_written (met v c asked).written)) =
       subst (λ s. Breaks (record mid { sight = s }) log (logged (state v)
-      (entries_written (met v c asked).written))) room (subst (Breaks mid log) records breaks) in (
-        row_effect c (met v c asked),
-        refl,
-        record {
-          log = record {
-            form = at.form;
-            appended = at.appended;
-            stand = at.stand;
-            no_less = at.no_less;
-            more = at.more;
-            leaves = at.leaves;
-            failed = at.failed;
-            cause = at.cause;
-          };
-          place = refl;
-        },
-      )
+      (entries_written (met v c asked).written))) room (subst (Breaks mid log) records breaks) in
+      record {
+        breaks = (
+          row_effect c (met v c asked),
+          refl,
+          record {
+            log = record {
+              form = at.form;
+              appended = at.appended;
+              stand = at.stand;
+              no_less = at.no_less;
+              more = at.more;
+              leaves = at.leaves;
+              failed = at.failed;
+              cause = at.cause;
+            };
+            place = refl;
+          },
+        );
+        writes = writes_some effect.written (met v c asked).written some does_met.written;
+      }
 
 -- A report is cleared.
 
@@ -457,30 +489,34 @@ module _ (v : CoordinatorValue) (log : LogState) (c : Case) (effect : RowEffect)
       })
 
   -- the device failed under it
-  pub clear_breaks : Breaks mid log (framed_of effect.written)
-      → BreaksIn (state v) (state (record v { log = log })) (meant v (Clears c))
-  clear_breaks breaks =
+  pub clear_breaks : is_some effect.written ≡ true → Breaks mid log (framed_of effect.written)
+      → BreaksUnder (state v) (state (record v { log = log })) (meant v (Clears c))
+  clear_breaks some breaks =
       let at : Breaks (record mid { sight = v.log.sight }) log
       (logged (state v) (entries_written cleared.written)) =
       subst (λ s. Breaks (record mid { sight = s }) log (logged (state v) (entries_written cleared.written))) room
       (subst (Breaks mid log) clear_records breaks) in
-      subst (BreaksIn (state v) (state (record v { log = log }))) is_clearing (
-        row_effect c cleared,
-        refl,
-        record {
-          log = record {
-            form = at.form;
-            appended = at.appended;
-            stand = at.stand;
-            no_less = at.no_less;
-            more = at.more;
-            leaves = at.leaves;
-            failed = at.failed;
-            cause = at.cause;
-          };
-          place = refl;
-        },
-      )
+      subst (BreaksUnder (state v) (state (record v { log = log }))) is_clearing
+      (record {
+        breaks = (
+          row_effect c cleared,
+          refl,
+          record {
+            log = record {
+              form = at.form;
+              appended = at.appended;
+              stand = at.stand;
+              no_less = at.no_less;
+              more = at.more;
+              leaves = at.leaves;
+              failed = at.failed;
+              cause = at.cause;
+            };
+            place = refl;
+          },
+        );
+        writes = writes_some effect.written cleared.written some does_clear.written;
+      })
 
 -- nothing is reported: so nothing changes
 pub not_cleared : (v : CoordinatorValue) (c : Case) → is_reported (kept_records (state v)) c ≡ false

@@ -1,5 +1,5 @@
 -- What a turn makes of a coordinator, and what stops it.
-use Rattle.std.specs.Prelude.{◌≡◌, Option, Some, None, List, [], ◌∷◌}
+use Rattle.std.specs.Prelude.{◌≡◌, ◌≢◌, Option, Some, None, List, [], ◌∷◌}
 use Rattle.tree_model.specs.declared.records.LogRecord.{LogRecord}
 use Rattle.tree_model.specs.declared.events.Input.{Input}
 use Rattle.tree_model.specs.declared.events.Reaction.{Reaction}
@@ -10,8 +10,8 @@ use Rattle.tree_model.specs.Reactions.{Does}
 use Rattle.log_text.specs.Made.{frame_record}
 use Rattle.rec_log.specs.Sights.{LogState}
 use Rattle.core_model.specs.States.{CoreState, SameCore, wrote}
-use Rattle.core_model.specs.Turns.{Turn as CoreTurn, Refuses, reacted}
-use Rattle.core_model.specs.Makes.{BreaksIn, IsWithinBounds, Moves}
+use Rattle.core_model.specs.Turns.{Turn as CoreTurn, Refuses, no_answer, reacted}
+use Rattle.core_model.specs.Makes.{BreaksIn, IsBroken, IsWithinBounds, Moves}
 use Rattle.coord_effects.specs.declared.effect.Framed.{Framed}
 use Rattle.coord_effects.specs.Rows.{written_of}
 
@@ -28,11 +28,21 @@ pub record IsUnbounded (s : CoreState) (turn : CoreTurn) : Type 0 where
   pub does : reacted turn ≡ Does effect
   pub beyond : IsWithinBounds s effect → ⊥
 
+-- the device failed in the turn, under a record
+pub record BreaksUnder (old new : CoreState) (turn : CoreTurn) : Type 0 where
+  pub breaks : BreaksIn old new turn
+  pub writes : breaks.0.written ≢ []
+
+-- the device failed in the turn of the input, under a record
+pub record IsBrokenUnder (old new : CoreState) (i : Input) : Type 0 where
+  pub broken : IsBroken old new no_answer i
+  pub writes : broken.breaks.0.written ≢ []
+
 -- what stopped the turn: for want of memory nothing changed, nor where it does not fit the bounds of numbers; or the
 -- device failed; or the turn is this refusal, and nothing changed
 abbrev pub Stopped : CoreState → CoreState → CoreTurn → StepError → Type 0
 Stopped old new turn Memory = SameCore old new
-Stopped old new turn Device = BreaksIn old new turn
+Stopped old new turn Device = BreaksUnder old new turn
 Stopped old new turn Exhausted = SameCore old new × IsUnbounded old turn
 Stopped old new turn e = SameCore old new × (turn ≡ Refuses e)
 

@@ -12,7 +12,7 @@ ghost use Rattle.coord_table.specs.Asks.{Accepts, is_for_any, is_of_root};
 ghost use Rattle.coord_table.specs.Takes.{IsAt};
 ghost use Rattle.coord_core.specs.Meets.{RetiresAs, RetiresNone, meant, met};
 ghost use Rattle.coord_core.specs.States.{state};
-ghost use Rattle.coord_core.specs.Turned.{Stopped, Turned};
+ghost use Rattle.coord_core.specs.Turned.{IsBrokenUnder, Stopped, Turned};
 ghost use Rattle.coord_core.specs.declared.turn.Turn.TheVariants as turn;
 
 use crate::coordinator::Coordinator;
@@ -34,6 +34,8 @@ impl<L: LogStore> Coordinator<L> {
         requires { HasNumbers (state self.old) }
         ensures ok { IfOk result (Makes (state self.old) (state self.new) no_answer (input_of input.entry)) }
         ensures err { IfErr result (NotMade (state self.old) (state self.new) no_answer (input_of input.entry)) }
+        ensures under { IfErr result (λ e. e ≡ StepError.Device
+            → IsBrokenUnder (state self.old) (state self.new) (input_of input.entry)) }
     {
         match self.meet(input) {
             Turn::Refuses(error) => Err(error),

@@ -1,6 +1,6 @@
 //! A row's record in the log.
 
-ghost use Rattle.std.specs.Prelude.{◌≡◌, false, IfErr, OnOk, Option};
+ghost use Rattle.std.specs.Prelude.{◌≡◌, false, true, IfErr, OnOk, Option, is_some};
 ghost use Rattle.tree_model.specs.declared.names.Kind.TheVariants as kind;
 ghost use Rattle.tree_model.specs.declared.names.ProcessId.{ProcessId as AnyProcess};
 ghost use Rattle.rec_log.specs.Sights.{Breaks};
@@ -27,6 +27,7 @@ pub(crate) fn write_down<L: LogStore>(
     requires framed { AreFramed parent written.now }
     ensures ok { OnOk result (WritesDown log.old log.new written.now) }
     ensures err { IfErr result (λ e. (e ≡ LogError.Device) × Breaks log.old log.new (framed_of written.now)) }
+    ensures some { IfErr result (λ _. is_some written.now ≡ true) }
 {
     match written {
         None => Ok(()),

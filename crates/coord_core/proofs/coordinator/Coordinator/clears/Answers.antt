@@ -1,17 +1,16 @@
-use Rattle.std.proofs.Common.{rules, ap, ◌≡◌, ◌∙◌, IfErr, true, refl, subst, sym}
+use Rattle.std.proofs.Common.{rules, is_some, ap, ◌≡◌, ◌∙◌, IfErr, true, refl, subst, sym}
 use Rattle.tree_model.specs.declared.events.Input.{Input}
 use Rattle.tree_model.specs.Records.{is_reported}
 use Rattle.tree_model.specs.CoordinatorRows.{unknown_forget}
 use Rattle.tree_model.specs.Standings.{CoordinatorView, unknown_view}
 use Rattle.rec_log.specs.Sights.{Breaks, LogSight}
 use Rattle.core_model.specs.Turns.{kept_records}
-use Rattle.core_model.specs.Makes.{BreaksIn}
 use Rattle.coord_effects.specs.declared.seat.Seat.{Seat}
 use Rattle.coord_effects.specs.Rows.{AreFramed, Does, NotWritten, seat}
 use Rattle.coord_core.specs.declared.turn.Turn.TheVariants.{Clears}
 use Rattle.coord_core.specs.States.{CoordinatorValue, state}
 use Rattle.coord_core.specs.Meets.{RetiresNone, meant}
-use Rattle.coord_core.specs.Turned.{Stopped, Turned, WritesDown, framed_of}
+use Rattle.coord_core.specs.Turned.{BreaksUnder, Stopped, Turned, WritesDown, framed_of}
 use Rattle.coord_core.proofs.Made.{clear_breaks, clear_untaken, cleared_turn, seat_for}
 use Rattle.coord_core.proofs.Restarted.{same_log}
 use Rattle.coord_table.proofs.Framed.{made_error}
@@ -44,12 +43,13 @@ returns-in-Err-clause-err g c =
     let reported : is_reported (kept_records (state v)) c.args.case ≡ true =
     subst (λ (w : CoordinatorValue). is_reported (kept_records (state w)) c.args.case ≡ true)
     (sym c.self.view_is) told in
+    let some : is_some c.in_ok-effect.effect.written ≡ true = search rules in
     let breaks : Breaks c.make_room.new.log c.write_down.new.log
     (framed_of c.in_ok-effect.effect.written) = search rules in
-    subst (λ (w : CoordinatorValue). BreaksIn (state w) (state (record v { log = c.write_down.new.log }))
+    subst (λ (w : CoordinatorValue). BreaksUnder (state w) (state (record v { log = c.write_down.new.log }))
     (meant w (Clears c.args.case))) c.self.view_is
     (clear_breaks v c.write_down.new.log c.args.case c.in_ok-effect.effect c.make_room.new.log
-    c.make_room.ensures.stays does reported breaks)
+    c.make_room.ensures.stays does reported some breaks)
 
 pub returns-clause-ok : goal.returns-clause-ok
 returns-clause-ok g c =

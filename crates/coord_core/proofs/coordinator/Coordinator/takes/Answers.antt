@@ -1,9 +1,8 @@
-use Rattle.std.proofs.Common.{rules, ap, IfErr, refl, subst, sym, ◌∙◌}
+use Rattle.std.proofs.Common.{rules, is_some, true, ◌≡◌, ap, IfErr, refl, subst, sym, ◌∙◌}
 use Rattle.tree_model.specs.declared.events.Input.{Input}
 use Rattle.rec_log.specs.Sights.{Breaks, LogSight}
 use Rattle.core_model.specs.States.{SameCore}
 use Rattle.core_model.specs.Turns.{Takes}
-use Rattle.core_model.specs.Makes.{BreaksIn}
 use Rattle.coord_effects.specs.declared.seat.Seat.{Seat}
 use Rattle.coord_effects.specs.Rows.{seat}
 use Rattle.coord_table.specs.Asks.{asked_row, is_retiring}
@@ -12,7 +11,7 @@ use Rattle.coord_table.specs.Takes.{NotTaken, TakesRowOf}
 use Rattle.coord_table.proofs.Framed.{made_error}
 use Rattle.coord_core.specs.States.{CoordinatorValue, state}
 use Rattle.coord_core.specs.Meets.{RetiresAs, met}
-use Rattle.coord_core.specs.Turned.{Stopped, Turned, WritesDown, framed_of}
+use Rattle.coord_core.specs.Turned.{BreaksUnder, Stopped, Turned, WritesDown, framed_of}
 use Rattle.coord_core.proofs.Made.{row_breaks, row_turn, row_untaken, same_cases, seat_for}
 use Rattle.coord_core.proofs.Fronts.{remembered_broken, remembered_written}
 use Rattle.coord_core.proofs.Kept.{active_before, written_form}
@@ -34,15 +33,16 @@ returns-in-Err-clause-err g c =
     c.args.asked c.in_ok-effect.effect =
     subst (λ s. TakesRowOf v.slots c.take.new.cases s c.args.asked c.in_ok-effect.effect)
     c.seat-seat.ensures c.in_ok-effect.ensures.ok in
+    let some : is_some c.in_ok-effect.effect.written ≡ true = search rules in
     let breaks : Breaks c.make_room.new.log c.write_down.new.log
     (framed_of c.in_ok-effect.effect.written) = search rules in
-    subst (λ (w : CoordinatorValue). BreaksIn (state w) (state (record v {
+    subst (λ (w : CoordinatorValue). BreaksUnder (state w) (state (record v {
       log = c.write_down.new.log;
       slots = c.take.new.cases;
     })) (Takes c.args.case (met w c.args.case c.args.asked))) c.self.view_is
     (row_breaks v c.write_down.new.log c.take.new.cases c.args.case
     c.args.asked c.in_ok-effect.effect c.make_room.new.log
-    c.make_room.ensures.stays takes breaks)
+    c.make_room.ensures.stays takes some breaks)
 
 pub returns-clause-ok : goal.returns-clause-ok
 returns-clause-ok g c =
