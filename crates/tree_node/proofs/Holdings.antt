@@ -1,5 +1,5 @@
 -- The data of a process: in what it handles, in a restart and in a trim.
-use Rattle.std.proofs.Common.{◌≡◌, ◌≢◌, ℕ, true, false, Option, Some, None, List, Result, Ok, Err, IfOk, IfErr, OnOk, refl}
+use Rattle.std.proofs.Common.{◌≡◌, ◌≢◌, ℕ, true, false, Option, Some, None, List, Result, Ok, Err, IfOk, IfErr, OnOk, refl, subst}
 use Rattle.tree_model.specs.declared.names.ProcessId.{ProcessId}
 use Rattle.tree_model.specs.declared.events.Input.{Input}
 use Rattle.tree_model.specs.declared.events.Input.TheVariants.{Act as ActInput, Message as MessageInput}
@@ -7,7 +7,7 @@ use Rattle.tree_model.specs.declared.events.Reaction.{Reaction}
 use Rattle.tree_model.specs.declared.events.StepError.{StepError}
 use Rattle.tree_model.specs.declared.events.StepError.TheVariants.{Device, Exhausted, Failed, Memory}
 use Rattle.tree_model.specs.declared.records.LogRecord.{LogRecord}
-use Rattle.tree_model.specs.Nodes.{DataAnswer}
+use Rattle.tree_model.specs.Nodes.{DataAnswer, Written}
 use Rattle.core_model.specs.States.{CoreState}
 use Rattle.core_model.specs.Turns.{no_answer}
 use Rattle.core_model.specs.Makes.{Makes, NotMade}
@@ -15,8 +15,10 @@ use Rattle.core_law.specs.worlds.Worlds.{AnswersData, HandlesData, HandlesInput,
 use Rattle.core_law.specs.Steps.{IsSoundLog}
 use Rattle.core_model.specs.Restarting.{NotRestarted, NotTrimmed}
 use Rattle.rec_log.specs.Sights.{left_by}
+use Rattle.failed_steps.specs.Faults.{WritesBelow}
 use Rattle.tree_node.specs.Restarts.{NoRestart, NoTrim}
 use Rattle.coord_core.specs.States.{CoordinatorValue, role_below, state}
+use Rattle.coord_core.specs.Turned.{IsBrokenUnder}
 use Rattle.manager_model.specs.Data.{ManagerData, Rests, no_data}
 use Rattle.manager_model.specs.Sights.{manager_data}
 use Rattle.manager_model.specs.Turns.{AnswersInput, MovesData, case_xid, data_turn}
@@ -24,7 +26,7 @@ use Rattle.sub_deeds.specs.Deeds.{KeepsManager}
 use Rattle.sub_deeds.proofs.Known.{kept_known}
 use Rattle.sub_core.specs.Subordinates.{SubState, core_of}
 use Rattle.sub_core.specs.Steps.{Leaves, LeavesPromises, data_answer}
-use Rattle.tree_node.specs.Nodes.{HasAnswer, KeepsData, NotHandled}
+use Rattle.tree_node.specs.Nodes.{FailsUnder, HasAnswer, KeepsData, NotHandled}
 use Rattle.tree_node.proofs.Same.{rests}
 
 -- A coordinator has no data.
@@ -68,6 +70,24 @@ coordinator_stops v w i (Err e) h = record {
   not_made = h;
   keeps = λ _. rests no_data;
 }
+
+-- a coordinator's device fails under a record
+writes_below : (parent : Option ProcessId) (ws : List Written) → ws ≢ [] → WritesBelow (role_below parent) ws
+writes_below None ws some = tt
+writes_below (Some p) ws some = some
+
+pub coordinator_fails : (v w : CoordinatorValue) (i : Input) (r : Result Reaction StepError)
+    → IfErr r (λ e. e ≡ Device → IsBrokenUnder (state v) (state w) i)
+    → IfErr r (λ e. e ≡ Device → FailsUnder (state v) (state w) no_data i)
+coordinator_fails v w i (Ok r) h = tt
+coordinator_fails v w i (Err e) h = λ is.
+    let under = h is in
+    record {
+      answer = no_answer;
+      answers = none_answer v.parent no_data (state v) i;
+      broken = under.broken;
+      writes = writes_below v.parent under.broken.breaks.0.written under.writes;
+    }
 
 pub coordinator_answers : (v : CoordinatorValue) (i : Input) → HasAnswer (state v) no_data i
 coordinator_answers v i = (no_answer, none_answer v.parent no_data (state v) i)
@@ -119,6 +139,19 @@ manager_stops s t i (Err e) answers not_made keeps = record {
   not_made = not_made;
   keeps = kept_by s t e keeps;
 }
+
+pub manager_fails : (s t : SubState) (i : Input) (r : Result Reaction StepError)
+    → AnswersInput (core_of s) (manager_data s.manager) (case_xid s.parent) i (data_answer s i)
+    → IfErr r (NotMade (core_of s) (core_of t) (data_answer s i) i)
+    → IfErr r (λ e. e ≡ Device → FailsUnder (core_of s) (core_of t) (manager_data s.manager) i)
+manager_fails s t i (Ok r) answers not_made = tt
+manager_fails s t i (Err e) answers not_made = λ is.
+    record {
+      answer = data_answer s i;
+      answers = answers;
+      broken = subst (NotMade (core_of s) (core_of t) (data_answer s i) i) is not_made;
+      writes = tt;
+    }
 
 -- Restarts and trims.
 

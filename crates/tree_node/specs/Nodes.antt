@@ -8,9 +8,10 @@ use Rattle.tree_model.specs.declared.events.StepError.TheVariants.{Device}
 use Rattle.tree_model.specs.Nodes.{DataAnswer, Role, AtLeaf}
 use Rattle.rec_log.specs.Sights.{ReadsAs, log_state, records_of}
 use Rattle.core_model.specs.States.{CoreState, form_of}
-use Rattle.core_model.specs.Makes.{NotMade}
+use Rattle.core_model.specs.Makes.{IsBroken, NotMade}
 use Rattle.core_law.specs.Steps.{IsSoundLog}
 use Rattle.core_law.specs.worlds.Worlds.{AnswersData}
+use Rattle.failed_steps.specs.Faults.{WritesBelow}
 use Rattle.coord_core.specs.States as coordinators
 use Rattle.kv_manager.specs.Resources.{sight_of}
 use Rattle.kv_manager.specs.Sights.{are_ordered}
@@ -69,3 +70,10 @@ pub record NotHandled (old new : CoreState) (before behind : ManagerData) (i : I
   pub answers : AnswersData old.place.role before old answer i
   pub not_made : NotMade old new answer i e
   pub keeps : KeepsData before behind e
+
+-- the device failed under an input, as its data answer that, and at a coordinator below the root under a record
+pub record FailsUnder (old new : CoreState) (before : ManagerData) (i : Input) : Type 0 where
+  pub answer : DataAnswer
+  pub answers : AnswersData old.place.role before old answer i
+  pub broken : IsBroken old new answer i
+  pub writes : WritesBelow old.place.role broken.breaks.0.written

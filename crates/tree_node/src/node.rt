@@ -10,7 +10,8 @@ ghost use Rattle.sub_core.specs.Steps.{state as manager_state};
 ghost use Rattle.core_law.specs.worlds.Worlds.{HandlesInput};
 ghost use Rattle.manager_model.specs.Data.{no_data};
 ghost use Rattle.manager_model.specs.Sights.{manager_data};
-ghost use Rattle.tree_node.specs.Nodes.{HasAnswer, NotHandled, HoldsLog, SpellsLog, core_of, data_of, live_at};
+ghost use Rattle.tree_model.specs.declared.events.StepError.TheVariants.{Device};
+ghost use Rattle.tree_node.specs.Nodes.{FailsUnder, HasAnswer, NotHandled, HoldsLog, SpellsLog, core_of, data_of, live_at};
 
 use coord_core::Coordinator;
 use core_model::InputRef;
@@ -109,6 +110,8 @@ impl<L: LogStore> Node<L> {
             (data_of self.old) (data_of self.new) (input_of input.entry)) }
         ensures err { IfErr result (NotHandled (core_of self.old) (core_of self.new)
             (data_of self.old) (data_of self.new) (input_of input.entry)) }
+        ensures under { IfErr result (λ e. e ≡ Device → FailsUnder (core_of self.old) (core_of self.new)
+            (data_of self.old) (input_of input.entry)) }
     {
         match self {
             Node::Coordinator(coordinator) => step_coordinator(coordinator, input),
@@ -133,6 +136,8 @@ impl<L: LogStore> Node<L> {
             (data_of self.old) (data_of self.new) (input_of input.entry)) }
         ensures err { IfErr result (NotHandled (core_of self.old) (core_of self.new)
             (data_of self.old) (data_of self.new) (input_of input.entry)) }
+        ensures under { IfErr result (λ e. e ≡ Device → FailsUnder (core_of self.old) (core_of self.new)
+            (data_of self.old) (input_of input.entry)) }
     {
         self.data_answers(input);
         if !self.has_numbers() {
@@ -228,6 +233,8 @@ fn step_coordinator<L: LogStore>(
         (coordinator_state coordinator.new) no_data no_data (input_of input.entry)) }
     ensures err { IfErr result (NotHandled (coordinator_state coordinator.old)
         (coordinator_state coordinator.new) no_data no_data (input_of input.entry)) }
+    ensures under { IfErr result (λ e. e ≡ Device → FailsUnder (coordinator_state coordinator.old)
+        (coordinator_state coordinator.new) no_data (input_of input.entry)) }
 {
     coordinator.step(input)
 }
@@ -244,6 +251,9 @@ fn step_manager<L: LogStore>(
     ensures err { IfErr result (NotHandled (manager_state sight_of manager.old)
         (manager_state sight_of manager.new) (manager_data (sight_of manager.old.manager))
         (manager_data (sight_of manager.new.manager)) (input_of input.entry)) }
+    ensures under { IfErr result (λ e. e ≡ Device → FailsUnder (manager_state sight_of manager.old)
+        (manager_state sight_of manager.new) (manager_data (sight_of manager.old.manager))
+        (input_of input.entry)) }
 {
     manager.data_answers();
     manager.step(input)

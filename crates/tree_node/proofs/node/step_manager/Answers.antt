@@ -1,7 +1,7 @@
 use Rattle.core_model.specs.Inputs.{input_of}
 use Rattle.kv_manager.specs.Resources.{sight_of}
 use Rattle.sub_core.specs.Subordinates.{seen}
-use Rattle.tree_node.proofs.Holdings.{manager_handles, manager_stops}
+use Rattle.tree_node.proofs.Holdings.{manager_fails, manager_handles, manager_stops}
 use Rattle.tree_node.proofs.node.step_manager.Goals as goal
 
 pub returns-clause-ok : goal.returns-clause-ok
@@ -13,3 +13,7 @@ pub returns-clause-err : goal.returns-clause-err
 returns-clause-err g c = manager_stops (seen sight_of c.args.manager.now) (seen sight_of c.step.new.self)
     (input_of c.args.input) c.step.result (c.data_answers.ensures (input_of c.args.input)) c.step.ensures.err
     c.step.ensures.kept
+
+pub returns-clause-under : goal.returns-clause-under
+returns-clause-under g c = manager_fails (seen sight_of c.args.manager.now) (seen sight_of c.step.new.self)
+    (input_of c.args.input) c.step.result (c.data_answers.ensures (input_of c.args.input)) c.step.ensures.err

@@ -12,3 +12,6 @@ returns-then-not-has_numbers-clause-err g c =
       not_made = record { same = same_core _; why = NoneLeft (λ has. search rules) };
       keeps = λ _. rests _;
     }
+
+pub returns-then-not-has_numbers-clause-under : goal.returns-then-not-has_numbers-clause-under
+returns-then-not-has_numbers-clause-under g c = λ is. absurd (cc)
