@@ -6,3 +6,4 @@ pub mod Pairs
 pub mod Ordered
 pub mod Sorted
 pub mod Set
+mod Rebasing

@@ -1,6 +1,8 @@
 -- The data of a key store, with what each key was after each commit since the base.
-use Rattle.std.specs.Prelude.{◌≡◌, ◌≤◌, ◌<◌, ◌+◌, ℕ, Bool, true, false, ◌&&◌, if◌then◌else◌, nat_le, nat_lt, Option, Some, None, List, [], ◌∷◌, ◌++◌, length, filter}
-use Rattle.std.specs.List.{list_any, list_all}
+use Rattle.std.specs.Prelude.{◌≡◌, ◌≤◌, ◌<◌, ◌+◌, ℕ, Bool, true, false, ◌&&◌, if◌then◌else◌, nat_le, nat_lt, Option, Some, None, is_some, List, [], ◌∷◌, ◌++◌, length, filter}
+use Rattle.std.specs.Global.{Vec}
+use Rattle.std.specs.List.{IsDistinct, list_any, list_all}
+use Rattle.std.specs.Map.{keys_of}
 use Rattle.std.specs.List.Sorted.{IsPartitionPoint}
 use Rattle.key_tables.specs.Tables.{Becomes, list_at, same_key}
 use Rattle.tree_model.specs.declared.records.Write.{Write}
@@ -72,6 +74,13 @@ pub record Sets (old new : VersionTable) (w : Write) : Type 0 where
   pub before : (n : ℕ) (k : List ℕ) → n < old.count → value_at new n k ≡ value_at old n k
   pub now : (k : List ℕ) → value_at new old.count k ≡ written (w ∷ []) k (value_at old old.count k)
 
+-- what was before the last commit is forgotten: what each key is now stays, and the base is the last commit
+pub record Rebases (old new : VersionTable) : Type 0 where
+  pub base : new.base ≡ old.count
+  pub count : new.count ≡ old.count
+  pub is_staged : new.is_staged ≡ false
+  pub values : (k : List ℕ) → value_at new new.count k ≡ value_at old old.count k
+
 -- a pair of a key and its value, as a write
 abbrev pub pair_write : List ℕ × List ℕ → Write
 pair_write p = record { key = p.0; value = Some p.1 }
@@ -109,6 +118,10 @@ names_key ws k = list_any (λ w. same_key w.key k) ws
 abbrev pub KeyTable : Type 0
 KeyTable = List (List ℕ × List Version)
 
+-- no key stands twice in the map
+abbrev pub AreListedOnce : List (Vec ℕ × Vec Version) → Type 0
+AreListedOnce es = IsDistinct (λ q r. same_key q.items r.items) (keys_of es)
+
 -- a key has one version more
 abbrev pub AddsVersion : KeyTable → KeyTable → List ℕ → Version → Type 0
 AddsVersion old new k v = Becomes old new k (list_at old k ++ v ∷ [])
@@ -139,6 +152,26 @@ pub record IsKept (base count : ℕ) (is_staged : Bool) (t : KeyTable) : Type 0 
   pub rises : (k : List ℕ) → rises_from 0 (list_at t k) ≡ true
   pub settled : is_staged ≡ false → (k : List ℕ) → none_above count (list_at t k) ≡ true
   pub next : (k : List ℕ) → none_above (count + 1) (list_at t k) ≡ true
+
+-- the last of these versions
+abbrev pub last_after : Version → List Version → Version
+last_after v [] = v
+last_after v (w ∷ vs) = last_after w vs
+
+-- what a key keeps of its versions: the last one, if that has a value
+abbrev pub kept_of : List Version → List Version
+kept_of [] = []
+kept_of (v ∷ vs) = if is_some (last_after v vs).value then last_after v vs ∷ [] else []
+
+-- there are versions
+abbrev pub has_any : List Version → Bool
+has_any [] = false
+has_any (v ∷ vs) = true
+
+-- each key that has a value keeps the last of its versions, and every other key goes
+unfoldable pub kept_in : KeyTable → KeyTable
+kept_in [] = []
+kept_in (e ∷ t) = if has_any (kept_of e.1) then (e.0, kept_of e.1) ∷ kept_in t else kept_in t
 
 -- N versions are of commits up to this one, and the others of later ones
 abbrev pub IsPlace : ℕ → List Version → ℕ → Type 0

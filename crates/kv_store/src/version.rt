@@ -1,7 +1,7 @@
 //! The versions of one key.
 
 ghost use Rattle.std.specs.Prelude.{◌≡◌, None, option_map, true};
-ghost use Rattle.kv_store.specs.Versions.{IsPlace, is_up_to, rises_from, up_to, value_by};
+ghost use Rattle.kv_store.specs.Versions.{IsPlace, has_any, is_up_to, kept_of, rises_from, up_to, value_by};
 
 use tree_model::Bytes;
 
@@ -55,4 +55,21 @@ pub(crate) fn keep_up_to(versions: &mut Vec<Version>, count: u64)
     ensures { versions.new.items ≡ up_to count versions.old.items }
 {
     versions.retain(|version| version.is_up_to(count));
+}
+
+/// Drops each version but the last one, and that one too if it has no value; tells whether it stays. It takes no
+/// memory, and the list keeps its own.
+pub(crate) fn keep_last(versions: &mut Vec<Version>) -> bool
+    ensures kept { versions.new.items ≡ kept_of versions.old.items }
+    ensures stays { result ≡ has_any (kept_of versions.old.items) }
+{
+    let Some(last) = versions.pop() else {
+        return false;
+    };
+    versions.clear();
+    if last.value.is_none() {
+        return false;
+    }
+    versions.push_reserved(last);
+    true
 }

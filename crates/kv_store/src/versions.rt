@@ -11,16 +11,21 @@ ghost use Rattle.kv_store.specs.Versions.{
   KeepsUpTo,
   Publishes,
   ReadsAt,
+  Rebases,
   SameData,
   Sets,
   Stages,
   TakesBack,
+  AreListedOnce,
+  has_any,
+  kept_in,
+  kept_of,
   rises_from,
   value_at,
 };
 
 use crate::data_pairs::pairs_of;
-use crate::version::{Version, keep_up_to, value_by};
+use crate::version::{Version, keep_last, keep_up_to, value_by};
 use indexmap::IndexMap;
 use std::alloc::{AllocError, Global};
 use std::marker::Model;
@@ -182,6 +187,17 @@ impl Versions {
         self.is_staged = false;
     }
 
+    /// Forgets what each key was before the last commit, which is the base from then on. A key keeps what it is, and
+    /// one without a value goes. It takes no memory, and goes through all keys.
+    pub fn rebase(&mut self)
+        requires unstaged { self.old.is_staged ≡ false }
+        ensures rebases { Rebases self.old self.new }
+        ensures kept { self.new.versions ≡ kept_in self.old.versions }
+    {
+        keep_last_of_each(&mut self.keys);
+        self.base = self.count;
+    }
+
     /// Sets a key of the base, as a log has it after a trim: no commit is counted. Memory: nothing changed.
     pub fn set(&mut self, write: &Write) -> Result<(), AllocError>
         requires unstaged { self.old.is_staged ≡ false }
@@ -267,6 +283,21 @@ fn take_back(keys: &mut Keys, count: u64, writes: &[Write])
         keep_key_up_to(keys, write.key.as_slice(), count);
         rest = behind;
     }
+}
+
+/// Each key that has a value keeps the last of its versions, and every other key goes. It takes no memory.
+fn keep_last_of_each(keys: &mut Keys)
+    ensures kept { table_of keys.new.entries ≡ kept_in (table_of keys.old.entries) }
+    ensures once { AreListedOnce keys.old.entries }
+{
+    // For the proof: `len` tells that no key stands twice.
+    let _keys = keys.len();
+    keys.retain(
+        |_key: &Vec<u8>, versions: &mut Vec<Version>| -> bool
+            ensures { (result ≡ has_any (kept_of versions.old.items))
+                × (versions.new.items ≡ kept_of versions.old.items) }
+        { keep_last(versions) },
+    );
 }
 
 /// Drops a key's versions of commits after this one.
