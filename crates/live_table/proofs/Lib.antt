@@ -1,4 +1,5 @@
 pub mod Kept
+pub mod Known
 pub mod Keys
 pub mod Places
 pub mod Writes

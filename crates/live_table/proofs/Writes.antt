@@ -44,7 +44,7 @@ module _ {V : Type 0} where
       by_entry None at e = absurd (cc)
       by_entry (Some p) at e = let same : p.1 ≡ v = cc in (p.0, at ∙ ap (λ w. Some (p.0, w)) same)
 
-  apart_behind : (slot : Option (Case × V)) (slots : List (Option (Case × V)))
+  pub apart_behind : (slot : Option (Case × V)) (slots : List (Option (Case × V)))
       → AreApart (slot ∷ slots) → AreApart slots
   apart_behind slot slots apart c j k here there = let same : suc j ≡ suc k =
       apart c (suc j) (suc k) here there in omega (arith, same)
@@ -163,7 +163,7 @@ module _ {V : Type 0} where
   abbrev one_for : Option (Case × V) → ℕ
   one_for slot = cond (is_some slot) 1 0
 
-  counted : (slot : Option (Case × V)) (slots : List (Option (Case × V)))
+  pub counted : (slot : Option (Case × V)) (slots : List (Option (Case × V)))
       → live_count (slot ∷ slots) ≡ one_for slot + live_count slots
   counted slot slots = sum_by-cons one_for slot slots
 

@@ -81,7 +81,8 @@ impl<V: Drop> LiveTable<V> {
 
     /// How many cases are live.
     pub fn len(&self) -> usize
-        ensures { result ≡ live_count self.now }
+        ensures count { result ≡ live_count self.now }
+        ensures apart { AreApart self.now }
     {
         self.slots.len()
     }
