@@ -4,6 +4,7 @@ pub mod Tickets
 pub mod Given
 pub mod Lent
 pub mod Standings
+mod Unknowns
 pub mod Taken
 pub mod Framed
 pub mod Restores

@@ -11,7 +11,7 @@ use Rattle.tree_model.specs.declared.messages.Envelope.{Envelope}
 use Rattle.tree_model.specs.declared.standings.Standing.{Standing}
 use Rattle.tree_model.specs.declared.standings.Standing.TheVariants.{Unknown, Active, Collecting, Prepared, Committing, Aborting, Heuristic}
 use Rattle.tree_model.specs.Names.{same_case}
-use Rattle.tree_model.specs.Restarts.{resumes_by}
+use Rattle.tree_model.specs.Restarts.{is_known, resumes_by}
 use Rattle.tree_model.specs.Standings.{CoordinatorView, known_view, unknown_view}
 use Rattle.tree_model.proofs.Equality.{case_equality}
 use Rattle.tree_model.proofs.NameTests.{case_tells}
@@ -24,6 +24,15 @@ use Rattle.inquire_core.specs.Summaries.{Summary, restored_view, standing_of, vi
 use Rattle.inquire_core.specs.Readings.{ReadLog, Table, same}
 use Rattle.coord_table.specs.Restores.{IsRestored, RestoresAll, RestoresNext, resumed_of, view_found}
 use Rattle.inquire_core.proofs.CaseTables.{apart_back, is_same}
+
+known_so : (st : Standing) → (st ≡ Unknown → ⊥) → is_known st ≡ true
+known_so Unknown h = absurd (h refl)
+known_so Active h = refl
+known_so Collecting h = refl
+known_so Prepared h = refl
+known_so Committing h = refl
+known_so Aborting h = refl
+known_so Heuristic h = refl
 
 known_is : (st : Standing) (v : CoordinatorView) → (st ≡ Unknown → ⊥) → known_view st v ≡ v
 known_is Unknown v h = absurd (h refl)
@@ -80,7 +89,11 @@ module _ (s : Seat) (summary : Summary) (old : Slots) (sent : List Envelope)
                 let same_entry : Some (s.case, record { given_for = None; live = live }) ≡ Some p =
                 sym restores.updates.changed ∙ sym (ap (entry_at new) one) ∙ at in
                 let entry : (s.case, record { given_for = None; live = live }) ≡ p = cc in
-                inr (ap (λ (q : Case × Held). q.1.given_for) (sym entry))
+                inr (
+                  ap (λ (q : Case × Held). q.1.given_for) (sym entry),
+                  ap (λ (q : Case × Held). is_known q.1.live.standing) (sym entry)
+                      ∙ ap (λ (v : CoordinatorView). is_known v.standing) is ∙ known_so st known,
+                )
             | inr other ↦ inl (sym (restores.updates.others k other) ∙ at)
           ]
 

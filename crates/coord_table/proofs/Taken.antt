@@ -4,6 +4,7 @@ use Rattle.std.proofs.lemmas.Bool.{cases_eq}
 use Rattle.tree_model.specs.declared.names.Case.{Case}
 use Rattle.tree_model.specs.declared.standings.Standing.TheVariants.{Active, Unknown}
 use Rattle.tree_model.specs.Names.{same_case}
+use Rattle.tree_model.specs.Restarts.{is_known}
 use Rattle.tree_model.specs.Standings.{CoordinatorView, unknown_view}
 use Rattle.tree_model.specs.SameViews.{SameView}
 use Rattle.tree_model.proofs.NameTests.{case_tells}
@@ -17,9 +18,10 @@ use Rattle.coord_effects.specs.declared.effect.RowEffect.{RowEffect}
 use Rattle.coord_effects.specs.Rows.{Does, seat}
 use Rattle.coord_table.specs.declared.asked.Asked.{Asked}
 use Rattle.coord_table.specs.Asks.{asked_row, is_of_root, is_retiring}
-use Rattle.coord_table.specs.Takes.{GivenAreActive, LetsGo, RetiresIf, SameCases, TakesLive, TakesRowOf, retired_if}
+use Rattle.coord_table.specs.Takes.{AreKnown, GivenAreActive, LetsGo, RetiresIf, SameCases, TakesLive, TakesRowOf, retired_if}
 use Rattle.coord_table.proofs.Given.{given_retires, others_keep, unretired}
 use Rattle.coord_table.proofs.Standings.{stays_active}
+use Rattle.coord_table.proofs.Unknowns.{IsKnownOrGone, known_or_gone, nothing_known}
 
 same_of : (v w : CoordinatorView) → v ≡ w → SameView v w
 same_of v w same = subst (λ u. SameView v u) same (same_view v)
@@ -112,6 +114,15 @@ module _ (old new : Slots) (key : ℕ) (c : Case) (h : Held) (behind : Coordinat
                   sym (ap (λ (q : Case × Held). q.1.live.standing) one) ∙ same.standing
                   ∙ active key d (c, h) was (ap (λ (q : Case × Held). is_for d q.1.given_for) one ∙ is)
               | inr differs ↦ active k d p (sym (relives.updates.others k differs) ∙ at) is
+            ];
+        known = λ known k p at.
+            elim (cases_eq k key) [
+              | inl here ↦
+                  let one = entry_is (c, record h { live = behind }) p
+                  (sym relived_at ∙ sym (ap (entry_at new) here) ∙ at) in
+                  sym (ap (λ (q : Case × Held). is_known q.1.live.standing) one) ∙ ap is_known same.standing
+                  ∙ known key (c, h) was
+              | inr differs ↦ known k p (sym (relives.updates.others k differs) ∙ at)
             ];
         cases = λ k p at.
             elim (cases_eq k key) [
@@ -241,10 +252,35 @@ module _ (old mid later new : Slots) (key : ℕ) (s : Seat) (asked : Asked) (eff
       by_here (inl there) = entry_is (s.case, left.held) p (sym there ∙ at)
       by_here (inr none) = let entry : None ≡ Some p = sym none ∙ at in absurd (cc)
 
+  -- the case that the row leaves is known, or nothing is left of it
+  left_known : AreKnown old → IsKnownOrGone live.behind
+  left_known known =
+      elim (known_or_gone (seat s) asked live.held.live (known key (s.case, live.held) live.was)) [
+        | inl is ↦ inl (ap is_known live.does.view_is.standing ∙ is)
+        | inr gone ↦ inr (nothing_known live.behind (subst (SameView live.behind) gone live.does.view_is))
+      ]
+
+  -- where it is still there, it is known
+  known_here : RetiresIf (is_retiring asked) mid later key → LetsGo later new key → AreKnown old
+      → (p : Case × Held) → entry_at new key ≡ Some p → is_known p.1.live.standing ≡ true
+  known_here retires (inl ends) known p at =
+      let clash : None ≡ Some p = sym ends.0.updates.changed ∙ at in absurd (cc)
+  known_here retires (inr stays) known p at =
+      let stands = stands_if old mid later key s asked effect live (is_retiring asked) retires in
+      let one = entry_is (s.case, stands.left.held) p
+      (sym stands.at ∙ sym (ap (λ slots. entry_at slots key) stays.0) ∙ at) in
+      let is : p.1.live ≡ live.behind = sym (ap (λ (q : Case × Held). q.1.live) one) ∙ stands.left.live in
+      ap (λ (v : CoordinatorView). is_known v.standing) is
+      ∙ elim (left_known known) [
+        | inl here ↦ here
+        | inr gone ↦ absurd (stays.1 (ap live_of stands.at ∙ ap (λ v. Some v) (stands.left.live ∙ gone)))
+      ]
+
   taken : Left old new key s.case (is_retiring asked) live.held live.behind
       → (view_in new s.case ≡ unknown_view → live_value new s.case ≡ None)
+      → (AreKnown old → (p : Case × Held) → entry_at new key ≡ Some p → is_known p.1.live.standing ≡ true)
       → TakesRowOf old new s asked effect
-  taken left gone =
+  taken left gone here_known =
       record {
         does =
             subst (λ v. Does s (asked_row (seat s) asked (view_in old s.case)) effect v) (sym left.own)
@@ -262,6 +298,11 @@ module _ (old mid later new : Slots) (key : ℕ) (s : Seat) (asked : Asked) (eff
                   ∙ given_active (is_retiring asked) refl left.held.given_for left.given d
                   (ap (λ (q : Case × Held). is_for d q.1.given_for) one ∙ is)
               | inr differs ↦ active k d p (sym (left.elsewhere k differs) ∙ at) is
+            ];
+        known = λ known k p at.
+            elim (cases_eq k key) [
+              | inl here ↦ here_known known p (sym (ap (entry_at new) here) ∙ at)
+              | inr differs ↦ known k p (sym (left.elsewhere k differs) ∙ at)
             ];
         cases = λ k p at.
             elim (cases_eq k key) [
@@ -300,4 +341,6 @@ module _ (old mid later new : Slots) (key : ℕ) (s : Seat) (asked : Asked) (eff
 
   pub takes : RetiresIf (is_retiring asked) mid later key → LetsGo later new key
       → TakesRowOf old new s asked effect
-  takes retires goes = let left = left_so retires goes in taken left (gone_so retires goes left)
+  takes retires goes =
+      let left = left_so retires goes in
+      taken left (gone_so retires goes left) (known_here retires goes)

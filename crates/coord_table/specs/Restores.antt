@@ -1,5 +1,5 @@
 -- The live cases as records leave them, and what a restart makes of a log.
-use Rattle.std.specs.Prelude.{◌≡◌, ◌⊎◌, ⊤, ℕ, false, Option, Some, None, List, ◌++◌, map}
+use Rattle.std.specs.Prelude.{◌≡◌, ◌⊎◌, ⊤, ℕ, false, true, Option, Some, None, List, ◌++◌, map}
 use Rattle.std.specs.List.{AllByRecursion, flat_map}
 use Rattle.std.specs.Map.{lookup}
 use Rattle.tree_model.specs.declared.names.Case.{Case}
@@ -15,7 +15,7 @@ use Rattle.tree_model.specs.LogNames.{in_log, own_records, parent_of}
 use Rattle.tree_model.specs.Names.{same_case}
 use Rattle.tree_model.specs.Nodes.{Place, reaction_of}
 use Rattle.tree_model.specs.Records.{boot_of}
-use Rattle.tree_model.specs.Restarts.{reopens, resumes_by}
+use Rattle.tree_model.specs.Restarts.{is_known, reopens, resumes_by}
 use Rattle.tree_model.specs.Standings.{CoordinatorView, unknown_view}
 use Rattle.live_table.specs.Tables.{entry_at, live_value}
 use Rattle.log_rules.specs.sound.Sound.{IsSound}
@@ -46,9 +46,9 @@ abbrev pub view_found : Option Summary → CoordinatorView
 view_found None = unknown_view
 view_found (Some s) = view_of s
 
--- what is held under a key was given for nobody
+-- what is held under a key was given for nobody, and something is known of its case
 abbrev pub IsRestored : Case × Held → Type 0
-IsRestored p = p.1.given_for ≡ None
+IsRestored p = (p.1.given_for ≡ None) × (is_known p.1.live.standing ≡ true)
 
 -- one case more stands as its records say, and what it sends again is sent
 pub record RestoresNext (s : Seat) (summary : Summary) (old new : Slots)

@@ -8,6 +8,7 @@ use Rattle.tree_model.specs.declared.events.StepError.TheVariants.{Exhausted, Me
 use Rattle.tree_model.specs.CoordinatorRows.{Row}
 use Rattle.tree_model.specs.declared.standings.Standing.TheVariants.{Active}
 use Rattle.tree_model.specs.Names.{child_case, same_case}
+use Rattle.tree_model.specs.Restarts.{is_known}
 use Rattle.tree_model.specs.Standings.{CoordinatorView, unknown_view}
 use Rattle.tree_model.specs.SameViews.{SameView}
 use Rattle.live_table.specs.Tables.{AreApart, case_of, entry_at, live_value}
@@ -29,6 +30,10 @@ abbrev pub GivenAreActive : Slots → Type 0
 GivenAreActive slots = (k : ℕ) (d : Case) (p : Case × Held) → entry_at slots k ≡ Some p
     → is_for d p.1.given_for ≡ true → p.1.live.standing ≡ Active
 
+-- of each live case something is known
+abbrev pub AreKnown : Slots → Type 0
+AreKnown slots = (k : ℕ) (p : Case × Held) → entry_at slots k ≡ Some p → is_known p.1.live.standing ≡ true
+
 -- no case is live that was not
 abbrev pub AddsNone : Slots → Slots → Type 0
 AddsNone old new = (k : ℕ) (p : Case × Held) → entry_at new k ≡ Some p → case_of (entry_at old k) ≡ Some p.0
@@ -43,6 +48,7 @@ pub record SameCases (old new : Slots) : Type 0 where
   pub views : (c : Case) → SameView (view_in new c) (view_in old c)
   pub tickets : (d : Case) → ticket_in new d ≡ ticket_in old d
   pub given : GivenAreActive old → GivenAreActive new
+  pub known : AreKnown old → AreKnown new
   pub cases : AddsNone old new
 
 -- the key's live case takes the row that it meets
@@ -75,6 +81,7 @@ pub record TakesRowOf (old new : Slots) (s : Seat) (asked : Asked) (effect : Row
   pub tickets : (d : Case) → ticket_in new d ≡ retired_if (is_retiring asked) s.case d (ticket_in old d)
   pub gone : view_in new s.case ≡ unknown_view → live_value new s.case ≡ None
   pub given : GivenAreActive new
+  pub known : AreKnown old → AreKnown new
   pub cases : AddsNone old new
 
 -- why the row is not taken: memory was refused, or what it does is beyond the bounds of numbers

@@ -100,7 +100,8 @@ impl Cases {
 
     /// How many cases are live.
     pub fn len(&self) -> usize
-        ensures { result ≡ live_count self.now }
+        ensures count { result ≡ live_count self.now }
+        ensures apart { AreApart self.now }
     {
         self.table.len()
     }

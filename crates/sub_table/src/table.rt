@@ -69,7 +69,8 @@ impl Branches {
 
     /// How many cases are live.
     pub fn len(&self) -> usize
-        ensures { result ≡ live_count self.now.branches }
+        ensures count { result ≡ live_count self.now.branches }
+        ensures kept { IsKept self.now }
     {
         self.branches.len()
     }
