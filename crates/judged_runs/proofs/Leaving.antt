@@ -7,6 +7,8 @@ use Rattle.xa_tables.specs.declared.states.BranchState.{BranchState}
 use Rattle.xa_tables.specs.declared.states.BranchState.TheVariants.{S0, S1, S2, S3, S4, S5}
 use Rattle.xa_xid.specs.declared.xid.Xid.{Xid}
 use Rattle.xa_branch.specs.Branches.{state_in}
+use Rattle.xa_assoc.specs.declared.states.States.{States}
+use Rattle.xa_assoc.specs.Answers.{state_at}
 use Rattle.xa_assoc.specs.Restored.{state_left}
 use Rattle.xa_heur.specs.declared.decision.Decision.{Decision as Known}
 use Rattle.xa_heur.specs.Decisions.{decided_in}
@@ -22,13 +24,15 @@ use Rattle.log_rules.specs.trim.Trims.{trim_of}
 use Rattle.core_model.specs.States.{forced_sight}
 use Rattle.rec_log.specs.Sights.{LogSight, left_by, records_of}
 use Rattle.kv_store.specs.Pairs.{found_in, keys_rise}
+use Rattle.kv_store.specs.writes.Writes.{WriteTable, writes_of}
 use Rattle.kv_core.specs.Ends.{known_of}
 use Rattle.kv_core.specs.Folds.{AreData}
 use Rattle.kv_core.specs.Keeping.{KeepsData}
-use Rattle.kv_core.specs.Stores.{KeySight, state_of}
+use Rattle.kv_core.specs.Stores.{RebasesStore, state_of}
 use Rattle.kv_core.proofs.Lawful.{IsLawful, lawful_of}
 use Rattle.kv_manager.specs.Restarts.{Restarted}
 use Rattle.kv_manager.specs.Sights.{KvSight, doubt_of, logged}
+use Rattle.kv_manager.proofs.Forgetting.{rebased_data}
 use Rattle.kv_manager.proofs.Marks.{state_by}
 use Rattle.kv_manager.proofs.Restarted.{restarted}
 use Rattle.kv_manager.proofs.Restoring.{restored_state}
@@ -57,11 +61,10 @@ three_open Finished h = absurd cc
 pub trim_judged : (n : Numbers) (old new : KvSight) (l l' : Xid → Bool) (s u : Sight) → IsJudged n old s → IsRecorded old l
     → IsRecorded new l' → HasSoundLog old
     → new.log.sight ≡ forced_sight old.log.sight.form (trim_of (records_of old.log.sight.kept)) old.log.sight.failures
-    → new.store ≡ old.store → ledger u ≡ ledger s → IsJudged n new u
+    → RebasesStore old.store new.store → ledger u ≡ ledger s → IsJudged n new u
 trim_judged n old new l l' s u j r r' log is store books = forced_judged n new l' u r' stored
     (same_heard n (value_of old) (value_of new) (written_by old) (written_by new) s u books
-    (λ k. ap (λ (t : KeySight). value_of (record { store = t; log = new.log; boot = new.boot }) k) store)
-    (λ x. ap (λ (t : KeySight). written_by (record { store = t; log = new.log; boot = new.boot }) x) store) j.heard)
+    (λ k. store.versions.values k) written j.heard)
     (λ keep. forced_left new.log.sight (trim_of ls) keep (ap (λ (k : LogSight). k.kept.forced) is)
     (ap (λ (k : LogSight). k.kept.unforced) is) ∙ sym all)
   where
@@ -75,22 +78,26 @@ trim_judged n old new l l' s u j r r' log is store books = forced_judged n new l
     same : KeepsData ls (trim_of ls)
     same = keeps ls log.sound log.ordered r.begun
 
+    written : (x : Xid) → written_by new x ≡ written_by old x
+    written x = ap (λ (t : WriteTable). writes_of t x) store.writes
+
+    state : (x : Xid) → state_of new.store x ≡ state_of old.store x
+    state x = ap (λ (t : States). state_at t x) store.tables
+
     stored : IsStored new
     stored = record {
-      are = subst (λ (t : KeySight). AreData t.versions (logged new)) (sym store)
+      are = rebased_data old.store.versions new.store.versions (logged new) store.versions
           (subst (λ (ks : List LogRecord). AreData old.store.versions (data_of ks)) (sym all)
           (same_data old.store.versions (data_of ls) (data_of (trim_of ls)) same.count same.pairs j.stored.are));
       rise = ap (λ ks. keys_rise (data_of ks).pairs) all ∙ ap keys_rise same.pairs ∙ j.stored.rise;
       prepared = λ x e.
-          let was : state_of old.store x ≡ S3 = sym (ap (λ (t : KeySight). state_of t x) store) ∙ e in
-          ap (λ (t : KeySight). written_by (record { store = t; log = new.log; boot = new.boot }) x) store
+          let was : state_of old.store x ≡ S3 = sym (state x) ∙ e in
+          written x
           ∙ j.stored.prepared x was
           ∙ sym (same.promises x (three_open (mark_at ls x) (r.now x ∙ ap doubt_of was)))
           ∙ sym (ap (λ ks. promised_of (Foreign x) (data_of ks).promised) all);
-      decided = λ x e. ap (λ (t : KeySight). written_by (record { store = t; log = new.log; boot = new.boot }) x) store
-          ∙ j.stored.decided x (sym (ap (λ (t : KeySight). state_of t x) store) ∙ e);
-      once = λ x. ap keys_once (ap (λ (t : KeySight). written_by (record { store = t; log = new.log; boot = new.boot }) x) store)
-          ∙ j.stored.once x;
+      decided = λ x e. written x ∙ j.stored.decided x (sym (state x) ∙ e);
+      once = λ x. ap keys_once (written x) ∙ j.stored.once x;
     }
 
 -- Restarts.

@@ -11,7 +11,7 @@ use Rattle.log_rules.specs.order.Orders.{names_key}
 use Rattle.key_tables.specs.declared.holders.Mode.TheVariants.{Exclusive}
 use Rattle.key_tables.specs.Holders.{holds}
 use Rattle.kv_locks.specs.Locks.{LockTable, holders_of}
-use Rattle.kv_store.specs.Versions.{VersionTable}
+use Rattle.kv_store.specs.Versions.{Rebases, VersionTable}
 use Rattle.kv_store.specs.writes.Writes.{SameWrites, WriteTable, writes_of}
 
 -- what a contract sees: the tables of calls, what each branch at work has written, the locks, the data, and
@@ -61,6 +61,14 @@ pub record MovesTables (old new : KeySight) (Moves : States → States → Type 
   pub writes : new.writes ≡ old.writes
   pub locks : new.locks ≡ old.locks
   pub versions : new.versions ≡ old.versions
+  pub decisions : new.decisions ≡ old.decisions
+
+-- what was before the last commit is forgotten, and nothing else moves
+pub record RebasesStore (old new : KeySight) : Type 0 where
+  pub versions : Rebases old.versions new.versions
+  pub tables : new.tables ≡ old.tables
+  pub writes : new.writes ≡ old.writes
+  pub locks : new.locks ≡ old.locks
   pub decisions : new.decisions ≡ old.decisions
 
 -- one commit more can be counted

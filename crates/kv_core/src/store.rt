@@ -16,7 +16,7 @@ ghost use Rattle.xa_branch.specs.Branches.{AreListedOnce, Finds, StandsAt, in_do
 ghost use Rattle.xa_tables.specs.declared.call.Call.{Call as AnyCall};
 ghost use Rattle.xa_assoc.specs.declared.states.States.{States as AnyStates};
 ghost use Rattle.xa_assoc.specs.Restored.{Restored, restore_refusal};
-ghost use Rattle.kv_core.specs.Stores.{IsTidy, MovesTables, Rebuilt, SameStore, has_numbers, is_let_go, state_of};
+ghost use Rattle.kv_core.specs.Stores.{IsTidy, MovesTables, RebasesStore, Rebuilt, SameStore, has_numbers, is_let_go, state_of};
 ghost use Rattle.xa_heur.specs.Cases.{Notes, decision_in};
 ghost use Rattle.xa_heur.specs.Decisions.{decision_at};
 ghost use Rattle.kv_core.specs.Works.{Does, IsRefused, IsRefusedIfFree, Reads, ReadsFor, Spoils, Writes, WritesFor, WorksIdle, at_work, branch_refusal, is_too_long, op_refusal, unless_locked, value_for, work_refusal};
@@ -483,6 +483,17 @@ impl KeyStore {
         ensures { PublishesWrites self.old self.new }
     {
         self.versions.publish();
+    }
+
+    /// Forgets what each key was before the last commit, which is the base of the data from then on. It takes no
+    /// memory, and goes through all keys, unless no commit was made since the base.
+    pub fn rebase(&mut self)
+        requires { self.old.versions.is_staged ≡ false }
+        ensures { RebasesStore self.old self.new }
+    {
+        if self.versions.base() < self.versions.count() {
+            self.versions.rebase();
+        }
     }
 
     /// Makes room for an operator's decision. Memory: nothing changed.

@@ -22,3 +22,4 @@ pub mod TrimOrder
 pub mod TrimCounts
 pub mod SoundData
 pub mod Remembering
+pub mod Forgetting

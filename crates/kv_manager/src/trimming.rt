@@ -1,12 +1,13 @@
 //! A manager's trim.
 
-ghost use Rattle.std.specs.Prelude.{◌≡◌, IfErr, IfOk, OnOk, false, map};
+ghost use Rattle.std.specs.Prelude.{◌≡◌, IfErr, IfOk, OnErr, OnOk, false, map};
 ghost use Rattle.tree_model.specs.declared.names.Kind.TheVariants as kind;
 ghost use Rattle.tree_model.specs.Store.{base_records, data_of};
 ghost use Rattle.log_text.specs.Made.{frame_record};
 ghost use Rattle.rec_log.specs.Sights.{AreRecords, NotRewritten, records_of};
 ghost use Rattle.rec_log.specs.Trimming.{IsSettled, Trimmed, trim_of};
 ghost use Rattle.tree_model.specs.LogNames.{unnamed};
+ghost use Rattle.kv_core.specs.Stores.{RebasesStore};
 ghost use Rattle.kv_manager.specs.Resources.{sight_of, trim_error};
 ghost use Rattle.manager_model.specs.Trimming.{NotTrimmed, Trims};
 
@@ -61,12 +62,9 @@ impl<L: LogStore> KvManager<L> {
         base_frames(self.store.count(), &pairs, self.alloc)
     }
 
-    /// Trims its log: the last Opened and the records of the branches that are not forgotten stay, and
-    /// after them the data, keys rising, forced by one write. Gives how many records remain. Its own
-    /// records are never refused. A log that its last trim left as it was is put in its own place, and neither
-    /// it nor the data are read. Failed, Memory: nothing changed. Device: the log stands as it was or
-    /// trimmed, and the manager has failed until a restart.
-    pub fn trim(&mut self) -> Result<usize, TrimError>
+    /// Trims its log, and nothing else moves. Gives how many records remain. A log that its last trim left as it was is
+    /// put in its own place, and neither it nor the data are read. The errors are those of `trim`.
+    fn trim_log(&mut self) -> Result<usize, TrimError>
         ensures ok { IfOk result (Trims (sight_of self.old) (sight_of self.new)) }
         ensures err { IfErr result (NotTrimmed (sight_of self.old) (sight_of self.new)) }
         ensures store { self.new.store ≡ self.old.store }
@@ -86,5 +84,31 @@ impl<L: LogStore> KvManager<L> {
             Ok(count) => Ok(count),
             Err(error) => Err(trim_error(error)),
         }
+    }
+
+    /// Forgets what the data were before the last commit, as a restart over the trimmed log does.
+    fn rebase(&mut self)
+        requires { self.old.log.sight.failed ≡ false }
+        ensures store { RebasesStore self.old.store self.new.store }
+        ensures log { self.new.log ≡ self.old.log }
+        ensures boot { self.new.boot ≡ self.old.boot }
+    {
+        self.store.rebase();
+    }
+
+    /// Trims its log: the last Opened and the records of the branches that are not forgotten stay, and
+    /// after them the data, keys rising, forced by one write. Gives how many records remain. What the data were before
+    /// the last commit is forgotten. Its own records are never refused. A log that its last trim left as it was is put
+    /// in its own place, and not read. Failed, Memory: nothing changed. Device: the log stands as it was or
+    /// trimmed, and the manager has failed until a restart.
+    pub fn trim(&mut self) -> Result<usize, TrimError>
+        ensures ok { IfOk result (Trims (sight_of self.old) (sight_of self.new)) }
+        ensures data { OnOk result (RebasesStore self.old.store self.new.store) }
+        ensures err { IfErr result (NotTrimmed (sight_of self.old) (sight_of self.new)) }
+        ensures store { OnErr result (self.new.store ≡ self.old.store) }
+    {
+        let count = self.trim_log()?;
+        self.rebase();
+        Ok(count)
     }
 }

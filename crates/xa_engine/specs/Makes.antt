@@ -12,7 +12,7 @@ use Rattle.xa_assoc.specs.declared.errors.WorkError.TheVariants as work_error
 use Rattle.tree_model.specs.declared.messages.Op.{Op}
 use Rattle.tree_model.specs.declared.messages.Op.TheVariants.{Put, Get, Delete}
 use Rattle.key_tables.specs.declared.holders.Mode.TheVariants.{Exclusive, Shared}
-use Rattle.kv_core.specs.Stores.{MovesTables}
+use Rattle.kv_core.specs.Stores.{MovesTables, RebasesStore}
 use Rattle.kv_core.specs.Works.{Reads, Writes, work_refusal}
 use Rattle.manager_model.specs.declared.errors.RestartError.TheVariants as restart_error
 use Rattle.kv_manager.specs.Sights.{KvSight}
@@ -103,9 +103,10 @@ Boots old new keep (answer.NotBooted e) =
     (e ≡ restart_error.Memory → ⊥) × NotRestarted old new (kept_bytes keep) e
 Boots old new keep _ = ⊥
 
--- a trim, of which N records remain, or why there is none; either leaves the key store as it was
+-- a trim, of which N records remain, and what was before the last commit is forgotten; or why there is none, which
+-- leaves the key store as it was
 abbrev pub Trims : KvSight → KvSight → Answer → Type 0
-Trims old new (answer.Trimmed n) = TrimsLog (sight_of old) (sight_of new) n × (new.store ≡ old.store)
+Trims old new (answer.Trimmed n) = TrimsLog (sight_of old) (sight_of new) n × RebasesStore old.store new.store
 Trims old new (answer.NotTrimmed e) =
     (e ≡ trim_error.Memory → ⊥) × NotTrimmed (sight_of old) (sight_of new) e × (new.store ≡ old.store)
 Trims old new _ = ⊥
