@@ -1,5 +1,5 @@
 -- What a coordinator keeps, whatever it did.
-use Rattle.std.proofs.Common.{◌≡◌, ◌≤◌, ◌∙◌, ◌+◌, ◌&&◌, if◌then◌else◌, inl, inr, ℕ, Bool, true, false, Option, Some, None, List, [], refl, sym, ap, arith}
+use Rattle.std.proofs.Common.{◌≡◌, ◌≤◌, ◌∙◌, ◌+◌, ◌&&◌, if◌then◌else◌, inl, inr, ℕ, Bool, true, false, Option, Some, None, is_some, List, [], refl, sym, ap, arith}
 use Rattle.std.proofs.lemmas.Bool.{cases_eq}
 use Rattle.tree_model.specs.declared.names.Case.{Case}
 use Rattle.tree_model.specs.declared.names.Kind.TheVariants.{Coordinator}
@@ -7,17 +7,21 @@ use Rattle.tree_model.specs.declared.names.ProcessId.{ProcessId}
 use Rattle.tree_model.specs.declared.names.Ticket.{Ticket}
 use Rattle.tree_model.specs.declared.trees.TreeEntry.{TreeEntry}
 use Rattle.tree_model.specs.Names.{child_case, same_case}
+use Rattle.tree_model.specs.Restarts.{is_known}
 use Rattle.tree_model.specs.SameViews.{open_view}
 use Rattle.tree_model.proofs.NameTests.{case_tells}
-use Rattle.live_table.specs.Tables.{entry_at}
+use Rattle.live_table.specs.Known.{Knows}
+use Rattle.live_table.specs.Tables.{AreApart, entry_at, live_count, live_value}
+use Rattle.live_table.proofs.Known.{knows}
+use Rattle.live_table.proofs.Writes.{live_found}
 use Rattle.rec_log.specs.Sights.{LogSight, LogState}
 use Rattle.log_text.specs.Forms.{log_form}
 use Rattle.core_model.proofs.Wrote.{wrote_form}
 use Rattle.coord_effects.specs.declared.effect.Framed.{Framed}
 use Rattle.coord_effects.specs.Rows.{written_of}
 use Rattle.coord_table.specs.declared.held.Held.{Held}
-use Rattle.coord_table.specs.Cases.{Gives, IsFresh, Slots, ticket_in}
-use Rattle.coord_table.specs.Takes.{GivenAreActive, retired_if}
+use Rattle.coord_table.specs.Cases.{Begins, Gives, IsFresh, Slots, held_view, ticket_in, view_in}
+use Rattle.coord_table.specs.Takes.{AreKnown, GivenAreActive, retired_if}
 use Rattle.coord_core.specs.States.{CoordinatorValue, IsCoordinator, WritesOpened, own_ticket}
 use Rattle.coord_core.specs.Turned.{WritesDown, framed_of}
 use Rattle.coord_core.proofs.Opened.{none_given}
@@ -76,6 +80,8 @@ none_given_yet v form bare =
       form = form;
       active = λ k d p at is.
           let none : None ≡ Some p = sym (ap (λ (s : Slots). entry_at s k) bare) ∙ at in absurd (cc);
+      known = λ k p at.
+          let none : None ≡ Some p = sym (ap (λ (s : Slots). entry_at s k) bare) ∙ at in absurd (cc);
       given = λ d n is.
           let none : None ≡ Some (own_ticket v n) = sym (none_given d) ∙ sym (ap (λ s. ticket_in s d) bare) ∙ is in
           absurd (cc);
@@ -119,3 +125,41 @@ given_active old new parent t active gives k d p at is =
           ap (λ (q : Case × Held). q.1.live.standing) (sym held)
       | inr differs ↦ active k d p (sym (gives.updates.others k differs) ∙ at) is
     ]
+
+-- of the case of a ticket that was given something is known
+pub given_known : (old new : Slots) (parent : Case) (t : Ticket) → AreKnown old → Gives old new parent t
+    → AreKnown new
+given_known old new parent t known gives k p at =
+    elim (cases_eq k gives.key) [
+      | inl same ↦
+          let entry : Some (child_case parent.txn t, record { given_for = Some parent; live = open_view }) ≡ Some p =
+          sym gives.updates.changed ∙ sym (ap (entry_at new) same) ∙ at in
+          let held : (child_case parent.txn t, record { given_for = Some parent; live = open_view }) ≡ p = cc in
+          ap (λ (q : Case × Held). is_known q.1.live.standing) (sym held)
+      | inr differs ↦ known k p (sym (gives.updates.others k differs) ∙ at)
+    ]
+
+-- of a case that begins something is known
+pub begun_known : (old new : Slots) (c : Case) → AreKnown old → Begins old new c → AreKnown new
+begun_known old new c known begins k p at =
+    elim (cases_eq k begins.key) [
+      | inl same ↦
+          let entry : Some (c, record { given_for = None; live = open_view }) ≡ Some p =
+          sym begins.updates.changed ∙ sym (ap (entry_at new) same) ∙ at in
+          let held : (c, record { given_for = None; live = open_view }) ≡ p = cc in
+          ap (λ (q : Case × Held). is_known q.1.live.standing) (sym held)
+      | inr differs ↦ known k p (sym (begins.updates.others k differs) ∙ at)
+    ]
+
+-- How many cases are live.
+
+-- where something is known of each live case, as many are known as are live
+pub known_counted : (slots : Slots) → AreKnown slots → AreApart slots
+    → Knows (λ c. (view_in slots c).standing) (live_count slots)
+known_counted slots known apart =
+    knows slots (λ c. (view_in slots c).standing) apart (λ c. by_value c (live_value slots c) refl)
+  where
+    by_value : (c : Case) (o : Option Held) → live_value slots c ≡ o
+        → is_known (held_view o).standing ≡ is_some o
+    by_value c None e = refl
+    by_value c (Some h) e = let there = live_found slots c h e in known there.0 (there.1, h) there.2

@@ -135,7 +135,7 @@ not_rebuilt v keep ls steps.Exhausted left h = (
 )
 not_rebuilt v keep ls e left h = absurd h
 
--- among the cases that were rebuilt no ticket is active
+-- among the cases that were rebuilt no ticket is active, and something is known of each
 pub is_coordinator : (v : CoordinatorValue) (ls : List LogRecord) (r : Rebuilt) (log : LogState)
     → Rebuilds (place_of v) ls r → log.sight.form ≡ log_form v.me Coordinator
     → IsCoordinator (rebuilt_as v log r)
@@ -143,8 +143,9 @@ is_coordinator v ls r log rebuilds form =
     record {
       form = form;
       active = λ k d p at is.
-          let no : false ≡ true = sym (ap (is_for d) (rebuilds.entries k p at)) ∙ is in
+          let no : false ≡ true = sym (ap (is_for d) (rebuilds.entries k p at).0) ∙ is in
           absurd (cc);
+      known = λ k p at. (rebuilds.entries k p at).1;
       given = λ d n is.
           let clash : None ≡ Some (own_ticket (rebuilt_as v log r) n) = sym (rebuilds.tickets d) ∙ is in
           absurd (cc);

@@ -19,7 +19,7 @@ use Rattle.rec_log.specs.Sights.{Breaks, LogState}
 use Rattle.core_model.specs.States.{CoreState, wrote}
 use Rattle.core_model.specs.Opening.{first_opened}
 use Rattle.coord_table.specs.Cases.{Slots, ticket_in, view_in}
-use Rattle.coord_table.specs.Takes.{GivenAreActive}
+use Rattle.coord_table.specs.Takes.{AreKnown, GivenAreActive}
 use Rattle.inquire_core.specs.Readings.{place_below}
 use Rattle.log_text.specs.Forms.{log_form}
 
@@ -63,11 +63,12 @@ own_txn v p n = record { root = v.me; boot = v.boot; sequence = n; presumption =
 abbrev pub own_ticket : CoordinatorValue → ℕ → Ticket
 own_ticket v n = record { child = v.me; boot = v.boot; number = n }
 
--- what a coordinator keeps: its log is its own; a case whose ticket is active takes children and work; and no ticket
--- is active that it did not give yet
+-- what a coordinator keeps: its log is its own; a case whose ticket is active takes children and work; of each live
+-- case something is known; and no ticket is active that it did not give yet
 pub record IsCoordinator (v : CoordinatorValue) : Type 0 where
   pub form : v.log.sight.form ≡ log_form v.me Coordinator
   pub active : GivenAreActive v.slots
+  pub known : AreKnown v.slots
   pub given : (d : Case) (n : ℕ) → ticket_in v.slots d ≡ Some (own_ticket v n) → n ≤ v.given
 
 -- the error of a step for that of a log

@@ -2,6 +2,7 @@
 
 ghost use Rattle.log_text.specs.Forms.{log_form};
 ghost use Rattle.std.specs.Prelude.{◌≡◌, ◌+◌, true, IfOk, IsTrue, length};
+ghost use Rattle.live_table.specs.Known.{Knows};
 ghost use Rattle.live_table.specs.Tables.{AreApart, live_count};
 ghost use Rattle.tree_model.specs.Memory.{ticket_of_child};
 ghost use Rattle.coord_table.specs.Cases.{FitsGiven, ticket_in, view_in};
@@ -135,9 +136,10 @@ impl<L: LogStore> Coordinator<L> {
         }
     }
 
-    /// How many cases are live.
+    /// How many cases are live: those that are not Unknown.
     pub fn live(&self) -> usize
-        ensures { result ≡ live_count self.now.slots }
+        ensures known { Knows (λ c. ((state self.now).view_of c).standing) result }
+        ensures slots { result ≡ live_count self.now.slots }
     {
         self.cases.len()
     }

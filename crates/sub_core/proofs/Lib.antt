@@ -16,3 +16,4 @@ pub mod Told
 pub mod Restarted
 pub mod Trimmed
 pub mod Reopened
+mod Known

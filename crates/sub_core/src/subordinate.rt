@@ -6,6 +6,7 @@ ghost use Rattle.std.specs.Prelude.{◌≡◌, IsTrue, option_map};
 ghost use Rattle.tree_model.specs.Nodes.{AtLeaf};
 ghost use Rattle.core_model.specs.Opening.{IsOpened};
 ghost use Rattle.core_model.specs.States.{HasNumbers};
+ghost use Rattle.live_table.specs.Known.{Knows};
 ghost use Rattle.live_table.specs.Tables.{live_count};
 ghost use Rattle.manager_model.specs.Data.{Rests, no_data};
 ghost use Rattle.manager_model.specs.Opening.{IsNew};
@@ -151,9 +152,10 @@ impl<M: ResourceManager> Subordinate<M> {
         }
     }
 
-    /// How many cases are live.
+    /// How many cases are live: those that are not Unknown.
     pub fn live(&self) -> usize
-        ensures { result ≡ live_count self.now.table.branches }
+        ensures known { Knows (λ c. ((state M.sight self.now).branch_of c).standing) result }
+        ensures branches { result ≡ live_count self.now.table.branches }
     {
         self.branches.len()
     }

@@ -1,10 +1,12 @@
 -- One process of a tree, of either kind, as the definitions see it.
 use Rattle.std.specs.Prelude.{◌≡◌, ◌≢◌, ℕ, true, List}
 use Rattle.live_table.specs.Tables.{live_count}
+use Rattle.tree_model.specs.declared.names.Case.{Case}
 use Rattle.tree_model.specs.declared.events.Input.{Input}
 use Rattle.tree_model.specs.declared.records.LogRecord.{LogRecord}
 use Rattle.tree_model.specs.declared.events.StepError.{StepError}
 use Rattle.tree_model.specs.declared.events.StepError.TheVariants.{Device}
+use Rattle.tree_model.specs.declared.standings.Standing.{Standing}
 use Rattle.tree_model.specs.Nodes.{DataAnswer, Role, AtLeaf}
 use Rattle.rec_log.specs.Sights.{ReadsAs, log_state, records_of}
 use Rattle.core_model.specs.States.{CoreState, form_of}
@@ -25,6 +27,11 @@ use Rattle.tree_node.specs.declared.node.Node.TheVariants.{Coordinator, Manager}
 abbrev pub core_of : {L : Type 0} → Node L → CoreState
 core_of (Coordinator c) = coordinators.state c
 core_of (Manager m) = managers.state sight_of m
+
+-- where a case stands at a process
+abbrev pub standing_at : {L : Type 0} → Node L → Case → Standing
+standing_at (Coordinator p) c = ((coordinators.state p).view_of c).standing
+standing_at (Manager p) c = ((managers.state sight_of p).branch_of c).standing
 
 -- how many cases are live at a process
 abbrev pub live_at : {L : Type 0} → Node L → ℕ

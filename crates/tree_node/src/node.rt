@@ -1,6 +1,7 @@
 //! One process of a tree, of either kind.
 
 ghost use Rattle.std.specs.Prelude.{◌≡◌, false, IfErr, IfOk, IsTrue};
+ghost use Rattle.live_table.specs.Known.{Knows};
 ghost use Rattle.rec_log.specs.Sights.{records_of};
 ghost use Rattle.core_model.specs.Inputs.{input_of};
 ghost use Rattle.core_model.specs.States.{HasNumbers};
@@ -11,7 +12,7 @@ ghost use Rattle.core_law.specs.worlds.Worlds.{HandlesInput};
 ghost use Rattle.manager_model.specs.Data.{no_data};
 ghost use Rattle.manager_model.specs.Sights.{manager_data};
 ghost use Rattle.tree_model.specs.declared.events.StepError.TheVariants.{Device};
-ghost use Rattle.tree_node.specs.Nodes.{FailsUnder, HasAnswer, NotHandled, HoldsLog, SpellsLog, core_of, data_of, live_at};
+ghost use Rattle.tree_node.specs.Nodes.{FailsUnder, HasAnswer, NotHandled, HoldsLog, SpellsLog, core_of, data_of, live_at, standing_at};
 
 use coord_core::Coordinator;
 use core_model::InputRef;
@@ -51,9 +52,10 @@ impl<L: LogStore> Node<L> {
         }
     }
 
-    /// How many cases are live.
+    /// How many cases are live: those that are not Unknown.
     pub fn live(&self) -> usize
-        ensures { result ≡ live_at self.now }
+        ensures known { Knows (standing_at self.now) result }
+        ensures entries { result ≡ live_at self.now }
     {
         match self {
             Node::Coordinator(coordinator) => coordinator.live(),

@@ -99,6 +99,7 @@ invariant_of-self-in-Err g c =
       record {
         form = breaks.form ∙ ap (λ (s : LogSight). s.form) c.make_room.ensures.stays ∙ c.self.invariant.0.form;
         active = c.self.invariant.0.active;
+        known = c.self.invariant.0.known;
         given = c.self.invariant.0.given;
       },
       remembered_broken v (record v { log = c.write_down.new.log }) c.self.inside.front c.make_room.new.log
@@ -123,6 +124,7 @@ invariant_of-self-3 g c =
         form = written_form c.make_room.new.log c.write_down.new.log c.in_ok-effect.effect.written writes
             ∙ ap (λ (s : LogSight). s.form) c.make_room.ensures.stays ∙ c.self.invariant.0.form;
         active = c.self.invariant.0.active;
+        known = c.self.invariant.0.known;
         given = c.self.invariant.0.given;
       },
       remembered_written v (record v { log = c.write_down.new.log }) c.self.inside.front c.make_room.new.log

@@ -5,7 +5,7 @@ use Rattle.coord_core.specs.States.{CoordinatorValue, own_ticket, state}
 use Rattle.coord_core.specs.Meets.{meant}
 use Rattle.coord_core.specs.Turned.{Turned}
 use Rattle.coord_core.proofs.Fronts.{remembered_still}
-use Rattle.coord_core.proofs.Kept.{fresh_ticket, given_active, given_after}
+use Rattle.coord_core.proofs.Kept.{fresh_ticket, given_active, given_after, given_known}
 use Rattle.coord_core.proofs.Made.{issued_turn}
 use Rattle.coord_core.proofs.coordinator.Coordinator.issues.Goals as goal
 
@@ -57,6 +57,8 @@ invariant_of-self-2 g c =
       record {
         form = c.self.invariant.0.form;
         active = given_active v.slots c.give.new.self c.args.case (own_ticket v (v.given + 1)) c.self.invariant.0.active
+            gives;
+        known = given_known v.slots c.give.new.self c.args.case (own_ticket v (v.given + 1)) c.self.invariant.0.known
             gives;
         given = given_after v c.give.new.self c.args.case c.self.invariant.0 gives.ticket gives.tickets;
       },

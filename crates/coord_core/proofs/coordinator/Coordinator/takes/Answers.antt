@@ -92,6 +92,7 @@ invariant_of-self-in-Err g c =
       record {
         form = breaks.form ∙ ap (λ (s : LogSight). s.form) c.make_room.ensures.stays ∙ c.self.invariant.0.form;
         active = takes.given;
+        known = takes.known c.self.invariant.0.known;
         given = λ d n is. c.self.invariant.0.given d n
             (active_before v.slots c.take.new.cases (is_retiring c.args.asked) c.args.case d _ (takes.tickets d) is);
       },
@@ -122,6 +123,7 @@ invariant_of-self-3 g c =
         form = written_form c.make_room.new.log c.write_down.new.log c.in_ok-effect.effect.written writes
             ∙ ap (λ (s : LogSight). s.form) c.make_room.ensures.stays ∙ c.self.invariant.0.form;
         active = takes.given;
+        known = takes.known c.self.invariant.0.known;
         given = λ d n is. c.self.invariant.0.given d n
             (active_before v.slots c.take.new.cases (is_retiring c.args.asked) c.args.case d _ (takes.tickets d) is);
       },

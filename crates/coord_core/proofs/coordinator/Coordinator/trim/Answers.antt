@@ -10,6 +10,7 @@ invariant_of-self g c = (
   record {
     form = c.trim_again.ensures.form ∙ c.self.invariant.0.form;
     active = c.self.invariant.0.active;
+    known = c.self.invariant.0.known;
     given = c.self.invariant.0.given;
   },
   tt,
@@ -23,6 +24,7 @@ invariant_of-self-2 g c = (
   record {
     form = c.trim.ensures.form ∙ c.self.invariant.0.form;
     active = c.self.invariant.0.active;
+    known = c.self.invariant.0.known;
     given = c.self.invariant.0.given;
   },
   tt,
