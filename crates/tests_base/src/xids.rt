@@ -1,6 +1,8 @@
 //! An XID as bytes and as text.
 
+use log_text::branch_xid;
 use std::test::Fail;
+use tree_model::{Presumption, ProcessId, Ticket, Txn};
 use xa_xid::{Xid, XidError};
 
 #[test]
@@ -44,4 +46,37 @@ fn parts_that_are_too_long_or_negative(rt: HostRuntime) {
     assert_eq!(rt; number_of(Xid::new(7, &name, &[])), 2);
     assert_eq!(rt; number_of(Xid::new(-1, &name[..1], &[])), 1);
     assert_eq!(rt; refusal_of(&[255, 255, 255, 255, 0, 0]), 0);
+}
+
+/// The bytes of a name's format, the lengths of its two parts, and the first part: the root, its boot and the sequence.
+const FRONT: &[u8] = b"\0\0\x0f\xa2\x14\x18\0\0\0\x01\0\0\0\0\0\0\0\x02\0\0\0\0\0\0\0\x03";
+
+/// The bytes of its second part, below the root: the parent, the child, the child's boot and the number of its ticket.
+const BEHIND: &[u8] = b"\0\0\0\x01\0\0\0\x04\0\0\0\0\0\0\0\x05\0\0\0\0\0\0\0\x06";
+
+/// The XIDs of a transaction's case at the root, whose second part is empty, and of one below it.
+#[test]
+fn two_xids_of_branches(rt: HostRuntime) -> Result<(), Fail> {
+    let txn = Txn {
+        root: ProcessId(1),
+        boot: 2,
+        sequence: 3,
+        presumption: Presumption::PresumeCommit,
+    };
+    let ticket = Ticket {
+        child: ProcessId(4),
+        boot: 5,
+        number: 6,
+    };
+    let mut below = Vec::from_slice(rt.alloc(), FRONT)?;
+    below.extend_from_slice(BEHIND)?;
+    let found = branch_xid(txn, Some((ProcessId(1), ticket)));
+    assert_eq!(rt; found.to_bytes(rt.alloc())?.as_slice(), below.as_slice());
+    let mut root = Vec::from_slice(rt.alloc(), FRONT)?;
+    if let Some(length) = root.get_mut(5) {
+        *length = 0;
+    }
+    let found = branch_xid(txn, None);
+    assert_eq!(rt; found.to_bytes(rt.alloc())?.as_slice(), root.as_slice());
+    Ok(())
 }
