@@ -6,7 +6,9 @@ use link_script::read;
 use log_store::{FaultStore, MemoryStore, StoreCall};
 use std::alloc::{AllocError, Global};
 use tree_audit::{Line, Own, Report, audit};
-use tree_model::{Act, Case, Event, Message, ProcessId, StepError, Tree};
+use tree_model::{
+    Act, Case, Conclusion, Event, Message, Outcome, ProcessId, StepError, Tree, Txn,
+};
 use tree_world::{OpenError, World, copied_tree, logs_left};
 
 /// The kinds of calls at which a device can stop.
@@ -130,8 +132,54 @@ pub(crate) fn cases_in_doubt(alloc: Global, report: &Report) -> Result<Vec<Case>
         .collect(alloc)
 }
 
-/// Makes an event, and audits the logs after it. None where the event is refused, or a transaction has two
-/// outcomes.
+/// What the root told its application of a transaction, if it told an outcome.
+fn told_of(world: &World<FaultStore>, txn: Txn) -> Option<Outcome> {
+    for place in 0..world.made() {
+        let told = world.shown(place)?.told;
+        match told {
+            Some(told) if told.txn == txn => match told.conclusion {
+                Conclusion::Committed => return Some(Outcome::Committed),
+                Conclusion::Aborted => return Some(Outcome::Aborted),
+                Conclusion::ReadOnly => {}
+            },
+            _ => {}
+        }
+    }
+    None
+}
+
+/// What the root decided of a transaction by its own log, if that says so.
+fn decided_of(report: &Report, txn: Txn) -> Option<Outcome> {
+    let root = report
+        .lines
+        .iter()
+        .find(|line| line.case.txn == txn && line.case.ticket.is_none())?;
+    root.decision
+}
+
+/// Whether the outcome of a line is the one that the root decided, and the one that it told.
+fn is_the_roots(world: &World<FaultStore>, report: &Report, line: &Line) -> bool {
+    let decided = decided_of(report, line.case.txn).unwrap_or(line.outcome);
+    let told = told_of(world, line.case.txn).unwrap_or(line.outcome);
+    decided == line.outcome && told == line.outcome
+}
+
+/// Audits the logs as they stand. None where one is damaged, a transaction has two outcomes, or an outcome is not
+/// the root's.
+fn audited_now(alloc: Global, tree: &Tree, world: &World<FaultStore>) -> Option<Report> {
+    let report = audited(alloc, tree, world)?;
+    for line in &report.lines {
+        if !is_the_roots(world, &report, line) {
+            return None;
+        }
+    }
+    if !has_one_outcome_each(&report) {
+        return None;
+    }
+    Some(report)
+}
+
+/// Makes an event, and audits the logs after it. None where the event is refused, or the audit finds a fault.
 fn audited_behind(
     alloc: Global,
     tree: &Tree,
@@ -139,11 +187,22 @@ fn audited_behind(
     event: Event,
 ) -> Option<Report> {
     world.apply(event).ok()?;
-    let report = audited(alloc, tree, world)?;
-    if !has_one_outcome_each(&report) {
-        return None;
+    audited_now(alloc, tree, world)
+}
+
+/// Makes the events up to the first at which a device fails, and audits the logs after each, that one too. Answers
+/// whether there is one.
+fn runs_audited(alloc: Global, script: &Script, world: &mut World<FaultStore>) -> Option<bool> {
+    for event in &script.events {
+        let answer = world.apply(event.copied(alloc).ok()?);
+        let _report = audited_now(alloc, &script.tree, world)?;
+        match answer {
+            Ok(()) => {}
+            Err(StepError::Device) => return Some(true),
+            Err(_) => return None,
+        }
     }
-    Some(report)
+    Some(false)
 }
 
 /// Each of these cases asks.
@@ -187,7 +246,7 @@ fn recovers(
     stop: Stop,
     kept: Option<u64>,
 ) -> Option<Ending> {
-    if !runs_into_stop(alloc, world, &script.events)? {
+    if !runs_audited(alloc, script, world)? {
         return None;
     }
     if world.apply(Event::Trim(stop.process)) != Err(StepError::Failed) {
@@ -392,8 +451,9 @@ fn sweep(alloc: Global, script: &Script, out: &mut Vec<u8>) -> Option<Met> {
 }
 
 /// Stops each device of a script's tree at each of its calls, with each number of the call's bytes done, and
-/// writes what was met. None where a run does not answer Device at the stop or Failed after it, does not go on
-/// after its restart, or has two outcomes.
+/// writes what was met. Before and after the stop the logs are audited after each event. None where a run does not
+/// answer Device at the stop or Failed after it, does not go on after its restart, has two outcomes, or has one that is not
+/// the root's.
 pub(crate) fn run_stops(alloc: Global, input: &[u8], out: &mut Vec<u8>) -> Option<()> {
     let (tree, events) = read(alloc, input).ok()?;
     let met = sweep(alloc, &Script { tree, events }, out)?;
