@@ -6,9 +6,7 @@ use link_script::read;
 use log_store::{FaultStore, MemoryStore, StoreCall};
 use std::alloc::{AllocError, Global};
 use tree_audit::{Line, Own, Report, audit};
-use tree_model::{
-    Act, Case, Conclusion, Event, Message, Outcome, ProcessId, StepError, Tree, Txn,
-};
+use tree_model::{Act, Case, Conclusion, Event, Message, Outcome, ProcessId, StepError, Tree, Txn};
 use tree_world::{OpenError, World, copied_tree, logs_left};
 
 /// The kinds of calls at which a device can stop.
