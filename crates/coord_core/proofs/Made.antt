@@ -214,7 +214,8 @@ step_under v new i turn (Err e) meets stopped = λ is. broken_under v new i turn
 -- a refusal is none of the device
 pub refuses_under : {A : Type 0} (v : CoordinatorValue) (i : Input) (e : StepError) → Meets v i (Refuses e)
     → e ≡ Device → A
-refuses_under v i e meets is = let clash : false ≡ true = subst (λ x. is_refusal x ≡ true) is meets.may in absurd (cc)
+refuses_under v i e meets is =
+    let clash : false ≡ true = subst (λ x. is_refusal x ≡ true) is meets.may in absurd (cc)
 
 pub step_ok : (v : CoordinatorValue) (new : CoreState) (i : Input) (turn : Turn)
     (made : Result Reaction StepError) → Meets v i turn
