@@ -28,7 +28,7 @@ use Rattle.rec_log.specs.Sights.{Breaks, LogSight, LogState}
 use Rattle.core_model.specs.States.{CoreState, SameCore, kind_of_role, logged, wrote}
 use Rattle.core_model.specs.Turns.{Says as SaysTurn, Takes as TakesTurn, clear_turn, is_refusal, kept_records, reacted, seat_in, no_answer, this_version}
 use Rattle.core_model.specs.Bounds.{FitsBounds}
-use Rattle.core_model.specs.Makes.{BreaksIn, Makes, NotMade, OpensCase, Unbounded, retired_by}
+use Rattle.core_model.specs.Makes.{Makes, NotMade, OpensCase, Unbounded, retired_by}
 use Rattle.core_model.proofs.Alike.{same_view}
 use Rattle.coord_table.specs.Cases.{Begins, FitsGiven, Gives, Slots, held_view, ticket_in, view_in}
 use Rattle.coord_effects.specs.declared.seat.Seat.{Seat}
