@@ -1,5 +1,5 @@
 -- Texts that grow, and faults that are added.
-use Rattle.std.proofs.Common.{◌≡◌, ℕ, ◌<◌, List, [], ◌∷◌, ◌++◌, length, get_or, refl, sym, ap, subst, ◌∙◌, append_assoc, arith, Result, Ok, Err}
+use Rattle.std.proofs.Common.{◌≡◌, ℕ, ◌+◌, ◌<◌, List, [], ◌∷◌, ◌++◌, length, map, refl, sym, ap, subst, ◌∙◌, append_assoc, arith, Result, Ok, Err, Option, Some, None}
 use Rattle.std.specs.Prelude.{IfOk}
 use Rattle.std.specs.declared.alloc.AllocError.{AllocError}
 use Rattle.std.specs.Global.{Vec}
@@ -7,46 +7,57 @@ use Rattle.std.proofs.lemmas.List.{append-nil}
 use Rattle.judge_rules.specs.declared.calls.Event.{Event}
 use Rattle.judge_rules.specs.declared.words.Rules.{Rules}
 use Rattle.judge_rules.specs.Histories.{IsLegal}
+use Rattle.judge_script.specs.declared.reading.Transcript.{Transcript}
 use Rattle.judge_set.specs.Sets.{IsFirstFault, IsVerdict}
+use Rattle.judge_engine.specs.declared.judging.Extent.{Extent}
 use Rattle.judge_engine.specs.declared.judging.Fault.{Fault}
 use Rattle.judge_engine.specs.declared.run.Ending.{Ending}
 use Rattle.judge_engine.specs.declared.run.Ending.TheVariants.{Refused}
 use Rattle.judge_engine.specs.declared.run.Refusal.{Refusal}
-use Rattle.judge_engine.specs.Reports.{BeginsWith, IsRefusal, IsReport, first_index, refusal_text}
-
-pub begins_same : (a : List ℕ) → BeginsWith a a
-begins_same a = ([], sym (append-nil a))
-
-pub begins_trans : (a b c : List ℕ) → BeginsWith a b → BeginsWith b c → BeginsWith a c
-begins_trans a b c (x, is) (y, js) = (x ++ y, js ∙ ap (λ t. t ++ y) is ∙ append_assoc a x y)
-
-pub begins_more : (a b c x : List ℕ) → BeginsWith a b → c ≡ b ++ x → BeginsWith a c
-begins_more a b c x h is = begins_trans a b c h (x, is)
-
--- a text that is added to one begins a text that begins with both
-pub begins_front : (a x b : List ℕ) → BeginsWith (a ++ x) b → BeginsWith a b
-begins_front a x b (y, is) = (x ++ y, is ∙ append_assoc a x y)
+use Rattle.judge_engine.specs.Faults.{indices}
+use Rattle.judge_engine.specs.Reports.{IsRefusal, IsReport, TellsFaults, fault_lines, first_index, refusal_text}
 
 pub first_push : (fs : List Fault) (f : Fault) → 0 < length fs → first_index (fs ++ f ∷ []) ≡ first_index fs
 first_push [] f some = absurd (omega (arith, some))
 first_push (g ∷ fs) f some = refl
 
--- the line of a refusal is the report of what is refused
-pub refusal_reports : (r : Result (Vec ℕ × Ending) AllocError) (why : Refusal) (input : List ℕ)
-    → IfOk r (λ q. q.0.items ≡ refusal_text why) → IfOk r (λ q. q.1 ≡ Refused) → IsRefusal input why
-    → IfOk r (λ q. IsReport q.1 input q.0.items)
-refusal_reports (Ok q) why input text ending is =
-    subst (λ (e : Ending). IsReport e input q.0.items) (sym ending) (why, is, text)
-refusal_reports (Err e) why input text ending is = tt
+pub indices_push : (fs : List Fault) (f : Fault) → indices (fs ++ f ∷ []) ≡ indices fs ++ f.index ∷ []
+indices_push [] f = refl
+indices_push (g ∷ fs) f = ap (λ (l : List ℕ). g.index ∷ l) (indices_push fs f)
 
--- where there is no fault the history is legal
+-- one fault more is told
+pub tells_more : (ls : List (List ℕ)) (t : Transcript) (fs : List Fault) (text : List ℕ) (f : Fault) (rule : List ℕ)
+    → TellsFaults ls t fs text → TellsFaults ls t (fs ++ f ∷ []) (text ++ fault_lines ls t f rule)
+tells_more ls t [] text f rule is = (
+  rule,
+  [],
+  ap (λ (l : List ℕ). l ++ fault_lines ls t f rule) is ∙ sym (append-nil (fault_lines ls t f rule)),
+  refl,
+)
+tells_more ls t (g ∷ fs) text f rule (first, rest, is, more) = (
+  first,
+  rest ++ fault_lines ls t f rule,
+  ap (λ (l : List ℕ). l ++ fault_lines ls t f rule) is
+      ∙ append_assoc (fault_lines ls t g first) rest (fault_lines ls t f rule),
+  tells_more ls t fs rest f rule more,
+)
+
+-- the line of a refusal is the report of what is refused
+pub refusal_reports : (r : Result (Vec ℕ × Ending) AllocError) (x : Extent) (why : Refusal) (input : List ℕ)
+    → IfOk r (λ q. q.0.items ≡ refusal_text why) → IfOk r (λ q. q.1 ≡ Refused) → IsRefusal x input why
+    → IfOk r (λ q. IsReport x q.1 input q.0.items)
+refusal_reports (Ok q) x why input text ending is =
+    subst (λ (e : Ending). IsReport x e input q.0.items) (sym ending) (why, is, text)
+refusal_reports (Err e) x why input text ending is = tt
+
+-- if there is no fault the history is legal
 pub none_found : (r : Rules) (es : List Event) (fs : List Fault) → length fs ≡ 0 → IsVerdict r es (first_index fs)
     → IsLegal r es
 none_found r es [] none v = v
 none_found r es (f ∷ fs) none v = absurd (omega (arith, none))
 
 -- and else the first one is the first fault
-pub first_found : (r : Rules) (es : List Event) (fs : List Fault) (f : Fault) → 0 < length fs → f ≡ get_or fs 0 f
-    → IsVerdict r es (first_index fs) → IsFirstFault r es f.index
-first_found r es [] f some is v = absurd (omega (arith, some))
-first_found r es (g ∷ fs) f some is v = subst (λ (k : Fault). IsFirstFault r es k.index) (sym is) v
+pub first_found : (r : Rules) (es : List Event) (fs : List Fault) → 0 < length fs → IsVerdict r es (first_index fs)
+    → (i : ℕ) × (first_index fs ≡ Some i) × IsFirstFault r es i
+first_found r es [] some v = absurd (omega (arith, some))
+first_found r es (f ∷ fs) some v = (f.index, refl, v)

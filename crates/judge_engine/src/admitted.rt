@@ -60,6 +60,21 @@ fn name_of(reply: Reply) -> &'static str {
     }
 }
 
+/// Whether a state admits an answer. It does if more states may follow than are gone through.
+fn admits(
+    alloc: Global,
+    rules: Rules,
+    state: &State,
+    call: Call,
+    answer: &Answer,
+) -> Result<bool, AllocError> {
+    match next(alloc, rules, state, call, answer) {
+        Ok(after) => Ok(!after.is_empty()),
+        Err(StepError::TooMany) => Ok(true),
+        Err(StepError::Memory) => Err(AllocError),
+    }
+}
+
 /// Whether one of these states admits an answer.
 fn is_admitted(
     alloc: Global,
@@ -67,9 +82,9 @@ fn is_admitted(
     states: &[State],
     call: Call,
     answer: &Answer,
-) -> Result<bool, StepError> {
+) -> Result<bool, AllocError> {
     for state in states {
-        if !next(alloc, rules, state, call, answer)?.is_empty() {
+        if admits(alloc, rules, state, call, answer)? {
             return Ok(true);
         }
     }
@@ -83,7 +98,7 @@ fn push_codes(
     states: &[State],
     call: Call,
     out: &mut Vec<u8>,
-) -> Result<(), StepError> {
+) -> Result<(), AllocError> {
     for reply in &ALL {
         if is_admitted(alloc, rules, states, call, &Answer::Code(code_of(*reply)))? {
             push_choice(out, name_of(*reply))?;
@@ -100,7 +115,7 @@ fn push_values(
     states: &[State],
     call: Call,
     out: &mut Vec<u8>,
-) -> Result<(), StepError> {
+) -> Result<(), AllocError> {
     for (number, word) in names.words.iter().enumerate() {
         if number < 1 << 32
             && is_admitted(alloc, rules, states, call, &Answer::Found(number as u32))?
@@ -199,7 +214,7 @@ fn push_admitted(
     states: &[State],
     call: Call,
     out: &mut Vec<u8>,
-) -> Result<(), StepError> {
+) -> Result<(), AllocError> {
     push_codes_of(alloc, rules, states, call, out)?;
     if is_admitted(alloc, rules, states, call, &Answer::Done)? {
         push_choice(out, "done")?;
@@ -237,7 +252,7 @@ fn push_codes_of(
     states: &[State],
     call: Call,
     out: &mut Vec<u8>,
-) -> Result<(), StepError> {
+) -> Result<(), AllocError> {
     match call {
         Call::Function(_) => push_codes(alloc, rules, states, call, out),
         _ => Ok(()),
@@ -251,7 +266,7 @@ pub(crate) fn explain(
     names: &Names,
     states: &[State],
     event: &Event,
-) -> Result<(Vec<u8>, Vec<u8>), StepError> {
+) -> Result<(Vec<u8>, Vec<u8>), AllocError> {
     let told = if states.len() > MOST_TOLD {
         &states[..MOST_TOLD]
     } else {

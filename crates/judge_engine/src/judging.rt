@@ -1,15 +1,18 @@
 //! A transcript, judged.
 
-ghost use Rattle.std.specs.Prelude.{◌≡◌, ◌<◌, IfOk, OnOk, Some, length};
+ghost use Rattle.std.specs.Prelude.{◌≡◌, ◌<◌, ◌∷◌, [], IfErr, IfOk, OnOk, Some, length, not};
+ghost use Rattle.judge_state.specs.Sights.{first_sight};
+ghost use Rattle.judge_rules.specs.Steps.{is_answered};
+ghost use Rattle.judge_set.specs.Sets.{IsTooMuch, IsVerdict};
+ghost use Rattle.judge_engine.specs.Faults.{AreFaults, AreTold, IsAt, IsNext, IsNextOver, IsOver, IsOverFor, indices};
 ghost use Rattle.judge_engine.specs.Reports.{first_index};
-ghost use Rattle.judge_set.specs.Sets.{IsVerdict};
 
 use crate::admitted::explain;
-use judge_rules::{Answer, Event, StepError};
+use judge_rules::{Answer, Event, Rules, StepError};
 use judge_script::Transcript;
 use judge_set::{Walk, follow_all, judge, resumed};
 use judge_state::State;
-use std::alloc::Global;
+use std::alloc::{AllocError, Global};
 
 /// Whether the judge stops at the first fault.
 #[derive(Clone, Copy, PartialEq, Eq)]
@@ -30,7 +33,9 @@ pub struct Fault {
 }
 
 /// Whether an event has no answer.
-fn is_hung(event: &Event) -> bool {
+fn is_hung(event: &Event) -> bool
+    ensures { result ≡ not (is_answered event.now.answer) }
+{
     matches!(event.answer, Answer::Hung)
 }
 
@@ -40,7 +45,7 @@ fn fault_at(
     transcript: &Transcript,
     states: &[State],
     index: usize,
-) -> Result<Fault, StepError>
+) -> Result<Fault, AllocError>
     ensures { IfOk result (λ fault. fault.index ≡ index) }
 {
     let (standing, admitted) = match transcript.events.get(index) {
@@ -54,25 +59,26 @@ fn fault_at(
     })
 }
 
-/// The next walk, after a fault: the judge goes on as if the answer had been admitted. None, where it does not go on.
+/// The next walk, after a fault: the judge goes on as if the answer had been admitted. None, if there is no answer.
 fn next_walk(
     alloc: Global,
-    transcript: &Transcript,
+    rules: Rules,
+    events: &[Event],
     states: &[State],
     index: usize,
-) -> Result<Option<Walk>, StepError> {
-    let Some(event) = transcript.events.get(index) else {
-        return Ok(None);
-    };
+) -> Result<Option<Walk>, StepError>
+    requires within { index < length events.now }
+    requires some { 0 < length states.now }
+    ensures next { IfOk result (IsNext rules events.now index states.now) }
+    ensures too_many { IfErr result (λ e. e ≡ StepError.TooMany → IsNextOver rules events.now index states.now) }
+{
+    let event = &events[index];
     if is_hung(event) {
         return Ok(None);
     }
-    let states = resumed(alloc, states, event)?;
-    if states.is_empty() {
-        return Ok(None);
-    }
-    let rest = &transcript.events[index + 1..];
-    Ok(Some(follow_all(alloc, transcript.rules, states, rest)?))
+    let starts = resumed(alloc, states, event)?;
+    let rest = &events[index + 1..];
+    Ok(Some(follow_all(alloc, rules, starts, rest)?))
 }
 
 /// Adds the faults after a first one.
@@ -83,19 +89,24 @@ fn add_more(
     states: Vec<State>,
     index: usize,
 ) -> Result<(), StepError>
-    requires { 0 < length found.old.items }
-    ensures { OnOk result (first_index found.new.items ≡ first_index found.old.items) }
+    requires { IsAt transcript.now.rules transcript.now.events.items (indices found.old.items) index states.items }
+    ensures first { OnOk result (first_index found.new.items ≡ first_index found.old.items) }
+    ensures all { OnOk result (AreFaults transcript.now.rules transcript.now.events.items
+        (indices found.new.items)) }
+    ensures too_many { IfErr result (λ e. e ≡ StepError.TooMany
+        → IsOver transcript.now.rules transcript.now.events.items) }
 {
     let mut at = index;
     let mut before = states;
     for _turn in 0..transcript.events.len() {
-        let Some(walk) = next_walk(alloc, transcript, &before, at)? else {
+        let Some(walk) = next_walk(alloc, transcript.rules, &transcript.events, &before, at)?
+        else {
             return Ok(());
         };
         let Some(more) = walk.fault else {
             return Ok(());
         };
-        at = at.saturating_add(1).saturating_add(more);
+        at = at + 1 + more;
         before = walk.states;
         found.push(fault_at(alloc, transcript, &before, at)?)?;
     }
@@ -110,7 +121,12 @@ fn faults_from(
     states: Vec<State>,
     index: usize,
 ) -> Result<Vec<Fault>, StepError>
-    ensures { IfOk result (λ found. first_index found.items ≡ Some index) }
+    requires { IsAt transcript.now.rules transcript.now.events.items (index ∷ []) index states.items }
+    ensures first { IfOk result (λ found. first_index found.items ≡ Some index) }
+    ensures told { IfOk result (λ found.
+        AreTold extent transcript.now.rules transcript.now.events.items (indices found.items)) }
+    ensures too_many { IfErr result (λ e. e ≡ StepError.TooMany
+        → IsOverFor extent transcript.now.rules transcript.now.events.items) }
 {
     let mut found = Vec::new(alloc);
     found.push(fault_at(alloc, transcript, &states, index)?)?;
@@ -129,8 +145,14 @@ pub(crate) fn faults(
     extent: Extent,
     transcript: &Transcript,
 ) -> Result<Vec<Fault>, StepError>
-    ensures { IfOk result (λ found.
+    ensures verdict { IfOk result (λ found.
         IsVerdict transcript.now.rules transcript.now.events.items (first_index found.items)) }
+    ensures told { IfOk result (λ found.
+        AreTold extent transcript.now.rules transcript.now.events.items (indices found.items)) }
+    ensures few { IfOk result (λ found.
+        IsTooMuch transcript.now.rules (first_sight ∷ []) transcript.now.events.items → ⊥) }
+    ensures too_many { IfErr result (λ e. e ≡ StepError.TooMany
+        → IsOverFor extent transcript.now.rules transcript.now.events.items) }
 {
     let walk = judge(alloc, transcript.rules, &transcript.events)?;
     match walk.fault {

@@ -1,11 +1,11 @@
 //! The report of a judged transcript.
 
-ghost use Rattle.std.specs.Prelude.{◌≡◌, ◌++◌, ◌∷◌, ◌-◌, ◌<◌, List, ℕ, [], IfOk, OnOk, codes, length, map, slice_index_or};
+ghost use Rattle.std.specs.Prelude.{◌≡◌, ◌++◌, ◌∷◌, ◌-◌, List, ℕ, [], IfOk, OnOk, codes, map, slice_index_or};
 ghost use Rattle.std.specs.Fmt.{decimal};
-ghost use Rattle.judge_engine.specs.Reports.{BeginsWith, conforms_text, fault_text, line_of};
+ghost use Rattle.judge_engine.specs.Reports.{IsBetween, IsFaultsText, TellsFaults, conforms_text, count_text, fault_lines, line_of, reasons_text};
 
 use crate::admitted::push;
-use crate::judging::Fault;
+use crate::judging::{Extent, Fault};
 use crate::rule::rule_of;
 use crate::sorts::{count, sort_of};
 use judge_script::Transcript;
@@ -44,18 +44,24 @@ fn push_head(out: &mut Vec<u8>, number: usize, line: &str) -> Result<(), AllocEr
     push(out, "\n")
 }
 
-/// Adds how thread and branch stand at a fault, what is admitted, and the rule.
-fn push_reasons(out: &mut Vec<u8>, transcript: &Transcript, fault: &Fault) -> Result<(), AllocError>
-    ensures { OnOk result (BeginsWith out.old.items out.new.items) }
+/// The rule of an event: none, if there is no such event.
+fn rule_at(transcript: &Transcript, index: usize) -> &'static str {
+    match transcript.events.get(index) {
+        None => "",
+        Some(event) => rule_of(event.call),
+    }
+}
+
+/// Adds how thread and branch are at a fault, what is admitted, and the rule.
+fn push_reasons(out: &mut Vec<u8>, fault: &Fault, rule: &str) -> Result<(), AllocError>
+    ensures { OnOk result (out.new.items ≡ out.old.items ++ reasons_text fault.now rule.now) }
 {
     push(out, "  state: ")?;
     out.extend_from_slice(&fault.standing)?;
     push(out, "\n  admitted: ")?;
     out.extend_from_slice(&fault.admitted)?;
-    if let Some(event) = transcript.events.get(fault.index) {
-        push(out, "\n  rule: ")?;
-        push(out, rule_of(event.call))?;
-    }
+    push(out, "\n  rule: ")?;
+    push(out, rule)?;
     push(out, "\n")
 }
 
@@ -66,53 +72,79 @@ fn push_fault(
     lines: &[&str],
     fault: &Fault,
 ) -> Result<(), AllocError>
-    ensures { OnOk result (BeginsWith
-        (out.old.items ++ fault_text (map (λ s. s.now) lines.now) (line_of transcript.now fault.now.index))
-        out.new.items) }
+    ensures { OnOk result ((rule : List ℕ) × (out.new.items ≡ out.old.items
+        ++ fault_lines (map (λ s. s.now) lines.now) transcript.now fault.now rule)) }
 {
     let number = number_of(transcript, fault.index);
     push_head(out, number, line_of(lines, number))?;
-    push_reasons(out, transcript, fault)
+    push_reasons(out, fault, rule_at(transcript, fault.index))
 }
 
-/// Adds faults.
-fn push_faults(
-    out: &mut Vec<u8>,
-    transcript: &Transcript,
-    lines: &[&str],
-    faults: &[Fault],
-) -> Result<(), AllocError>
-    ensures { OnOk result (BeginsWith out.old.items out.new.items) }
-{
-    for fault in faults {
-        push_fault(out, transcript, lines, fault)?;
-    }
-    Ok(())
-}
-
-/// Adds how often each sort of fault was found.
-fn push_sorts(
+/// The lines of faults.
+fn faults_text(
     alloc: Global,
-    out: &mut Vec<u8>,
     transcript: &Transcript,
     lines: &[&str],
     faults: &[Fault],
-) -> Result<(), AllocError>
-    ensures { OnOk result (BeginsWith out.old.items out.new.items) }
+) -> Result<Vec<u8>, AllocError>
+    ensures { IfOk result (λ text.
+        TellsFaults (map (λ s. s.now) lines.now) transcript.now faults.now text.items) }
 {
+    let mut out = Vec::new(alloc);
+    for fault in faults {
+        push_fault(&mut out, transcript, lines, fault)?;
+    }
+    Ok(out)
+}
+
+/// How often each sort of fault was found, a line for each.
+fn all_sorts(
+    alloc: Global,
+    transcript: &Transcript,
+    lines: &[&str],
+    faults: &[Fault],
+) -> Result<Vec<u8>, AllocError> {
     let mut sorts = Vec::new(alloc);
     for fault in faults {
         let line = line_of(lines, number_of(transcript, fault.index));
         count(&mut sorts, sort_of(alloc, line, fault)?)?;
     }
+    let mut out = Vec::new(alloc);
     for sort in &sorts {
-        push(out, "sort ")?;
-        push_number(out, sort.count)?;
-        push(out, ": ")?;
+        push(&mut out, "sort ")?;
+        push_number(&mut out, sort.count)?;
+        push(&mut out, ": ")?;
         out.extend_from_slice(&sort.name)?;
-        push(out, "\n")?;
+        push(&mut out, "\n")?;
     }
-    Ok(())
+    Ok(out)
+}
+
+/// What is told after the faults: how often each sort was found, if all are told.
+fn sorts_text(
+    alloc: Global,
+    extent: Extent,
+    transcript: &Transcript,
+    lines: &[&str],
+    faults: &[Fault],
+) -> Result<Vec<u8>, AllocError>
+    ensures { IfOk result (λ text. IsBetween extent text.items) }
+{
+    match extent {
+        Extent::First => Ok(Vec::new(alloc)),
+        Extent::All => all_sorts(alloc, transcript, lines, faults),
+    }
+}
+
+/// Adds how many faults there are, of how many calls.
+fn push_count(out: &mut Vec<u8>, faults: usize, calls: usize) -> Result<(), AllocError>
+    ensures { OnOk result (out.new.items ≡ out.old.items ++ count_text faults calls) }
+{
+    push(out, "faults ")?;
+    push_number(out, faults as u64)?;
+    push(out, " of ")?;
+    push_number(out, calls as u64)?;
+    push(out, " calls\n")
 }
 
 /// The report of a transcript that conforms.
@@ -126,26 +158,20 @@ pub(crate) fn conforms(alloc: Global, transcript: &Transcript) -> Result<Vec<u8>
     Ok(out)
 }
 
-/// The report of faults, the first of which is this one. Some of them are counted by sort.
+/// The report of faults: the first alone, or all.
 pub(crate) fn faulty(
     alloc: Global,
+    extent: Extent,
     transcript: &Transcript,
     lines: &[&str],
-    first: &Fault,
-    more: &[Fault],
-    counted: &[Fault],
+    faults: &[Fault],
 ) -> Result<Vec<u8>, AllocError>
-    ensures { IfOk result (λ text. BeginsWith
-        (fault_text (map (λ s. s.now) lines.now) (line_of transcript.now first.now.index)) text.items) }
+    ensures { IfOk result (λ text.
+        IsFaultsText extent (map (λ s. s.now) lines.now) transcript.now faults.now text.items) }
 {
-    let mut out = Vec::new(alloc);
-    push_fault(&mut out, transcript, lines, first)?;
-    push_faults(&mut out, transcript, lines, more)?;
-    push_sorts(alloc, &mut out, transcript, lines, counted)?;
-    push(&mut out, "faults ")?;
-    push_number(&mut out, (more.len() as u64).saturating_add(1))?;
-    push(&mut out, " of ")?;
-    push_number(&mut out, transcript.events.len() as u64)?;
-    push(&mut out, " calls\n")?;
+    let mut out = faults_text(alloc, transcript, lines, faults)?;
+    let sorts = sorts_text(alloc, extent, transcript, lines, faults)?;
+    out.extend_from_slice(&sorts)?;
+    push_count(&mut out, faults.len(), transcript.events.len())?;
     Ok(out)
 }

@@ -8,7 +8,7 @@ ghost use Rattle.judge_script.specs.Transcripts.{IsTranscript};
 ghost use Rattle.judge_engine.specs.declared.run.Ending.{Ending as AnyEnding};
 ghost use Rattle.judge_engine.specs.Reports.{IsRefusal, IsReport, ending_number, refusal_text};
 
-use crate::judging::{Extent, Fault, faults};
+use crate::judging::{Extent, faults};
 use crate::report::{conforms, faulty};
 use judge_rules::StepError;
 use judge_script::{Transcript, transcript_of};
@@ -81,29 +81,26 @@ fn verdict(
 ) -> Result<(Vec<u8>, Ending), AllocError>
     requires text { IsUtf8 text.now }
     requires read { IsTranscript text.now transcript.now }
-    ensures { IfOk result (λ r. IsReport r.1 text.now r.0.items) }
+    ensures { IfOk result (λ r. IsReport extent r.1 text.now r.0.items) }
 {
     let lines = lines_of(alloc, text)?;
     match faults(alloc, extent, transcript) {
         Err(StepError::Memory) => Err(AllocError),
         Err(StepError::TooMany) => refused(alloc, Refusal::TooMany),
-        Ok(found) => match found.as_slice() {
-            [] => Ok((conforms(alloc, transcript)?, Ending::Conforms)),
-            [first, more @ ..] => {
-                let counted: &[Fault] = match extent {
-                    Extent::First => &[],
-                    Extent::All => &found,
-                };
-                let out = faulty(alloc, transcript, &lines, first, more, counted)?;
+        Ok(found) => {
+            if found.is_empty() {
+                Ok((conforms(alloc, transcript)?, Ending::Conforms))
+            } else {
+                let out = faulty(alloc, extent, transcript, &lines, &found)?;
                 Ok((out, Ending::Faulty))
             }
-        },
+        }
     }
 }
 
 /// The answer to an input.
 fn report(alloc: Global, extent: Extent, input: &[u8]) -> Result<(Vec<u8>, Ending), AllocError>
-    ensures { IfOk result (λ r. IsReport r.1 input.now r.0.items) }
+    ensures { IfOk result (λ r. IsReport extent r.1 input.now r.0.items) }
 {
     let Ok(text) = str::from_utf8(input) else {
         return refused(alloc, Refusal::Utf8);
@@ -124,11 +121,11 @@ pub fn run_judge<R: Read, W: Write>(
     writer: &mut W,
 ) -> Result<Ending, Failure>
     ensures written { IfOk result (λ ending. (input : List ℕ) × (text : List ℕ)
-        × IsInput (R.remaining reader.old) input × IsReport ending input text
+        × IsInput (R.remaining reader.old) input × IsReport extent ending input text
         × Appends (W.contents writer.old) (W.contents writer.new) text) }
     ensures cut { IfErr result (λ e. e ≡ Failure.Write → (input : List ℕ)
         × (text : List ℕ) × (ending : AnyEnding)
-        × IsInput (R.remaining reader.old) input × IsReport ending input text
+        × IsInput (R.remaining reader.old) input × IsReport extent ending input text
         × WritesFront (W.contents writer.old) (W.contents writer.new) text) }
     ensures unread { IfErr result (λ e. e ≡ Failure.Read
         → Keeps (W.contents writer.old) (W.contents writer.new)) }

@@ -1,6 +1,6 @@
 -- Why a call must be refused, and by which codes it may be. The order of checks is the manager's own: where a call
 -- has several defects, the code of any of them is admitted.
-use Rattle.std.specs.Prelude.{ℕ, Bool, true, false, ◌&&◌, ◌||◌, not, ◌==◌, Option, Some, None, is_some, if◌then◌else◌}
+use Rattle.std.specs.Prelude.{ℕ, Bool, true, false, ◌&&◌, ◌||◌, not, ◌==◌, Option, Some, None, is_some}
 use Rattle.xa_tables.specs.Calls.{async, one_phase, resume, suspend, start_scan, join, migrate}
 use Rattle.judge_state.specs.declared.parts.Branch.{Branch}
 use Rattle.judge_state.specs.declared.parts.Stand.{Stand}

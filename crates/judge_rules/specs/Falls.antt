@@ -1,8 +1,8 @@
 -- Failures, restarts and lost connections.
-use Rattle.std.specs.Prelude.{ℕ, ◌<◌, Bool, true, false, ◌&&◌, ◌||◌, not, ◌==◌, List, [], ◌∷◌, ◌++◌, length, map, filter, is_some, if◌then◌else◌, fold}
+use Rattle.std.specs.Prelude.{ℕ, Bool, true, false, ◌&&◌, ◌||◌, not, ◌==◌, List, [], ◌∷◌, ◌++◌, map, filter, is_some, if◌then◌else◌, fold}
 use Rattle.judge_state.specs.declared.parts.Branch.{Branch}
 use Rattle.judge_state.specs.declared.parts.Stand.{Stand}
-use Rattle.judge_state.specs.declared.parts.Stand.TheVariants.{Active, Prepared, RollbackOnly, Heuristic}
+use Rattle.judge_state.specs.declared.parts.Stand.TheVariants.{Heuristic}
 use Rattle.judge_state.specs.declared.parts.Work.{Work}
 use Rattle.judge_state.specs.Parts.{is_at_work}
 use Rattle.judge_state.specs.Sights.{Sight}
@@ -11,11 +11,9 @@ use Rattle.judge_state.specs.Moves.{brought_back, committed, cut_off, fallen, go
 use Rattle.judge_rules.specs.declared.calls.BranchVerb.{BranchVerb}
 use Rattle.judge_rules.specs.declared.calls.BranchVerb.TheVariants as verb
 use Rattle.judge_rules.specs.declared.calls.On.{On}
-use Rattle.judge_rules.specs.declared.errors.TheConstants.{MOST_STATES}
 use Rattle.judge_rules.specs.declared.replies.Reply.{Reply}
 use Rattle.judge_rules.specs.declared.replies.Reply.TheVariants as reply
 use Rattle.judge_rules.specs.declared.words.Rules.{Rules}
-use Rattle.judge_rules.specs.Flags.{has}
 use Rattle.judge_rules.specs.Passes.{one, stand_in}
 
 -- a call fails: nothing changed
@@ -90,7 +88,3 @@ maybe_gone us b = us ++ map (gone b.name) us ++ map (marked b.name) us
 -- the states after the connection of a thread is gone
 abbrev pub after_cut : ℕ → Sight → List Sight
 after_cut t s = fold maybe_gone (one (cut_off t s)) (filter (hangs_on t s) s.branches)
-
--- more states than are gone through
-abbrev pub AreTooMany : List Sight → Type 0
-AreTooMany us = MOST_STATES < length us

@@ -2,6 +2,7 @@ pub mod Replies
 pub mod Flags
 pub mod Defects
 pub mod Passes
+pub mod Sets
 pub mod Falls
 pub mod Scans
 pub mod Steps

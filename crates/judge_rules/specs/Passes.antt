@@ -5,7 +5,7 @@ use Rattle.xa_tables.specs.Calls.{fail, no_wait, one_phase, resume, suspend, joi
 use Rattle.judge_state.specs.declared.parts.Branch.{Branch}
 use Rattle.judge_state.specs.declared.parts.Decision.{Decision}
 use Rattle.judge_state.specs.declared.parts.Stand.{Stand}
-use Rattle.judge_state.specs.declared.parts.Stand.TheVariants.{Active, Prepared, RollbackOnly, Heuristic}
+use Rattle.judge_state.specs.declared.parts.Stand.TheVariants.{Active, Heuristic}
 use Rattle.judge_state.specs.Sights.{Sight}
 use Rattle.judge_state.specs.Questions.{branch_at, has_suspended}
 use Rattle.judge_state.specs.Moves.{begun, committed, decided, gone, linked, marked, migrating, picked, prepared, rolled, stands, unlinked}

@@ -1,10 +1,10 @@
 -- What a recover may give, and what a thread may read and write.
-use Rattle.std.specs.Prelude.{ℕ, Bool, ◌&&◌, ◌||◌, not, List, [], length, Option, Some, None, nat_le, if◌then◌else◌}
+use Rattle.std.specs.Prelude.{ℕ, Bool, ◌&&◌, ◌||◌, not, List, length, Option, Some, None, nat_le, if◌then◌else◌}
 use Rattle.std.specs.List.{list_all}
 use Rattle.xa_tables.specs.Calls.{start_scan, end_scan}
 use Rattle.judge_state.specs.declared.parts.Branch.{Branch}
 use Rattle.judge_state.specs.Sights.{Sight}
-use Rattle.judge_state.specs.Questions.{active_of, branch_at}
+use Rattle.judge_state.specs.Questions.{branch_at}
 use Rattle.judge_state.specs.Moves.{outside, worked, written}
 use Rattle.judge_state.specs.Scans.{are_distinct, has_value, has_worked, is_worked, may_give, may_read, owes_only, scan_closed, scan_given, scan_opened}
 use Rattle.judge_rules.specs.declared.words.Rules.{Rules}

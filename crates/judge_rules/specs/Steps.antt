@@ -1,6 +1,5 @@
 -- Which states may follow a state, by a call and its answer.
-use Rattle.std.specs.Prelude.{ℕ, Bool, true, false, not, List, [], ◌∷◌, ◌++◌, if◌then◌else◌}
-use Rattle.std.specs.Global.{Vec}
+use Rattle.std.specs.Prelude.{ℕ, Bool, true, false, not, List, [], ◌++◌, if◌then◌else◌}
 use Rattle.judge_state.specs.declared.parts.Decision.{Decision}
 use Rattle.judge_state.specs.declared.parts.Decision.TheVariants as decision
 use Rattle.judge_state.specs.Sights.{Sight}
@@ -19,7 +18,7 @@ use Rattle.judge_rules.specs.declared.replies.Reply.{Reply}
 use Rattle.judge_rules.specs.declared.replies.Reply.TheVariants as reply
 use Rattle.judge_rules.specs.declared.words.Rules.{Rules}
 use Rattle.judge_rules.specs.Replies.{is_among, is_defective, reply_of}
-use Rattle.judge_rules.specs.Defects.{branch_defects, branch_excuses, close_defects, no_refusals, open_defects, recover_defects, recover_excuses}
+use Rattle.judge_rules.specs.Defects.{branch_defects, branch_excuses, close_defects, open_defects, recover_defects, recover_excuses}
 use Rattle.judge_rules.specs.Passes.{branch_passes, one, one_if}
 use Rattle.judge_rules.specs.Falls.{after_cut, after_restart, effects, failed}
 use Rattle.judge_rules.specs.Scans.{given_rows, read_rows, write_row}

@@ -2,13 +2,15 @@
 
 ghost use Rattle.std.specs.Prelude.{◌≡◌, ◌++◌, IfErr, IfOk, map, filter, fold, Option};
 ghost use Rattle.judge_state.specs.Moves.{brought_back, gone, marked};
-ghost use Rattle.judge_rules.specs.Falls.{AreTooMany, after_cut, after_restart, done_failing, effects, effects_rows, failed, failed_rows, half_done, hangs_on, is_decided, may_return, maybe_back, maybe_gone};
+ghost use Rattle.judge_rules.specs.Falls.{after_cut, after_restart, done_failing, effects, effects_rows, failed, failed_rows, half_done, hangs_on, is_decided, may_return, maybe_back, maybe_gone};
+ghost use Rattle.judge_rules.specs.Sets.{AreApart, AreTooMany, IsSetOf};
 
 use crate::branch::{both, one, two};
 use crate::calls::{BranchVerb, On};
-use crate::errors::{MOST_STATES, StepError};
+use crate::errors::StepError;
 use crate::passes::stand_in;
 use crate::replies::Reply;
+use crate::sets::each_once;
 use crate::words::Rules;
 use judge_state::{Branch, Stand, State, Work};
 use std::alloc::{AllocError, Global};
@@ -186,16 +188,15 @@ fn all_maybe_back(
     states: Vec<State>,
     lost: &[Branch],
 ) -> Result<Vec<State>, StepError>
-    ensures states { IfOk result (λ v. v.items ≡ fold (maybe_back works.now) states.items lost.now) }
+    requires { AreApart states.items }
+    ensures states { IfOk result (λ v. IsSetOf (fold (maybe_back works.now) states.items lost.now) v.items) }
     ensures too_many { IfErr result (λ e. e ≡ StepError.TooMany
         → AreTooMany (fold (maybe_back works.now) states.items lost.now)) }
 {
     let mut back = states;
     for branch in lost {
-        if back.len() > MOST_STATES {
-            return Err(StepError::TooMany);
-        }
-        back = maybe_back(alloc, works, back, *branch)?;
+        let more = maybe_back(alloc, works, back, *branch)?;
+        back = each_once(alloc, more)?;
     }
     Ok(back)
 }
@@ -207,7 +208,7 @@ pub(crate) fn after_restart(
     cut: bool,
     state: &State,
 ) -> Result<Vec<State>, StepError>
-    ensures states { IfOk result (λ v. v.items ≡ after_restart rules cut state.now) }
+    ensures states { IfOk result (λ v. IsSetOf (after_restart rules cut state.now) v.items) }
     ensures too_many { IfErr result (λ e. e ≡ StepError.TooMany → AreTooMany (after_restart rules cut state.now)) }
 {
     let restarted = state.copied(alloc)?.restarted(alloc)?;
@@ -276,23 +277,22 @@ fn all_maybe_gone(
     states: Vec<State>,
     branches: &[Branch],
 ) -> Result<Vec<State>, StepError>
-    ensures states { IfOk result (λ v. v.items ≡ fold maybe_gone states.items branches.now) }
+    requires { AreApart states.items }
+    ensures states { IfOk result (λ v. IsSetOf (fold maybe_gone states.items branches.now) v.items) }
     ensures too_many { IfErr result (λ e. e ≡ StepError.TooMany
         → AreTooMany (fold maybe_gone states.items branches.now)) }
 {
     let mut left = states;
     for branch in branches {
-        if left.len() > MOST_STATES {
-            return Err(StepError::TooMany);
-        }
-        left = maybe_gone(alloc, left, *branch)?;
+        let more = maybe_gone(alloc, left, *branch)?;
+        left = each_once(alloc, more)?;
     }
     Ok(left)
 }
 
 /// The states after the connection of a thread is gone.
 pub(crate) fn after_cut(alloc: Global, thread: u32, state: &State) -> Result<Vec<State>, StepError>
-    ensures states { IfOk result (λ v. v.items ≡ after_cut thread state.now) }
+    ensures states { IfOk result (λ v. IsSetOf (after_cut thread state.now) v.items) }
     ensures too_many { IfErr result (λ e. e ≡ StepError.TooMany → AreTooMany (after_cut thread state.now)) }
 {
     let hanging = all_hanging(alloc, thread, state)?;

@@ -2,8 +2,8 @@
 
 ghost use Rattle.std.specs.Prelude.{◌≡◌, IfErr, IfOk};
 ghost use Rattle.judge_state.specs.Moves.{hung};
-ghost use Rattle.judge_rules.specs.Falls.{AreTooMany};
 ghost use Rattle.judge_rules.specs.Passes.{one};
+ghost use Rattle.judge_rules.specs.Sets.{AreAlike, AreTooMany, IsSetOf};
 ghost use Rattle.judge_rules.specs.Steps.{branch_next, branch_rows, by_defects, decide_next, disconnect_next, function_next, get_next, is_answered, next, open_next, outcome, put_next, recover_next, recover_rows, restart_next, trim_next, waits};
 
 use crate::branch::{both, one, same_if};
@@ -19,6 +19,7 @@ use crate::rows::{
     branch_defects, branch_excuses, close_defects, open_defects, recover_defects, recover_excuses,
 };
 use crate::scan::given_rows;
+use crate::sets::each_once;
 use crate::words::Rules;
 use judge_state::{Decision, State};
 use std::alloc::{AllocError, Global};
@@ -264,7 +265,7 @@ fn restart_next(
     state: &State,
     answer: &Answer,
 ) -> Result<Vec<State>, StepError>
-    ensures states { IfOk result (λ v. v.items ≡ restart_next rules cut state.now answer.now) }
+    ensures states { IfOk result (λ v. IsSetOf (restart_next rules cut state.now answer.now) v.items) }
     ensures too_many { IfErr result (λ e. e ≡ StepError.TooMany
         → AreTooMany (restart_next rules cut state.now answer.now)) }
 {
@@ -282,7 +283,7 @@ fn disconnect_next(
     state: &State,
     answer: &Answer,
 ) -> Result<Vec<State>, StepError>
-    ensures states { IfOk result (λ v. v.items ≡ disconnect_next thread state.now answer.now) }
+    ensures states { IfOk result (λ v. IsSetOf (disconnect_next thread state.now answer.now) v.items) }
     ensures too_many { IfErr result (λ e. e ≡ StepError.TooMany
         → AreTooMany (disconnect_next thread state.now answer.now)) }
 {
@@ -331,8 +332,8 @@ fn function_next(
     }
 }
 
-/// The states that may follow a state, by a call and its answer: none, where the answer is not admitted. It is refused
-/// where memory is, and where there are too many of them.
+/// The states that may follow a state, by a call and its answer, each once: none, if the answer is not admitted. It is
+/// refused if memory is, and if there are too many of them.
 pub fn next(
     alloc: Global,
     rules: Rules,
@@ -340,7 +341,7 @@ pub fn next(
     call: Call,
     answer: &Answer,
 ) -> Result<Vec<State>, StepError>
-    ensures states { IfOk result (λ v. v.items ≡ next rules state.now call answer.now) }
+    ensures states { IfOk result (λ v. IsSetOf (next rules state.now call answer.now) v.items) }
     ensures too_many { IfErr result (λ e. e ≡ StepError.TooMany
         → AreTooMany (next rules state.now call answer.now)) }
 {
@@ -348,16 +349,24 @@ pub fn next(
         return Ok(one(alloc, state.copied(alloc)?)?);
     }
     match call {
-        Call::Function(function) => Ok(function_next(alloc, rules, state, function, answer)?),
-        Call::Get { thread, key } => Ok(get_next(alloc, rules, state, thread, key, answer)?),
+        Call::Function(function) => {
+            let states = function_next(alloc, rules, state, function, answer)?;
+            each_once(alloc, states)
+        }
+        Call::Get { thread, key } => {
+            let states = get_next(alloc, rules, state, thread, key, answer)?;
+            each_once(alloc, states)
+        }
         Call::Put { thread, key, value } => {
-            Ok(put_next(alloc, state, thread, key, value, answer)?)
+            let states = put_next(alloc, state, thread, key, value, answer)?;
+            each_once(alloc, states)
         }
         Call::Decide { branch, commits } => {
-            Ok(decide_next(alloc, state, branch, commits, answer)?)
+            let states = decide_next(alloc, state, branch, commits, answer)?;
+            each_once(alloc, states)
         }
         Call::Restart { cut } => restart_next(alloc, rules, cut, state, answer),
         Call::Disconnect { thread } => disconnect_next(alloc, thread, state, answer),
-        Call::Trim => Ok(trim_next(alloc, state, answer)?),
+        Call::Trim => each_once(alloc, trim_next(alloc, state, answer)?),
     }
 }

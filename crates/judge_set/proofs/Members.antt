@@ -1,79 +1,70 @@
 -- Sets of states as lists, and the histories that lead to them.
-use Rattle.std.proofs.Common.{◌≡◌, ℕ, ◌+◌, ◌<◌, zero, suc, Option, Some, None, List, [], ◌∷◌, ◌++◌, length, get_or, take, refl, sym, subst, ◌∙◌, inl, inr, arith}
+use Rattle.std.proofs.Common.{◌≡◌, ℕ, ◌+◌, ◌<◌, ◌≤◌, zero, suc, Option, Some, None, List, [], ◌∷◌, ◌++◌, length, get_or, take, drop, refl, sym, subst, ap, inl, inr, arith}
 use Rattle.std.specs.Prelude.{Contains, IfOk, Result, Ok, Err}
-use Rattle.std.proofs.lemmas.List.Elements.{Contains-get_or, Contains-append_left, Contains-append_right, Contains-push, Contains-push_cases, Contains-append_cases}
+use Rattle.std.proofs.lemmas.Bool.{cases_lt}
+use Rattle.std.proofs.lemmas.List.{take-append-drop}
+use Rattle.std.proofs.lemmas.List.Elements.{Contains-get_or, Contains-append_left, Contains-push, Contains-append_cases}
 use Rattle.judge_state.specs.Sights.{Sight, first_sight}
 use Rattle.judge_rules.specs.declared.calls.Event.{Event}
 use Rattle.judge_rules.specs.declared.words.Rules.{Rules}
 use Rattle.judge_rules.specs.Histories.{IsLegal, Leads, Step}
 use Rattle.judge_rules.specs.Steps.{next}
+use Rattle.judge_rules.specs.Sets.{Adds, AreApart, AreMany, AreTooMany, IsSetOf}
 use Rattle.judge_rules.specs.declared.errors.StepError.{StepError}
+use Rattle.judge_rules.specs.declared.errors.TheConstants.{MOST_STATES}
+use Rattle.judge_rules.proofs.Members.{no_more, none_in, one_is}
 use Rattle.judge_set.specs.declared.verdict.Walk.{Walk}
-use Rattle.judge_set.specs.Sets.{Adds, AreLeft, Follows, IsVerdict, IsWalk, LeadsOn}
-
--- an element that is found is among them
-pub contains_here : (xs : List Sight) (i : ℕ) (y x : Sight) → i < length xs → y ≡ get_or xs i y → y ≡ x
-    → Contains xs x
-contains_here xs i y x lt is same = subst (λ (t : Sight). Contains xs t) (sym is ∙ same) (Contains-get_or xs i y lt)
-
-pub none_in : (x : Sight) → Contains [] x → ⊥
-none_in x c = omega (arith, c.1)
-
-one_is : (y x : Sight) → Contains (y ∷ []) x → y ≡ x
-one_is y x c = elim (Contains-push_cases [] y x c) [ inl a ↦ absurd (none_in x a) | inr e ↦ e ]
-
--- nothing is added
-pub adds_none : (old : List Sight) → Adds old old []
-adds_none old t = (λ c. inl c, λ s. elim s [ inl c ↦ c | inr c ↦ absurd (none_in t c) ])
-
--- a state that is there is not added
-pub adds_known : (old : List Sight) (x : Sight) → Contains old x → Adds old old (x ∷ [])
-adds_known old x h t = (
-  λ c. inl c,
-  λ s. elim s [ inl c ↦ c | inr c ↦ subst (λ (q : Sight). Contains old q) (one_is x t c) h ],
-)
-
--- a state is added
-pub adds_one : (old : List Sight) (x : Sight) → Adds old (old ++ x ∷ []) (x ∷ [])
-adds_one old x t = (
-  λ c. Contains-append_cases old (x ∷ []) t c,
-  λ s. elim s [ inl c ↦ Contains-append_left old (x ∷ []) t c | inr c ↦ Contains-append_right old (x ∷ []) t c ],
-)
-
--- first some are added, then one more
-pub adds_more : (old mid new more : List Sight) (x : Sight) → Adds old mid more → Adds mid new (x ∷ [])
-    → Adds old new (more ++ x ∷ [])
-adds_more old mid new more x first then t = (
-  λ c. elim ((then t).0 c) [
-    | inl m ↦ (elim ((first t).0 m) [ inl o ↦ inl o | inr a ↦ inr (Contains-append_left more (x ∷ []) t a) ])
-    | inr a ↦ inr (Contains-append_right more (x ∷ []) t a)
-  ],
-  λ s. elim s [
-    | inl o ↦ (then t).1 (inl ((first t).1 (inl o)))
-    | inr a ↦ (elim (Contains-append_cases more (x ∷ []) t a) [
-      | inl m ↦ (then t).1 (inl ((first t).1 (inr m)))
-      | inr m ↦ (then t).1 (inr m)
-    ])
-  ],
-)
+use Rattle.judge_set.specs.Sets.{AreLeft, Follows, IsTooMuch, IsVerdict, IsWalk, LeadsOn, MayFollow, MayLead}
 
 -- nothing follows none
 pub follows_none : (r : Rules) (e : Event) → Follows r [] e []
 follows_none r e t = (λ c. absurd (none_in t c), λ (s, c, step). absurd (none_in s c))
 
 -- and what follows one more
-pub follows_more : (r : Rules) (e : Event) (old after new : List Sight) (s : Sight) → Follows r old e after
-    → Adds after new (next r s e.call e.answer) → Follows r (old ++ s ∷ []) e new
-follows_more r e old after new s so_far more t = (
-  λ c. elim ((more t).0 c) [
+pub follows_more : (r : Rules) (e : Event) (old after new more : List Sight) (s : Sight) → Follows r old e after
+    → Adds after new more → IsSetOf (next r s e.call e.answer) more → Follows r (old ++ s ∷ []) e new
+follows_more r e old after new more s so_far adds set t = (
+  λ c. elim ((adds.all t).0 c) [
     | inl a ↦ (let f = (so_far t).0 a in (f.0, Contains-append_left old (s ∷ []) f.0 f.1, f.2))
-    | inr a ↦ (s, Contains-push old s, a)
+    | inr a ↦ (s, Contains-push old s, (set.all t).0 a)
   ],
   λ (u, c, step). elim (Contains-append_cases old (s ∷ []) u c) [
-    | inl o ↦ (more t).1 (inl ((so_far t).1 (u, o, step)))
-    | inr o ↦ (more t).1 (inr (subst (λ (q : Sight). Step r q e t) (sym (one_is s u o)) step))
+    | inl o ↦ (adds.all t).1 (inl ((so_far t).1 (u, o, step)))
+    | inr o ↦ (adds.all t).1 (inr ((set.all t).1 (subst (λ (q : Sight). Step r q e t) (sym (one_is s u o)) step)))
   ],
 )
+
+-- what follows some of these follows these
+front_follows : (r : Rules) (e : Event) (all : List Sight) (n : ℕ) (t : Sight) → MayFollow r (take n all) e t
+    → MayFollow r all e t
+front_follows r e all n t (s, c, step) = (
+  s,
+  subst (λ (q : List Sight). Contains q s) (take-append-drop n all)
+      (Contains-append_left (take n all) (drop n all) s c),
+  step,
+)
+
+-- more than are gone through follow some of these, so they follow these
+pub many_follow : (r : Rules) (e : Event) (all new : List Sight) (n : ℕ) → Follows r (take n all) e new → AreApart new
+    → MOST_STATES < length new → AreMany (MayFollow r all e)
+many_follow r e all new n follows apart many =
+    (new, apart, λ t c. front_follows r e all n t ((follows t).0 c), many)
+
+-- and if they follow one of these
+pub one_leads_many : (r : Rules) (e : Event) (all : List Sight) (i : ℕ) (s : Sight) → i < length all
+    → s ≡ get_or all i s → AreTooMany (next r s e.call e.answer) → AreMany (MayFollow r all e)
+one_leads_many r e all i s lt is (ts, apart, among, many) = (
+  ts,
+  apart,
+  λ t c. (s, subst (λ (q : Sight). Contains all q) (sym is) (Contains-get_or all i s lt), among t c),
+  many,
+)
+
+-- there are not too many of a kind that are all in a short list
+pub not_many : (P : Sight → Type 0) (us : List Sight) → ((t : Sight) → P t → Contains us t) → length us ≤ MOST_STATES
+    → AreMany P → ⊥
+not_many P us all few (ts, apart, kind, many) =
+    omega (arith, no_more ts us apart (λ t c. all t (kind t c)), few, many)
 
 leads_more : (r : Rules) (es : List Event) (s : Sight) (e : Event) (u t : Sight) → Leads r s es u → Step r u e t
     → Leads r s (es ++ e ∷ []) t
@@ -102,6 +93,23 @@ left_more r starts es e old new left follows t = (
   λ (s, c, l). let h = leads_less r es s e t l in (follows t).1 (h.0, (left h.0).1 (s, c, h.1), h.2),
 )
 
+-- too many after one more call
+pub many_more : (r : Rules) (starts : List Sight) (es : List Event) (e : Event) (old : List Sight)
+    → AreLeft r starts es old → AreMany (MayFollow r old e) → AreMany (MayLead r starts (es ++ e ∷ []))
+many_more r starts es e old left (ts, apart, follow, many) = (
+  ts,
+  apart,
+  λ t c. let f = follow t c in let h = (left f.0).0 f.1 in (h.0, h.1, leads_more r es h.0 e f.0 t h.2 f.2),
+  many,
+)
+
+-- if there are many, there is one
+many_lead : (r : Rules) (starts : List Sight) (es : List Event) → AreMany (MayLead r starts es)
+    → LeadsOn r starts es
+many_lead r starts es (ts, apart, lead, many) =
+    let t = get_or ts 0 first_sight in
+    let h = lead t (Contains-get_or ts 0 first_sight (omega (arith, many))) in (h.0, t, h.1, h.2)
+
 -- where a state is left the history leads on
 pub leads_on : (r : Rules) (starts : List Sight) (es : List Event) (states : List Sight)
     → AreLeft r starts es states → 0 < length states → LeadsOn r starts es
@@ -122,10 +130,45 @@ leads_front r (suc n) [] s t l = (s, refl)
 leads_front r (suc n) (e ∷ es) s t (u, step, rest) =
     let h = leads_front r n es u t rest in (h.0, (u, step, h.1))
 
-legal_on : (r : Rules) (es : List Event) → LeadsOn r (first_sight ∷ []) es → IsLegal r es
+pub take_take : (n m : ℕ) (es : List Event) → n ≤ m → take n (take m es) ≡ take n es
+take_take zero m es h = refl
+take_take (suc n) zero es h = absurd (omega (arith, h))
+take_take (suc n) (suc m) [] h = refl
+take_take (suc n) (suc m) (e ∷ es) h =
+    ap (λ (q : List Event). e ∷ q) (take_take n m es (omega (arith, h)))
+
+-- a front of events that lead on leads on
+leads_on_front : (r : Rules) (starts : List Sight) (n m : ℕ) (es : List Event) → n ≤ m
+    → LeadsOn r starts (take m es) → LeadsOn r starts (take n es)
+leads_on_front r starts n m es le (s, t, c, l) =
+    let h = leads_front r n (take m es) s t l in
+    (s, h.0, c, subst (λ (q : List Event). Leads r s q h.0) (take_take n m es le) h.1)
+
+-- the events before the first that leads to none were not too much, so all are not
+pub not_past : (r : Rules) (starts : List Sight) (es : List Event) (i : ℕ)
+    → ((j : ℕ) → j < i → AreMany (MayLead r starts (take (j + 1) es)) → ⊥)
+    → (LeadsOn r starts (take (i + 1) es) → ⊥) → IsTooMuch r starts es → ⊥
+not_past r starts es i before stops (j, lt, many) = elim (cases_lt j i) [
+  | inl less ↦ before j less many
+  | inr ge ↦ stops (leads_on_front r starts (i + 1) (j + 1) es (omega (arith, ge))
+      (many_lead r starts (take (j + 1) es) many))
+]
+
+-- not too much after one event more
+pub not_next : (r : Rules) (starts : List Sight) (es : List Event) (i : ℕ) (new : List Sight)
+    → ((j : ℕ) → j < i → AreMany (MayLead r starts (take (j + 1) es)) → ⊥)
+    → AreLeft r starts (take (i + 1) es) new → length new ≤ MOST_STATES
+    → (j : ℕ) → j < i + 1 → AreMany (MayLead r starts (take (j + 1) es)) → ⊥
+not_next r starts es i new before left few j lt many = elim (cases_lt j i) [
+  | inl less ↦ before j less many
+  | inr ge ↦ (let e : j ≡ i = omega arith in not_many (MayLead r starts (take (i + 1) es)) new (λ t h. (left t).1 h) few
+      (subst (λ (k : ℕ). AreMany (MayLead r starts (take (k + 1) es))) e many))
+]
+
+pub legal_on : (r : Rules) (es : List Event) → LeadsOn r (first_sight ∷ []) es → IsLegal r es
 legal_on r es (s, t, c, l) = (t, subst (λ (q : Sight). Leads r q es t) (sym (one_is first_sight s c)) l)
 
-on_legal : (r : Rules) (es : List Event) → IsLegal r es → LeadsOn r (first_sight ∷ []) es
+pub on_legal : (r : Rules) (es : List Event) → IsLegal r es → LeadsOn r (first_sight ∷ []) es
 on_legal r es (t, l) = (first_sight, t, Contains-push [] first_sight, l)
 
 -- a front of a legal history is legal

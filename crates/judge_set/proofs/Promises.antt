@@ -34,7 +34,7 @@ use Rattle.judge_rules.specs.Steps.{branch_next, branch_rows, by_defects, functi
 use Rattle.judge_rules.specs.Scans.{read_rows}
 use Rattle.judge_rules.specs.Histories.{IsLegal, Leads, Step}
 use Rattle.judge_set.specs.Sets.{without_promises}
-use Rattle.judge_set.proofs.Members.{none_in}
+use Rattle.judge_rules.proofs.Members.{none_in}
 
 -- what is among these is among those
 abbrev Sub : List Sight → List Sight → Type 0

@@ -1,18 +1,11 @@
 -- A history has one verdict.
-use Rattle.std.proofs.Common.{◌≡◌, ℕ, ◌+◌, ◌<◌, ◌≤◌, zero, suc, Option, Some, None, List, [], ◌∷◌, take, refl, ap, subst, inl, inr, arith}
+use Rattle.std.proofs.Common.{◌≡◌, ℕ, ◌+◌, ◌<◌, Option, Some, None, List, take, refl, ap, subst, inl, inr, arith}
 use Rattle.std.proofs.lemmas.Bool.{cases_lt}
 use Rattle.judge_rules.specs.declared.calls.Event.{Event}
 use Rattle.judge_rules.specs.declared.words.Rules.{Rules}
 use Rattle.judge_rules.specs.Histories.{IsLegal}
 use Rattle.judge_set.specs.Sets.{IsFirstFault, IsVerdict}
-use Rattle.judge_set.proofs.Members.{legal_front}
-
-take_take : (n m : ℕ) (es : List Event) → n ≤ m → take n (take m es) ≡ take n es
-take_take zero m es h = refl
-take_take (suc n) zero es h = absurd (omega (arith, h))
-take_take (suc n) (suc m) [] h = refl
-take_take (suc n) (suc m) (e ∷ es) h =
-    ap (λ (q : List Event). e ∷ q) (take_take n m es (omega (arith, h)))
+use Rattle.judge_set.proofs.Members.{legal_front, take_take}
 
 -- no event after a first fault is a first fault
 apart : (r : Rules) (es : List Event) (i j : ℕ) → IsFirstFault r es i → IsFirstFault r es j → i < j → ⊥

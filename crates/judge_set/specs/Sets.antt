@@ -1,21 +1,26 @@
 -- The states that are possible after a front of a history, and the first fault of a history.
-use Rattle.std.specs.Prelude.{ℕ, false, ◌+◌, ◌<◌, ◌↔◌, ◌⊎◌, List, length, take, Contains, Option, Some, None}
+use Rattle.std.specs.Prelude.{ℕ, false, ◌+◌, ◌<◌, ◌↔◌, List, length, take, Contains, Option, Some, None}
 use Rattle.judge_state.specs.Sights.{Sight}
 use Rattle.judge_rules.specs.declared.calls.Event.{Event}
 use Rattle.judge_rules.specs.declared.words.Rules.{Rules}
 use Rattle.judge_rules.specs.Histories.{IsLegal, Leads, Step}
+use Rattle.judge_rules.specs.Sets.{AreMany}
 
--- a list has what it had, and these states
-abbrev pub Adds : List Sight → List Sight → List Sight → Type 0
-Adds old new more = (t : Sight) → Contains new t ↔ (Contains old t ⊎ Contains more t)
+-- a state may follow one of these
+abbrev pub MayFollow : Rules → List Sight → Event → Sight → Type 0
+MayFollow r old e t = (s : Sight) × Contains old s × Step r s e t
 
 -- a list has exactly the states that may follow one of these
 abbrev pub Follows : Rules → List Sight → Event → List Sight → Type 0
-Follows r old e new = (t : Sight) → Contains new t ↔ ((s : Sight) × Contains old s × Step r s e t)
+Follows r old e new = (t : Sight) → Contains new t ↔ MayFollow r old e t
+
+-- a history may lead from one of these states to a state
+abbrev pub MayLead : Rules → List Sight → List Event → Sight → Type 0
+MayLead r starts es t = (s : Sight) × Contains starts s × Leads r s es t
 
 -- a list has exactly the states to which a history may lead from one of these
 abbrev pub AreLeft : Rules → List Sight → List Event → List Sight → Type 0
-AreLeft r starts es states = (t : Sight) → Contains states t ↔ ((s : Sight) × Contains starts s × Leads r s es t)
+AreLeft r starts es states = (t : Sight) → Contains states t ↔ MayLead r starts es t
 
 -- a history leads from one of these states to some state
 abbrev pub LeadsOn : Rules → List Sight → List Event → Type 0
@@ -31,6 +36,15 @@ pub record Stops (r : Rules) (starts : List Sight) (es : List Event) (i : ℕ) :
 abbrev pub IsWalk : Rules → List Sight → List Event → Option ℕ → Type 0
 IsWalk r starts es None = LeadsOn r starts es
 IsWalk r starts es (Some i) = Stops r starts es i
+
+-- the events before the one that leads to no state: all, if there is none
+abbrev pub followed : List Event → Option ℕ → List Event
+followed es None = es
+followed es (Some i) = take i es
+
+-- after one of these events more states are possible than are gone through
+abbrev pub IsTooMuch : Rules → List Sight → List Event → Type 0
+IsTooMuch r starts es = (i : ℕ) × (i < length es) × AreMany (MayLead r starts (take (i + 1) es))
 
 -- the event of this index is the first fault of a history: what is before it is legal, and with it is not
 pub record IsFirstFault (r : Rules) (es : List Event) (i : ℕ) : Type 0 where

@@ -1,44 +1,13 @@
 //! The set of all states that are possible.
 
-ghost use Rattle.std.specs.Prelude.{◌≡◌, ◌↔◌, ◌∷◌, [], Contains, IfOk, IsTrue, OnOk};
+ghost use Rattle.std.specs.Prelude.{◌≡◌, ◌≤◌, ◌∷◌, [], IfErr, IfOk, vec_len};
 ghost use Rattle.judge_state.specs.Sights.{first_sight};
-ghost use Rattle.judge_set.specs.Sets.{Adds, Follows};
+ghost use Rattle.judge_rules.specs.Sets.{AreApart, AreMany};
+ghost use Rattle.judge_set.specs.Sets.{Follows, MayFollow};
 
-use judge_rules::{Event, MOST_STATES, Rules, StepError, next};
-use judge_state::{State, are_same};
+use judge_rules::{Event, MOST_STATES, Rules, StepError, add_all, next};
+use judge_state::State;
 use std::alloc::{AllocError, Global};
-
-/// Whether a state is among these.
-fn is_found(states: &[State], state: &State) -> bool
-    ensures { IsTrue result ↔ Contains states.now state.now }
-{
-    for other in states {
-        if are_same(other, state) {
-            return true;
-        }
-    }
-    false
-}
-
-/// Adds a state, unless it is found.
-fn add(states: &mut Vec<State>, state: State) -> Result<(), AllocError>
-    ensures { OnOk result (Adds states.old.items states.new.items (state ∷ [])) }
-{
-    if !is_found(states, &state) {
-        states.push(state)?;
-    }
-    Ok(())
-}
-
-/// Adds states, each unless it is found.
-fn add_all(states: &mut Vec<State>, more: Vec<State>) -> Result<(), AllocError>
-    ensures { OnOk result (Adds states.old.items states.new.items more.items) }
-{
-    for state in more {
-        add(states, state)?;
-    }
-    Ok(())
-}
 
 /// The set before any call: the first state.
 pub fn start(alloc: Global) -> Result<Vec<State>, AllocError>
@@ -49,15 +18,18 @@ pub fn start(alloc: Global) -> Result<Vec<State>, AllocError>
     Ok(states)
 }
 
-/// The states that may follow one of these, by a call and its answer. It is refused where memory is, and where
-/// there are too many of them.
+/// The states that may follow one of these, by a call and its answer. It is refused if memory is, and if there are too
+/// many of them.
 pub fn follow(
     alloc: Global,
     rules: Rules,
     states: &[State],
     event: &Event,
 ) -> Result<Vec<State>, StepError>
-    ensures { IfOk result (λ v. Follows rules states.now event.now v.items) }
+    ensures states { IfOk result (λ v. Follows rules states.now event.now v.items) }
+    ensures apart { IfOk result (λ v. AreApart v.items) }
+    ensures few { IfOk result (λ v. vec_len v ≤ MOST_STATES) }
+    ensures too_many { IfErr result (λ e. e ≡ StepError.TooMany → AreMany (MayFollow rules states.now event.now)) }
 {
     let mut after = Vec::new(alloc);
     for state in states {

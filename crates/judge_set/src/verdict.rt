@@ -1,7 +1,8 @@
 //! The first answer that no history admits.
 
-ghost use Rattle.std.specs.Prelude.{◌<◌, IfOk, length};
-ghost use Rattle.judge_set.specs.Sets.{IsVerdict, IsWalk};
+ghost use Rattle.std.specs.Prelude.{◌≡◌, ◌<◌, ◌∷◌, [], IfErr, IfOk, length};
+ghost use Rattle.judge_state.specs.Sights.{first_sight};
+ghost use Rattle.judge_set.specs.Sets.{AreLeft, IsTooMuch, IsVerdict, IsWalk, followed};
 
 use crate::set::{follow, start};
 use judge_rules::{Event, Rules, StepError};
@@ -11,13 +12,13 @@ use std::alloc::Global;
 /// How far events lead.
 #[derive(Drop)]
 pub struct Walk {
-    /// The index of the first event after which no state is possible: None, where there is none.
+    /// The index of the first event after which no state is possible: None, if there is none.
     pub fault: Option<usize>,
     /// The states that are possible before it, or at the end.
     pub states: Vec<State>,
 }
 
-/// Goes from these states along events. It is refused where memory is, and where too many states are possible.
+/// Goes from these states along events. It is refused if memory is, and if too many states are possible.
 pub fn follow_all(
     alloc: Global,
     rules: Rules,
@@ -25,7 +26,11 @@ pub fn follow_all(
     events: &[Event],
 ) -> Result<Walk, StepError>
     requires { 0 < length starts.items }
-    ensures { IfOk result (λ walk. IsWalk rules starts.items events.now walk.fault) }
+    ensures fault { IfOk result (λ walk. IsWalk rules starts.items events.now walk.fault) }
+    ensures states { IfOk result (λ walk.
+        AreLeft rules starts.items (followed events.now walk.fault) walk.states.items) }
+    ensures few { IfOk result (λ walk. IsTooMuch rules starts.items events.now → ⊥) }
+    ensures too_many { IfErr result (λ e. e ≡ StepError.TooMany → IsTooMuch rules starts.items events.now) }
 {
     let mut states = starts;
     for (i, event) in events.iter().enumerate() {
@@ -44,9 +49,15 @@ pub fn follow_all(
     })
 }
 
-/// Judges a history: whether it is legal, or which of its events is the first that no legal history has there.
+/// Judges a history: whether it is legal, or which of its events is the first that no legal history has there. There is
+/// no verdict if more states than are gone through are possible after one of them.
 pub fn judge(alloc: Global, rules: Rules, events: &[Event]) -> Result<Walk, StepError>
-    ensures { IfOk result (λ walk. IsVerdict rules events.now walk.fault) }
+    ensures verdict { IfOk result (λ walk. IsVerdict rules events.now walk.fault) }
+    ensures states { IfOk result (λ walk.
+        AreLeft rules (first_sight ∷ []) (followed events.now walk.fault) walk.states.items) }
+    ensures few { IfOk result (λ walk. IsTooMuch rules (first_sight ∷ []) events.now → ⊥) }
+    ensures too_many { IfErr result (λ e. e ≡ StepError.TooMany
+        → IsTooMuch rules (first_sight ∷ []) events.now) }
 {
     follow_all(alloc, rules, start(alloc)?, events)
 }

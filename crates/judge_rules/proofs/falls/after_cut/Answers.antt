@@ -2,7 +2,8 @@ use Rattle.std.proofs.Common.{◌≡◌, List, rules, subst}
 use Rattle.std.specs.Prelude.{IfErr, fold}
 use Rattle.judge_state.specs.Sights.{Sight}
 use Rattle.judge_rules.specs.declared.errors.StepError.TheVariants.{TooMany}
-use Rattle.judge_rules.specs.Falls.{AreTooMany, after_cut, maybe_gone}
+use Rattle.judge_rules.specs.Falls.{after_cut, maybe_gone}
+use Rattle.judge_rules.specs.Sets.{AreTooMany}
 use Rattle.judge_rules.proofs.falls.after_cut.Goals as goal
 
 pub returns-clause-too_many : goal.returns-clause-too_many

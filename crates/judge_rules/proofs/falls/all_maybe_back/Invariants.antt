@@ -1,7 +1,9 @@
-use Rattle.std.proofs.Common.{◌≡◌, take}
+use Rattle.std.proofs.Common.{take}
 use Rattle.std.specs.Prelude.{fold}
 use Rattle.judge_rules.specs.Falls.{maybe_back}
+use Rattle.judge_rules.specs.Sets.{IsSetOf}
 use Rattle.judge_rules.proofs.falls.all_maybe_back.Given as goal
 
 abbrev pub invariant-loop-branch : goal.invariant-loop-branch
-invariant-loop-branch l = l.back.items ≡ fold (maybe_back l.works) l.fn.states.items (take l.branch-index l.lost)
+invariant-loop-branch l =
+    IsSetOf (fold (maybe_back l.works) l.fn.states.items (take l.branch-index l.lost)) l.back.items

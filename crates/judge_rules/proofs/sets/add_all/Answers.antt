@@ -3,9 +3,9 @@ use Rattle.std.proofs.lemmas.List.{map-id}
 use Rattle.std.proofs.lemmas.Iterator.Adapters.{YieldsList-from_vec}
 use Rattle.std.proofs.lemmas.Iterator.Consumers.{YieldsList-end}
 use Rattle.judge_state.specs.Sights.{Sight}
-use Rattle.judge_set.specs.Sets.{Adds}
-use Rattle.judge_set.proofs.Members.{adds_more, adds_none}
-use Rattle.judge_set.proofs.set.add_all.Goals as goal
+use Rattle.judge_rules.specs.Sets.{Adds}
+use Rattle.judge_rules.proofs.Members.{adds_more, adds_none}
+use Rattle.judge_rules.proofs.sets.add_all.Goals as goal
 
 pub loop-state-init : goal.loop-state-init
 loop-state-init c = adds_none c.args.states.now.items
