@@ -10,7 +10,7 @@ use Rattle.picture_rows.specs.declared.drawn.Stub.{Stub}
 use Rattle.picture_rows.specs.declared.drawn.Way.{Way}
 use Rattle.picture_rows.specs.declared.seats.Seat.{Seat}
 use Rattle.picture_rows.specs.Fates.{Leaving, leaving_in}
-use Rattle.picture_rows.specs.Ways.{HasSeat, spot_of}
+use Rattle.picture_rows.specs.Ways.{HasSeat, senders, spot_of, ways_in}
 use Rattle.picture_rows.specs.Whole.{deliveries, sent_in}
 use Rattle.picture_shapes.specs.declared.frame.Frame.{Frame}
 use Rattle.picture_shapes.specs.declared.frame.Grid.{Grid}
@@ -31,12 +31,12 @@ map_both f g [] = refl
 map_both f g (x ∷ xs) = ap (λ zs. f (g x) ∷ zs) (map_both f g xs)
 
 -- the words of arrows, by their ways and their numbers
-captions_are : (g : Grid) (room : ℕ) (ms : List Envelope) (as : List Arrow)
-    → map (λ (a : Arrow). Some (caption_along g room ms a.way a.number)) as
-    ≡ captions_along g room ms (map (λ (a : Arrow). a.way) as) (map (λ (a : Arrow). a.number) as)
+captions_are : (g : Grid) (room : ℕ) (ms : List Envelope) (drawn : List Arrow)
+    → map (λ (a : Arrow). Some (caption_along g room ms a.way a.number)) drawn
+    ≡ captions_along g room ms (map (λ (a : Arrow). a.way) drawn) (map (λ (a : Arrow). a.number) drawn)
 unfolding captions_along
 captions_are g room ms [] = refl
-captions_are g room ms (a ∷ as) = ap (λ cs. Some (caption_along g room ms a.way a.number) ∷ cs) (captions_are g room ms as)
+captions_are g room ms (a ∷ rest) = ap (λ cs. Some (caption_along g room ms a.way a.number) ∷ cs) (captions_are g room ms rest)
 
 -- what is drawn along, at and beside the arrows, marks and stubs of a plan
 pub record Draws (p : Plan) (f : Frame) (strokes departures : List Stroke) (openings squares : List Square)
@@ -105,7 +105,7 @@ pictured tree entries refused p f strokes departures lines openings squares belo
       said = draws.said ∙ captions_are g room p.messages.items p.arrows.items
           ∙ ap (λ xs. captions_along g room xs (map (λ (a : Arrow). a.way) p.arrows.items) (map (λ (a : Arrow). a.number) p.arrows.items)) sent
           ∙ ap (λ ws. captions_along g room ms ws (map (λ (a : Arrow). a.number) p.arrows.items)) placed.ways
-          ∙ ap (λ ns. captions_along g room ms _ ns) numbers;
+          ∙ ap (λ ns. captions_along g room ms (ways_in p.seats.items p.rows.steps.items (senders entries) entries) ns) numbers;
       fates = placed.fates;
       fated = placed.fated;
       leaving = draws.leaving
@@ -120,4 +120,49 @@ pictured tree entries refused p f strokes departures lines openings squares belo
       others = others;
       opened = draws.opened;
       layers = is;
+    }
+
+-- what is drawn of a plan, where each call leaves the frame as it was
+pub draws_of : (p : Plan) (opened arrowed marked stubbed : Frame) (seats : List Seat) (ms ns : List Envelope)
+    (bs : List Arrow) (ks : List Mark) (ts : List Stub) (strokes departures : List Stroke) (openings squares : List Square)
+    (captions none apart_words nothing : List Shape)
+    → arrowed ≡ opened → marked ≡ opened → stubbed ≡ opened
+    → seats ≡ p.seats.items → ms ≡ p.messages.items → bs ≡ p.arrows.items → ks ≡ p.marks.items → ns ≡ p.messages.items
+    → ts ≡ p.stubs.items → none ≡ [] → nothing ≡ []
+    → map square_key openings ≡ map (λ (s : Seat). spot_key opened.grid (opening_of s)) seats
+    → map (λ (s : Stroke). s.title.items) strokes ≡ map (λ (a : Arrow). title_in ms a.number) bs
+    → RunAlong arrowed.grid (map (λ (a : Arrow). a.way) bs) strokes
+    → map caption_of captions ≡ map caption_of none
+    ++ map (λ (a : Arrow). Some (caption_along arrowed.grid arrowed.room.messages ms a.way a.number)) bs
+    → map square_key squares ≡ map (λ (m : Mark). spot_key marked.grid (spot_of m)) ks
+    → titles_of departures ≡ map (λ (s : Stub). title_in ns s.number) ts
+    → DepartAll stubbed.grid (map leaving_in ts) departures
+    → map said_of apart_words ≡ map said_of nothing ++ map (λ (s : Stub). says_of stubbed.room.messages ns s.number) ts
+    → Draws p opened strokes departures openings squares captions apart_words
+draws_of p opened arrowed marked stubbed seats ms ns bs ks ts strokes departures openings squares captions none apart_words
+    nothing same_arrowed same_marked same_stubbed sit m_is b_is k_is n_is t_is first last opens titles along said keys leaving
+    depart named =
+    record {
+      opened = opens ∙ ap (λ xs. map (λ (s : Seat). spot_key opened.grid (opening_of s)) xs) sit;
+      titles = titles ∙ ap (λ xs. map (λ (a : Arrow). title_in ms a.number) xs) b_is
+          ∙ ap (λ xs. map (λ (a : Arrow). title_in xs a.number) p.arrows.items) m_is;
+      along = subst (λ (f : Frame). RunAlong f.grid (map (λ (a : Arrow). a.way) p.arrows.items) strokes) same_arrowed
+          (subst (λ xs. RunAlong arrowed.grid (map (λ (a : Arrow). a.way) xs) strokes) b_is along);
+      said = said ∙ ap (λ xs. map caption_of xs ++ map (λ (a : Arrow). Some (caption_along arrowed.grid arrowed.room.messages ms
+          a.way a.number)) bs) first
+          ∙ ap (λ xs. map (λ (a : Arrow). Some (caption_along arrowed.grid arrowed.room.messages ms a.way a.number)) xs) b_is
+          ∙ ap (λ xs. map (λ (a : Arrow). Some (caption_along arrowed.grid arrowed.room.messages xs a.way a.number))
+          p.arrows.items) m_is
+          ∙ ap (λ (f : Frame). map (λ (a : Arrow). Some (caption_along f.grid f.room.messages p.messages.items a.way a.number))
+          p.arrows.items) same_arrowed;
+      keys = keys ∙ ap (λ xs. map (λ (m : Mark). spot_key marked.grid (spot_of m)) xs) k_is
+          ∙ ap (λ (f : Frame). map (λ (m : Mark). spot_key f.grid (spot_of m)) p.marks.items) same_marked;
+      leaving = leaving ∙ ap (λ xs. map (λ (s : Stub). title_in ns s.number) xs) t_is
+          ∙ ap (λ xs. map (λ (s : Stub). title_in xs s.number) p.stubs.items) n_is;
+      depart = subst (λ (f : Frame). DepartAll f.grid (map leaving_in p.stubs.items) departures) same_stubbed
+          (subst (λ xs. DepartAll stubbed.grid (map leaving_in xs) departures) t_is depart);
+      named = named ∙ ap (λ xs. map said_of xs ++ map (λ (s : Stub). says_of stubbed.room.messages ns s.number) ts) last
+          ∙ ap (λ xs. map (λ (s : Stub). says_of stubbed.room.messages ns s.number) xs) t_is
+          ∙ ap (λ xs. map (λ (s : Stub). says_of stubbed.room.messages xs s.number) p.stubs.items) n_is
+          ∙ ap (λ (f : Frame). map (λ (s : Stub). says_of f.room.messages p.messages.items s.number) p.stubs.items) same_stubbed;
     }

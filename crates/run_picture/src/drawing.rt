@@ -1,11 +1,12 @@
 //! Draws the steps of a run: its messages, its records, and what was asked.
 
-ghost use Rattle.std.specs.Prelude.{◌≡◌, ◌++◌, ◌∷◌, [], IfOk, OnOk, Some, length, map};
+ghost use Rattle.std.specs.Prelude.{◌≡◌, ◌++◌, ◌∷◌, [], IfOk, OnOk, Some, if◌then◌else◌, length, map};
 ghost use Rattle.picture_rows.specs.declared.drawn.Arrow.{Arrow as AnyArrow};
 ghost use Rattle.picture_rows.specs.declared.drawn.Mark.{Mark as AnyMark};
 ghost use Rattle.picture_rows.specs.declared.drawn.Stub.{Stub as AnyStub};
 ghost use Rattle.picture_rows.specs.declared.seats.Seat.{Seat as AnySeat};
 ghost use Rattle.picture_shapes.specs.declared.shapes.Stroke.{Stroke as AnyStroke};
+ghost use Rattle.picture_shapes.specs.declared.shapes.Tip.TheVariants as tip;
 ghost use Rattle.picture_words.specs.Labels.{label_in, number_text, title_in};
 ghost use Rattle.picture_rows.specs.Fates.{leaving_in};
 ghost use Rattle.picture_rows.specs.Ways.{spot_of};
@@ -18,7 +19,7 @@ ghost use Rattle.run_picture.specs.Pictures.{opening_of, spot_key, square_key, t
 
 use crate::plan::{Plan, Scene};
 use crate::room::is_call;
-use crate::sheet::{Draft, Sheet};
+use crate::sheet::{Draft, Sheet, ahead};
 use picture_rows::{Arrow, Mark, Rows, Seat, StepRows, Stretch, Stub, place_of};
 use picture_shapes::{
     Bar, Dot, EventRule, Frame, Label, Look, Patch, Shape, Spot, Square, Stroke, Tip, Tone,
@@ -44,6 +45,13 @@ pub(crate) struct Drawing {
 /// Bytes of these words.
 pub(crate) fn bytes_of(alloc: Global, words: &str) -> Result<Vec<u8>, AllocError> {
     Vec::from_slice(alloc, words.as_bytes())
+}
+
+/// How the line of a message ends that is drawn where it was sent: in a cross, if it is never delivered.
+fn stub_tip(crossed: bool) -> Tip
+    ensures { result ≡ (if crossed then tip.Cross else tip.Ring) }
+{
+    if crossed { Tip::Cross } else { Tip::Ring }
 }
 
 /// How the name of a record looks.
@@ -216,19 +224,16 @@ impl Drawing {
             title,
             x,
             y: self.frame.y_of(stub.left),
-            to_x: if stub.to > stub.from {
-                x.saturating_add(size)
-            } else {
-                x.saturating_sub(size)
-            },
+            to_x: ahead(x, size, stub.to > stub.from),
             to_y: self.frame.y_of(stub.row),
             label,
             number,
-            tip: if stub.crossed { Tip::Cross } else { Tip::Ring },
+            tip: stub_tip(stub.crossed),
             again: false,
             far: false,
         };
-        self.sheet.draw(self.alloc, draft)
+        let stroke = self.sheet.draw(self.alloc, draft)?;
+        Ok(stroke)
     }
 
     /// The lines of all messages that are drawn where they were sent.

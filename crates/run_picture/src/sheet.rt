@@ -43,7 +43,7 @@ pub(crate) struct Draft {
 }
 
 /// So far ahead, in the direction of an arrow.
-fn ahead(x: u64, by: u64, right: bool) -> u64
+pub(crate) fn ahead(x: u64, by: u64, right: bool) -> u64
     ensures { result ≡ (if right then min (x + by) (2 ^ 64 - 1) else x - by) }
 {
     if right {
