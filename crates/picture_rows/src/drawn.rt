@@ -2,6 +2,7 @@
 
 ghost use Rattle.std.specs.Prelude.{◌≡◌, ◌-◌, ◌++◌, IfOk, IfSome, OnOk, get_or, is_some, length, map, option_map, option_to_list, slice_get};
 ghost use Rattle.picture_rows.specs.declared.fates.Fate.{Fate as AnyFate};
+ghost use Rattle.picture_rows.specs.Fates.{leaving_in, leaving_of, leavings};
 ghost use Rattle.picture_rows.specs.Ways.{first_record as first_record_row, place_of_step, rows_in, spot_of, spots_from, spots_in, way_to, ways_in};
 ghost use Rattle.picture_rows.specs.declared.drawn.Arrow.{Arrow as AnyArrow};
 ghost use Rattle.picture_rows.specs.declared.drawn.Mark.{Mark as AnyMark};
@@ -11,7 +12,7 @@ use crate::fates::{Fate, heard_by};
 use crate::rows::{LONG, StepRows, has_stub};
 use crate::seats::{Seat, place_of};
 use std::alloc::{AllocError, Global};
-use tree_model::{Entry, Happening, Logged};
+use tree_model::{Entry, Envelope, Happening, Logged};
 
 /// From its sender's place, at the row that it left, to its receiver's, at the row of the step that it made.
 #[derive(Clone, Copy)]
@@ -161,35 +162,61 @@ pub fn arrows(
     Ok(arrows)
 }
 
-/// The stubs of the messages of a run, in the order of their numbers.
+/// The row of a stub: below the last one of the step that sent its message, or below that of the stub before it, where one
+/// step sent both.
+fn stub_row(left: u32, sent: usize, last: Option<(usize, u32)>) -> u32 {
+    match last {
+        Some((step, row)) if step == sent => row.saturating_add(1),
+        _ => left.saturating_add(1),
+    }
+}
+
+/// The stub of the message with this number and fate, in this row.
+fn stub_of(
+    seats: &[Seat],
+    entries: &[Entry],
+    rows: &[StepRows],
+    number: u64,
+    envelope: Option<&Envelope>,
+    fate: &Fate,
+    row: u32,
+) -> Stub
+    ensures { leaving_in result ≡ leaving_of seats.now rows.now entries.now number fate.now }
+{
+    let from = place_at(seats, entries, fate.sent);
+    Stub {
+        number,
+        from,
+        left: rows_at(rows, fate.sent).last,
+        to: match envelope {
+            None => from,
+            Some(envelope) => place_of(seats, envelope.to),
+        },
+        row,
+        crossed: fate.heard.is_none(),
+    }
+}
+
+/// The stubs of the messages of a run that are drawn where they were sent, in the order of their numbers.
+#[tactic(auto, using(crate::proofs::Leaving::none_left, crate::proofs::Leaving::passed, crate::proofs::Leaving::left_more))]
 pub fn stubs(
     alloc: Global,
     seats: &[Seat],
     entries: &[Entry],
+    messages: &[Envelope],
     fates: &[Fate],
     rows: &[StepRows],
-) -> Result<Vec<Stub>, AllocError> {
+) -> Result<Vec<Stub>, AllocError>
+    ensures { IfOk result (λ stubs. map leaving_in stubs.items ≡ leavings seats.now rows.now entries.now fates.now) }
+{
     let mut stubs = Vec::new(alloc);
-    let mut number: u64 = 0;
-    for (step, entry) in entries.iter().enumerate() {
-        let left = rows_at(rows, step).last;
-        let mut row = left;
-        for envelope in entry.reaction.messages.as_slice() {
-            number = number.saturating_add(1);
-            let Some(fate) = fate_of(fates, number) else {
-                continue;
-            };
-            if has_stub(&fate) {
-                row = row.saturating_add(1);
-                stubs.push(Stub {
-                    number,
-                    from: place_of(seats, entry.step.process),
-                    left,
-                    to: place_of(seats, envelope.to),
-                    row,
-                    crossed: fate.heard.is_none(),
-                })?;
-            }
+    let mut last = None;
+    for (place, fate) in fates.iter().enumerate() {
+        if has_stub(fate) {
+            let row = stub_row(rows_at(rows, fate.sent).last, fate.sent, last);
+            let number = place as u64 + 1;
+            stubs.push(stub_of(seats, entries, rows, number, messages.get(place), fate, row))?;
+            last = Some((fate.sent, row));
         }
     }
     Ok(stubs)

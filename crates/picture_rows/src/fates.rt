@@ -1,9 +1,11 @@
 //! What becomes of each message.
 
-ghost use Rattle.std.specs.Prelude.{◌≡◌, ◌++◌, IfOk, OnOk, length, map, replicate};
+ghost use Rattle.std.specs.Prelude.{◌≡◌, ◌-◌, ◌++◌, ◌∷◌, [], List, IfOk, OnOk, false, get_or, length, map, replicate, set, true};
+ghost use Rattle.tree_model.specs.declared.events.Entry.{Entry as AnyEntry};
 ghost use Rattle.picture_rows.specs.declared.fates.Fate.{Fate as AnyFate};
+ghost use Rattle.picture_rows.specs.Fates.{AreFates, HeardFrom, heard_at, no_fate, unheard};
 ghost use Rattle.picture_rows.specs.Ways.{senders};
-ghost use Rattle.picture_rows.specs.Whole.{heard_in, sent_in};
+ghost use Rattle.picture_rows.specs.Whole.{heard_in, is_known, sent_in};
 
 use std::alloc::{AllocError, Global};
 use tree_model::{Entry, Envelope, Happening, Input};
@@ -27,7 +29,10 @@ pub fn heard_by(entry: &Entry) -> Option<u64>
 
 /// The message with this number is delivered by this step, if by none before.
 fn hear(fates: &mut [Fate], number: u64, step: usize)
-    ensures { map (λ (f : AnyFate). f.sent) fates.new ≡ map (λ (f : AnyFate). f.sent) fates.old }
+    ensures known { is_known (length fates.old) number ≡ true
+        → fates.new ≡ set fates.old (number - 1) (heard_at step (get_or fates.old (number - 1) no_fate)) }
+    ensures other { is_known (length fates.old) number ≡ false → fates.new ≡ fates.old }
+    ensures sent { map (λ (f : AnyFate). f.sent) fates.new ≡ map (λ (f : AnyFate). f.sent) fates.old }
 {
     if number == 0 || number > fates.len() as u64 {
         return;
@@ -40,8 +45,7 @@ fn hear(fates: &mut [Fate], number: u64, step: usize)
 
 /// N messages are sent by a step.
 fn send(fates: &mut Vec<Fate>, step: usize, count: usize) -> Result<(), AllocError>
-    ensures { OnOk result (map (λ (f : AnyFate). f.sent) fates.new.items
-        ≡ map (λ (f : AnyFate). f.sent) fates.old.items ++ replicate count step) }
+    ensures { OnOk result (fates.new.items ≡ fates.old.items ++ replicate count (unheard step)) }
 {
     for _ in 0..count {
         fates.push(Fate {
@@ -54,7 +58,9 @@ fn send(fates: &mut Vec<Fate>, step: usize, count: usize) -> Result<(), AllocErr
 
 /// A step delivers a message or none.
 fn hear_step(fates: &mut Vec<Fate>, step: usize, entry: &Entry)
-    ensures { map (λ (f : AnyFate). f.sent) fates.new.items ≡ map (λ (f : AnyFate). f.sent) fates.old.items }
+    ensures heard { (es : List AnyEntry) → length es ≡ step → HeardFrom 1 es fates.old.items
+        → HeardFrom 1 (es ++ entry.now ∷ []) fates.new.items }
+    ensures sent { map (λ (f : AnyFate). f.sent) fates.new.items ≡ map (λ (f : AnyFate). f.sent) fates.old.items }
 {
     if let Some(number) = heard_by(entry) {
         hear(fates.as_mut_slice(), number, step);
@@ -66,6 +72,7 @@ fn hear_step(fates: &mut Vec<Fate>, step: usize, entry: &Entry)
 pub fn fates_of(alloc: Global, entries: &[Entry]) -> Result<Vec<Fate>, AllocError>
     ensures all { IfOk result (λ fates. length fates.items ≡ length (sent_in entries.now)) }
     ensures sent { IfOk result (λ fates. map (λ f. f.sent) fates.items ≡ senders entries.now) }
+    ensures each { IfOk result (λ fates. AreFates entries.now fates.items) }
 {
     let mut fates = Vec::new(alloc);
     for (step, entry) in entries.iter().enumerate() {

@@ -1,6 +1,7 @@
 //! The rows of a run's steps.
 
 ghost use Rattle.std.specs.Prelude.{◌≡◌, ◌+◌, ◌^◌, ◌<◌, ◌≤◌, IfErr, IfOk, OnOk, is_some, length};
+ghost use Rattle.picture_rows.specs.Fates.{is_late};
 ghost use Rattle.picture_rows.specs.Rising.{ForEach, GoesOver, HasRows, IsNext, OneMore, RiseTo};
 ghost use Rattle.picture_rows.specs.Long.{most_rows, rows_with};
 
@@ -88,7 +89,9 @@ impl Count {
 }
 
 /// Whether a message is drawn as a stub where it was sent: it is never delivered, or much later.
-pub(crate) fn has_stub(fate: &Fate) -> bool {
+pub(crate) fn has_stub(fate: &Fate) -> bool
+    ensures { result ≡ is_late fate.now.sent fate.now.heard }
+{
     match fate.heard {
         None => true,
         Some(heard) => heard.saturating_sub(fate.sent) > LONG as usize,

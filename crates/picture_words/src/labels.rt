@@ -1,11 +1,11 @@
 //! The words of messages, records, acts and events, and what colour they have.
 
-ghost use Rattle.std.specs.Prelude.{◌≡◌, ◌++◌, IfOk, OnOk, codes, decimal};
+ghost use Rattle.std.specs.Prelude.{◌≡◌, ◌-◌, ◌++◌, IfOk, OnOk, codes, decimal};
 ghost use Rattle.std.specs.Option.{option_copied};
 ghost use Rattle.tree_model.specs.Plays.{sent_as};
 ghost use Rattle.tree_model.specs.Texts.{case_text as text_of_case, conclusion_word as word_of_conclusion, envelope_text, message_text, op_text, told_text};
 ghost use Rattle.link_script.specs.Spellings.{act_text, decision_word as word_of_decision, event_text};
-ghost use Rattle.picture_words.specs.Labels.{record_name as name_of_record, subject_name, title_in, txn_name};
+ghost use Rattle.picture_words.specs.Labels.{in_room, message_name, number_text, record_name as name_of_record, subject_name, title_in, txn_name};
 
 use picture_shapes::{Tone, push_word};
 use std::alloc::{AllocError, Global};
@@ -19,7 +19,9 @@ use tree_model::{
 };
 
 /// Words with so much room: where they are longer, two dots stand for the rest.
-pub fn shortened(mut words: Vec<u8>, room: usize) -> Result<Vec<u8>, AllocError> {
+pub fn shortened(mut words: Vec<u8>, room: usize) -> Result<Vec<u8>, AllocError>
+    ensures { IfOk result (λ short. short.items ≡ in_room room words.items) }
+{
     if words.len() > room {
         words.truncate(room.saturating_sub(2));
         push(&mut words, "..")?;
@@ -82,7 +84,10 @@ pub fn message_tone(message: &Message) -> Tone {
     }
 }
 
-fn push_message(out: &mut Vec<u8>, message: &Message) -> Result<(), AllocError> {
+/// The words of a message: what it is, its transaction, and what it asks or tells.
+fn push_message(out: &mut Vec<u8>, message: &Message) -> Result<(), AllocError>
+    ensures { OnOk result (out.new.items ≡ out.old.items ++ message_name message.now) }
+{
     match message {
         Message::Join(case) => push_of(out, "JOIN ", case),
         Message::Joined(case, _) => push_of(out, "JOINED ", case),
@@ -108,7 +113,9 @@ fn push_message(out: &mut Vec<u8>, message: &Message) -> Result<(), AllocError> 
 }
 
 /// What stands along an arrow before its message: the number, and a space.
-pub fn number_label(alloc: Global, number: u64) -> Result<Vec<u8>, AllocError> {
+pub fn number_label(alloc: Global, number: u64) -> Result<Vec<u8>, AllocError>
+    ensures { IfOk result (λ label. label.items ≡ number_text number) }
+{
     let mut out = Vec::new(alloc);
     push_number(&mut out, number)?;
     push(&mut out, " ")?;
@@ -121,7 +128,9 @@ pub fn message_label(
     number: usize,
     message: &Message,
     room: usize,
-) -> Result<Vec<u8>, AllocError> {
+) -> Result<Vec<u8>, AllocError>
+    ensures { IfOk result (λ label. label.items ≡ in_room (room - number) (message_name message.now)) }
+{
     let mut out = Vec::new(alloc);
     push_message(&mut out, message)?;
     shortened(out, room.saturating_sub(number))

@@ -2,3 +2,4 @@ pub mod Along
 pub mod Ringing
 pub mod Wholes
 pub mod Adding
+pub mod Saying

@@ -44,22 +44,24 @@ rings_more notes k v old new there at were is =
     ∙ ap (λ xs. map Some (told (take k notes)) ++ map Some xs) (sym one)
     ∙ sym (map-append Some (told (take k notes)) (told (v ∷ []))) ∙ ap (λ xs. map Some xs) (sym said)
 
-joined : (h b s l x o a r d q w e : List ℕ)
-    → ((((((((h ++ b) ++ s) ++ l) ++ x) ++ o) ++ (a ++ r ++ d)) ++ q) ++ w) ++ e
-    ≡ ((((((h ++ b) ++ s) ++ l) ++ x) ++ o) ++ a) ++ r ++ (((d ++ q) ++ w) ++ e)
-joined h b s l x o a r d q w e = simp append_assoc refl
+joined : (h b s t l x o a r d q w e : List ℕ)
+    → (((((((((h ++ b) ++ s) ++ t) ++ l) ++ x) ++ o) ++ (a ++ r ++ d)) ++ q) ++ w) ++ e
+    ≡ (((((((h ++ b) ++ s) ++ t) ++ l) ++ x) ++ o) ++ a) ++ r ++ (((d ++ q) ++ w) ++ e)
+joined h b s t l x o a r d q w e = simp append_assoc refl
 
 -- a text whose small marks are these, with the rings among them, has the rings
-pub ringed : (notes : List (Vec ℕ)) (rings before after below boxes words : List Shape) (strokes lines : List Stroke)
+pub ringed : (notes : List (Vec ℕ)) (rings before after below boxes words : List Shape) (strokes departures lines : List Stroke)
     (openings squares : List Square) (h e text : List ℕ) → map ring_words rings ≡ map Some (told notes)
-    → text ≡ ((((((((h ++ shapes_text below) ++ strokes_text strokes) ++ strokes_text lines) ++ shapes_text boxes)
+    → text ≡ (((((((((h ++ shapes_text below) ++ strokes_text strokes) ++ strokes_text departures) ++ strokes_text lines)
+    ++ shapes_text boxes)
     ++ squares_text openings) ++ shapes_text (before ++ rings ++ after)) ++ squares_text squares)
     ++ shapes_text words) ++ e
     → HasRings notes text
 unfolding line_of
-ringed notes rings before after below boxes words strokes lines openings squares h e text told_are is =
+ringed notes rings before after below boxes words strokes departures lines openings squares h e text told_are is =
     let b = shapes_text below in
     let s = strokes_text strokes in
+    let t = strokes_text departures in
     let l = strokes_text lines in
     let x = shapes_text boxes in
     let o = squares_text openings in
@@ -69,11 +71,11 @@ ringed notes rings before after below boxes words strokes lines openings squares
     flat_map-append line_of (before ++ rings) after
     ∙ ap (λ xs. xs ++ shapes_text after) (flat_map-append line_of before rings) in
     record {
-      front = (((((h ++ b) ++ s) ++ l) ++ x) ++ o) ++ shapes_text before;
+      front = ((((((h ++ b) ++ s) ++ t) ++ l) ++ x) ++ o) ++ shapes_text before;
       rings = rings;
       rest = ((shapes_text after ++ q) ++ w) ++ e;
       words = told_are;
       layer = is
-          ∙ ap (λ xs. (((((((((h ++ b) ++ s) ++ l) ++ x) ++ o) ++ xs) ++ q) ++ w) ++ e)) parts
-          ∙ joined h b s l x o (shapes_text before) (shapes_text rings) (shapes_text after) q w e;
+          ∙ ap (λ xs. ((((((((((h ++ b) ++ s) ++ t) ++ l) ++ x) ++ o) ++ xs) ++ q) ++ w) ++ e)) parts
+          ∙ joined h b s t l x o (shapes_text before) (shapes_text rings) (shapes_text after) q w e;
     }

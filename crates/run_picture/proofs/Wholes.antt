@@ -1,5 +1,5 @@
 -- A picture of its arrows and its marks.
-use Rattle.std.proofs.Common.{◌≡◌, ◌∙◌, ◌<◌, All, ap, subst, ℕ, Option, List, [], ◌∷◌, ◌++◌, length, map, refl}
+use Rattle.std.proofs.Common.{◌≡◌, ◌∙◌, ◌<◌, All, ap, sym, subst, ℕ, Option, Some, List, [], ◌∷◌, ◌++◌, length, map, refl}
 use Rattle.tree_model.specs.declared.messages.Envelope.{Envelope}
 use Rattle.tree_model.specs.declared.events.Entry.{Entry}
 use Rattle.tree_model.specs.declared.events.Event.{Event}
@@ -7,17 +7,21 @@ use Rattle.tree_model.specs.declared.trees.TreeEntry.{TreeEntry}
 use Rattle.picture_rows.specs.declared.drawn.Arrow.{Arrow}
 use Rattle.picture_rows.specs.declared.drawn.Mark.{Mark}
 use Rattle.picture_rows.specs.declared.drawn.Stub.{Stub}
+use Rattle.picture_rows.specs.declared.drawn.Way.{Way}
 use Rattle.picture_rows.specs.declared.seats.Seat.{Seat}
-use Rattle.picture_rows.specs.Ways.{HasSeat, spot_of}
+use Rattle.picture_rows.specs.Fates.{Leaving, leaving_in}
+use Rattle.picture_rows.specs.Ways.{HasSeat, senders, spot_of, ways_in}
 use Rattle.picture_rows.specs.Whole.{deliveries, sent_in}
 use Rattle.picture_shapes.specs.declared.frame.Frame.{Frame}
+use Rattle.picture_shapes.specs.declared.frame.Grid.{Grid}
 use Rattle.picture_shapes.specs.declared.shapes.Shape.{Shape}
 use Rattle.picture_shapes.specs.declared.shapes.Square.{Square}
 use Rattle.picture_shapes.specs.declared.shapes.Stroke.{Stroke}
 use Rattle.picture_shapes.specs.Svg.{shapes_text, squares_text, strokes_text}
 use Rattle.picture_words.specs.Labels.{title_in}
 use Rattle.run_picture.specs.declared.plan.Plan.{Plan}
-use Rattle.run_picture.specs.Along.{RunAlong}
+use Rattle.run_picture.specs.Along.{DepartAll, RunAlong}
+use Rattle.run_picture.specs.Captions.{Caption, caption_along, caption_of, captions_along, said_of, says_of}
 use Rattle.run_picture.specs.Lines.{refused_lines, steps_lines}
 use Rattle.run_picture.specs.Pictures.{IsPicture, opening_of, spot_key, square_key, titles_of}
 use Rattle.run_picture.specs.Plans.{IsPlaced}
@@ -26,53 +30,48 @@ map_both : {A B C : Type 0} (f : B → C) (g : A → B) (xs : List A) → map (�
 map_both f g [] = refl
 map_both f g (x ∷ xs) = ap (λ zs. f (g x) ∷ zs) (map_both f g xs)
 
--- the strokes that are no deliveries, by the messages of a plan
-others_are : (entries : List Entry) (refused : Option Event) (p : Plan) (lines : List Stroke)
-    → p.messages.items ≡ sent_in entries
-    → titles_of lines ≡ (map (λ (s : Stub). title_in p.messages.items s.number) p.stubs.items ++ steps_lines entries)
-    ++ refused_lines refused
-    → titles_of lines ≡ (map (title_in (sent_in entries)) (map (λ (s : Stub). s.number) p.stubs.items)
-    ++ steps_lines entries) ++ refused_lines refused
-others_are entries refused p lines sent are =
-    are ∙ ap (λ xs. (xs ++ steps_lines entries) ++ refused_lines refused)
-    (map_both (title_in p.messages.items) (λ (s : Stub). s.number) p.stubs.items
-    ∙ ap (λ ms. map (title_in ms) (map (λ (s : Stub). s.number) p.stubs.items)) sent)
+-- the words of arrows, by their ways and their numbers
+captions_are : (g : Grid) (room : ℕ) (ms : List Envelope) (drawn : List Arrow)
+    → map (λ (a : Arrow). Some (caption_along g room ms a.way a.number)) drawn
+    ≡ captions_along g room ms (map (λ (a : Arrow). a.way) drawn) (map (λ (a : Arrow). a.number) drawn)
+unfolding captions_along
+captions_are g room ms [] = refl
+captions_are g room ms (a ∷ rest) = ap (λ cs. Some (caption_along g room ms a.way a.number) ∷ cs) (captions_are g room ms rest)
 
--- a text that has the arrows and the marks of a plan is a picture of the steps that they are of
-pub pictured : (tree : List TreeEntry) (entries : List Entry) (refused : Option Event) (p : Plan) (opened drawn marked : Frame)
-    (seats : List Seat) (ms : List Envelope) (bs : List Arrow) (ks : List Mark) (strokes lines : List Stroke)
-    (openings squares : List Square) (below boxes signs words : List Shape) (head tail text : List ℕ)
+-- what is drawn along, at and beside the arrows, marks and stubs of a plan
+pub record Draws (p : Plan) (f : Frame) (strokes departures : List Stroke) (openings squares : List Square)
+    (captions apart_words : List Shape) : Type 0 where
+  pub opened : map square_key openings ≡ map (λ (s : Seat). spot_key f.grid (opening_of s)) p.seats.items
+  pub titles : map (λ (s : Stroke). s.title.items) strokes
+      ≡ map (λ (a : Arrow). title_in p.messages.items a.number) p.arrows.items
+  pub along : RunAlong f.grid (map (λ (a : Arrow). a.way) p.arrows.items) strokes
+  pub said : map caption_of captions
+      ≡ map (λ (a : Arrow). Some (caption_along f.grid f.room.messages p.messages.items a.way a.number)) p.arrows.items
+  pub keys : map square_key squares ≡ map (λ (m : Mark). spot_key f.grid (spot_of m)) p.marks.items
+  pub leaving : titles_of departures ≡ map (λ (s : Stub). title_in p.messages.items s.number) p.stubs.items
+  pub depart : DepartAll f.grid (map leaving_in p.stubs.items) departures
+  pub named : map said_of apart_words
+      ≡ map (λ (s : Stub). says_of f.room.messages p.messages.items s.number) p.stubs.items
+
+-- a text that has the arrows, the marks and the stubs of a plan is a picture of the steps that they are of
+pub pictured : (tree : List TreeEntry) (entries : List Entry) (refused : Option Event) (p : Plan) (f : Frame)
+    (strokes departures lines : List Stroke) (openings squares : List Square)
+    (below boxes signs names captions records apart_words words : List Shape) (head tail text : List ℕ)
     → map (λ (a : Arrow). a.number) p.arrows.items ≡ deliveries (length (sent_in entries)) entries
     → IsPlaced entries p → All (HasSeat p.seats.items) tree → p.messages.items ≡ sent_in entries
-    → 0 < opened.grid.gap → drawn ≡ opened → marked ≡ drawn
-    → seats ≡ p.seats.items → ms ≡ p.messages.items → bs ≡ p.arrows.items → ks ≡ p.marks.items
-    → map square_key openings ≡ map (λ (s : Seat). spot_key opened.grid (opening_of s)) seats
-    → map (λ (s : Stroke). s.title.items) strokes ≡ map (λ (a : Arrow). title_in ms a.number) bs
-    → RunAlong drawn.grid (map (λ (a : Arrow). a.way) bs) strokes
-    → map square_key squares ≡ map (λ (m : Mark). spot_key marked.grid (spot_of m)) ks
-    → titles_of lines ≡ (map (λ (s : Stub). title_in p.messages.items s.number) p.stubs.items ++ steps_lines entries)
-    ++ refused_lines refused
-    → text ≡ ((((((((head ++ shapes_text below) ++ strokes_text strokes) ++ strokes_text lines)
-    ++ shapes_text boxes) ++ squares_text openings) ++ shapes_text signs) ++ squares_text squares)
-    ++ shapes_text words) ++ tail
+    → 0 < f.grid.gap → Draws p f strokes departures openings squares captions apart_words
+    → titles_of lines ≡ steps_lines entries ++ refused_lines refused
+    → text ≡ (((((((((head ++ shapes_text below) ++ strokes_text strokes) ++ strokes_text departures)
+    ++ strokes_text lines) ++ shapes_text boxes) ++ squares_text openings) ++ shapes_text signs)
+    ++ squares_text squares) ++ shapes_text ((((names ++ captions) ++ records) ++ apart_words) ++ words)) ++ tail
     → IsPicture tree entries refused text
-pictured tree entries refused p opened drawn marked seats ms bs ks strokes lines openings squares below boxes signs words
-    head tail text numbers placed seated sent apart same_drawn same_marked sit m_is a_is k_is first titles along keys others is =
-    let named : map (λ (s : Stroke). s.title.items) strokes ≡ map (title_in (sent_in entries)) (deliveries (length (sent_in entries)) entries) =
-    titles
-    ∙ ap (λ xs. map (λ (a : Arrow). title_in ms a.number) xs) a_is
-    ∙ map_both (title_in ms) (λ (a : Arrow). a.number) p.arrows.items
-    ∙ ap (λ ns. map (title_in ms) ns) numbers
-    ∙ ap (λ xs. map (title_in xs) (deliveries (length (sent_in entries)) entries)) (m_is ∙ sent) in
-    let grid = ap (λ (f : Frame). f.grid) same_drawn in
-    let ways = ap (λ xs. map (λ (a : Arrow). a.way) xs) a_is ∙ placed.ways in
-    let squared = keys
-    ∙ ap (λ xs. map (λ (m : Mark). spot_key marked.grid (spot_of m)) xs) k_is
-    ∙ map_both (spot_key marked.grid) spot_of p.marks.items
-    ∙ ap (λ (f : Frame). map (spot_key f.grid) (map spot_of p.marks.items)) (same_marked ∙ same_drawn)
-    ∙ ap (λ xs. map (spot_key opened.grid) xs) placed.spots in
+pictured tree entries refused p f strokes departures lines openings squares below boxes signs names captions records
+    apart_words words head tail text numbers placed seated sent apart draws others is =
+    let g = f.grid in
+    let room = f.room.messages in
+    let ms = sent_in entries in
     record {
-      grid = opened.grid;
+      grid = g;
       apart = apart;
       seats = p.seats.items;
       in_order = placed.in_order;
@@ -84,19 +83,86 @@ pictured tree entries refused p opened drawn marked seats ms bs ks strokes lines
       head = head;
       below = below;
       strokes = strokes;
+      departures = departures;
       lines = lines;
       boxes = boxes;
       openings = openings;
       signs = signs;
       squares = squares;
+      names = names;
+      captions = captions;
+      records = records;
+      apart_words = apart_words;
       words = words;
       tail = tail;
-      arrows = named;
-      ways = subst (λ xs. RunAlong opened.grid xs strokes) ways
-          (subst (λ g. RunAlong g (map (λ (a : Arrow). a.way) bs) strokes) grid along);
-      marks = squared;
-      stubs = map (λ (s : Stub). s.number) p.stubs.items;
-      others = others_are entries refused p lines sent others;
-      opened = first ∙ ap (λ xs. map (λ (s : Seat). spot_key opened.grid (opening_of s)) xs) sit;
+      arrows = draws.titles
+          ∙ map_both (title_in p.messages.items) (λ (a : Arrow). a.number) p.arrows.items
+          ∙ ap (λ ns. map (title_in p.messages.items) ns) numbers
+          ∙ ap (λ xs. map (title_in xs) (deliveries (length ms) entries)) sent;
+      ways = subst (λ ws. RunAlong g ws strokes) placed.ways draws.along;
+      marks = draws.keys ∙ map_both (spot_key g) spot_of p.marks.items ∙ ap (λ xs. map (spot_key g) xs) placed.spots;
+      room = room;
+      said = draws.said ∙ captions_are g room p.messages.items p.arrows.items
+          ∙ ap (λ xs. captions_along g room xs (map (λ (a : Arrow). a.way) p.arrows.items) (map (λ (a : Arrow). a.number) p.arrows.items)) sent
+          ∙ ap (λ ws. captions_along g room ms ws (map (λ (a : Arrow). a.number) p.arrows.items)) placed.ways
+          ∙ ap (λ ns. captions_along g room ms (ways_in p.seats.items p.rows.steps.items (senders entries) entries) ns) numbers;
+      fates = placed.fates;
+      fated = placed.fated;
+      leaving = draws.leaving
+          ∙ map_both (λ (l : Leaving). title_in p.messages.items l.number) leaving_in p.stubs.items
+          ∙ ap (λ xs. map (λ (l : Leaving). title_in xs l.number) (map leaving_in p.stubs.items)) sent
+          ∙ ap (λ ls. map (λ (l : Leaving). title_in ms l.number) ls) placed.apart;
+      depart = subst (λ ls. DepartAll g ls departures) placed.apart draws.depart;
+      named = draws.named
+          ∙ map_both (λ (l : Leaving). says_of room p.messages.items l.number) leaving_in p.stubs.items
+          ∙ ap (λ xs. map (λ (l : Leaving). says_of room xs l.number) (map leaving_in p.stubs.items)) sent
+          ∙ ap (λ ls. map (λ (l : Leaving). says_of room ms l.number) ls) placed.apart;
+      others = others;
+      opened = draws.opened;
       layers = is;
+    }
+
+-- what is drawn of a plan, where each call leaves the frame as it was
+pub draws_of : (p : Plan) (opened arrowed marked stubbed : Frame) (seats : List Seat) (ms ns : List Envelope)
+    (bs : List Arrow) (ks : List Mark) (ts : List Stub) (strokes departures : List Stroke) (openings squares : List Square)
+    (captions none apart_words nothing : List Shape)
+    → arrowed ≡ opened → marked ≡ opened → stubbed ≡ opened
+    → seats ≡ p.seats.items → ms ≡ p.messages.items → bs ≡ p.arrows.items → ks ≡ p.marks.items → ns ≡ p.messages.items
+    → ts ≡ p.stubs.items → none ≡ [] → nothing ≡ []
+    → map square_key openings ≡ map (λ (s : Seat). spot_key opened.grid (opening_of s)) seats
+    → map (λ (s : Stroke). s.title.items) strokes ≡ map (λ (a : Arrow). title_in ms a.number) bs
+    → RunAlong arrowed.grid (map (λ (a : Arrow). a.way) bs) strokes
+    → map caption_of captions ≡ map caption_of none
+    ++ map (λ (a : Arrow). Some (caption_along arrowed.grid arrowed.room.messages ms a.way a.number)) bs
+    → map square_key squares ≡ map (λ (m : Mark). spot_key marked.grid (spot_of m)) ks
+    → titles_of departures ≡ map (λ (s : Stub). title_in ns s.number) ts
+    → DepartAll stubbed.grid (map leaving_in ts) departures
+    → map said_of apart_words ≡ map said_of nothing ++ map (λ (s : Stub). says_of stubbed.room.messages ns s.number) ts
+    → Draws p opened strokes departures openings squares captions apart_words
+draws_of p opened arrowed marked stubbed seats ms ns bs ks ts strokes departures openings squares captions none apart_words
+    nothing same_arrowed same_marked same_stubbed sit m_is b_is k_is n_is t_is first last opens titles along said keys leaving
+    depart named =
+    record {
+      opened = opens ∙ ap (λ xs. map (λ (s : Seat). spot_key opened.grid (opening_of s)) xs) sit;
+      titles = titles ∙ ap (λ xs. map (λ (a : Arrow). title_in ms a.number) xs) b_is
+          ∙ ap (λ xs. map (λ (a : Arrow). title_in xs a.number) p.arrows.items) m_is;
+      along = subst (λ (f : Frame). RunAlong f.grid (map (λ (a : Arrow). a.way) p.arrows.items) strokes) same_arrowed
+          (subst (λ xs. RunAlong arrowed.grid (map (λ (a : Arrow). a.way) xs) strokes) b_is along);
+      said = said ∙ ap (λ xs. map caption_of xs ++ map (λ (a : Arrow). Some (caption_along arrowed.grid arrowed.room.messages ms
+          a.way a.number)) bs) first
+          ∙ ap (λ xs. map (λ (a : Arrow). Some (caption_along arrowed.grid arrowed.room.messages ms a.way a.number)) xs) b_is
+          ∙ ap (λ xs. map (λ (a : Arrow). Some (caption_along arrowed.grid arrowed.room.messages xs a.way a.number))
+          p.arrows.items) m_is
+          ∙ ap (λ (f : Frame). map (λ (a : Arrow). Some (caption_along f.grid f.room.messages p.messages.items a.way a.number))
+          p.arrows.items) same_arrowed;
+      keys = keys ∙ ap (λ xs. map (λ (m : Mark). spot_key marked.grid (spot_of m)) xs) k_is
+          ∙ ap (λ (f : Frame). map (λ (m : Mark). spot_key f.grid (spot_of m)) p.marks.items) same_marked;
+      leaving = leaving ∙ ap (λ xs. map (λ (s : Stub). title_in ns s.number) xs) t_is
+          ∙ ap (λ xs. map (λ (s : Stub). title_in xs s.number) p.stubs.items) n_is;
+      depart = subst (λ (f : Frame). DepartAll f.grid (map leaving_in p.stubs.items) departures) same_stubbed
+          (subst (λ xs. DepartAll stubbed.grid (map leaving_in xs) departures) t_is depart);
+      named = named ∙ ap (λ xs. map said_of xs ++ map (λ (s : Stub). says_of stubbed.room.messages ns s.number) ts) last
+          ∙ ap (λ xs. map (λ (s : Stub). says_of stubbed.room.messages ns s.number) xs) t_is
+          ∙ ap (λ xs. map (λ (s : Stub). says_of stubbed.room.messages xs s.number) p.stubs.items) n_is
+          ∙ ap (λ (f : Frame). map (λ (s : Stub). says_of f.room.messages p.messages.items s.number) p.stubs.items) same_stubbed;
     }

@@ -1,4 +1,5 @@
 pub mod Along
+pub mod Captions
 pub mod Plans
 pub mod Pictures
 pub mod Layers

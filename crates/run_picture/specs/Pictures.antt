@@ -7,6 +7,8 @@ use Rattle.tree_model.specs.declared.records.RecordKind.TheVariants.{Opened}
 use Rattle.tree_model.specs.declared.records.Subject.TheVariants.{Boot}
 use Rattle.picture_rows.specs.declared.rows.StepRows.{StepRows}
 use Rattle.picture_rows.specs.declared.seats.Seat.{Seat}
+use Rattle.picture_rows.specs.declared.fates.Fate.{Fate}
+use Rattle.picture_rows.specs.Fates.{AreFates, Leaving, leavings}
 use Rattle.picture_rows.specs.Rising.{RiseTo}
 use Rattle.picture_rows.specs.Ways.{HasSeat, SitFrom, Spot, senders, spots_in, ways_in}
 use Rattle.picture_rows.specs.Whole.{deliveries, sent_in}
@@ -17,7 +19,8 @@ use Rattle.picture_shapes.specs.declared.shapes.Stroke.{Stroke}
 use Rattle.picture_shapes.specs.Grids.{line_at, row_at}
 use Rattle.picture_words.specs.Labels.{record_name, title_in}
 use Rattle.picture_shapes.specs.Svg.{shapes_text, squares_text, strokes_text}
-use Rattle.run_picture.specs.Along.{RunAlong}
+use Rattle.run_picture.specs.Along.{DepartAll, RunAlong}
+use Rattle.run_picture.specs.Captions.{caption_of, captions_along, said_of, says_of}
 use Rattle.run_picture.specs.Lines.{refused_lines, steps_lines}
 
 -- what a mark tells: a record's name, whether it is filled, and where its corner is
@@ -43,10 +46,12 @@ opening_of s = record {
 -- The text is a picture of these steps of a tree: it has an arrow for each delivery, with all of its message, from the line of its
 -- sender and the row of the step that sent it to the line of its receiver and the row of the step that it made; and a mark
 -- for each record, filled where it was forced, at the line of its process and the row of its step; both in the order of the
--- steps. Each process of the tree has a line of its own, and each step has rows of its own, below those of the step before it.
--- The other strokes are those of messages of these steps where they were sent, of what each step was asked and told the
--- application, in the order of the steps, and of the event that was refused, if one was; the other marks are those of each
--- process's Opened. What is drawn besides has no stroke and no mark of a record.
+-- steps. Above the end of each arrow stand its message's number and words, within the room of a column. Each process of the tree
+-- has a line of its own, and each step has rows of its own, below those of the step before it.
+-- The other strokes are those of the messages that no step delivers, or only one more than 24 steps later, where they were sent,
+-- with their words; of what each step was asked and told the application, in the order of the steps; and of the event that
+-- was refused, if one was. The other marks are those of each process's Opened. What is drawn besides has no stroke and no mark of
+-- a record.
 pub record IsPicture (tree : List TreeEntry) (entries : List Entry) (refused : Option Event) (text : List ℕ) : Type 0 where
   pub grid : Grid
   pub apart : 0 < grid.gap
@@ -61,21 +66,35 @@ pub record IsPicture (tree : List TreeEntry) (entries : List Entry) (refused : O
   pub head : List ℕ
   pub below : List Shape
   pub strokes : List Stroke
+  pub departures : List Stroke
   pub lines : List Stroke
   pub boxes : List Shape
   pub openings : List Square
   pub signs : List Shape
   pub squares : List Square
+  -- words of the Opened marks, of arrows, of other marks, of messages where they were sent, and all others
+  pub names : List Shape
+  pub captions : List Shape
+  pub records : List Shape
+  pub apart_words : List Shape
   pub words : List Shape
   pub tail : List ℕ
   pub arrows : titles_of strokes ≡ map (title_in (sent_in entries)) (deliveries (length (sent_in entries)) entries)
   pub ways : RunAlong grid (ways_in seats rows (senders entries) entries) strokes
   pub marks : map square_key squares ≡ map (spot_key grid) (spots_in seats rows entries)
-  -- the messages that are drawn where they were sent
-  pub stubs : List ℕ
-  pub others : titles_of lines
-      ≡ (map (title_in (sent_in entries)) stubs ++ steps_lines entries) ++ refused_lines refused
+  pub room : ℕ
+  pub said : map caption_of captions ≡ captions_along grid room (sent_in entries) (ways_in seats rows (senders entries) entries)
+      (deliveries (length (sent_in entries)) entries)
+  -- what becomes of each message, and so which are drawn where they were sent
+  pub fates : List Fate
+  pub fated : AreFates entries fates
+  pub leaving : titles_of departures
+      ≡ map (λ (l : Leaving). title_in (sent_in entries) l.number) (leavings seats rows entries fates)
+  pub depart : DepartAll grid (leavings seats rows entries fates) departures
+  pub named : map said_of apart_words
+      ≡ map (λ (l : Leaving). says_of room (sent_in entries) l.number) (leavings seats rows entries fates)
+  pub others : titles_of lines ≡ steps_lines entries ++ refused_lines refused
   pub opened : map square_key openings ≡ map (λ s. spot_key grid (opening_of s)) seats
-  pub layers : text ≡ ((((((((head ++ shapes_text below) ++ strokes_text strokes) ++ strokes_text lines)
-      ++ shapes_text boxes) ++ squares_text openings) ++ shapes_text signs) ++ squares_text squares)
-      ++ shapes_text words) ++ tail
+  pub layers : text ≡ (((((((((head ++ shapes_text below) ++ strokes_text strokes) ++ strokes_text departures)
+      ++ strokes_text lines) ++ shapes_text boxes) ++ squares_text openings) ++ shapes_text signs)
+      ++ squares_text squares) ++ shapes_text ((((names ++ captions) ++ records) ++ apart_words) ++ words)) ++ tail

@@ -1,22 +1,25 @@
 //! Draws the steps of a run: its messages, its records, and what was asked.
 
-ghost use Rattle.std.specs.Prelude.{◌≡◌, ◌++◌, ◌∷◌, [], IfOk, OnOk, length, map};
+ghost use Rattle.std.specs.Prelude.{◌≡◌, ◌++◌, ◌∷◌, [], IfOk, OnOk, Some, if◌then◌else◌, length, map};
 ghost use Rattle.picture_rows.specs.declared.drawn.Arrow.{Arrow as AnyArrow};
 ghost use Rattle.picture_rows.specs.declared.drawn.Mark.{Mark as AnyMark};
 ghost use Rattle.picture_rows.specs.declared.drawn.Stub.{Stub as AnyStub};
 ghost use Rattle.picture_rows.specs.declared.seats.Seat.{Seat as AnySeat};
 ghost use Rattle.picture_shapes.specs.declared.shapes.Stroke.{Stroke as AnyStroke};
-ghost use Rattle.picture_words.specs.Labels.{title_in};
+ghost use Rattle.picture_shapes.specs.declared.shapes.Tip.TheVariants as tip;
+ghost use Rattle.picture_words.specs.Labels.{label_in, number_text, title_in};
+ghost use Rattle.picture_rows.specs.Fates.{leaving_in};
 ghost use Rattle.picture_rows.specs.Ways.{spot_of};
 ghost use Rattle.link_script.specs.Spellings.{act_text};
 ghost use Rattle.tree_model.specs.Texts.{told_lines, told_text};
-ghost use Rattle.run_picture.specs.Along.{RunAlong, RunsAlong};
+ghost use Rattle.run_picture.specs.Along.{DepartAll, Departs, RunAlong, RunsAlong};
+ghost use Rattle.run_picture.specs.Captions.{caption_along, caption_of, said_of, says_of};
 ghost use Rattle.run_picture.specs.Lines.{asked_lines, step_lines, steps_lines};
 ghost use Rattle.run_picture.specs.Pictures.{opening_of, spot_key, square_key, titles_of};
 
 use crate::plan::{Plan, Scene};
 use crate::room::is_call;
-use crate::sheet::{Draft, Sheet};
+use crate::sheet::{Draft, Sheet, ahead};
 use picture_rows::{Arrow, Mark, Rows, Seat, StepRows, Stretch, Stub, place_of};
 use picture_shapes::{
     Bar, Dot, EventRule, Frame, Label, Look, Patch, Shape, Spot, Square, Stroke, Tip, Tone,
@@ -44,6 +47,13 @@ pub(crate) fn bytes_of(alloc: Global, words: &str) -> Result<Vec<u8>, AllocError
     Vec::from_slice(alloc, words.as_bytes())
 }
 
+/// How the line of a message ends that is drawn where it was sent: in a cross, if it is never delivered.
+fn stub_tip(crossed: bool) -> Tip
+    ensures { result ≡ (if crossed then tip.Cross else tip.Ring) }
+{
+    if crossed { Tip::Cross } else { Tip::Ring }
+}
+
 /// How the name of a record looks.
 fn look_of(forced: bool, lost: bool) -> Look {
     if lost {
@@ -56,6 +66,15 @@ fn look_of(forced: bool, lost: bool) -> Look {
 }
 
 impl Drawing {
+    /// The words that were laid, which are taken off the sheet.
+    pub(crate) fn take_words(&mut self) -> Vec<Shape>
+        ensures words { result ≡ self.old.sheet.words }
+        ensures none { self.new.sheet.words.items ≡ [] }
+        ensures frame { self.new.frame ≡ self.old.frame }
+    {
+        self.sheet.take_words(self.alloc)
+    }
+
     /// Words at a place, with nothing before or after them.
     pub(crate) fn say(
         &mut self,
@@ -81,7 +100,9 @@ impl Drawing {
         })
     }
 
-    pub(crate) fn draw_rules(&mut self, scene: &Scene, rows: &Rows) -> Result<(), AllocError> {
+    pub(crate) fn draw_rules(&mut self, scene: &Scene, rows: &Rows) -> Result<(), AllocError>
+        ensures { self.new.frame ≡ self.old.frame }
+    {
         for rule in &rows.rules {
             let Some(event) = scene.events.get(rule.event) else {
                 continue;
@@ -100,7 +121,9 @@ impl Drawing {
     }
 
     /// A row with the numbers of all processes.
-    pub(crate) fn draw_ruler(&mut self, seats: &[Seat], row: u32) -> Result<(), AllocError> {
+    pub(crate) fn draw_ruler(&mut self, seats: &[Seat], row: u32) -> Result<(), AllocError>
+        ensures { self.new.frame ≡ self.old.frame }
+    {
         let y = self.frame.y_of(row).saturating_add(4);
         for seat in seats {
             let mut number = Vec::new(self.alloc);
@@ -121,7 +144,10 @@ impl Drawing {
         messages: &[Envelope],
         number: u64,
         characters: usize,
-    ) -> Result<(Tone, Vec<u8>), AllocError> {
+    ) -> Result<(Tone, Vec<u8>), AllocError>
+        requires { characters ≡ length (number_text number) }
+        ensures { IfOk result (λ found. found.1.items ≡ label_in self.now.frame.room.messages messages.now number) }
+    {
         let Some(envelope) = message_with(messages, number) else {
             return Ok((Tone::Dim, Vec::new(self.alloc)));
         };
@@ -134,6 +160,9 @@ impl Drawing {
     fn draw_arrow(&mut self, messages: &[Envelope], arrow: &Arrow) -> Result<Stroke, AllocError>
         ensures title { IfOk result (λ stroke. stroke.title.items ≡ title_in messages.now arrow.now.number) }
         ensures along { IfOk result (RunsAlong self.old.frame.grid arrow.now.way) }
+        ensures words { OnOk result (map caption_of self.new.sheet.words.items ≡ map caption_of self.old.sheet.words.items
+            ++ Some (caption_along self.old.frame.grid self.old.frame.room.messages messages.now arrow.now.way arrow.now.number)
+            ∷ []) }
         ensures frame { self.new.frame ≡ self.old.frame }
     {
         let title = message_title(self.alloc, arrow.number, messages)?;
@@ -165,6 +194,9 @@ impl Drawing {
             ≡ map (λ (a : AnyArrow). title_in messages.now a.number) arrows.now) }
         ensures along { IfOk result (λ strokes. RunAlong self.old.frame.grid
             (map (λ (a : AnyArrow). a.way) arrows.now) strokes.items) }
+        ensures words { OnOk result (map caption_of self.new.sheet.words.items ≡ map caption_of self.old.sheet.words.items
+            ++ map (λ (a : AnyArrow). Some (caption_along self.old.frame.grid self.old.frame.room.messages messages.now a.way
+            a.number)) arrows.now) }
         ensures frame { self.new.frame ≡ self.old.frame }
     {
         let mut strokes = Vec::new(self.alloc);
@@ -176,7 +208,11 @@ impl Drawing {
 
     /// The line of a message where it was sent; its words are laid.
     fn draw_stub(&mut self, messages: &[Envelope], stub: &Stub) -> Result<Stroke, AllocError>
-        ensures { IfOk result (λ stroke. stroke.title.items ≡ title_in messages.now stub.now.number) }
+        ensures title { IfOk result (λ stroke. stroke.title.items ≡ title_in messages.now stub.now.number) }
+        ensures departs { IfOk result (Departs self.old.frame.grid (leaving_in stub.now)) }
+        ensures words { OnOk result (map said_of self.new.sheet.words.items ≡ map said_of self.old.sheet.words.items
+            ++ says_of self.old.frame.room.messages messages.now stub.now.number ∷ []) }
+        ensures frame { self.new.frame ≡ self.old.frame }
     {
         let title = message_title(self.alloc, stub.number, messages)?;
         let number = number_label(self.alloc, stub.number)?;
@@ -188,19 +224,16 @@ impl Drawing {
             title,
             x,
             y: self.frame.y_of(stub.left),
-            to_x: if stub.to > stub.from {
-                x.saturating_add(size)
-            } else {
-                x.saturating_sub(size)
-            },
+            to_x: ahead(x, size, stub.to > stub.from),
             to_y: self.frame.y_of(stub.row),
             label,
             number,
-            tip: if stub.crossed { Tip::Cross } else { Tip::Ring },
+            tip: stub_tip(stub.crossed),
             again: false,
             far: false,
         };
-        self.sheet.draw(self.alloc, draft)
+        let stroke = self.sheet.draw(self.alloc, draft)?;
+        Ok(stroke)
     }
 
     /// The lines of all messages that are drawn where they were sent.
@@ -209,8 +242,11 @@ impl Drawing {
         messages: &[Envelope],
         stubs: &[Stub],
     ) -> Result<Vec<Stroke>, AllocError>
-        ensures { IfOk result (λ lines. titles_of lines.items
+        ensures titles { IfOk result (λ lines. titles_of lines.items
             ≡ map (λ (s : AnyStub). title_in messages.now s.number) stubs.now) }
+        ensures depart { IfOk result (λ lines. DepartAll self.old.frame.grid (map leaving_in stubs.now) lines.items) }
+        ensures words { OnOk result (map said_of self.new.sheet.words.items ≡ map said_of self.old.sheet.words.items
+            ++ map (λ (s : AnyStub). says_of self.old.frame.room.messages messages.now s.number) stubs.now) }
     {
         let mut lines = Vec::new(self.alloc);
         for stub in stubs {

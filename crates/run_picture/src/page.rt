@@ -1,11 +1,9 @@
 //! A whole picture.
 
 ghost use Rattle.std.specs.Prelude.{◌≡◌, ◌++◌, ◌^◌, ◌<◌, ◌≤◌, IfErr, IfOk, OnOk, codes, drop, length, map, take};
-ghost use Rattle.picture_rows.specs.declared.drawn.Stub.{Stub as AnyStub};
 ghost use Rattle.picture_rows.specs.Long.{IsLong};
 ghost use Rattle.picture_shapes.specs.Svg.{shapes_text, squares_text, strokes_text};
-ghost use Rattle.picture_words.specs.Labels.{title_in};
-ghost use Rattle.run_picture.specs.Layers.{below_shapes};
+ghost use Rattle.run_picture.specs.Layers.{all_words, below_shapes};
 ghost use Rattle.run_picture.specs.Lines.{refused_in, refused_lines, steps_lines};
 ghost use Rattle.run_picture.specs.Pictures.{IsPicture, titles_of};
 ghost use Rattle.run_picture.specs.Rings.{HasRings};
@@ -26,8 +24,19 @@ use picture_shapes::{
 use std::alloc::{AllocError, Global};
 use trace_lines::push;
 
-/// Draws all of a run but its tree, its deliveries, its rings and its marks: the other lines, and how many small marks are
-/// below the rings.
+/// Draws the lines of the events, and the numbers of the processes beside them.
+fn draw_rulers(drawing: &mut Drawing, scene: &Scene, plan: &Plan) -> Result<(), AllocError>
+    ensures { drawing.new.frame ≡ drawing.old.frame }
+{
+    drawing.draw_rules(scene, &plan.rows)?;
+    for row in &plan.rows.rulers {
+        drawing.draw_ruler(&plan.seats, *row)?;
+    }
+    Ok(())
+}
+
+/// Draws what each step was asked and told, the crashes and mismatches, what the run leaves, and the event that was refused: the
+/// lines of these, and how many small marks are below the rings.
 fn draw_run(
     drawing: &mut Drawing,
     scene: &Scene,
@@ -35,15 +44,10 @@ fn draw_run(
 ) -> Result<(Vec<Stroke>, usize), AllocError>
     requires { length plan.now.rows.steps.items ≡ length scene.now.entries.now }
     ensures { IfOk result (λ drawn. titles_of drawn.0.items
-        ≡ (map (λ (s : AnyStub). title_in plan.now.messages.items s.number) plan.now.stubs.items
-        ++ steps_lines scene.now.entries.now)
+        ≡ steps_lines scene.now.entries.now
         ++ refused_lines (refused_in scene.now.events.now scene.now.refusal)) }
 {
-    drawing.draw_rules(scene, &plan.rows)?;
-    for row in &plan.rows.rulers {
-        drawing.draw_ruler(&plan.seats, *row)?;
-    }
-    let mut lines = drawing.draw_stubs(&plan.messages, &plan.stubs)?;
+    let mut lines = Vec::new(drawing.alloc);
     for stretch in &plan.stretches {
         drawing.draw_stretch(&plan.seats, stretch)?;
     }
@@ -126,39 +130,67 @@ fn head_of(
     Ok(out)
 }
 
+/// The words of a picture that are taken off its sheet, in their order.
+#[derive(Drop)]
+struct Words {
+    /// Those of each process's Opened.
+    openings: Vec<Shape>,
+    arrows: Vec<Shape>,
+    /// Those of the other records, and the numbers of processes.
+    records: Vec<Shape>,
+    stubs: Vec<Shape>,
+}
+
+impl Words {
+    /// The text of these words, and of the others, which lie above all.
+    fn push_before(&self, out: &mut Vec<u8>, last: &[Shape]) -> Result<(), AllocError>
+        ensures { OnOk result (out.new.items ≡ out.old.items ++ shapes_text (all_words self.now last.now)) }
+    {
+        push_shapes(out, &self.openings)?;
+        push_shapes(out, &self.arrows)?;
+        push_shapes(out, &self.records)?;
+        push_shapes(out, &self.stubs)?;
+        push_shapes(out, last)
+    }
+}
+
 /// The arrows of a picture, and the marks of its records.
 #[derive(Drop)]
 struct Drawn {
     /// The deliveries.
     arrows: Vec<Stroke>,
-    /// What was asked and told, messages where they were sent, and the event that was refused.
+    /// Messages where they were sent.
+    stubs: Vec<Stroke>,
+    /// What was asked and told, and the event that was refused.
     lines: Vec<Stroke>,
     openings: Vec<Square>,
     records: Vec<Square>,
     /// How many small marks are below the rings.
     below: usize,
     rings: Vec<Shape>,
+    words: Words,
 }
 
 /// The text of a picture of these parts.
 fn text_of(head: Vec<u8>, sheet: &Sheet, drawn: &Drawn) -> Result<Vec<u8>, AllocError>
     requires { drawn.now.below ≤ length sheet.now.marks.items }
-    ensures { IfOk result (λ text. text.items ≡ ((((((((head.items ++ shapes_text (below_shapes sheet.now))
-        ++ strokes_text drawn.now.arrows.items) ++ strokes_text drawn.now.lines.items)
-        ++ shapes_text sheet.now.boxes.items) ++ squares_text drawn.now.openings.items)
+    ensures { IfOk result (λ text. text.items ≡ (((((((((head.items ++ shapes_text (below_shapes sheet.now))
+        ++ strokes_text drawn.now.arrows.items) ++ strokes_text drawn.now.stubs.items)
+        ++ strokes_text drawn.now.lines.items) ++ shapes_text sheet.now.boxes.items) ++ squares_text drawn.now.openings.items)
         ++ shapes_text (take drawn.now.below sheet.now.marks.items ++ drawn.now.rings.items
         ++ drop drawn.now.below sheet.now.marks.items)) ++ squares_text drawn.now.records.items)
-        ++ shapes_text sheet.now.words.items) ++ codes "</svg>\n") }
+        ++ shapes_text (all_words drawn.now.words sheet.now.words.items)) ++ codes "</svg>\n") }
 {
     let mut out = head;
     sheet.push_below(&mut out)?;
     push_strokes(&mut out, &drawn.arrows)?;
+    push_strokes(&mut out, &drawn.stubs)?;
     push_strokes(&mut out, &drawn.lines)?;
     push_shapes(&mut out, &sheet.boxes)?;
     push_squares(&mut out, &drawn.openings)?;
     sheet.push_marks(&mut out, drawn.below, &drawn.rings)?;
     push_squares(&mut out, &drawn.records)?;
-    sheet.push_above(&mut out)?;
+    drawn.words.push_before(&mut out, &sheet.words)?;
     push(&mut out, "</svg>\n")?;
     Ok(out)
 }
@@ -192,19 +224,32 @@ pub fn picture(alloc: Global, scene: &Scene) -> Result<Vec<u8>, PictureError>
     let signs = signs_of(scene, &plan);
     let mut drawing = drawing_of(alloc, &plan, room, keys_of(&signs))?;
     let openings = drawing.draw_openings(&plan.seats)?;
+    let opening_words = drawing.take_words();
     let arrows = drawing.draw_arrows(&plan.messages, &plan.arrows)?;
+    let arrow_words = drawing.take_words();
     let records = drawing.draw_marks(&plan.marks, &plan.history.lost)?;
+    draw_rulers(&mut drawing, scene, &plan)?;
+    let record_words = drawing.take_words();
+    let stubs = drawing.draw_stubs(&plan.messages, &plan.stubs)?;
+    let stub_words = drawing.take_words();
     let (lines, below) = draw_run(&mut drawing, scene, &plan)?;
     draw_lines(&mut drawing, scene, &plan)?;
     let rings = rings_of(alloc, drawing.frame, scene, &plan)?;
     let head = head_of(alloc, drawing.frame, scene, &plan, &signs)?;
     let drawn = Drawn {
         arrows,
+        stubs,
         lines,
         openings,
         records,
         below: below.min(drawing.sheet.marks.len()),
         rings,
+        words: Words {
+            openings: opening_words,
+            arrows: arrow_words,
+            records: record_words,
+            stubs: stub_words,
+        },
     };
     let text = text_of(head, &drawing.sheet, &drawn)?;
     Ok(text)

@@ -58,11 +58,12 @@ pub(crate) fn plan_of(alloc: Global, scene: &Scene) -> Result<Plan, PictureError
     let history = history_of(alloc, &seats, entries)?;
     let rows = rows_of(alloc, scene.turns, entries, &fates, &history.mismatches)?;
     let steps = rows.steps.as_slice();
+    let messages = messages_of(alloc, entries)?;
     Ok(Plan {
         arrows: arrows(alloc, &seats, entries, &fates, steps)?,
-        stubs: stubs(alloc, &seats, entries, &fates, steps)?,
+        stubs: stubs(alloc, &seats, entries, &messages, &fates, steps)?,
         marks: marks(alloc, &seats, entries, &fates, steps)?,
-        messages: messages_of(alloc, entries)?,
+        messages,
         stretches: stretches_of(alloc, &seats, &history.changes, steps, rows.end)?,
         seats,
         rows,

@@ -1,7 +1,9 @@
 //! A sheet on which shapes are laid, one layer over the other.
 
-ghost use Rattle.std.specs.Prelude.{◌≡◌, ◌≤◌, ◌+◌, ◌-◌, ◌^◌, ◌++◌, if◌then◌else◌, drop, false, min, nat_lt, IfOk, OnOk, length, take};
+ghost use Rattle.std.specs.Prelude.{◌≡◌, ◌≤◌, ◌+◌, ◌-◌, ◌^◌, ◌++◌, ◌∷◌, [], Some, if◌then◌else◌, drop, false, min, nat_lt, IfOk, OnOk, length, map, take};
 ghost use Rattle.run_picture.specs.Along.{IsDrawn, tip_of};
+ghost use Rattle.run_picture.specs.Captions.{caption_by, caption_of};
+ghost use Rattle.picture_shapes.specs.declared.shapes.Shape.TheVariants as shape;
 ghost use Rattle.run_picture.specs.Layers.{below_shapes};
 ghost use Rattle.picture_shapes.specs.Svg.{shapes_text};
 
@@ -41,7 +43,7 @@ pub(crate) struct Draft {
 }
 
 /// So far ahead, in the direction of an arrow.
-fn ahead(x: u64, by: u64, right: bool) -> u64
+pub(crate) fn ahead(x: u64, by: u64, right: bool) -> u64
     ensures { result ≡ (if right then min (x + by) (2 ^ 64 - 1) else x - by) }
 {
     if right {
@@ -114,7 +116,9 @@ impl Sheet {
     }
 
     /// Lays words.
-    pub(crate) fn write(&mut self, label: Label) -> Result<(), AllocError> {
+    pub(crate) fn write(&mut self, label: Label) -> Result<(), AllocError>
+        ensures { OnOk result (self.new.words.items ≡ self.old.words.items ++ shape.Label label ∷ []) }
+    {
         self.words.push(Shape::Label(label))?;
         Ok(())
     }
@@ -123,6 +127,9 @@ impl Sheet {
     pub(crate) fn draw(&mut self, alloc: Global, draft: Draft) -> Result<Stroke, AllocError>
         ensures title { IfOk result (λ stroke. stroke.title ≡ draft.title) }
         ensures drawn { IfOk result (IsDrawn draft) }
+        ensures tip { IfOk result (λ stroke. stroke.tip ≡ draft.tip) }
+        ensures words { OnOk result (map caption_of self.new.words.items
+            ≡ map caption_of self.old.words.items ++ Some (caption_by draft) ∷ []) }
     {
         let right = draft.to_x > draft.x;
         let size = width_of(draft.number.len().saturating_add(draft.label.len()));
@@ -185,10 +192,12 @@ impl Sheet {
         push_shapes(out, &self.marks[below..])
     }
 
-    /// The text of the words, which lie above all.
-    pub(crate) fn push_above(&self, out: &mut Vec<u8>) -> Result<(), AllocError>
-        ensures { OnOk result (out.new.items ≡ out.old.items ++ shapes_text self.now.words.items) }
+    /// The words that were laid, which are taken off the sheet.
+    pub(crate) fn take_words(&mut self, alloc: Global) -> Vec<Shape>
+        ensures words { result ≡ self.old.words }
+        ensures none { self.new.words.items ≡ [] }
+        ensures others { self.new.marks ≡ self.old.marks }
     {
-        push_shapes(out, &self.words)
+        std::mem::replace(&mut self.words, Vec::new(alloc))
     }
 }

@@ -1,7 +1,7 @@
-use Rattle.std.proofs.Common.{◌≡◌, ◌∙◌, ◌++◌, ap, sym, length, map, option_map, option_to_list, take}
+use Rattle.std.proofs.Common.{◌∙◌, ◌++◌, ap, sym, length, map, option_map, option_to_list, take}
 use Rattle.picture_rows.specs.declared.drawn.Arrow.{Arrow}
 use Rattle.picture_rows.specs.declared.fates.Fate.{Fate}
-use Rattle.picture_rows.specs.Whole.{deliveries, delivery}
+use Rattle.picture_rows.specs.Whole.{deliveries}
 use Rattle.picture_rows.proofs.Ways.{arrows_more, deliveries_more}
 use Rattle.picture_rows.proofs.drawn.arrows.Goals as goal
 

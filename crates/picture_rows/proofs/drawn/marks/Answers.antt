@@ -1,6 +1,6 @@
 use Rattle.std.proofs.Common.{◌≡◌, ◌∙◌, ◌++◌, ap, sym, take}
 use Rattle.picture_rows.specs.declared.rows.StepRows.{StepRows}
-use Rattle.picture_rows.specs.Ways.{first_record, place_in, rows_in, spots_from, spots_in}
+use Rattle.picture_rows.specs.Ways.{first_record, rows_in, spots_from, spots_in}
 use Rattle.picture_rows.specs.Whole.{records_in}
 use Rattle.picture_rows.proofs.Ways.{records_more, spots_more}
 use Rattle.picture_rows.proofs.drawn.marks.Goals as goal

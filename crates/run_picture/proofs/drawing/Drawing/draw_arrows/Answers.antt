@@ -1,9 +1,10 @@
-use Rattle.std.proofs.Common.{◌≡◌, ◌∙◌, ap, subst, false, get_or}
+use Rattle.std.proofs.Common.{◌≡◌, ◌∙◌, ◌++◌, ◌∷◌, [], Some, ap, subst, false, get_or, map}
 use Rattle.std.proofs.lemmas.List.{get_or_default}
 use Rattle.picture_rows.specs.declared.drawn.Arrow.{Arrow}
 use Rattle.picture_shapes.specs.declared.frame.Frame.{Frame}
 use Rattle.run_picture.specs.Along.{RunsAlong}
-use Rattle.run_picture.proofs.Along.{along_more, titles_more}
+use Rattle.run_picture.specs.Captions.{caption_along, caption_of}
+use Rattle.run_picture.proofs.Along.{along_more, titles_more, words_more}
 use Rattle.run_picture.proofs.drawing.Drawing.draw_arrows.Goals as goal
 
 pub loop-arrow-preserved : goal.loop-arrow-preserved
@@ -28,5 +29,13 @@ loop-arrow-preserved c =
           at c.in_ok-push.ensures.items
           (subst (λ g. RunsAlong g a.way stroke) same c.in_ok-draw_arrow.ensures.along)
           c.loop-arrow.invariant.along;
+      words = words_more
+          (λ (b : Arrow). Some (caption_along c.args.self.now.frame.grid c.args.self.now.frame.room.messages c.args.messages.now
+          b.way b.number)) drawn k a (map caption_of c.args.self.now.sheet.words.items)
+          (map caption_of c.loop-arrow.self.sheet.words.items) (map caption_of c.draw_arrow.new.self.sheet.words.items) there at
+          c.loop-arrow.invariant.words
+          (c.in_ok-draw_arrow.ensures.words
+          ∙ ap (λ (f : Frame). map caption_of c.loop-arrow.self.sheet.words.items
+          ++ Some (caption_along f.grid f.room.messages c.args.messages.now a.way a.number) ∷ []) c.loop-arrow.invariant.frame);
       frame = c.draw_arrow.ensures.frame ∙ c.loop-arrow.invariant.frame;
     }
