@@ -1,6 +1,6 @@
 -- How the judge goes on, fault by fault.
-use Rattle.std.proofs.Common.{◌≡◌, ℕ, ◌+◌, ◌-◌, ◌<◌, Bool, true, false, Option, Some, None, List, [], ◌∷◌, ◌++◌, length, get_or, take, drop, refl, sym, subst, ap, ◌∙◌, arith}
-use Rattle.std.specs.Prelude.{Contains, slice_get}
+use Rattle.std.proofs.Common.{◌≡◌, ℕ, ◌+◌, ◌<◌, Bool, true, false, Option, Some, None, List, [], ◌∷◌, ◌++◌, length, get_or, take, drop, refl, sym, subst, ap, ◌∙◌, arith}
+use Rattle.std.specs.Prelude.{not, slice_get}
 use Rattle.std.proofs.lemmas.List.{append-nil, length-drop}
 use Rattle.std.proofs.lemmas.Option.{slice_get-get_or}
 use Rattle.judge_state.specs.Sights.{Sight, first_sight}
@@ -10,16 +10,45 @@ use Rattle.judge_rules.specs.Histories.{IsLegal}
 use Rattle.judge_rules.specs.Steps.{is_answered}
 use Rattle.judge_set.specs.declared.verdict.Walk.{Walk}
 use Rattle.judge_set.specs.Resuming.{resumed}
-use Rattle.judge_set.specs.Sets.{AreLeft, IsFirstFault, IsTooMuch, IsWalk, LeadsOn, Stops, followed}
+use Rattle.judge_set.specs.Sets.{AreLeft, IsFirstFault, IsTooMuch, IsVerdict, IsWalk, Stops, followed}
 use Rattle.judge_set.proofs.Members.{on_legal, legal_on}
-use Rattle.judge_engine.specs.Faults.{AreFaults, Ends, GoesOn, IsAt, IsFault, IsNext, IsNextOver, IsOver, Walks}
+use Rattle.judge_engine.specs.declared.judging.Extent.{Extent}
+use Rattle.judge_engine.specs.declared.judging.Extent.TheVariants.{First, All}
+use Rattle.judge_engine.specs.Faults.{AreFaults, AreTold, GoesOn, IsAt, IsFault, IsNext, IsNextOver, IsOver, IsOverFor}
+
+abbrev event_or : Event → Option Event → Event
+event_or d None = d
+event_or d (Some e) = e
 
 some_is : (a b : Event) → Some a ≡ Some b → a ≡ b
-some_is a b refl = refl
+some_is a b is = ap (event_or a) is
+
+-- there are states to go on from, if there were some
+pub resumed_some : (e : Event) (us : List Sight) → 0 < length us → 0 < length (resumed e us)
+resumed_some e [] some = absurd (omega (arith, some))
+resumed_some e (u ∷ us) some = omega arith
+
+pub not_hung : (hung answered : Bool) → hung ≡ not answered → hung ≡ false → answered ≡ true
+not_hung hung true is no_hang = refl
+not_hung hung false is no_hang = absurd (cc)
 
 event_at : (es : List Event) (i : ℕ) → i < length es → (e : Event) × (slice_get es i ≡ Some e)
 event_at [] i lt = absurd (omega (arith, lt))
 event_at (d ∷ es) i lt = (get_or (d ∷ es) i d, slice_get-get_or (d ∷ es) i d lt)
+
+-- how the judge goes on, by equal events, states and walks
+pub next_is : (r : Rules) (es fs : List Event) (at : ℕ) (us vs : List Sight) (o p : Option Walk) → fs ≡ es → vs ≡ us
+    → p ≡ o → IsNext r fs at vs p → IsNext r es at us o
+next_is r es fs at us vs o p same_events same_states same_walk n =
+    subst (λ (l : List Event). IsNext r l at us o) same_events
+    (subst (λ (l : List Sight). IsNext r fs at l o) same_states
+    (subst (λ (q : Option Walk). IsNext r fs at vs q) same_walk n))
+
+pub next_over_is : (r : Rules) (es fs : List Event) (at : ℕ) (us vs : List Sight) → fs ≡ es → vs ≡ us
+    → IsNextOver r fs at vs → IsNextOver r es at us
+next_over_is r es fs at us vs same_events same_states n =
+    subst (λ (l : List Event). IsNextOver r l at us) same_events
+    (subst (λ (l : List Sight). IsNextOver r fs at l) same_states n)
 
 -- one fault more, with an answer
 go_more : (r : Rules) (es : List Event) (n : ℕ) (starts : List Sight) (js : List ℕ) (m : ℕ) (states : List Sight)
@@ -182,3 +211,23 @@ no_faults r es legal few = record {
   goes_on = (refl, refl);
   ends = (on_legal r es legal, few);
 }
+
+-- too many states before any fault, as far as the judge goes
+pub over_for : (x : Extent) (r : Rules) (es : List Event) → IsTooMuch r (first_sight ∷ []) es → IsOverFor x r es
+over_for First r es over = over
+over_for All r es over = first_over r es over
+
+-- no fault is told of a legal history
+pub none_told : (x : Extent) (r : Rules) (es fs : List Event) (o : Option ℕ) → fs ≡ es → o ≡ None → IsVerdict r fs o
+    → (IsTooMuch r (first_sight ∷ []) fs → ⊥) → AreTold x r es []
+none_told First r es fs o same none v few = omega arith
+none_told All r es fs o same none v few = subst (λ (l : List Event). AreFaults r l []) same
+    (no_faults r fs (subst (λ (q : Option ℕ). IsVerdict r fs q) none v) few)
+
+-- the first fault, as it is found
+pub start_at : (r : Rules) (es fs : List Event) (o : Option ℕ) (i : ℕ) (before : List Sight) → fs ≡ es → o ≡ Some i
+    → IsVerdict r fs o → AreLeft r (first_sight ∷ []) (followed fs o) before
+    → (IsTooMuch r (first_sight ∷ []) fs → ⊥) → IsAt r es (i ∷ []) i before
+start_at r es fs o i before same some v left few = subst (λ (l : List Event). IsAt r l (i ∷ []) i before) same
+    (first_at r fs i before (subst (λ (q : Option ℕ). IsVerdict r fs q) some v)
+    (subst (λ (q : Option ℕ). AreLeft r (first_sight ∷ []) (followed fs q) before) some left) few)

@@ -1,5 +1,5 @@
 -- All faults of a history, and how the judge goes on after each.
-use Rattle.std.specs.Prelude.{◌≡◌, ℕ, ◌+◌, Bool, true, false, List, [], ◌∷◌, ◌++◌, drop, length, map, take, slice_get, ◌≤◌, Option, Some, None}
+use Rattle.std.specs.Prelude.{◌≡◌, ℕ, ◌+◌, true, false, List, [], ◌∷◌, ◌++◌, drop, length, map, take, slice_get, ◌≤◌, Option, Some, None}
 use Rattle.judge_state.specs.Sights.{Sight, first_sight}
 use Rattle.judge_rules.specs.declared.calls.Event.{Event}
 use Rattle.judge_rules.specs.declared.words.Rules.{Rules}

@@ -84,7 +84,7 @@ pub record IsFaultsText (x : Extent) (ls : List (List ℕ)) (t : Transcript) (fs
   pub between : List ℕ
   pub tells : TellsFaults ls t fs told
   pub sorts : IsBetween x between
-  pub text : text ≡ told ++ between ++ count_text (length fs) (length t.events.items)
+  pub whole : text ≡ told ++ between ++ count_text (length fs) (length t.events.items)
 
 -- a text reports the faults of a transcript, of which these are the first, or all
 pub record ReportsFaults (x : Extent) (input : List ℕ) (t : Transcript) (text : List ℕ) : Type 0 where
@@ -94,13 +94,13 @@ pub record ReportsFaults (x : Extent) (input : List ℕ) (t : Transcript) (text 
   pub fault : IsFirstFault t.rules t.events.items index
   pub told : AreTold x t.rules t.events.items (indices faults)
   pub few : IsTooMuch t.rules (first_sight ∷ []) t.events.items → ⊥
-  pub text : IsFaultsText x (lines input) t faults text
+  pub report : IsFaultsText x (lines input) t faults text
 
 -- a text reports that the history of a transcript is legal
 pub record ReportsNone (t : Transcript) (text : List ℕ) : Type 0 where
   pub legal : IsLegal t.rules t.events.items
   pub few : IsTooMuch t.rules (first_sight ∷ []) t.events.items → ⊥
-  pub text : text ≡ conforms_text t
+  pub report : text ≡ conforms_text t
 
 -- what is written of an input, by how the run ends: of a transcript, that its history is legal, or its faults; or the
 -- line of the fault for which the input is refused

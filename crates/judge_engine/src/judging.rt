@@ -99,8 +99,7 @@ fn add_more(
     let mut at = index;
     let mut before = states;
     for _turn in 0..transcript.events.len() {
-        let Some(walk) = next_walk(alloc, transcript.rules, &transcript.events, &before, at)?
-        else {
+        let Some(walk) = next_walk(alloc, transcript.rules, &transcript.events, &before, at)? else {
             return Ok(());
         };
         let Some(more) = walk.fault else {

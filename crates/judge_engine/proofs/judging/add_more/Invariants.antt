@@ -8,5 +8,5 @@ invariant-loop-turn l = record {
   some : 0 < length l.found.items;
   first : first_index l.found.items ≡ first_index l.initial.found.items;
   here : IsAt l.transcript.rules l.transcript.events.items (indices l.found.items) l.at l.before.items;
-  past : l.turn ≤ l.at;
+  past : l._turn ≤ l.at;
 }
