@@ -1,6 +1,6 @@
 //! An XID as bytes and as text.
 
-use log_text::branch_xid;
+use log_text::xids::branch_xid;
 use std::test::Fail;
 use tree_model::{Presumption, ProcessId, Ticket, Txn};
 use xa_xid::{Xid, XidError};
