@@ -130,7 +130,7 @@ next_is q ms start p m d lt low at is none =
     let next : suc p ≡ p + 1 = omega arith in
     subst (λ n. IsNextOpen q start n ms) next (record {
       later = omega (arith, low);
-      open = at_place q ms p m d lt at ∙ is;
+      stands = at_place q ms p m d lt at ∙ is;
       none_between = none;
     })
 

@@ -39,7 +39,7 @@ is_open_at q ms (suc k) = is_open_by q (slice_get ms k)
 -- after the message with the first number the one with the second is the next to this process that is open
 pub record IsNextOpen (q : ProcessId) (after next : ℕ) (ms : List Marked) : Type 0 where
   pub later : after < next
-  pub open : is_open_at q ms next ≡ true
+  pub stands : is_open_at q ms next ≡ true
   pub none_between : (k : ℕ) → after < k → k < next → is_open_at q ms k ≡ false
 
 -- the message at this place, if there is one, marked so

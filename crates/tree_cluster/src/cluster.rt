@@ -204,15 +204,7 @@ impl<N: Seats> Cluster<N> {
             for _ in rt.forever() {}
             unreachable!()
         }
-        seated.post(
-            rt,
-            self.alloc,
-            &self.ties,
-            &self.ledger,
-            event,
-            pass,
-            gate,
-        )
+        seated.post(rt, self.alloc, &self.ties, &self.ledger, event, pass, gate)
     }
 
     /// A turn of a worker, which has claimed the message with this number to this process: the message and those after it
@@ -258,15 +250,7 @@ impl<N: Seats> Cluster<N> {
             for _ in rt.forever() {}
             unreachable!()
         }
-        seated.deliver(
-            rt,
-            self.alloc,
-            &self.ties,
-            &self.ledger,
-            number,
-            pass,
-            gate,
-        )
+        seated.deliver(rt, self.alloc, &self.ties, &self.ledger, number, pass, gate)
     }
 
     /// Posts an event. At Ok the pass has one pair more, of the entry of this event and its place; the place is

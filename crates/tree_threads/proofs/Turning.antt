@@ -1,5 +1,6 @@
 -- What a process makes in a turn.
 use Rattle.std.proofs.Common.{◌≡◌, ◌∙◌, ap, refl, sym, subst, ℕ, true, Some, None, All, Option, List, [], ◌∷◌, ◌++◌, append-nil, append_assoc, map}
+use Rattle.std.specs.Option.{option_to_list}
 use Rattle.std.proofs.lemmas.List.Elements.{All-append, All-cons, All-head, All-nil, All-tail}
 use Rattle.tree_model.specs.declared.names.ProcessId.{ProcessId}
 use Rattle.tree_model.specs.declared.messages.Envelope.{Envelope}
@@ -13,21 +14,24 @@ use Rattle.tree_model.specs.Nodes.{is_listed}
 use Rattle.tree_model.specs.Trees.{root_of}
 use Rattle.core_model.specs.States.{CoreState, SameCore}
 use Rattle.manager_model.specs.Data.{ManagerData, Rests}
-use Rattle.tree_cut.specs.Alone.{IsMine, MakesAlone, StepAlone}
+use Rattle.tree_cut.specs.Alone.{IsMine, MakesAlone, RunsAlone, StepAlone}
 use Rattle.tree_cut.specs.Cuts.{FindsMessage, IsGiven}
 use Rattle.tree_cut.specs.Owns.{OwnRun}
 use Rattle.tree_cut.specs.Turns.{AllGiven, GoesAlone, begins_alone, goes_alone, rests_alone}
+use Rattle.tree_cut.proofs.Turns.{runs_on}
 use Rattle.cluster_journal.specs.declared.marks.Marked.{Marked as MarkOf}
 use Rattle.cluster_journal.specs.Marks.{IsNextOpen}
 use Rattle.tree_ties.specs.declared.views.ProcessView.{ProcessView}
 use Rattle.tree_ties.specs.declared.views.View.{View}
 use Rattle.tree_ties.specs.Seats.{IsProcess}
-use Rattle.tree_ties.specs.Views.{AreBy, AreOf, entries_in, worker}
+use Rattle.tree_ties.specs.Views.{AreBy, AreOf, entries_in, places_from, worker}
 use Rattle.tree_ties.proofs.Lists.{in_more}
 use Rattle.tree_threads.specs.declared.making.Made.{Made}
 use Rattle.tree_threads.specs.declared.marking.Marked.{Marked}
 use Rattle.tree_threads.specs.Makes.{FitsNode, IsAt}
 use Rattle.tree_threads.specs.Marks.{Delivers}
+use Rattle.tree_threads.specs.Passes.{NotesAll, NotesOne, PassState}
+use Rattle.tree_threads.specs.Posts.{DeliversTurn}
 use Rattle.tree_threads.specs.Turns.{AreNext, AreNumbered, AreOpen, GoesFurther, IsDeliveryAt, IsNext, MadeTurn, MakesStep, wanted_in}
 use Rattle.tree_threads.proofs.Asked.{finds_it, fits_it, mine_it}
 use Rattle.tree_threads.proofs.OwnSteps.{step_alone}
@@ -178,10 +182,10 @@ module _ (tree : List TreeEntry) (net : List Envelope) (q : ProcessId) (caller :
   }
 
   -- what a process that stood so made of it may be entered
-  pub turn_made : (own : List Entry) (w x : Entry) (new : List (ℕ × Entry)) (s u : CoreState) (d f : ManagerData)
+  made_of : (own : List Entry) (w x : Entry) (new : List (ℕ × Entry)) (s u : CoreState) (d f : ManagerData)
       → is_listed tree q ≡ true → OwnRun tree q own s → IsAt q w → FindsMessage net q w.step.happening
       → (turn : WholeTurn new s u d f) → turn.entry ≡ x → x.step ≡ w.step → MadeTurn tree net q caller own new u
-  turn_made own w x new s u d f listed run is finds turn same step =
+  made_of own w x new s u d f listed run is finds turn same step =
       let same_step : turn.entry.step ≡ w.step = ap (λ (y : Entry). y.step) same ∙ step in
       let zs : List (ℕ × Entry) = (caller, turn.entry) ∷ turn.more in
       subst (λ l. MadeTurn tree net q caller own l u) (sym turn.new_are) (record {
@@ -198,6 +202,79 @@ module _ (tree : List TreeEntry) (net : List Envelope) (q : ProcessId) (caller :
         );
         by_caller = turn.by_caller;
       })
+
+  pub turn_made : (own : List Entry) (w : Entry) (keep : ℕ) (s t u : CoreState) (d e f : ManagerData) (m : Made)
+      (new : List (ℕ × Entry)) → is_listed tree q ≡ true → OwnRun tree q own s → IsAt q w
+      → IsMine (root_of tree) q w.step.happening → FindsMessage net q w.step.happening
+      → MakesStep caller w keep s t d e m → GoesFurther tree net q caller m.entries new t u e f
+      → MadeTurn tree net q caller own new u
+  unfolding whole
+  turn_made own w keep s t u d e f m new listed run is mine finds step further =
+      made_of own w step.entry new s u d f listed run is finds (whole w keep s t u d e f m new is mine step further) refl
+      step.step
+
+  -- and it made it by itself
+  pub turn_runs : (own : List Entry) (w : Entry) (keep : ℕ) (s t u : CoreState) (d e f : ManagerData) (m : Made)
+      (new : List (ℕ × Entry)) → IsAt q w → IsMine (root_of tree) q w.step.happening
+      → MakesStep caller w keep s t d e m → GoesFurther tree net q caller m.entries new t u e f
+      → RunsAlone tree q own s d → RunsAlone tree q (own ++ entries_in new) u f
+  turn_runs own w keep s t u d e f m new is mine step further ran =
+      let turn = whole w keep s t u d e f m new is mine step further in
+      subst (λ l. RunsAlone tree q (own ++ entries_in l) u f) (sym turn.new_are)
+      (runs_on tree q own s d (entries_in ((caller, turn.entry) ∷ turn.more)) u f ran turn.goes)
+
+  -- a turn of deliveries
+  pub turn_delivers : (own : List Entry) (number : ℕ) (w : Entry) (keep : ℕ) (s t u : CoreState) (d e f : ManagerData)
+      (m : Made) (new : List (ℕ × Entry)) (old_pass new_pass : PassState) (place : ℕ) → IsAt q w
+      → IsMine (root_of tree) q w.step.happening → Delivers net q number w.step.happening
+      → MakesStep caller w keep s t d e m → GoesFurther tree net q caller m.entries new t u e f
+      → RunsAlone tree q own s d → NotesAll old_pass new_pass place new
+      → DeliversTurn tree q number old_pass new_pass place
+  unfolding whole
+  turn_delivers own number w keep s t u d e f m new old_pass new_pass place is mine delivers step further ran notes =
+      let turn = whole w keep s t u d e f m new is mine step further in
+      record {
+        net = net;
+        first = (caller, step.entry);
+        more = further.more;
+        notes = subst (λ l. NotesAll old_pass new_pass place l) turn.new_are notes;
+        own = own;
+        before = s;
+        behind = u;
+        held = d;
+        kept = f;
+        ran = ran;
+        goes = turn.goes;
+        delivers_it = (
+          delivers.envelope.message,
+          ap (λ (y : Step). y.happening) step.step ∙ delivers.happens,
+        );
+        deliver = further.deliver;
+      }
+
+-- The first of what is marked.
+
+pub popped : (old new : List Marked) (o : Option Marked) (m : Marked) → old ≡ option_to_list o ++ new → o ≡ Some m
+    → old ≡ m ∷ new
+popped old new o m is some = is ∙ ap (λ x. option_to_list x ++ new) some
+
+pub first_of : (net : List Envelope) (q : ProcessId) (old new : List Marked) (m : Marked)
+    → All (IsDeliveryAt net q) (wanted_in old) → old ≡ m ∷ new → IsDeliveryAt net q m.wanted
+first_of net q old new m all is =
+    All-head (IsDeliveryAt net q) m.wanted (wanted_in new) (subst (λ l. All (IsDeliveryAt net q) (wanted_in l)) is all)
+
+pub rest_of : (net : List Envelope) (q : ProcessId) (old new : List Marked) (m : Marked)
+    → All (IsDeliveryAt net q) (wanted_in old) → old ≡ m ∷ new → All (IsDeliveryAt net q) (wanted_in new)
+rest_of net q old new m all is =
+    All-tail (IsDeliveryAt net q) m.wanted (wanted_in new) (subst (λ l. All (IsDeliveryAt net q) (wanted_in l)) is all)
+
+-- What a pass notes of one entry.
+pub notes_one : (old new : PassState) (place c : ℕ) (x : Entry) (zs : List (ℕ × Entry)) → NotesAll old new place zs
+    → zs ≡ (c, x) ∷ [] → NotesOne old new place x
+notes_one old new place c x zs notes are = record {
+  caller = notes.caller;
+  pairs = notes.pairs ∙ ap (λ l. old.pairs ++ places_from place l) are;
+}
 
 -- Deliveries in order of sending.
 
@@ -223,7 +300,7 @@ pub record NextSoFar (net : List Envelope) (q : ProcessId) (marks : List MarkOf)
 pub none_yet : (net : List Envelope) (q : ProcessId) (marks : List MarkOf) (after : ℕ)
     → NextSoFar net q marks after [] after
 none_yet net q marks after = record {
-  next = record { numbers = []; open = tt; deliver = tt };
+  next = record { numbers = []; in_order = tt; deliver = tt };
   last_is = refl;
 }
 
@@ -250,13 +327,13 @@ wanted_more (k ∷ ms) m = ap (λ l. k.wanted ∷ l) (wanted_more ms m)
 pub one_next : (net : List Envelope) (q : ProcessId) (marks : List MarkOf) (after last n : ℕ) (ms new : List Marked)
     (m : Marked) → NextSoFar net q marks after ms last → IsNextOpen q last n marks → IsNext net q n m.wanted
     → new ≡ ms ++ m ∷ [] → NextSoFar net q marks after new n
-one_next net q marks after last n ms new m far open is are =
+one_next net q marks after last n ms new m far is_next is are =
     let ns = far.next.numbers in
     subst (λ l. NextSoFar net q marks after l n) (sym are) (record {
       next = record {
         numbers = ns ++ n ∷ [];
-        open = open_more q marks after ns n far.next.open
-            (subst (λ k. IsNextOpen q k n marks) (sym far.last_is) open);
+        in_order = open_more q marks after ns n far.next.in_order
+            (subst (λ k. IsNextOpen q k n marks) (sym far.last_is) is_next);
         deliver = subst (λ l. AreNumbered net q (ns ++ n ∷ []) l) (sym (wanted_more ms m))
             (numbered_more net q ns (wanted_in ms) n m.wanted far.next.deliver is);
       };

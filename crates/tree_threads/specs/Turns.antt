@@ -46,7 +46,7 @@ AreOpen q marks k (n ∷ ns) = IsNextOpen q k n marks × AreOpen q marks n ns
 -- the entries are of the deliveries of the open messages to the process after the one with this number, in order of sending
 pub record AreNext (net : List Envelope) (q : ProcessId) (marks : List MarkOf) (after : ℕ) (xs : List Entry) : Type 0 where
   pub numbers : List ℕ
-  pub open : AreOpen q marks after numbers
+  pub in_order : AreOpen q marks after numbers
   pub deliver : AreNumbered net q numbers xs
 
 -- The process made the step of this marked entry by itself, which is a turn of one entry, under this caller's number; a

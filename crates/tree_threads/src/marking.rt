@@ -1,6 +1,6 @@
 //! The mark of a turn: what a process is asked to do, and room for the entries of it.
 
-ghost use Rattle.std.specs.Prelude.{◌≡◌, ◌≢◌, ◌+◌, ◌<◌, ◌≤◌, [], Some, IfErr, IfNone, IfOk, IfSome, IsTrue, OnErr, OnOk, length};
+ghost use Rattle.std.specs.Prelude.{◌≡◌, ◌≢◌, ◌+◌, ◌++◌, ◌<◌, ◌≤◌, [], ◌∷◌, if◌then◌else◌, Some, IfErr, IfNone, IfOk, IfSome, IsTrue, OnErr, OnOk, length};
 ghost use Rattle.tree_model.specs.Plays.{sent_as};
 ghost use Rattle.tree_model.specs.Trees.{root_of};
 ghost use Rattle.tree_model.specs.World.{entries_of};
@@ -213,6 +213,13 @@ fn mark_next<N: Seats>(
     .ok()
 }
 
+/// Adds a step to these. Whether there was memory for it.
+fn is_added(more: &mut LinkedList<Marked>, marked: Marked) -> bool
+    ensures { more.new ≡ (if result then more.old ++ marked ∷ [] else more.old) }
+{
+    more.push_back(marked).is_ok()
+}
+
 /// The deliveries of the open messages to a process after the one with this number, in order of sending, as steps that it
 /// wants, with room for their entries: at most N, and fewer if memory is refused.
 pub(crate) fn mark_more<N: Seats>(
@@ -235,7 +242,7 @@ pub(crate) fn mark_more<N: Seats>(
         let Some(marked) = mark_next(alloc, me, ledger, next) else {
             break;
         };
-        if more.push_back(marked).is_err() {
+        if !is_added(&mut more, marked) {
             break;
         }
         last = next;

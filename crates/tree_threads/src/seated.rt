@@ -231,7 +231,8 @@ impl<N: Seats> Seated<N> {
         let most = most_more(&*journal, me, gate.holds());
         let more = mark_more(alloc, me, &*journal, number, most);
         drop(journal);
-        match make_step(alloc, &mut self.node, pass.caller(), marked) {
+        let caller = pass.caller();
+        match make_step(alloc, &mut self.node, caller, marked) {
             Err(error) => Err(PostError::from(error)),
             Ok(first) => {
                 let mut made = first;
@@ -242,7 +243,7 @@ impl<N: Seats> Seated<N> {
                     me,
                     &mut self.node,
                     &self.seat,
-                    pass.caller(),
+                    caller,
                     gate,
                     more,
                     &mut made,

@@ -1,4 +1,4 @@
-use Rattle.std.proofs.Common.{◌≡◌, ◌∙◌, ap, sym}
+use Rattle.std.proofs.Common.{refl, sym}
 use Rattle.cluster_journal.proofs.FirstOpen.{next_is, none_next}
 use Rattle.cluster_journal.proofs.marks.open_from.Goals as goal
 
