@@ -491,7 +491,7 @@ impl KeyStore {
         requires { self.old.versions.is_staged ≡ false }
         ensures { RebasesStore self.old self.new }
     {
-        if self.versions.base() < self.versions.count() {
+        if self.versions.base() != self.versions.count() {
             self.versions.rebase();
         }
     }
