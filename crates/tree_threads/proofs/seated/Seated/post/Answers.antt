@@ -48,8 +48,8 @@ enter-place-requires-clause-made g c =
     (finds_it net me (core_of old) c.args.event m.wanted.step.happening m.keep marked.happens) step
     (further_none tree net me c.caller.result zs (core_of new) (data_of new)) in
     let process = ap (λ w. w.0.process) c.in_ok-marked.ensures.seat in
-    subst (λ (p : ProcessView). MadeTurn tree p.net me c.args.pass.now.caller p.own zs (core_of new)) (sym process)
-    (subst (λ n. MadeTurn tree net me n own zs (core_of new)) (c.caller.ensures ∙ ap (λ (p : PassState). p.caller) c.meets.ensures.same.1) made)
+    subst (λ (p : ProcessView). MadeTurn tree p.net me c.meets.new.pass.caller p.own zs (core_of new)) (sym process)
+    (subst (λ n. MadeTurn tree net me n own zs (core_of new)) c.caller.ensures made)
 
 pub returns-in-Ok-clause-ok : goal.returns-in-Ok-clause-ok
 returns-in-Ok-clause-ok g c =
