@@ -1,7 +1,7 @@
 -- What is marked as delivered is delivered in an entry.
 use Rattle.std.proofs.Common.{IfNone, IfSome, ◌≡◌, ◌⊎◌, ◌∙◌, ap, sym, subst, refl, inl, inr, ℕ, zero, suc, ◌<◌, Option, Some, None, List, [], ◌∷◌, ◌++◌, map, length, slice_set, arith}
 use Rattle.std.specs.Prelude.{slice_get}
-use Rattle.std.proofs.lemmas.List.{length-set}
+use Rattle.std.proofs.lemmas.List.{append-nil, append_assoc, length-set}
 use Rattle.std.proofs.lemmas.List.Elements.{All-head, All-tail}
 use Rattle.tree_model.specs.declared.names.ProcessId.{ProcessId}
 use Rattle.tree_model.specs.declared.messages.Envelope.{Envelope}
@@ -14,7 +14,7 @@ use Rattle.cluster_journal.specs.declared.marks.Claim.{Claim}
 use Rattle.cluster_journal.specs.declared.marks.Mark.{Mark}
 use Rattle.cluster_journal.specs.declared.marks.Mark.TheVariants.{Open, Claimed, Delivered}
 use Rattle.cluster_journal.specs.declared.marks.Marked.{Marked}
-use Rattle.cluster_journal.specs.Journals.{AllDelivered, AreDelivered, IsDelivered, entries_of, marked_by}
+use Rattle.cluster_journal.specs.Journals.{AllDelivered, AreDelivered, IsDelivered, entries_of, marked_by, marked_by_all}
 use Rattle.cluster_journal.specs.Marks.{AreAllDelivered, given_back, marked, marked_at, reopened, reopened_from, sent_to}
 
 -- what stands in a list of which one place was changed
@@ -80,6 +80,15 @@ entered ms xs caller x (Handles (ActInput a)) is so = all_still ms xs ((caller, 
 entered ms xs caller x (Restart k) is so = all_still ms xs ((caller, x) ∷ []) so
 entered ms xs caller x Trim is so = all_still ms xs ((caller, x) ∷ []) so
 
+-- the marks once the entries of a turn are entered
+pub entered_all : (ms : List Marked) (xs made : List (ℕ × Entry)) → AreDelivered ms xs
+    → AreDelivered (marked_by_all made ms) (xs ++ made)
+entered_all ms xs [] so = subst (λ l. AreDelivered ms l) (sym (append-nil xs)) so
+entered_all ms xs (z ∷ made) so =
+    subst (λ l. AreDelivered (marked_by_all made (marked_by z.1.step.happening ms)) l) (append_assoc xs (z ∷ []) made)
+    (entered_all (marked_by z.1.step.happening ms) (xs ++ z ∷ []) made
+    (entered ms xs z.0 z.1 z.1.step.happening refl so))
+
 -- as many marks as before
 pub as_many : (h : Happening) (ms : List Marked) → length (marked_by h ms) ≡ length ms
 as_many (Handles (MessageInput zero m)) ms = refl
@@ -91,6 +100,11 @@ as_many (Handles (MessageInput (suc p) m)) ms = by_old (slice_get ms p)
 as_many (Handles (ActInput a)) ms = refl
 as_many (Restart k) ms = refl
 as_many Trim ms = refl
+
+pub as_many_all : (made : List (ℕ × Entry)) (ms : List Marked) → length (marked_by_all made ms) ≡ length ms
+as_many_all [] ms = refl
+as_many_all (z ∷ made) ms =
+    as_many_all made (marked_by z.1.step.happening ms) ∙ as_many z.1.step.happening ms
 
 -- Marks of another kind.
 

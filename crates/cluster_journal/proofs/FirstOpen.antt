@@ -6,7 +6,7 @@ use Rattle.tree_model.specs.Names.{same_process}
 use Rattle.cluster_journal.specs.declared.marks.Mark.{Mark}
 use Rattle.cluster_journal.specs.declared.marks.Mark.TheVariants.{Open, Claimed, Delivered}
 use Rattle.cluster_journal.specs.declared.marks.Marked.{Marked}
-use Rattle.cluster_journal.specs.Marks.{first_open, given_back, is_open, is_open_to, marked, marked_at, reopened, reopened_from}
+use Rattle.cluster_journal.specs.Marks.{IsNextOpen, first_open, given_back, is_open, is_open_at, is_open_by, is_open_to, marked, marked_at, reopened, reopened_from}
 
 pub rest_none : (b : Bool) (k : ℕ) (o : Option ℕ) → (if b then Some k else o) ≡ None → o ≡ None
 rest_none true k o h = absurd (cc)
@@ -116,6 +116,36 @@ marks_none ms zero mark h = refl
 marks_none ms (suc k) mark (inl z) = absurd (omega (arith, z))
 marks_none ms (suc k) mark (inr far) =
     sym (ap (λ o. marked_at ms k o mark) (slice_get_past ms k (omega (arith, far))))
+
+-- The next open message.
+
+at_place : (q : ProcessId) (ms : List Marked) (p : ℕ) (m d : Marked) → p < length ms → m ≡ get_or ms p d
+    → is_open_at q ms (suc p) ≡ is_open_to q m
+at_place q ms p m d lt at = ap (is_open_by q) (slice_get-get_or ms p d lt ∙ ap Some (sym at))
+
+pub next_is : (q : ProcessId) (ms : List Marked) (start p : ℕ) (m d : Marked) → p < length ms → start ≤ p
+    → m ≡ get_or ms p d → is_open_to q m ≡ true
+    → ((k : ℕ) → start < k → k < suc p → is_open_at q ms k ≡ false) → IsNextOpen q start (p + 1) ms
+next_is q ms start p m d lt low at is none =
+    let next : suc p ≡ p + 1 = omega arith in
+    subst (λ n. IsNextOpen q start n ms) next (record {
+      later = omega (arith, low);
+      stands = at_place q ms p m d lt at ∙ is;
+      none_between = none;
+    })
+
+pub none_next : (q : ProcessId) (ms : List Marked) (start p : ℕ) (m d : Marked) → p < length ms
+    → m ≡ get_or ms p d → is_open_to q m ≡ false
+    → ((k : ℕ) → start < k → k < suc p → is_open_at q ms k ≡ false)
+    → (k : ℕ) → start < k → k < suc (p + 1) → is_open_at q ms k ≡ false
+none_next q ms start p m d lt at is none k low high = by_place (less_or k p high)
+  where
+    less_or : (k p : ℕ) → k < suc (p + 1) → (k < suc p) ⊎ (k ≡ suc p)
+    less_or k p lt = grind arith
+
+    by_place : (k < suc p) ⊎ (k ≡ suc p) → is_open_at q ms k ≡ false
+    by_place (inl less) = none k low less
+    by_place (inr same) = ap (is_open_at q ms) same ∙ (at_place q ms p m d lt at ∙ is)
 
 -- Claims that are given back.
 

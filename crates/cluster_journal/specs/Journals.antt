@@ -1,5 +1,5 @@
 -- The journal of a cluster, as the definitions see it.
-use Rattle.std.specs.Prelude.{◌≡◌, ◌<◌, ℕ, suc, Some, List, length, map, slice_get}
+use Rattle.std.specs.Prelude.{◌≡◌, ◌<◌, ℕ, suc, Some, List, [], ◌∷◌, length, map, slice_get}
 use Rattle.tree_model.specs.declared.events.Entry.{Entry}
 use Rattle.tree_model.specs.declared.events.Happening.{Happening}
 use Rattle.tree_model.specs.declared.events.Happening.TheVariants.{Input as Handles}
@@ -26,6 +26,11 @@ entries_of xs = map (λ x. x.1) xs
 abbrev pub marked_by : Happening → List Marked → List Marked
 marked_by (Handles (MessageInput k m)) ms = marked ms k Delivered
 marked_by _ ms = ms
+
+-- the marks once the steps of these entries have happened, one after another
+abbrev pub marked_by_all : List (ℕ × Entry) → List Marked → List Marked
+marked_by_all [] ms = ms
+marked_by_all (x ∷ xs) ms = marked_by_all xs (marked_by x.1.step.happening ms)
 
 -- one of these entries delivers the message with this number
 pub record IsDelivered (xs : List (ℕ × Entry)) (number : ℕ) : Type 0 where

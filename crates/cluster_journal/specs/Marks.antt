@@ -26,6 +26,22 @@ abbrev pub first_open : ProcessId → ℕ → List Marked → Option ℕ
 first_open q k [] = None
 first_open q k (m ∷ ms) = if is_open_to q m then Some k else first_open q (k + 1) ms
 
+-- whether this is an open message to this process
+abbrev pub is_open_by : ProcessId → Option Marked → Bool
+is_open_by q None = false
+is_open_by q (Some m) = is_open_to q m
+
+-- whether the message with this number is open, and sent to this process
+abbrev pub is_open_at : ProcessId → List Marked → ℕ → Bool
+is_open_at q ms zero = false
+is_open_at q ms (suc k) = is_open_by q (slice_get ms k)
+
+-- after the message with the first number the one with the second is the next to this process that is open
+pub record IsNextOpen (q : ProcessId) (after next : ℕ) (ms : List Marked) : Type 0 where
+  pub later : after < next
+  pub stands : is_open_at q ms next ≡ true
+  pub none_between : (k : ℕ) → after < k → k < next → is_open_at q ms k ≡ false
+
 -- the message at this place, if there is one, marked so
 abbrev pub marked_at : List Marked → ℕ → Option Marked → Mark → List Marked
 marked_at ms k None m = ms

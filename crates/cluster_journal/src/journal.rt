@@ -1,16 +1,15 @@
 //! The journal of a cluster.
 
-ghost use Rattle.std.specs.Prelude.{◌≡◌, ◌+◌, ◌-◌, ◌++◌, ◌∷◌, [], IsTrue, OnOk, OnErr, IfSome, IfNone, None, Some, length};
+ghost use Rattle.std.specs.Prelude.{◌≡◌, ◌+◌, ◌-◌, ◌++◌, [], IsTrue, OnOk, OnErr, IfSome, IfNone, None, Some, length};
 ghost use Rattle.std.specs.Option.{option_copied};
 ghost use Rattle.tree_model.specs.Plays.{sent_as};
 ghost use Rattle.tree_cut.specs.Cuts.{net_of};
-ghost use Rattle.cluster_journal.specs.Journals.{AllDelivered, entries_of, marked_by};
-ghost use Rattle.cluster_journal.specs.Marks.{NoneToClaim, claimed_to, first_open, given_back, marked};
+ghost use Rattle.cluster_journal.specs.Journals.{AllDelivered, entries_of, marked_by_all};
+ghost use Rattle.cluster_journal.specs.Marks.{IsNextOpen, NoneToClaim, claimed_to, first_open, given_back, marked};
 ghost use Rattle.cluster_journal.specs.Spots.{message_in};
 ghost use Rattle.cluster_journal.specs.declared.marks.Mark.TheVariants as kinds;
 
 use crate::marks::{Claim, Marks};
-use crate::room::Room;
 use crate::spots::{Spot, add_spots, spot_at};
 use std::alloc::{AllocError, Global};
 use std::collections::LinkedList;
@@ -49,8 +48,8 @@ impl Model for ClusterJournal {
         × AreDelivered j.marks (j.placed.items ++ j.late) };
 }
 
-/// No journal has as many entries as would fail here.
-fn link<R: Wait>(
+/// Links entries after others. It takes no memory. No journal has as many entries as would fail here.
+pub fn link<R: Wait>(
     rt: &R,
     entries: &mut LinkedList<(u64, Entry)>,
     made: &mut LinkedList<(u64, Entry)>,
@@ -143,6 +142,13 @@ impl ClusterJournal {
         self.marks.claim(near)
     }
 
+    /// The number of the next open message to this process after the one with this number, of those that are placed.
+    pub fn open_after(&self, to: ProcessId, number: u64) -> Option<u64>
+        ensures { IfSome result (λ next. IsNextOpen to number next self.now.marks) }
+    {
+        self.marks.open_after(to, number)
+    }
+
     /// Whether each message is delivered, where all entries are placed.
     pub fn are_delivered(&self) -> bool
         requires { self.now.late ≡ 0 }
@@ -156,6 +162,11 @@ impl ClusterJournal {
         self.marks.waiting()
     }
 
+    /// How many messages to this process are open.
+    pub fn waiting_for(&self, to: ProcessId) -> usize {
+        self.marks.waiting_for(to)
+    }
+
     /// Gives back the claim of the message with this number: it is open again, if it was not delivered
     /// meanwhile.
     pub fn give_back(&mut self, number: u64)
@@ -165,14 +176,14 @@ impl ClusterJournal {
         self.marks.give_back(number);
     }
 
-    /// One entry more, in room that was made for it: it takes no memory. A message that it delivers is marked
-    /// so.
-    pub fn enter<R: Wait>(&mut self, rt: &R, caller: u64, entry: Entry, room: Room)
-        ensures entries { self.new.entries ≡ self.old.entries ++ (caller, entry) ∷ [] }
-        ensures marks { self.new.marks ≡ marked_by entry.step.happening self.old.marks }
+    /// The entries of a turn more, each in the room that was made for it: it takes no memory. The messages that they
+    /// deliver are marked so.
+    pub fn enter<R: Wait>(&mut self, rt: &R, mut made: LinkedList<(u64, Entry)>)
+        ensures entries { self.new.entries ≡ self.old.entries ++ made }
+        ensures marks { self.new.marks ≡ marked_by_all made self.old.marks }
     {
-        self.marks.note(&entry.step.happening);
-        link(rt, &mut self.late, &mut room.fill(caller, entry));
+        self.marks.note_all(&made);
+        link(rt, &mut self.late, &mut made);
     }
 
     /// The entries with their callers' numbers, where all of them are placed.

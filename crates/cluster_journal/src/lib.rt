@@ -9,7 +9,7 @@
 //!                              <--give_back--
 //! ```
 //!
-//! An entry is entered without a growth, in room that was made before; `place` moves it to the placed ones.
+//! The entries of a turn are entered without a growth, in room that was made before; `place` moves them to the placed ones.
 #![tactic(auto)]
 
 mod journal;
@@ -17,6 +17,6 @@ mod marks;
 mod room;
 mod spots;
 
-pub use journal::ClusterJournal;
+pub use journal::{ClusterJournal, link};
 pub use marks::{Claim, Mark, Marked};
 pub use room::{Room, nothing};

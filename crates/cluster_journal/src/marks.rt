@@ -2,11 +2,12 @@
 
 ghost use Rattle.std.specs.Prelude.{◌≡◌, ◌≢◌, ◌+◌, ◌<◌, ◌≤◌, ◌⊎◌, ◌^◌, ◌++◌, ◌∷◌, [], All, Contains, HoldsAt, IsTrue, List, OnOk, OnErr, IfSome, IfNone, None, Some, length, map, take, true, false};
 ghost use Rattle.std.specs.Vec.{vec_capacity, vec_len};
-ghost use Rattle.cluster_journal.specs.Journals.{marked_by};
+ghost use Rattle.cluster_journal.specs.Journals.{marked_by, marked_by_all};
 ghost use Rattle.cluster_journal.specs.Marks.{
   AreAllDelivered,
   AreTold,
   IsFree,
+  IsNextOpen,
   IsNotFree,
   IsTold,
   NoneToClaim,
@@ -15,6 +16,7 @@ ghost use Rattle.cluster_journal.specs.Marks.{
   given_back,
   is_claimed,
   is_open,
+  is_open_at,
   is_open_to,
   marked,
   one_if,
@@ -25,8 +27,9 @@ ghost use Rattle.cluster_journal.specs.declared.marks.Marked.{Marked as AnyMarke
 ghost use Rattle.cluster_journal.specs.declared.marks.Mark.TheVariants as kinds;
 
 use std::alloc::{AllocError, Global};
+use std::collections::LinkedList;
 use std::marker::Model;
-use tree_model::{Envelope, Happening, Input, ProcessId};
+use tree_model::{Entry, Envelope, Happening, Input, ProcessId};
 
 /// What became of a message.
 #[derive(Clone, Copy, PartialEq, Eq)]
@@ -142,6 +145,26 @@ impl Marks {
         waiting
     }
 
+    /// How many messages to this process are open.
+    pub(crate) fn waiting_for(&self, to: ProcessId) -> usize {
+        for receiver in &self.receivers {
+            if receiver.process.0 == to.0 {
+                return receiver.waiting;
+            }
+        }
+        0
+    }
+
+    /// The number of the next open message to this process after the one with this number.
+    pub(crate) fn open_after(&self, to: ProcessId, number: u64) -> Option<u64>
+        ensures { IfSome result (λ next. IsNextOpen to number next self.now) }
+    {
+        if number >= self.marks.len() as u64 {
+            return None;
+        }
+        open_from(&self.marks, number as usize, to)
+    }
+
     /// The message with this number is delivered, if there is one.
     fn deliver(&mut self, number: u64)
         ensures { self.new ≡ marked self.old number kinds.Delivered }
@@ -157,6 +180,16 @@ impl Marks {
     {
         if let Happening::Input(Input::Message(number, _)) = happening {
             self.deliver(*number);
+        }
+    }
+
+    /// These have happened: the messages that they deliver are delivered.
+    pub(crate) fn note_all(&mut self, made: &LinkedList<(u64, Entry)>)
+        ensures { self.new ≡ marked_by_all made.now self.old }
+    {
+        let mut rest = made.iter();
+        while let Some((_, entry)) = rest.next() {
+            self.note(&entry.step.happening);
         }
     }
 
@@ -454,6 +487,18 @@ fn first_open_in(marks: &[Marked], start: usize, to: ProcessId) -> Option<usize>
     for place in start..marks.len() {
         if is_open_to(to, marks[place]) {
             return Some(place);
+        }
+    }
+    None
+}
+
+/// The number of the first open message to this process that does not stand before this place.
+fn open_from(marks: &[Marked], start: usize, to: ProcessId) -> Option<u64>
+    ensures { IfSome result (λ next. IsNextOpen to start next marks.now) }
+{
+    for place in start..marks.len() {
+        if is_open_to(to, marks[place]) {
+            return Some(place as u64 + 1);
         }
     }
     None

@@ -49,7 +49,7 @@ impl Room {
     }
 
     /// The entry with its caller's number, in this room. It takes no memory.
-    pub(crate) fn fill(self, caller: u64, entry: Entry) -> LinkedList<(u64, Entry)>
+    pub fn fill(self, caller: u64, entry: Entry) -> LinkedList<(u64, Entry)>
         ensures { result ≡ (caller, entry) ∷ [] }
     {
         let Room { mut list } = self;

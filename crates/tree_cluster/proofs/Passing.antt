@@ -1,12 +1,14 @@
 -- A pass gets longer.
-use Rattle.std.proofs.Common.{◌≡◌, ◌<◌, ◌∙◌, ◌+◌, ap, get_or, slice_set, sym, refl, ℕ, zero, suc, Option, List, [], ◌∷◌, ◌++◌, length, add-one, append-nil, append_assoc, length-append, arith}
-use Rattle.std.proofs.lemmas.List.Elements.{All-append, All-cons, All-nil}
-use Rattle.tree_model.specs.declared.events.Event.TheVariants.{Deliver}
+use Rattle.std.proofs.Common.{◌≡◌, ◌<◌, ◌∙◌, ◌+◌, ap, get_or, slice_set, sym, refl, ℕ, zero, suc, All, List, [], ◌∷◌, ◌++◌, length, add-one, append-nil, append_assoc, length-append, arith}
+use Rattle.std.proofs.lemmas.List.Elements.{All-append, All-cons, All-head, All-nil, All-tail}
+use Rattle.tree_model.specs.declared.events.Entry.{Entry}
+use Rattle.tree_model.specs.declared.messages.Envelope.{Envelope}
 use Rattle.tree_model.specs.declared.names.ProcessId.{ProcessId}
-use Rattle.tree_model.specs.declared.names.Txn.{Txn}
 use Rattle.tree_model.specs.declared.trees.TreeEntry.{TreeEntry}
 use Rattle.tree_threads.specs.Passes.{PassState}
-use Rattle.tree_threads.specs.Posts.{PostsOne}
+use Rattle.tree_ties.specs.Views.{entries_in, places_from}
+use Rattle.tree_threads.specs.Posts.{DeliversTurn}
+use Rattle.tree_threads.specs.Turns.{IsDeliveryAt}
 use Rattle.tree_cluster.specs.Passes.{IsDelivery, IsLonger, new_pass, new_passes}
 
 pub as_long : (p : PassState) → IsLonger p p
@@ -33,14 +35,26 @@ same_longer a b same = record {
   deliver = All-nil IsDelivery;
 }
 
--- a message was delivered
-pub delivered_longer : (tree : List TreeEntry) (q : ProcessId) (k : ℕ) (a b : PassState) (place : ℕ)
-    (begun : Option Txn) → PostsOne tree q (Deliver k) a b place begun → IsLonger a b
-delivered_longer tree q k a b place begun p = record {
+-- the pairs of deliveries are deliveries
+deliver_all : (net : List Envelope) (q : ProcessId) (n : ℕ) (zs : List (ℕ × Entry))
+    → All (IsDeliveryAt net q) (entries_in zs) → All IsDelivery (places_from n zs)
+deliver_all net q n [] all = All-nil IsDelivery
+deliver_all net q n (z ∷ zs) all =
+    let one = (All-head (IsDeliveryAt net q) z.1 (entries_in zs) all).is.delivers in
+    All-cons IsDelivery (n, z.1) (places_from (suc n) zs)
+    ((All-head (IsDeliveryAt net q) z.1 (entries_in zs) all).number, one.envelope.message, one.happens)
+    (deliver_all net q (suc n) zs (All-tail (IsDeliveryAt net q) z.1 (entries_in zs) all))
+
+-- messages were delivered in a turn
+pub turn_longer : (tree : List TreeEntry) (q : ProcessId) (k : ℕ) (a b : PassState) (place : ℕ)
+    → DeliversTurn tree q k a b place → IsLonger a b
+turn_longer tree q k a b place p = record {
   caller = p.notes.caller;
-  more = (place, p.entry) ∷ [];
+  more = places_from place (p.first ∷ p.more);
   pairs = p.notes.pairs;
-  deliver = All-cons IsDelivery (place, p.entry) [] (k, p.is_for.0, p.is_for.1) (All-nil IsDelivery);
+  deliver = All-cons IsDelivery (place, p.first.1) (places_from (suc place) p.more)
+      (k, p.delivers_it.0, p.delivers_it.1)
+      (deliver_all p.net q (suc place) p.more p.deliver);
 }
 
 -- passes that got longer, of which the first gets longer still

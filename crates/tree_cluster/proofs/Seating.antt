@@ -1,5 +1,5 @@
 -- Seats of a cluster that opens.
-use Rattle.std.proofs.Common.{◌≡◌, ◌∙◌, ◌+◌, ◌<◌, ap, sym, subst, ℕ, zero, suc, true, false, Some, List, [], ◌∷◌, ◌++◌, length, get_or, slice_get, take, arith}
+use Rattle.std.proofs.Common.{◌≡◌, ◌∙◌, ◌+◌, ◌<◌, ap, refl, sym, subst, ℕ, zero, suc, Some, List, [], ◌∷◌, ◌++◌, length, get_or, slice_get, take, arith}
 use Rattle.std.proofs.lemmas.List.{length-map, map-append, take_more}
 use Rattle.atomic_table.specs.Seated.{TableId}
 use Rattle.atomic_table.specs.declared.shared.Seat.{Seat}
@@ -15,8 +15,10 @@ use Rattle.tree_cut.specs.Owns.{OwnRun}
 use Rattle.tree_cut.proofs.Owns.{opens_own}
 use Rattle.tree_node.specs.Openings.{OpenedAs}
 use Rattle.tree_ties.specs.declared.views.View.{View}
-use Rattle.tree_ties.specs.Seats.{KeepsJournal, SitsAt}
-use Rattle.tree_ties.specs.Views.{holder, idle_at, keeper, worker}
+use Rattle.tree_ties.specs.declared.views.ProcessView.{ProcessView}
+use Rattle.tree_ties.specs.Seats.{IsProcess, KeepsJournal, SitsAt}
+use Rattle.tree_ties.specs.Views.{holder, keeper, process_at, worker}
+use Rattle.tree_threads.proofs.Turning.{of_worker}
 use Rattle.tree_cluster.specs.Opening.{IsTableOf, KeepsSeats, SeatsTree, names_of}
 use Rattle.tree_cluster.proofs.Apart.{role_at, tree_apart}
 
@@ -39,14 +41,6 @@ opened_by_itself tree i e s d t lt is o empty =
       opened = subst (λ r. IsOpened s (record { me = e.id; role = r; tree = tree }) o.failures) (sym role) o.opened;
     }) empty
 
--- a tree has a process
-pub tree_has_one : (tree : List TreeEntry) → IsTree tree → 0 < length tree
-tree_has_one [] t = absurd (never t.not_empty)
-  where
-    never : true ≡ false → ⊥
-    never h = cc
-tree_has_one (e ∷ es) t = omega arith
-
 named_at : (tree : List TreeEntry) (i : ℕ) (e : TreeEntry) → i < length tree → e ≡ get_or tree i e
     → slice_get (names_of tree) i ≡ Some e.id
 named_at [] i e lt is = absurd (omega (arith, lt))
@@ -54,13 +48,13 @@ named_at (x ∷ es) zero e lt is = ap (λ (y : TreeEntry). Some y.id) (sym is)
 named_at (x ∷ es) (suc i) e lt is = named_at es i e (omega (arith, lt)) is
 
 -- the journal's seat is the journal's
-pub keeps_journal : (table : TableId) (tree : List TreeEntry) (opened given : ℕ) (seat : Seat Entry View)
+pub keeps_journal : (table : TableId) (tree : List TreeEntry) (opened given : ℕ) (seat : Seat (List (ℕ × Entry)) View)
     → KeepsSeats table tree opened given seat → KeepsJournal seat.me
 keeps_journal table tree opened given seat k =
     k.keeps ∙ sym (ap (λ m. (keeper m.0.journal.names m.0.journal.opened m.0.journal.given m.0.journal.all, [])) k.keeps)
 
 -- one process more has a seat
-pub one_opened : (table : TableId) (tree : List TreeEntry) (opened given : ℕ) (old new : Seat Entry View)
+pub one_opened : (table : TableId) (tree : List TreeEntry) (opened given : ℕ) (old new : Seat (List (ℕ × Entry)) View)
     → KeepsSeats table tree opened given old → new.table_id ≡ old.table_id
     → new.me ≡ (
       keeper old.me.0.journal.names (old.me.0.journal.opened + 1) old.me.0.journal.given old.me.0.journal.all,
@@ -74,7 +68,7 @@ one_opened table tree opened given old new k here me = record {
 }
 
 -- one pass more was given
-pub one_given : (table : TableId) (tree : List TreeEntry) (opened given : ℕ) (old new : Seat Entry View)
+pub one_given : (table : TableId) (tree : List TreeEntry) (opened given : ℕ) (old new : Seat (List (ℕ × Entry)) View)
     → KeepsSeats table tree opened given old → new.table_id ≡ old.table_id
     → new.me ≡ (
       keeper old.me.0.journal.names old.me.0.journal.opened (old.me.0.journal.given + 1) old.me.0.journal.all,
@@ -87,28 +81,33 @@ one_given table tree opened given old new k here me = record {
       ∙ ap (λ m. (keeper m.0.journal.names m.0.journal.opened (m.0.journal.given + 1) m.0.journal.all, [])) k.keeps;
 }
 
--- the seat of the process at this place
-pub seat_at : (table : TableId) (tree : List TreeEntry) (place given : ℕ) (journal seat : Seat Entry View)
+-- the seat of the process at this place, which has made nothing
+pub seat_at : (table : TableId) (tree : List TreeEntry) (place given : ℕ) (journal seat : Seat (List (ℕ × Entry)) View)
     (e : TreeEntry) → KeepsSeats table tree place given journal → place < length tree → e ≡ get_or tree place e
     → seat.me ≡ (
-      worker (idle_at journal.me.0.journal.opened
-          (slice_get journal.me.0.journal.names journal.me.0.journal.opened) []),
+      worker (process_at journal.me.0.journal.opened
+          (slice_get journal.me.0.journal.names journal.me.0.journal.opened) [] []),
       [],
     )
-    → seat.me ≡ (worker (idle_at place (Some e.id) []), [])
+    → IsProcess seat.me × (seat.me.0.process.name ≡ Some e.id) × (seat.me.0.process.own ≡ [])
 seat_at table tree place given journal seat e k lt is me =
+    let at : seat.me ≡ (worker (process_at place (Some e.id) [] []), []) =
     me
-    ∙ ap (λ m. (worker (idle_at m.0.journal.opened (slice_get m.0.journal.names m.0.journal.opened) []), [])) k.keeps
-    ∙ ap (λ n. (worker (idle_at place n []), [])) (named_at tree place e lt is)
+    ∙ ap (λ m. (
+      worker (process_at m.0.journal.opened (slice_get m.0.journal.names m.0.journal.opened) [] []),
+      [],
+    )) k.keeps
+    ∙ ap (λ n. (worker (process_at place n [] []), [])) (named_at tree place e lt is) in
+    (of_worker seat.me (process_at place (Some e.id) [] []) at refl, ap (λ m. m.0.process.name) at, ap (λ m. m.0.process.own) at)
 
 -- the pass of the next caller
-pub pass_at : (table : TableId) (tree : List TreeEntry) (opened given : ℕ) (journal pass : Seat Entry View)
+pub pass_at : (table : TableId) (tree : List TreeEntry) (opened given : ℕ) (journal pass : Seat (List (ℕ × Entry)) View)
     → KeepsSeats table tree opened given journal → pass.me ≡ (holder journal.me.0.journal.given [], [])
     → pass.me ≡ (holder given [], [])
 pass_at table tree opened given journal pass k me = me ∙ ap (λ m. (holder m.0.journal.given [], [])) k.keeps
 
 -- a seat at this table
-pub sits_at : (table : TableId) (tree : List TreeEntry) (opened given : ℕ) (id : TableId) (journal : Seat Entry View)
+pub sits_at : (table : TableId) (tree : List TreeEntry) (opened given : ℕ) (id : TableId) (journal : Seat (List (ℕ × Entry)) View)
     → id ≡ table → KeepsSeats table tree opened given journal → 0 < table.words → SitsAt id journal.table_id
 sits_at table tree opened given id journal is k words =
     (k.here ∙ sym is, subst (λ (t : TableId). 0 < t.words) (sym is) words)
@@ -122,26 +121,21 @@ as_many table tree id names place t lt =
 
 -- the table that was opened for a tree
 pub table_opened : (table : TableId) (meant tree : List TreeEntry) (id : TableId) (names : List ProcessId)
-    → SeatsTree table meant tree id names → id.words ≡ length names → IsTableOf table tree id names
+    → SeatsTree table meant tree id names → 0 < id.words → IsTableOf table tree id names
 table_opened table meant tree id names s words = record {
   here = s.here;
   names_are = s.names_are;
-  words = ap (λ (t : TableId). t.words) (sym s.here) ∙ words ∙ ap length s.names_are ∙ length-map tree (λ e. e.id);
+  words = subst (λ (t : TableId). 0 < t.words) s.here words;
 }
 
 -- its journal's seat
 pub seats_opened : (table : TableId) (meant tree : List TreeEntry) (id : TableId) (names : List ProcessId)
-    (journal : Seat Entry View) → SeatsTree table meant tree id names → journal.table_id ≡ id
+    (journal : Seat (List (ℕ × Entry)) View) → SeatsTree table meant tree id names → journal.table_id ≡ id
     → journal.me ≡ (keeper names 0 0 [], []) → KeepsSeats table tree 0 0 journal
 seats_opened table meant tree id names journal s sits keeps = record {
   here = sits ∙ s.here;
   keeps = keeps ∙ ap (λ ns. (keeper ns 0 0 [], [])) s.names_are;
 }
-
--- it has a word
-pub some_words : (table : TableId) (tree : List TreeEntry) (id : TableId) (names : List ProcessId) → IsTree tree
-    → IsTableOf table tree id names → 0 < table.words
-some_words table tree id names t is = subst (λ n. 0 < n) (sym is.words) (tree_has_one tree t)
 
 -- the next process's name
 pub names_next : (tree : List TreeEntry) (i : ℕ) (e : TreeEntry) (old new : List ProcessId) → i < length tree
@@ -152,31 +146,25 @@ names_next tree i e old new lt is pushed so =
     (pushed ∙ ap (λ l. l ++ e.id ∷ []) so)
 
 -- the journal's seat has N seats given
-pub opened_is : (table : TableId) (tree : List TreeEntry) (opened given : ℕ) (journal : Seat Entry View)
+pub opened_is : (table : TableId) (tree : List TreeEntry) (opened given : ℕ) (journal : Seat (List (ℕ × Entry)) View)
     → KeepsSeats table tree opened given journal → journal.me.0.journal.opened ≡ opened
 opened_is table tree opened given journal k = ap (λ m. m.0.journal.opened) k.keeps
 
 -- N passes were given
-pub given_is : (table : TableId) (tree : List TreeEntry) (opened given : ℕ) (journal : Seat Entry View)
+pub given_is : (table : TableId) (tree : List TreeEntry) (opened given : ℕ) (journal : Seat (List (ℕ × Entry)) View)
     → KeepsSeats table tree opened given journal → journal.me.0.journal.given ≡ given
 given_is table tree opened given journal k = ap (λ m. m.0.journal.given) k.keeps
 
 -- there is a name for the next
 pub has_name : (table : TableId) (tree : List TreeEntry) (id : TableId) (names : List ProcessId) (place given : ℕ)
-    (journal : Seat Entry View) → IsTableOf table tree id names → KeepsSeats table tree place given journal
+    (journal : Seat (List (ℕ × Entry)) View) → IsTableOf table tree id names → KeepsSeats table tree place given journal
     → place < length tree → journal.me.0.journal.opened < length names
 has_name table tree id names place given journal t k lt =
     subst (λ n. n < length names) (sym (opened_is table tree place given journal k))
     (as_many table tree id names place t lt)
 
--- there are words
-pub any_words : (table : TableId) (tree : List TreeEntry) (id : TableId) (names : List ProcessId) (place : ℕ)
-    → IsTableOf table tree id names → place < length tree → (0 < table.words) × (place < table.words)
-any_words table tree id names place t lt =
-    let many : table.words ≡ length tree = t.words in (omega (arith, many, lt), omega (arith, many, lt))
-
 -- N passes were given as the journal's seat says
-pub regiven : (table : TableId) (tree : List TreeEntry) (opened given : ℕ) (seat : Seat Entry View)
+pub regiven : (table : TableId) (tree : List TreeEntry) (opened given : ℕ) (seat : Seat (List (ℕ × Entry)) View)
     → KeepsSeats table tree opened given seat → KeepsSeats table tree opened seat.me.0.journal.given seat
 regiven table tree opened given seat k = record {
   here = k.here;
@@ -184,7 +172,7 @@ regiven table tree opened given seat k = record {
 }
 
 -- nothing is entered
-pub keeps_none : (table : TableId) (tree : List TreeEntry) (opened given : ℕ) (seat : Seat Entry View)
+pub keeps_none : (table : TableId) (tree : List TreeEntry) (opened given : ℕ) (seat : Seat (List (ℕ × Entry)) View)
     → KeepsSeats table tree opened given seat
     → seat.me ≡ (keeper seat.me.0.journal.names seat.me.0.journal.opened seat.me.0.journal.given [], [])
 keeps_none table tree opened given seat k =

@@ -1,5 +1,5 @@
 -- A cluster that opens.
-use Rattle.std.specs.Prelude.{◌≡◌, ℕ, List, [], length, map}
+use Rattle.std.specs.Prelude.{◌≡◌, ◌<◌, ℕ, List, [], map}
 use Rattle.atomic_table.specs.Seated.{TableId}
 use Rattle.atomic_table.specs.declared.shared.Seat.{Seat}
 use Rattle.tree_model.specs.declared.names.ProcessId.{ProcessId}
@@ -22,14 +22,14 @@ pub record SeatsTree (table : TableId) (meant tree : List TreeEntry) (id : Table
   pub here : id ≡ table
   pub names_are : names ≡ names_of tree
 
--- the table is this one, and has the names of the tree's processes, a word for each
+-- the table is this one, and has the names of the tree's processes
 pub record IsTableOf (table : TableId) (tree : List TreeEntry) (id : TableId) (names : List ProcessId) : Type 0 where
   pub here : id ≡ table
   pub names_are : names ≡ names_of tree
-  pub words : table.words ≡ length tree
+  pub words : 0 < table.words
 
 -- the journal's seat, where M processes have a seat, and N passes were given; nothing is entered
 pub record KeepsSeats (table : TableId) (tree : List TreeEntry) (opened given : ℕ)
-    (seat : Seat Entry View) : Type 0 where
+    (seat : Seat (List (ℕ × Entry)) View) : Type 0 where
   pub here : seat.table_id ≡ table
   pub keeps : seat.me ≡ (keeper (names_of tree) opened given [], [])

@@ -8,7 +8,7 @@ ghost use Rattle.tree_model.specs.Trees.{IsTree, root_of as root_in};
 ghost use Rattle.tree_cut.specs.Cuts.{net_of};
 ghost use Rattle.tree_ties.specs.Views.{AreBelow, entries_in};
 ghost use Rattle.tree_threads.specs.Marks.{ActsHere};
-ghost use Rattle.tree_threads.specs.Posts.{NotPosted, PostsOne};
+ghost use Rattle.tree_threads.specs.Posts.{DeliversTurn, NotPosted, PostsOne};
 ghost use Rattle.tree_cluster.specs.Closing.{AreMet, IsClosed};
 ghost use Rattle.tree_cluster.specs.Opening.{SeatsTree};
 ghost use Rattle.tree_cluster.specs.Passes.{new_passes};
@@ -21,7 +21,7 @@ use std::alloc::{AllocError, Global};
 use std::sync::{Condvar, Mutex, Wait};
 use tree_model::{Act, Entry, Event, LogRecord, ProcessId, StepError, Tree, TreeEntry, Txn};
 use tree_node::OpenError;
-use tree_threads::{Gate, Ledger, Pass, PostError, Posted, Seated, Turn, is_same};
+use tree_threads::{Delivered, Gate, Ledger, Pass, PostError, Posted, Seated, is_same};
 use tree_ties::seats::{Opened, Seats, Ties};
 
 /// Every entry with its caller's number, the oldest first.
@@ -168,7 +168,6 @@ impl<N: Seats> Cluster<N> {
         event: Event,
         pass: &mut Pass<N>,
         gate: &G,
-        turn: Turn,
     ) -> Result<Posted, PostError>
         requires { ActsHere (root_in N.tree) process event }
         ensures ok { IfOk result (λ r. PostsOne N.tree process event pass.old pass.new r.place r.begun) }
@@ -183,7 +182,7 @@ impl<N: Seats> Cluster<N> {
             unreachable!()
         };
         let mut seated = seated.lock(rt);
-        self.post_in(rt, &mut *seated, process, event, pass, gate, turn)
+        self.post_in(rt, &mut *seated, process, event, pass, gate)
     }
 
     /// Posts an event of this process, which lies under its lock, if it is the one.
@@ -195,7 +194,6 @@ impl<N: Seats> Cluster<N> {
         event: Event,
         pass: &mut Pass<N>,
         gate: &G,
-        turn: Turn,
     ) -> Result<Posted, PostError>
         requires { ActsHere (root_in N.tree) process event }
         ensures ok { IfOk result (λ r. PostsOne N.tree process event pass.old pass.new r.place r.begun) }
@@ -206,16 +204,53 @@ impl<N: Seats> Cluster<N> {
             for _ in rt.forever() {}
             unreachable!()
         }
-        seated.post(
-            rt,
-            self.alloc,
-            &self.ties,
-            &self.ledger,
-            event,
-            pass,
-            gate,
-            turn,
-        )
+        seated.post(rt, self.alloc, &self.ties, &self.ledger, event, pass, gate)
+    }
+
+    /// A turn of a worker, which has claimed the message with this number to this process: the message and those after it
+    /// are delivered. The processes lie in the order of the tree, so what waits for ever here never comes.
+    pub(crate) fn deliver_at<R: Wait, G: Gate>(
+        &self,
+        rt: &R,
+        process: ProcessId,
+        number: u64,
+        pass: &mut Pass<N>,
+        gate: &G,
+    ) -> Result<Delivered, PostError>
+        ensures ok { IfOk result (λ r. DeliversTurn N.tree process number pass.old pass.new r.place) }
+        ensures err { OnErr result (pass.new ≡ pass.old) }
+        ensures refused { IfErr result (NotAt N.tree process (Event.Deliver number) pass.old) }
+    {
+        let Some(place) = place_of(self.tree.entries(), process) else {
+            return Err(PostError::Step(StepError::NoSuch));
+        };
+        let Some(seated) = self.processes.get(place) else {
+            for _ in rt.forever() {}
+            unreachable!()
+        };
+        let mut seated = seated.lock(rt);
+        self.deliver_in(rt, &mut *seated, process, number, pass, gate)
+    }
+
+    /// A turn of a worker at this process, which lies under its lock, if it is the one.
+    fn deliver_in<R: Wait, G: Gate>(
+        &self,
+        rt: &R,
+        seated: &mut Seated<N>,
+        process: ProcessId,
+        number: u64,
+        pass: &mut Pass<N>,
+        gate: &G,
+    ) -> Result<Delivered, PostError>
+        ensures ok { IfOk result (λ r. DeliversTurn N.tree process number pass.old pass.new r.place) }
+        ensures err { OnErr result (pass.new ≡ pass.old) }
+        ensures refused { IfErr result (NotPosted N.tree process (Event.Deliver number) pass.old) }
+    {
+        if !is_same(seated.me(), process) {
+            for _ in rt.forever() {}
+            unreachable!()
+        }
+        seated.deliver(rt, self.alloc, &self.ties, &self.ledger, number, pass, gate)
     }
 
     /// Posts an event. At Ok the pass has one pair more, of the entry of this event and its place; the place is
@@ -236,7 +271,7 @@ impl<N: Seats> Cluster<N> {
         ensures refused { IfErr result (IsRefused N.tree event pass.old) }
     {
         let process = self.process_by(rt, &event, pass)?;
-        let posted = self.post_at(rt, process, event, pass, gate, Turn::Once)?;
+        let posted = self.post_at(rt, process, event, pass, gate)?;
         self.moved.notify_one();
         Ok((number_of(rt, posted.place), posted.begun))
     }

@@ -72,7 +72,7 @@ fn open_seated<N: Seats>(
 {
     let copy = copied_tree(alloc, tree)?;
     let node = opened(alloc, entry, copy)?;
-    Ok(Seated::new(entry.id, place, node, seat(ties, journal)))
+    Ok(Seated::new(entry.id, node, seat(ties, journal)))
 }
 
 /// Opens the processes of the tree, in its order.

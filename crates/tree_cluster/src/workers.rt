@@ -12,8 +12,8 @@ use std::alloc::AllocError;
 use std::sync::Wait;
 use std::thread;
 use std::thread::Threads;
-use tree_model::{Event, ProcessId};
-use tree_threads::{Claim, Gate, Ledger, Pass, PostError, Turn};
+use tree_model::ProcessId;
+use tree_threads::{Claim, Gate, Ledger, Pass, PostError};
 use tree_ties::seats::{Seats, Ties};
 
 /// A worker that is served looks so often whether the call that leads it has begun.
@@ -88,8 +88,8 @@ impl<N: Seats> Cluster<N> {
         unreachable!()
     }
 
-    /// Delivers a message that is claimed. Gives the next claim, if there is an open message at a process to which nobody
-    /// delivers.
+    /// Delivers a message that is claimed, and those after it to its receiver, in one turn. Gives the next claim, if there is
+    /// an open message at a process to which nobody delivers.
     fn deliver<R: Wait, G: Gate>(
         &self,
         rt: &R,
@@ -104,13 +104,12 @@ impl<N: Seats> Cluster<N> {
             self.moved.notify_one();
             self.called.notify_one();
         }
-        let event = Event::Deliver(claim.number);
-        match self.post_at(rt, claim.to, event, pass, gate, Turn::Worker) {
-            Ok(posted) => {
-                if posted.is_quiet {
+        match self.deliver_at(rt, claim.to, claim.number, pass, gate) {
+            Ok(turn) => {
+                if turn.is_quiet {
                     self.moved.notify_all();
                 }
-                posted.next
+                turn.next
             }
             Err(why) => {
                 self.stop(rt, rounds, claim, why);

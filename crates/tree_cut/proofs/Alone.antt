@@ -1,5 +1,5 @@
 -- What each process made by itself, made on one thread.
-use Rattle.std.proofs.Common.{◌≡◌, ◌∙◌, ◌+◌, ◌-◌, ◌≤◌, arith, ap, sym, subst, refl, ℕ, zero, suc, inl, inr, Bool, true, false, if◌then◌else◌, Option, None, Some, is_some, List, [], ◌∷◌, ◌++◌}
+use Rattle.std.proofs.Common.{◌≡◌, ◌∙◌, ◌+◌, ◌-◌, arith, ap, sym, subst, refl, ℕ, zero, suc, inl, inr, Bool, true, false, if◌then◌else◌, Option, None, Some, is_some, List, [], ◌∷◌, ◌++◌}
 use Rattle.std.specs.Prelude.{slice_get}
 use Rattle.tree_model.specs.declared.names.ProcessId.{ProcessId}
 use Rattle.tree_model.specs.declared.messages.Envelope.{Envelope}
@@ -27,7 +27,7 @@ use Rattle.manager_model.specs.Data.{ManagerData, Rests, no_data}
 use Rattle.core_law.specs.Steps.{restart_of, trim_reaction}
 use Rattle.core_law.specs.worlds.Runs.{IsOpened, NodeOpened}
 use Rattle.core_law.specs.worlds.Worlds.{Applies, Enters, HandlesInput, MovesNode, RestartsData, Same, SameNode, Steps, TrimsData, WorldState, marks, step_entry, undelivered}
-use Rattle.tree_cut.specs.Cuts.{AreGiven, FindsMessage, IsGiven, net_of, none_given, one_more}
+use Rattle.tree_cut.specs.Cuts.{FindsMessage, IsGiven, net_of, none_given, one_more}
 use Rattle.tree_cut.specs.Alone.{AloneIsTogether, AskForAll, AsksFor, IsMine, LeadsOn, MadeTogether, MakesAlone, RestartsAlone, RunsAlone, StepAlone, TrimsAlone, opens_alone, stays_alone, steps_alone}
 use Rattle.tree_cut.proofs.Cuts.{at_one, here_one, net_more, nil_snoc, none_more, own_more, self, snoc_same, there_one}
 

@@ -50,7 +50,7 @@ net_more (y ∷ ys) x =
     ∙ sym (append_assoc y.reaction.messages (net_of ys) x.reaction.messages)
 
 -- a message that was found was sent
-found_stands : (net : List Envelope) (q : ProcessId) (h : Happening) → FindsMessage net q h → Stands net q h
+pub found_stands : (net : List Envelope) (q : ProcessId) (h : Happening) → FindsMessage net q h → Stands net q h
 found_stands net q (Handles (ActInput a)) f = tt
 found_stands net q (Handles (MessageInput k m)) f =
     record { sender = f.sender; place = 0 + (k - 1); stands = f.stands }
@@ -90,7 +90,7 @@ there_one q r a f away = rw away refl
 
 -- The run of one process.
 
-journal_step : (m : Made) (ms : List Made) → journal_of (m ∷ ms) ≡ journal_of ms ++ entry_of m ∷ []
+pub journal_step : (m : Made) (ms : List Made) → journal_of (m ∷ ms) ≡ journal_of ms ++ entry_of m ∷ []
 unfolding journal_of
 journal_step m ms = refl
 
@@ -255,7 +255,7 @@ cuts_grow tree xs old q x n' cut one is =
 
 -- A run is cut.
 
-made_own : (q : ProcessId) (m : Made) (ms : List Made) → same_process m.move.step.process q ≡ true
+pub made_own : (q : ProcessId) (m : Made) (ms : List Made) → same_process m.move.step.process q ≡ true
     → made_by q (m ∷ ms) ≡ m ∷ made_by q ms
 unfolding made_by
 made_own q m ms here = rw here refl

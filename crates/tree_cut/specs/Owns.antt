@@ -1,5 +1,5 @@
 -- What lies under a process's lock, what it makes there alone, and what all of them come to at the end.
-use Rattle.std.specs.Prelude.{◌≡◌, ℕ, true, false, None, Some, is_some, Option, List, [], ◌∷◌, ◌++◌}
+use Rattle.std.specs.Prelude.{◌≡◌, ℕ, true, false, Some, is_some, List, [], ◌∷◌, ◌++◌}
 use Rattle.tree_model.specs.declared.names.ProcessId.{ProcessId}
 use Rattle.tree_model.specs.declared.events.Entry.{Entry}
 use Rattle.tree_model.specs.declared.events.Happening.TheVariants.{Trim}

@@ -3,6 +3,7 @@
 ghost use Rattle.tree_cut.specs.Alone.{AloneIsTogether};
 ghost use Rattle.tree_cut.specs.Cuts.{CutsAreRuns, CutsGrow, RunsAreCut};
 ghost use Rattle.tree_cut.specs.Owns.{CutsHold, EndsModelled, EntersOwn, InputsAreMade, OneStands, OpensOwn, RestartsAreMade, SameStays, TrimsAreMade};
+ghost use Rattle.tree_cut.specs.Turns.{StandsOver, TurnsEnter, TurnsGoOn};
 
 /// A journal in which the entries of each process are those of moves that it made, alone, and in which each
 /// delivered message was sent before, is a run, which leaves each process as its own moves do.
@@ -70,4 +71,20 @@ pub fn ends_modelled()
 /// left so, with its data.
 pub fn alone_is_together()
     ensures { AloneIsTogether }
+{}
+
+/// Where a journal is cut so, and a process's own entries are the journal's of it, it stands so in a run in which the
+/// journal's messages were sent.
+pub fn stands_over()
+    ensures { StandsOver }
+{}
+
+/// What a process makes by itself, one step after another, of what it finds in a net leaves it in such a run.
+pub fn turns_go_on()
+    ensures { TurnsGoOn }
+{}
+
+/// What a process made in a turn may be entered in one piece, whatever others have entered meanwhile.
+pub fn turns_enter()
+    ensures { TurnsEnter }
 {}

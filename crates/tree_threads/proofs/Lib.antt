@@ -3,4 +3,5 @@ pub mod Empty
 pub mod Entered
 pub mod OwnSteps
 pub mod Refusing
+pub mod Turning
 mod Refused

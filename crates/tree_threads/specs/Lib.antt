@@ -1,5 +1,6 @@
 pub mod Passes
 pub mod Marks
 pub mod Makes
+pub mod Turns
 pub mod Locked
 pub mod Posts

@@ -1,6 +1,7 @@
 -- What a caller's pass shows.
 use Rattle.std.specs.Prelude.{◌≡◌, ℕ, List, [], ◌∷◌, ◌++◌}
 use Rattle.tree_model.specs.declared.events.Entry.{Entry}
+use Rattle.tree_ties.specs.Views.{places_from}
 
 -- a caller's pass: its number, and the pairs of a place, from 0, and an entry that it was told
 pub record PassState : Type 0 where
@@ -11,3 +12,8 @@ pub record PassState : Type 0 where
 pub record NotesOne (old new : PassState) (place : ℕ) (x : Entry) : Type 0 where
   pub caller : new.caller ≡ old.caller
   pub pairs : new.pairs ≡ old.pairs ++ (place, x) ∷ []
+
+-- the pass has the pairs of these entries more, of which the first stands at this place
+pub record NotesAll (old new : PassState) (place : ℕ) (zs : List (ℕ × Entry)) : Type 0 where
+  pub caller : new.caller ≡ old.caller
+  pub pairs : new.pairs ≡ old.pairs ++ places_from place zs

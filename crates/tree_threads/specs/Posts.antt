@@ -1,10 +1,10 @@
 -- What was posted.
-use Rattle.std.specs.Prelude.{◌≡◌, ◌⊎◌, ℕ, Option, List, length}
+use Rattle.std.specs.Prelude.{◌≡◌, ◌⊎◌, ℕ, All, Option, List, ◌∷◌, length}
 use Rattle.tree_model.specs.declared.names.ProcessId.{ProcessId}
 use Rattle.tree_model.specs.declared.names.Txn.{Txn}
 use Rattle.tree_model.specs.declared.events.Entry.{Entry}
 use Rattle.tree_model.specs.declared.events.Event.{Event}
-use Rattle.tree_model.specs.declared.events.Event.TheVariants.{Restart}
+use Rattle.tree_model.specs.declared.events.Event.TheVariants.{Deliver, Restart}
 use Rattle.tree_model.specs.declared.events.Happening.{Happening}
 use Rattle.tree_model.specs.declared.events.StepError.{StepError}
 use Rattle.tree_model.specs.declared.events.StepError.TheVariants as steps
@@ -18,12 +18,14 @@ use Rattle.manager_model.specs.Data.{ManagerData}
 use Rattle.tree_cut.specs.Alone.{AsksFor, RunsAlone, StepAlone}
 use Rattle.tree_cut.specs.Cuts.{net_of}
 use Rattle.tree_cut.specs.Owns.{CutHolds}
+use Rattle.tree_cut.specs.Turns.{GoesAlone}
 use Rattle.tree_ties.specs.Views.{entries_in, pairs_by}
 use Rattle.tree_threads.specs.declared.errors.PostError.{PostError}
 use Rattle.tree_threads.specs.declared.errors.PostError.TheVariants.{Stranger, JournalFull, Step, Memory}
 use Rattle.tree_threads.specs.Makes.{NotMadeIt}
 use Rattle.tree_threads.specs.Marks.{Happens, NotMarked}
-use Rattle.tree_threads.specs.Passes.{NotesOne, PassState}
+use Rattle.tree_threads.specs.Passes.{NotesAll, NotesOne, PassState}
+use Rattle.tree_threads.specs.Turns.{IsDeliveryAt}
 
 -- how a step's refusal is answered
 abbrev pub post_error : StepError → PostError
@@ -59,6 +61,25 @@ pub record PostsOne (tree : List TreeEntry) (q : ProcessId) (event : Event) (old
   pub step : StepAlone tree q before behind held kept entry
   pub is_for : AsksAt before event entry.step.happening
   pub begun_is : begun ≡ entry.reaction.begun
+
+-- A turn of deliveries at this process: the pass has the pairs of these entries more, of which the first stands at the
+-- answered place. Before them the process had made these entries by itself, with its data, and then it made these, one
+-- after another: the first delivers the message with this number, and each of the others some message to the process.
+pub record DeliversTurn (tree : List TreeEntry) (q : ProcessId) (number : ℕ) (old new : PassState)
+    (place : ℕ) : Type 0 where
+  pub net : List Envelope
+  pub first : ℕ × Entry
+  pub more : List (ℕ × Entry)
+  pub notes : NotesAll old new place (first ∷ more)
+  pub own : List Entry
+  pub before : CoreState
+  pub behind : CoreState
+  pub held : ManagerData
+  pub kept : ManagerData
+  pub ran : RunsAlone tree q own before held
+  pub goes : GoesAlone tree q before held (entries_in (first ∷ more)) behind kept
+  pub delivers_it : AsksFor (Deliver number) first.1.step.happening
+  pub deliver : All (IsDeliveryAt net q) (entries_in more)
 
 -- Of what the event asks of a process that stands so, where these messages were sent, nothing was made: the process
 -- refused it, as its data answer, and is as it was.

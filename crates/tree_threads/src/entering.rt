@@ -1,111 +1,105 @@
-//! The entry: what was made comes into the journal.
+//! The entry: what was made in a turn comes into the journal.
 
-ghost use Rattle.std.specs.Prelude.{◌≡◌, ◌<◌, ◌++◌, List, [], ◌∷◌, true, Some, length};
-ghost use Rattle.tree_model.specs.declared.events.Entry.{Entry as AnyEntry};
+ghost use Rattle.std.specs.Prelude.{◌≡◌, ◌<◌, ◌++◌, [], true, Some, length};
 ghost use Rattle.tree_model.specs.Nodes.{is_listed};
-ghost use Rattle.tree_cut.specs.Owns.{OwnMakes, OwnRun};
+ghost use Rattle.tree_model.specs.Trees.{IsTree};
+ghost use Rattle.tree_cut.specs.Owns.{OwnRun};
 ghost use Rattle.tree_node.specs.Nodes.{core_of};
-ghost use Rattle.tree_ties.specs.Seats.{KeepsJournal, WorksIn};
-ghost use Rattle.tree_ties.specs.Views.{entries_in, holder, idle_at, keeper, worker};
-ghost use Rattle.tree_ties.specs.Rule.{IsStepOf};
+ghost use Rattle.tree_ties.specs.Seats.{IsProcess, KeepsJournal};
+ghost use Rattle.tree_ties.specs.Views.{entered_by, entries_in, holder, keeper, pairs_from, worker};
 ghost use Rattle.tree_threads.specs.Locked.{HasCut};
-ghost use Rattle.tree_threads.specs.Makes.{IsAt};
-ghost use Rattle.tree_threads.specs.Passes.{NotesOne};
+ghost use Rattle.tree_threads.specs.Passes.{NotesAll};
+ghost use Rattle.tree_threads.specs.Turns.{MadeTurn};
 
 use crate::ledger::Ledger;
 use crate::making::Made;
 use crate::pass::Pass;
 use log_store::MemoryStore;
 use std::sync::Wait;
-use tree_model::{Entry, ProcessId};
+use tree_model::ProcessId;
 use tree_node::Node;
 use tree_ties::seats::{Place, Seats, Ties};
 use tree_ties::ties::put;
+use tree_ties::views::Told;
 
-/// The journal's seat takes the process's entry, and the pass notes it: what all three seats know of it. The journal is
-/// a run with it, and the process's entries in it are its own again.
+/// The journal's seat takes the entries of a turn, and the pass notes them: what all three seats know of it. The journal is
+/// a run with them, and the process's entries in it are its own again.
 fn enter_seats<N: Seats>(
     ties: &Ties,
     me: ProcessId,
-    word: usize,
     node: &Node<MemoryStore>,
     seat: &mut Place,
     journal: &mut Place,
     pass: &mut Place,
     caller: u64,
-    entry: &Entry,
+    entries: &Told,
 )
     requires here { (ties.now.shared.table_id ≡ N.table) × (seat.old.table_id ≡ N.table)
-        × (journal.old.table_id ≡ N.table) × (pass.old.table_id ≡ N.table) × (word < N.table.words) }
+        × (journal.old.table_id ≡ N.table) × (pass.old.table_id ≡ N.table) × (0 < N.table.words) }
     requires journal { KeepsJournal journal.old.me }
     requires pass { pass.old.me ≡ (holder caller pass.old.me.0.pass.pairs, []) }
-    requires seat { WorksIn 2 seat.old.me × (seat.old.me.0.process.name ≡ Some me)
-        × (seat.old.me.0.process.word ≡ word) × IsStepOf seat.old.me.0.process.wanted entry.now }
-    requires makes { (own : List AnyEntry) × (seat.old.me.0.process.own ≡ own ++ entry.now ∷ [])
-        × OwnMakes N.tree me own (core_of node.now) entry.now }
-    requires listed { (is_listed N.tree me ≡ true) × IsAt me entry.now }
+    requires seat { IsProcess seat.old.me × (seat.old.me.0.process.name ≡ Some me) }
+    requires tree { IsTree N.tree × (is_listed N.tree me ≡ true) }
+    requires made { MadeTurn N.tree seat.old.me.0.process.net me caller seat.old.me.0.process.own entries.now
+        (core_of node.now) }
     requires cut { HasCut N.tree (entries_in journal.old.me.0.journal.all) }
     ensures journal { (journal.new.table_id ≡ journal.old.table_id)
         × (journal.new.me ≡ (
           keeper journal.old.me.0.journal.names journal.old.me.0.journal.opened
-              journal.old.me.0.journal.given (journal.old.me.0.journal.all ++ (caller, entry.now) ∷ []),
+              journal.old.me.0.journal.given (journal.old.me.0.journal.all ++ entries.now),
           [],
         )) }
     ensures seat { (seat.new.table_id ≡ seat.old.table_id)
-        × (seat.new.me ≡ (worker (idle_at word (Some me) seat.old.me.0.process.own), [])) }
+        × (seat.new.me ≡ (worker (entered_by seat.old.me.0.process entries.now), [])) }
     ensures pass { (pass.new.table_id ≡ pass.old.table_id)
         × (pass.new.me ≡ (
-          holder caller (pass.old.me.0.pass.pairs ++ (length journal.old.me.0.journal.all, entry.now) ∷ []),
+          holder caller (pass.old.me.0.pass.pairs ++ pairs_from journal.old.me.0.journal.all entries.now),
           [],
         )) }
-    ensures cut { HasCut N.tree (entries_in (journal.old.me.0.journal.all ++ (caller, entry.now) ∷ [])) }
-    ensures own { OwnRun N.tree me seat.new.me.0.process.own (core_of node.now) }
+    ensures cut { HasCut N.tree (entries_in (journal.old.me.0.journal.all ++ entries.now)) }
+    ensures own { OwnRun N.tree me (seat.old.me.0.process.own ++ entries_in entries.now) (core_of node.now) }
 {
     let _ = node;
     let _ = caller;
-    put(ties, journal, seat, pass, word, entry);
+    put(ties, journal, seat, pass, entries);
 }
 
-/// Enters what a process made, under its lock and the journal's, in the room that was taken at its mark, and
-/// notes it in the caller's pass. It takes no memory. Gives the place, from 0.
+/// Enters what a process made in a turn, under its lock and the journal's, in the room that was taken at its mark, and
+/// notes it in the caller's pass. It takes no memory. Gives the place of the first entry, from 0; the others come after it.
 pub fn enter<N: Seats, R: Wait>(
     rt: &R,
     ties: &Ties,
     me: ProcessId,
-    word: usize,
     node: &Node<MemoryStore>,
     seat: &mut Place,
     ledger: &mut Ledger<N>,
     pass: &mut Pass<N>,
     made: Made,
 ) -> usize
-    requires here { (ties.now.shared.table_id ≡ N.table) × (seat.old.table_id ≡ N.table)
-        × (word < N.table.words) }
-    requires seat { WorksIn 2 seat.old.me × (seat.old.me.0.process.name ≡ Some me)
-        × (seat.old.me.0.process.word ≡ word) × IsStepOf seat.old.me.0.process.wanted made.entry }
-    requires makes { (own : List AnyEntry) × (seat.old.me.0.process.own ≡ own ++ made.entry ∷ [])
-        × OwnMakes N.tree me own (core_of node.now) made.entry }
-    requires listed { (is_listed N.tree me ≡ true) × IsAt me made.entry }
-    ensures entered { ledger.new.entries ≡ ledger.old.entries ++ (pass.old.caller, made.entry) ∷ [] }
+    requires here { (ties.now.shared.table_id ≡ N.table) × (seat.old.table_id ≡ N.table) × (0 < N.table.words) }
+    requires seat { IsProcess seat.old.me × (seat.old.me.0.process.name ≡ Some me) }
+    requires listed { is_listed N.tree me ≡ true }
+    requires made { MadeTurn N.tree seat.old.me.0.process.net me pass.old.caller seat.old.me.0.process.own made.entries
+        (core_of node.now) }
+    ensures entered { ledger.new.entries ≡ ledger.old.entries ++ made.entries }
     ensures seat { (seat.new.table_id ≡ seat.old.table_id)
-        × (seat.new.me ≡ (worker (idle_at word (Some me) seat.old.me.0.process.own), [])) }
-    ensures own { OwnRun N.tree me seat.new.me.0.process.own (core_of node.now) }
-    ensures pass { NotesOne pass.old pass.new result made.entry }
+        × (seat.new.me ≡ (worker (entered_by seat.old.me.0.process made.entries), [])) }
+    ensures own { OwnRun N.tree me (seat.old.me.0.process.own ++ entries_in made.entries) (core_of node.now) }
+    ensures pass { NotesAll pass.old pass.new result made.entries }
     ensures place { result ≡ length ledger.old.entries }
 {
     let place = ledger.journal.len();
-    let Made { entry, room } = made;
+    let Made { entries, begun: _ } = made;
     enter_seats::<N>(
         ties,
         me,
-        word,
         node,
         seat,
         &mut ledger.seat,
         &mut pass.seat,
         pass.caller,
-        &entry,
+        &entries,
     );
-    ledger.journal.enter(rt, pass.caller, entry, room);
+    ledger.journal.enter(rt, entries);
     place
 }

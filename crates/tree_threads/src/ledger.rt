@@ -8,7 +8,7 @@ ghost use Rattle.tree_cut.specs.Cuts.{net_of};
 ghost use Rattle.tree_cut.specs.Owns.{CutHolds};
 ghost use Rattle.tree_ties.specs.Views.{AreBelow, entries_in, keeper, pairs_by};
 ghost use Rattle.cluster_journal.specs.Journals.{AllDelivered};
-ghost use Rattle.cluster_journal.specs.Marks.{NoneToClaim};
+ghost use Rattle.cluster_journal.specs.Marks.{IsNextOpen, NoneToClaim};
 ghost use Rattle.tree_threads.specs.Locked.{IsClaimed};
 
 use crate::pass::Pass;
@@ -167,6 +167,18 @@ impl<N: Seats> Ledger<N> {
             to: claim.to,
             wakes,
         }))
+    }
+
+    /// The number of the next open message to this process after the one with this number, of those that are placed.
+    pub(crate) fn open_after(&self, to: ProcessId, number: u64) -> Option<u64>
+        ensures { IfSome result (λ next. IsNextOpen to number next self.now.marks) }
+    {
+        self.journal.open_after(to, number)
+    }
+
+    /// How many messages to this process are open, of those that are placed.
+    pub(crate) fn waiting_for(&self, to: ProcessId) -> usize {
+        self.journal.waiting_for(to)
     }
 
     /// Whether a worker that waits was not called, and enough messages are left for it. Where a gate holds steps, one is

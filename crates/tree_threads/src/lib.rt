@@ -4,12 +4,14 @@
 //! to the other.
 //!
 //! ```text
-//! under both locks       mark: room for one entry is taken, and the process wants the step
-//! under the process's    make_step: the process makes it, whatever the others do
-//! under both locks       enter: the journal has the entry, and the caller's pass notes its place
+//! under both locks       mark: room for the entries of a turn is taken, and the process's seat notes the journal's messages
+//! under the process's    make_step: the process makes the steps of the turn, whatever the others do
+//! under both locks       enter: the journal has the entries, in one piece, and the caller's pass notes their places
 //! ```
 //!
-//! A process's lock is taken before the journal's, and never the other way round.
+//! A turn of a caller has one step. A turn of a worker has the deliveries of up to 32 messages to one process, in order of
+//! sending; the first that is refused ends it. A process's lock is taken before the journal's, and never the other way
+//! round.
 #![tactic(auto)]
 
 mod entering;
@@ -24,6 +26,6 @@ pub use entering::enter;
 pub use errors::PostError;
 pub use ledger::{Claim, Ledger};
 pub use making::{Made, make_step};
-pub use marking::{MOST_ENTRIES, Marked, is_same, mark};
+pub use marking::{MOST_ENTRIES, MOST_STEPS, Marked, is_same, mark};
 pub use pass::Pass;
-pub use seated::{Gate, Open, Posted, Seated, Turn};
+pub use seated::{Delivered, Gate, Open, Posted, Seated};

@@ -1,42 +1,41 @@
-//! The step: what a process makes under its own lock alone.
+//! The steps of a turn: what a process makes under its own lock alone.
 
-ghost use Rattle.std.specs.Prelude.{◌≡◌, ◌<◌, [], true, Some, IfErr, IfOk, OnErr};
+ghost use Rattle.std.specs.Prelude.{◌≡◌, All, IfErr, IfOk};
 ghost use Rattle.tree_model.specs.declared.events.Happening.TheVariants as kinds;
-ghost use Rattle.tree_model.specs.Nodes.{is_listed};
-ghost use Rattle.tree_model.specs.Trees.{IsTree};
 ghost use Rattle.core_model.specs.Inputs.{input_of};
 ghost use Rattle.core_law.specs.Steps.{records_kept, trim_reaction};
 ghost use Rattle.core_law.specs.worlds.Worlds.{HandlesInput};
 ghost use Rattle.tree_cut.specs.Alone.{MakesAlone, RestartsAlone, TrimsAlone};
-ghost use Rattle.tree_cut.specs.Owns.{OwnMakes, OwnRun};
 ghost use Rattle.tree_node.specs.Nodes.{core_of, data_of};
-ghost use Rattle.tree_ties.specs.Seats.{WorksIn};
-ghost use Rattle.tree_ties.specs.Views.{cleared, made as made_by, worker};
-ghost use Rattle.tree_threads.specs.Makes.{FitsNode, IsAt, NotMadeIt};
+ghost use Rattle.tree_threads.specs.Makes.{FitsNode, NotMadeIt};
+ghost use Rattle.tree_threads.specs.Turns.{GoesFurther, IsDeliveryAt, MakesStep, wanted_in};
 
 use crate::marking::Marked;
-use cluster_journal::Room;
+use crate::seated::Gate;
+use cluster_journal::link;
 use core_model::InputRef;
 use log_store::MemoryStore;
 use std::alloc::Global;
+use std::collections::LinkedList;
+use std::sync::Wait;
 use tree_model::{Entry, Happening, Input, ProcessId, Reaction, Sequence, StepError, Txn};
 use tree_node::Node;
-use tree_ties::seats::{Place, Seats, Ties};
-use tree_ties::ties::{drop_want, make};
+use tree_ties::seats::{Place, Seats};
 
-/// What a process has made, and room for it in the journal.
+/// What a process has made in a turn: the entries, each with its caller's number, in the room that was made for it; and
+/// the transaction that the first of them began, if it began one.
 #[derive(Drop)]
 pub struct Made {
-    pub(crate) entry: Entry,
-    pub(crate) room: Room,
+    pub(crate) entries: LinkedList<(u64, Entry)>,
+    pub(crate) begun: Option<Txn>,
 }
 
 impl Made {
     /// The transaction that was begun, if one was.
     pub fn begun(&self) -> Option<Txn>
-        ensures { result ≡ self.now.entry.reaction.begun }
+        ensures { result ≡ self.now.begun }
     {
-        self.entry.reaction.begun
+        self.begun
     }
 }
 
@@ -127,47 +126,87 @@ fn make_it(
 }
 
 /// Makes the marked step under the process's lock alone, whatever the others do meanwhile, as the process's data answer
-/// it. The step's entry is one after the process's own. A refusal, which is never Device, leaves the process and its
-/// data as they were, and takes the mark away.
-pub fn make_step<N: Seats>(
+/// it: a turn of one entry, under the caller's number. A refusal, which is never Device, leaves the process and its data as
+/// they were.
+pub fn make_step(
     alloc: Global,
-    ties: &Ties,
-    me: ProcessId,
-    word: usize,
     node: &mut Node<MemoryStore>,
-    seat: &mut Place,
+    caller: u64,
     marked: Marked,
 ) -> Result<Made, StepError>
-    requires here { (ties.now.shared.table_id ≡ N.table) × (seat.old.table_id ≡ N.table)
-        × (word < N.table.words) }
-    requires seat { WorksIn 1 seat.old.me × (seat.old.me.0.process.wanted ≡ Some marked.wanted)
-        × (seat.old.me.0.process.word ≡ word) }
-    requires own { IsTree N.tree × (is_listed N.tree me ≡ true)
-        × OwnRun N.tree me seat.old.me.0.process.own (core_of node.old) }
-    requires marked { IsAt me marked.wanted × FitsNode (core_of node.old) marked.keep marked.wanted.step.happening }
-    ensures here { seat.new.table_id ≡ seat.old.table_id }
-    ensures ok { IfOk result (λ m. (seat.new.me ≡ (worker (made_by seat.old.me.0.process m.entry), []))
-        × (m.entry.step ≡ marked.wanted.step)
-        × OwnMakes N.tree me seat.old.me.0.process.own (core_of node.new) m.entry) }
-    ensures made { IfOk result (λ m. MakesAlone (core_of node.old) (core_of node.new) (data_of node.old)
-        (data_of node.new) marked.keep m.entry.step.happening m.entry.reaction) }
-    ensures err { OnErr result (seat.new.me ≡ (worker (cleared seat.old.me.0.process), [])) }
-    ensures refused { IfErr result (NotMadeIt (core_of node.old) (core_of node.new) (data_of node.old)
+    requires { FitsNode (core_of node.old) marked.keep marked.wanted.step.happening }
+    ensures ok { IfOk result (MakesStep caller marked.wanted marked.keep (core_of node.old) (core_of node.new)
+        (data_of node.old) (data_of node.new)) }
+    ensures err { IfErr result (NotMadeIt (core_of node.old) (core_of node.new) (data_of node.old)
         (data_of node.new) marked.wanted.step.happening) }
 {
     let Marked { wanted, keep, room } = marked;
-    match make_it(alloc, node, &wanted.step.happening, keep) {
-        Err(error) => {
-            drop_want(ties, seat, word);
-            Err(error)
-        }
-        Ok(reaction) => {
-            let entry = Entry {
-                step: wanted.step,
-                reaction,
-            };
-            make(ties, seat, word, &entry);
-            Ok(Made { entry, room })
+    let reaction = make_it(alloc, node, &wanted.step.happening, keep)?;
+    let begun = reaction.begun;
+    let entry = Entry {
+        step: wanted.step,
+        reaction,
+    };
+    Ok(Made {
+        entries: room.fill(caller, entry),
+        begun,
+    })
+}
+
+/// Makes the next of these deliveries, and adds its entry to the turn. Whether it was made: not if there is none, or if it
+/// is refused, which leaves the process as it was. The seat is the process's.
+fn make_next<N: Seats, R: Wait, G: Gate>(
+    rt: &R,
+    alloc: Global,
+    me: ProcessId,
+    node: &mut Node<MemoryStore>,
+    seat: &Place,
+    caller: u64,
+    gate: &G,
+    more: &mut LinkedList<Marked>,
+    made: &mut Made,
+) -> bool
+    requires { All (IsDeliveryAt seat.now.me.0.process.net me) (wanted_in more.old) }
+    ensures rest { All (IsDeliveryAt seat.now.me.0.process.net me) (wanted_in more.new) }
+    ensures further { GoesFurther N.tree seat.now.me.0.process.net me caller made.old.entries made.new.entries
+        (core_of node.old) (core_of node.new) (data_of node.old) (data_of node.new) }
+{
+    let _ = seat;
+    let Some(Marked { wanted, keep, room }) = more.pop_front() else {
+        return false;
+    };
+    let Ok(reaction) = make_it(alloc, node, &wanted.step.happening, keep) else {
+        return false;
+    };
+    let entry = Entry {
+        step: wanted.step,
+        reaction,
+    };
+    link(rt, &mut made.entries, &mut room.fill(caller, entry));
+    gate.before(rt, me);
+    true
+}
+
+/// Makes these deliveries one after another, until one is refused, and adds their entries to the turn. The seat is the
+/// process's.
+pub(crate) fn make_more<N: Seats, R: Wait, G: Gate>(
+    rt: &R,
+    alloc: Global,
+    me: ProcessId,
+    node: &mut Node<MemoryStore>,
+    seat: &Place,
+    caller: u64,
+    gate: &G,
+    mut more: LinkedList<Marked>,
+    made: &mut Made,
+)
+    requires { All (IsDeliveryAt seat.now.me.0.process.net me) (wanted_in more) }
+    ensures { GoesFurther N.tree seat.now.me.0.process.net me caller made.old.entries made.new.entries
+        (core_of node.old) (core_of node.new) (data_of node.old) (data_of node.new) }
+{
+    for _ in 0..more.len() {
+        if !make_next::<N, R, G>(rt, alloc, me, node, seat, caller, gate, &mut more, made) {
+            return;
         }
     }
 }

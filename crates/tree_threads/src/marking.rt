@@ -1,6 +1,6 @@
-//! The mark of a step: what a process is asked to do, and room for the entry of it.
+//! The mark of a turn: what a process is asked to do, and room for the entries of it.
 
-ghost use Rattle.std.specs.Prelude.{◌≡◌, ◌≢◌, ◌<◌, ◌≤◌, [], Some, IfErr, IfNone, IfOk, IfSome, IsTrue, OnErr, OnOk, length};
+ghost use Rattle.std.specs.Prelude.{◌≡◌, ◌≢◌, ◌+◌, ◌++◌, ◌<◌, ◌≤◌, [], ◌∷◌, if◌then◌else◌, Some, IfErr, IfNone, IfOk, IfSome, IsTrue, OnErr, OnOk, length};
 ghost use Rattle.tree_model.specs.Plays.{sent_as};
 ghost use Rattle.tree_model.specs.Trees.{root_of};
 ghost use Rattle.tree_model.specs.World.{entries_of};
@@ -8,21 +8,28 @@ ghost use Rattle.core_law.specs.worlds.Worlds.{KeepsBytes};
 ghost use Rattle.tree_cut.specs.Alone.{IsMine};
 ghost use Rattle.tree_cut.specs.Cuts.{net_of};
 ghost use Rattle.tree_node.specs.Nodes.{core_of};
-ghost use Rattle.tree_ties.specs.Views.{entries_in, idle_at, wanting, worker};
+ghost use Rattle.tree_ties.specs.Seats.{IsProcess};
+ghost use Rattle.tree_ties.specs.Views.{entries_in, noted, worker};
+ghost use Rattle.tree_threads.specs.Makes.{IsAt};
 ghost use Rattle.tree_threads.specs.Marks.{ActsHere, Happens, IsMarked, IsNotFor, NotMarked};
+ghost use Rattle.tree_threads.specs.Turns.{AreNext, IsNext, wanted_in};
 
 use crate::errors::PostError;
 use crate::ledger::Ledger;
 use cluster_journal::{Room, nothing};
 use log_store::MemoryStore;
-use std::alloc::Global;
+use std::alloc::{AllocError, Global};
+use std::collections::LinkedList;
 use tree_model::{Entry, Envelope, Event, Happening, Input, ProcessId, Step};
 use tree_node::Node;
 use tree_ties::seats::{Place, Seats, Ties};
-use tree_ties::ties::want;
+use tree_ties::ties::note_net;
 
 /// The most entries that a journal has when a step is marked.
 pub const MOST_ENTRIES: usize = 1_000_000;
+
+/// The most steps that a process makes in a turn.
+pub const MOST_STEPS: usize = 32;
 
 /// What a process wants to do, as an entry that shows nothing yet; how many bytes after its forced front it
 /// keeps, where that is a restart; and room for the entry that comes of it.
@@ -127,39 +134,15 @@ fn asked<N: Seats>(
     }
 }
 
-/// Marks the step that an event asks of a process, under its lock and the journal's, and takes room for the
-/// entry of it. An act is this process's.
-///
-/// Stranger: the event is a settle, delivers a message that was not sent to this process, or is another's
-/// restart or trim. JournalFull: else, and the journal has 1,000,000 entries or more. Memory: a growth was
-/// refused. After a refusal the process and the journal are as before.
-pub fn mark<N: Seats>(
+/// What a process wants to do, with room for the entry of it. Memory: a growth was refused.
+fn wanted_at(
     alloc: Global,
-    ties: &Ties,
     me: ProcessId,
-    word: usize,
-    node: &Node<MemoryStore>,
-    seat: &mut Place,
-    ledger: &mut Ledger<N>,
-    event: Event,
-) -> Result<Marked, PostError>
-    requires here { (ties.now.shared.table_id ≡ N.table) × (seat.old.table_id ≡ N.table)
-        × (word < N.table.words) }
-    requires seat { seat.old.me ≡ (worker (idle_at word (Some me) seat.old.me.0.process.own), []) }
-    requires acts { ActsHere (root_of N.tree) me event }
-    ensures ledger { ledger.new.entries ≡ ledger.old.entries }
-    ensures tied { OnOk result (seat.old.me.0.process.own ≡ entries_of me (entries_in ledger.old.entries)) }
-    ensures here { seat.new.table_id ≡ seat.old.table_id }
-    ensures ok { IfOk result (λ m. IsMarked (net_of (entries_in ledger.old.entries)) me (core_of node.now) event m
-        × (seat.new.me ≡ (worker (wanting seat.old.me.0.process m.wanted), []))) }
-    ensures mine { IfOk result (λ m. IsMine (root_of N.tree) me m.wanted.step.happening) }
-    ensures room { OnOk result (length ledger.old.entries < 1000000) }
-    ensures err { OnErr result (seat.new.me ≡ seat.old.me) }
-    ensures refused { IfErr result (NotMarked (net_of (entries_in ledger.old.entries))
-        (length ledger.old.entries) me event) }
+    happening: Happening,
+    keep: usize,
+) -> Result<Marked, AllocError>
+    ensures { IfOk result (λ m. IsAt me m.wanted × (m.wanted.step.happening ≡ happening) × (m.keep ≡ keep)) }
 {
-    ledger.place()?;
-    let (happening, keep) = asked(alloc, me, node, ledger, event)?;
     let room = Room::new(alloc)?;
     let wanted = Entry {
         step: Step {
@@ -169,6 +152,114 @@ pub fn mark<N: Seats>(
         },
         reaction: nothing(alloc),
     };
-    want(ties, seat, &mut ledger.seat, word, &wanted);
     Ok(Marked { wanted, keep, room })
+}
+
+/// Marks the step that an event asks of a process, under its lock and the journal's, and takes room for the
+/// entry of it; the process's seat notes the messages of the journal. An act is this process's.
+///
+/// Stranger: the event is a settle, delivers a message that was not sent to this process, or is another's
+/// restart or trim. JournalFull: else, and the journal has 1,000,000 entries or more. Memory: a growth was
+/// refused. After a refusal the process and the journal are as before.
+pub fn mark<N: Seats>(
+    alloc: Global,
+    ties: &Ties,
+    me: ProcessId,
+    node: &Node<MemoryStore>,
+    seat: &mut Place,
+    ledger: &mut Ledger<N>,
+    event: Event,
+) -> Result<Marked, PostError>
+    requires here { (ties.now.shared.table_id ≡ N.table) × (seat.old.table_id ≡ N.table) × (0 < N.table.words) }
+    requires seat { IsProcess seat.old.me × (seat.old.me.0.process.name ≡ Some me) }
+    requires acts { ActsHere (root_of N.tree) me event }
+    ensures ledger { (ledger.new.entries ≡ ledger.old.entries) × OnOk result (ledger.new.late ≡ 0) }
+    ensures tied { OnOk result (seat.old.me.0.process.own ≡ entries_of me (entries_in ledger.old.entries)) }
+    ensures here { seat.new.table_id ≡ seat.old.table_id }
+    ensures ok { IfOk result (IsMarked (net_of (entries_in ledger.old.entries)) me (core_of node.now) event) }
+    ensures seat { OnOk result (seat.new.me
+        ≡ (worker (noted seat.old.me.0.process (net_of (entries_in ledger.old.entries))), [])) }
+    ensures mine { IfOk result (λ m. IsMine (root_of N.tree) me m.wanted.step.happening) }
+    ensures room { OnOk result (length ledger.old.entries < 1000000) }
+    ensures err { OnErr result (seat.new.me ≡ seat.old.me) }
+    ensures refused { IfErr result (NotMarked (net_of (entries_in ledger.old.entries))
+        (length ledger.old.entries) me event) }
+{
+    ledger.place()?;
+    let (happening, keep) = asked(alloc, me, node, ledger, event)?;
+    let marked = wanted_at(alloc, me, happening, keep)?;
+    note_net(ties, seat, &mut ledger.seat);
+    Ok(marked)
+}
+
+/// The delivery of the message with this number, as a step that its receiver wants; None where memory for it was refused.
+fn mark_next<N: Seats>(
+    alloc: Global,
+    me: ProcessId,
+    ledger: &Ledger<N>,
+    number: u64,
+) -> Option<Marked>
+    requires { ledger.now.late ≡ 0 }
+    ensures { IfSome result (λ m. IsNext (net_of (entries_in ledger.now.entries)) me number m.wanted) }
+{
+    let envelope = message_for(ledger, me, number)?;
+    let message = envelope.message.copied(alloc).ok()?;
+    wanted_at(
+        alloc,
+        me,
+        Happening::Input(Input::Message(number, message)),
+        0,
+    )
+    .ok()
+}
+
+/// Adds a step to these. Whether there was memory for it.
+fn is_added(more: &mut LinkedList<Marked>, marked: Marked) -> bool
+    ensures { more.new ≡ (if result then more.old ++ marked ∷ [] else more.old) }
+{
+    more.push_back(marked).is_ok()
+}
+
+/// The deliveries of the open messages to a process after the one with this number, in order of sending, as steps that it
+/// wants, with room for their entries: at most N, and fewer if memory is refused.
+pub(crate) fn mark_more<N: Seats>(
+    alloc: Global,
+    me: ProcessId,
+    ledger: &Ledger<N>,
+    number: u64,
+    most: usize,
+) -> LinkedList<Marked>
+    requires { ledger.now.late ≡ 0 }
+    ensures next { AreNext (net_of (entries_in ledger.now.entries)) me ledger.now.marks number (wanted_in result) }
+    ensures few { length result ≤ most }
+{
+    let mut more = LinkedList::new(alloc);
+    let mut last = number;
+    for _ in 0..most {
+        let Some(next) = ledger.open_after(me, last) else {
+            break;
+        };
+        let Some(marked) = mark_next(alloc, me, ledger, next) else {
+            break;
+        };
+        if !is_added(&mut more, marked) {
+            break;
+        }
+        last = next;
+    }
+    more
+}
+
+/// How many more steps a turn may have whose first is marked: none where a gate holds steps, and no more than the journal
+/// takes.
+pub(crate) fn most_more<N: Seats>(ledger: &Ledger<N>, me: ProcessId, holds: bool) -> usize
+    requires { length ledger.now.entries < 1000000 }
+    ensures room { length ledger.now.entries + 1 + result ≤ 1000000 }
+    ensures few { result + 1 ≤ 32 }
+{
+    if holds {
+        return 0;
+    }
+    let room = MOST_ENTRIES - ledger.journal.len() - 1;
+    ledger.waiting_for(me).min(MOST_STEPS - 1).min(room)
 }

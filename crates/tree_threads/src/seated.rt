@@ -1,23 +1,23 @@
 //! What lies under a process's lock, and the three parts of posting an event.
 
-ghost use Rattle.std.specs.Prelude.{◌≡◌, ◌<◌, ◌+◌, [], Some, true, IfErr, IfOk, OnErr};
-ghost use Rattle.tree_model.specs.declared.events.Entry.{Entry as AnyEntry};
+ghost use Rattle.std.specs.Prelude.{◌≡◌, ◌<◌, [], Some, true, IfErr, IfOk, OnErr};
 ghost use Rattle.tree_model.specs.Nodes.{is_listed};
 ghost use Rattle.tree_model.specs.Trees.{IsTree, root_of};
 ghost use Rattle.tree_model.specs.World.{entries_of};
 ghost use Rattle.tree_cut.specs.Alone.{RunsAlone};
 ghost use Rattle.tree_cut.specs.Owns.{OwnRun, StandsInRun};
 ghost use Rattle.tree_node.specs.Nodes.{core_of, data_of};
-ghost use Rattle.tree_ties.specs.Views.{entries_in, idle_at, worker};
+ghost use Rattle.tree_ties.specs.Seats.{IsProcess};
+ghost use Rattle.tree_ties.specs.Views.{entries_in};
 ghost use Rattle.tree_threads.specs.Locked.{LeavesLog};
 ghost use Rattle.tree_threads.specs.Marks.{ActsHere};
-ghost use Rattle.tree_threads.specs.Posts.{NotPosted, PostsOne};
+ghost use Rattle.tree_threads.specs.Posts.{DeliversTurn, NotPosted, PostsOne};
 
 use crate::entering::enter;
 use crate::errors::PostError;
 use crate::ledger::{Claim, Ledger};
-use crate::making::make_step;
-use crate::marking::mark;
+use crate::making::{make_more, make_step};
+use crate::marking::{mark, mark_more, most_more};
 use crate::pass::Pass;
 use log_store::MemoryStore;
 use std::alloc::{AllocError, Global};
@@ -48,15 +48,6 @@ impl Gate for Open {
     }
 }
 
-/// Whose event is posted.
-#[derive(Clone, Copy, PartialEq, Eq)]
-pub enum Turn {
-    /// A caller's.
-    Once,
-    /// A worker's, which has a claim and makes another.
-    Worker,
-}
-
 /// What was posted.
 #[derive(Clone, Copy)]
 pub struct Posted {
@@ -64,24 +55,23 @@ pub struct Posted {
     pub place: usize,
     /// The transaction that was begun, if one was.
     pub begun: Option<Txn>,
-    /// A worker's next claim.
+}
+
+/// What came of a turn of deliveries.
+#[derive(Clone, Copy)]
+pub struct Delivered {
+    /// The place of its first entry, from 0.
+    pub place: usize,
+    /// The worker's next claim.
     pub next: Option<Claim>,
     /// Whether nobody delivers a message any more.
     pub is_quiet: bool,
 }
 
 /// A worker's claim ends, and it makes the next, if there is one and memory for it: of this process, if it has one.
-fn next_of<N: Seats>(
-    ledger: &mut Ledger<N>,
-    process: ProcessId,
-    turn: Turn,
-    holds: bool,
-) -> Option<Claim>
+fn next_of<N: Seats>(ledger: &mut Ledger<N>, process: ProcessId, holds: bool) -> Option<Claim>
     ensures { ledger.new.entries ≡ ledger.old.entries }
 {
-    if turn == Turn::Once {
-        return None;
-    }
     ledger.end_claim();
     ledger.claim(process, holds).unwrap_or(None)
 }
@@ -89,7 +79,6 @@ fn next_of<N: Seats>(
 /// A process and its seat, between two events. To a contract it is its name, its entries, and the process itself.
 pub struct Seated<N: Seats> {
     pub(crate) me: ProcessId,
-    pub(crate) word: usize,
     pub(crate) node: Node<MemoryStore>,
     pub(crate) seat: Place,
     pub(crate) name: PhantomData<N>,
@@ -100,7 +89,6 @@ impl<N: Seats> Drop for Seated<N> {
     fn drop(self) {
         let Seated {
             me: _,
-            word: _,
             node: _,
             seat: _,
             name: _,
@@ -116,14 +104,14 @@ impl<N: Seats> Model for Seated<N> {
     ghost use Rattle.tree_cut.specs.Owns.{OwnRun};
     ghost use Rattle.tree_threads.specs.Locked.{SeatedState};
     ghost use Rattle.tree_node.specs.Nodes.{core_of, data_of};
-    ghost use Rattle.tree_ties.specs.Views.{idle_at, worker};
+    ghost use Rattle.tree_ties.specs.Seats.{IsProcess};
 
     ghost Value = { SeatedState };
 
     ghost view = { λ s. record { me = s.me; own = s.seat.me.0.process.own; node = s.node } };
 
-    ghost invariant = { λ s. (s.seat.table_id ≡ N.table) × (s.word < N.table.words)
-        × (s.seat.me ≡ (worker (idle_at s.word (Some s.me) s.seat.me.0.process.own), []))
+    ghost invariant = { λ s. (s.seat.table_id ≡ N.table) × (0 < N.table.words)
+        × (IsProcess s.seat.me × (s.seat.me.0.process.name ≡ Some s.me))
         × IsTree N.tree
         × (is_listed N.tree s.me ≡ true)
         × OwnRun N.tree s.me s.seat.me.0.process.own (core_of s.node)
@@ -132,16 +120,15 @@ impl<N: Seats> Model for Seated<N> {
 
 impl<N: Seats> Seated<N> {
     /// A process that has made nothing.
-    pub fn new(me: ProcessId, word: usize, node: Node<MemoryStore>, seat: Place) -> Seated<N>
-        requires here { (seat.table_id ≡ N.table) × (word < N.table.words) }
-        requires seat { seat.me ≡ (worker (idle_at word (Some me) []), []) }
+    pub fn new(me: ProcessId, node: Node<MemoryStore>, seat: Place) -> Seated<N>
+        requires here { (seat.table_id ≡ N.table) × (0 < N.table.words) }
+        requires seat { IsProcess seat.me × (seat.me.0.process.name ≡ Some me) × (seat.me.0.process.own ≡ []) }
         requires tree { IsTree N.tree × (is_listed N.tree me ≡ true) }
         requires own { OwnRun N.tree me [] (core_of node) × RunsAlone N.tree me [] (core_of node) (data_of node) }
         ensures { result ≡ record { me = me; own = []; node = node } }
     {
         Seated {
             me,
-            word,
             node,
             seat,
             name: PhantomData,
@@ -156,8 +143,8 @@ impl<N: Seats> Seated<N> {
     }
 
     /// Marks, makes and enters an event of this process, under its lock, which the caller has; the journal's is
-    /// taken for the mark and for the entry. A worker's claim ends with the entry, and it makes the next there. An act is
-    /// this process's. After a refusal the pass and the process are as before.
+    /// taken for the mark and for the entry. An act is this process's. After a refusal the pass and the process are as
+    /// before.
     pub fn post<R: Wait, G: Gate>(
         &mut self,
         rt: &R,
@@ -167,7 +154,6 @@ impl<N: Seats> Seated<N> {
         event: Event,
         pass: &mut Pass<N>,
         gate: &G,
-        turn: Turn,
     ) -> Result<Posted, PostError>
         requires here { ties.now.shared.table_id ≡ N.table }
         requires acts { ActsHere (root_of N.tree) self.old.me event }
@@ -183,22 +169,13 @@ impl<N: Seats> Seated<N> {
             alloc,
             ties,
             me,
-            self.word,
             &self.node,
             &mut self.seat,
             &mut *journal,
             event,
         )?;
         drop(journal);
-        match make_step::<N>(
-            alloc,
-            ties,
-            me,
-            self.word,
-            &mut self.node,
-            &mut self.seat,
-            marked,
-        ) {
+        match make_step(alloc, &mut self.node, pass.caller(), marked) {
             Err(error) => Err(PostError::from(error)),
             Ok(made) => {
                 let begun = made.begun();
@@ -208,18 +185,84 @@ impl<N: Seats> Seated<N> {
                     rt,
                     ties,
                     me,
-                    self.word,
                     &self.node,
                     &mut self.seat,
                     &mut *journal,
                     pass,
                     made,
                 );
-                let next = next_of(&mut *journal, me, turn, gate.holds());
+                Ok(Posted { place, begun })
+            }
+        }
+    }
+
+    /// A turn of a worker, which has claimed the message with this number to this process: marks its delivery and those of
+    /// the open messages to the process after it, makes them, and enters them, under the process's lock, which the worker
+    /// has; the journal's is taken for the mark and for the entry. The claim ends with the entry, and the worker makes the
+    /// next there. If the first is refused, the pass and the process are as before. If another is, the turn ends before it.
+    pub fn deliver<R: Wait, G: Gate>(
+        &mut self,
+        rt: &R,
+        alloc: Global,
+        ties: &Ties,
+        ledger: &Mutex<Ledger<N>>,
+        number: u64,
+        pass: &mut Pass<N>,
+        gate: &G,
+    ) -> Result<Delivered, PostError>
+        requires here { ties.now.shared.table_id ≡ N.table }
+        ensures ok { IfOk result (λ r. DeliversTurn N.tree self.old.me number pass.old pass.new r.place) }
+        ensures err { OnErr result (pass.new ≡ pass.old) }
+        ensures refused { IfErr result (NotPosted N.tree self.old.me (Event.Deliver number) pass.old) }
+    {
+        let me = self.me;
+        let mut journal = ledger.lock(rt);
+        journal.is_a_run();
+        journal.meets(ties, pass);
+        let marked = mark(
+            alloc,
+            ties,
+            me,
+            &self.node,
+            &mut self.seat,
+            &mut *journal,
+            Event::Deliver(number),
+        )?;
+        let most = most_more(&*journal, me, gate.holds());
+        let more = mark_more(alloc, me, &*journal, number, most);
+        drop(journal);
+        let caller = pass.caller();
+        match make_step(alloc, &mut self.node, caller, marked) {
+            Err(error) => Err(PostError::from(error)),
+            Ok(first) => {
+                let mut made = first;
+                gate.before(rt, me);
+                make_more::<N, R, G>(
+                    rt,
+                    alloc,
+                    me,
+                    &mut self.node,
+                    &self.seat,
+                    caller,
+                    gate,
+                    more,
+                    &mut made,
+                );
+                let mut journal = ledger.lock(rt);
+                let place = enter(
+                    rt,
+                    ties,
+                    me,
+                    &self.node,
+                    &mut self.seat,
+                    &mut *journal,
+                    pass,
+                    made,
+                );
+                let next = next_of(&mut *journal, me, gate.holds());
                 let is_quiet = journal.is_quiet();
-                Ok(Posted {
+                Ok(Delivered {
                     place,
-                    begun,
                     next,
                     is_quiet,
                 })

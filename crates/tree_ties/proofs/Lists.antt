@@ -9,16 +9,13 @@ use Rattle.atomic_table.proofs.Lists.{at_set}
 use Rattle.tree_model.specs.declared.names.ProcessId.{ProcessId}
 use Rattle.tree_model.specs.declared.messages.Envelope.{Envelope}
 use Rattle.tree_model.specs.declared.events.Entry.{Entry}
-use Rattle.tree_model.specs.declared.events.Happening.{Happening}
-use Rattle.tree_model.specs.declared.events.Happening.TheVariants.{Input as Handles, Restart, Trim}
-use Rattle.tree_model.specs.declared.events.Input.TheVariants.{Act as ActInput, Message as MessageInput}
 use Rattle.tree_model.specs.NameLaws.{same_process_tells}
 use Rattle.tree_model.specs.World.{entries_of}
-use Rattle.tree_cut.specs.Cuts.{FindsMessage, net_of}
-use Rattle.tree_cut.proofs.Cuts.{net_more, none_more, own_more, self}
+use Rattle.tree_cut.specs.Cuts.{net_of}
+use Rattle.std.proofs.lemmas.List.{append-nil, append_assoc, length_push}
+use Rattle.tree_cut.proofs.Cuts.{none_more, own_more, self}
 use Rattle.tree_ties.specs.declared.views.View.{View}
-use Rattle.tree_ties.specs.Views.{AreBelow, entries_in, own_of, pairs_by}
-use Rattle.tree_ties.specs.Rule.{IsWanted}
+use Rattle.tree_ties.specs.Views.{AreBelow, AreBy, AreOf, IsFront, entries_in, own_of, pairs_by, pairs_from, places_from}
 
 pub off : false ≡ true → ⊥
 off e = true≢false (sym e)
@@ -40,81 +37,97 @@ at_upd F f p x here others q = dite (ℕ_discrete q p)
     (λ e. subst (λ k. F k (upd f p x k)) (sym e) (subst (F p) (sym (upd_here f p x)) here))
     (λ ne. subst (F q) (sym (upd_else f p x q ne)) (others q ne))
 
-pub at_both : {A B : Type 0} (F : ℕ → A → B → Type 0) (f : ℕ → A) (g : ℕ → B) (p : ℕ) (x : A) (y : B)
-    → F p x y → ((q : ℕ) → q ≢ p → F q (f q) (g q)) → (q : ℕ) → F q (upd f p x q) (upd g p y q)
-at_both F f g p x y here others = at_upd (λ q a. F q a (upd g p y q)) f p x
-    (subst (F p x) (sym (upd_here g p y)) here)
-    (λ q ne. subst (F q (f q)) (sym (upd_else g p y q ne)) (others q ne))
-
 -- Entries.
 
-pub in_more : (ls : List (ℕ × Entry)) (c : ℕ) (x : Entry)
+in_one : (ls : List (ℕ × Entry)) (c : ℕ) (x : Entry)
     → entries_in (ls ++ (c, x) ∷ []) ≡ entries_in ls ++ x ∷ []
-in_more [] c x = refl
-in_more (l ∷ ls) c x = ap (λ es. l.1 ∷ es) (in_more ls c x)
+in_one [] c x = refl
+in_one (l ∷ ls) c x = ap (λ es. l.1 ∷ es) (in_one ls c x)
 
-pub net_in : (ls : List (ℕ × Entry)) (c : ℕ) (x : Entry)
-    → net_of (entries_in (ls ++ (c, x) ∷ [])) ≡ net_of (entries_in ls) ++ x.reaction.messages
-net_in ls c x = ap net_of (in_more ls c x) ∙ net_more (entries_in ls) x
+pub in_more : (ls zs : List (ℕ × Entry)) → entries_in (ls ++ zs) ≡ entries_in ls ++ entries_in zs
+in_more [] zs = refl
+in_more (l ∷ ls) zs = ap (λ es. l.1 ∷ es) (in_more ls zs)
+
+net_two : (xs ys : List Entry) → net_of (xs ++ ys) ≡ net_of xs ++ net_of ys
+net_two [] ys = refl
+net_two (x ∷ xs) ys =
+    ap (λ l. x.reaction.messages ++ l) (net_two xs ys)
+    ∙ sym (append_assoc x.reaction.messages (net_of xs) (net_of ys))
+
+pub net_in : (ls zs : List (ℕ × Entry))
+    → net_of (entries_in (ls ++ zs)) ≡ net_of (entries_in ls) ++ net_of (entries_in zs)
+net_in ls zs = ap net_of (in_more ls zs) ∙ net_two (entries_in ls) (entries_in zs)
 
 some_one : {A : Type 0} (a b : A) → Some a ≡ Some b → a ≡ b
 some_one a b h = cc
 
 -- the entry is one of its own process's
-pub own_one : (o : Option ProcessId) (ls : List (ℕ × Entry)) (c : ℕ) (x : Entry) → o ≡ Some x.step.process
+own_one : (o : Option ProcessId) (ls : List (ℕ × Entry)) (c : ℕ) (x : Entry) → o ≡ Some x.step.process
     → own_of o (entries_in (ls ++ (c, x) ∷ [])) ≡ own_of o (entries_in ls) ++ x ∷ []
 own_one o ls c x is =
-    ap (λ es. own_of o es) (in_more ls c x)
+    ap (λ es. own_of o es) (in_one ls c x)
     ∙ subst (λ k. own_of k (entries_in ls ++ x ∷ []) ≡ own_of k (entries_in ls) ++ x ∷ []) (sym is)
     (own_more x.step.process (entries_in ls) x (self x.step.process))
 
 -- and of no other's
-pub own_none : (o : Option ProcessId) (ls : List (ℕ × Entry)) (c : ℕ) (x : Entry)
+own_none : (o : Option ProcessId) (ls : List (ℕ × Entry)) (c : ℕ) (x : Entry)
     → (o ≡ Some x.step.process → ⊥)
     → own_of o (entries_in (ls ++ (c, x) ∷ [])) ≡ own_of o (entries_in ls)
 own_none None ls c x other = refl
 own_none (Some d) ls c x other =
-    ap (λ es. entries_of d es) (in_more ls c x) ∙ elim (same_process_tells x.step.process d) [
+    ap (λ es. entries_of d es) (in_one ls c x) ∙ elim (same_process_tells x.step.process d) [
       | inl t ↦ absurd (other (ap Some (sym t.1)))
       | inr z ↦ none_more d (entries_in ls) x z.0
     ]
 
--- The net grows.
+-- so are these of theirs
+pub own_all : (o : Option ProcessId) (ls zs : List (ℕ × Entry)) → AreOf o zs
+    → own_of o (entries_in (ls ++ zs)) ≡ own_of o (entries_in ls) ++ entries_in zs
+own_all o ls [] are =
+    ap (λ l. own_of o (entries_in l)) (append-nil ls) ∙ sym (append-nil (own_of o (entries_in ls)))
+own_all o ls (z ∷ zs) are =
+    ap (λ l. own_of o (entries_in l)) (sym (append_assoc ls (z ∷ []) zs))
+    ∙ (own_all o (ls ++ z ∷ []) zs are.1
+    ∙ (ap (λ l. l ++ entries_in zs) (own_one o ls z.0 z.1 are.0)
+    ∙ append_assoc (own_of o (entries_in ls)) (z.1 ∷ []) (entries_in zs)))
 
-get_longer : {A : Type 0} (l m : List A) (i : ℕ) (a : A) → slice_get l i ≡ Some a
-    → slice_get (l ++ m) i ≡ Some a
-get_longer [] m i a e = absurd (cc)
-get_longer (x ∷ xs) m zero a e = e
-get_longer (x ∷ xs) m (suc i) a e = get_longer xs m i a e
+pub own_else : (o mine : Option ProcessId) (ls zs : List (ℕ × Entry)) → AreOf mine zs
+    → ((d : ProcessId) → o ≡ Some d → mine ≡ Some d → ⊥)
+    → own_of o (entries_in (ls ++ zs)) ≡ own_of o (entries_in ls)
+own_else o mine ls [] are away = ap (λ l. own_of o (entries_in l)) (append-nil ls)
+own_else o mine ls (z ∷ zs) are away =
+    ap (λ l. own_of o (entries_in l)) (sym (append_assoc ls (z ∷ []) zs))
+    ∙ (own_else o mine (ls ++ z ∷ []) zs are.1 away
+    ∙ own_none o ls z.0 z.1 (λ e. away z.1.step.process e are.0))
 
-pub stands_longer : (net more : List Envelope) (q : ProcessId) (h : Happening) → FindsMessage net q h
-    → FindsMessage (net ++ more) q h
-stands_longer net more q (Handles (ActInput a)) s = tt
-stands_longer net more q (Handles (MessageInput k m)) s = record {
-  sender = s.sender;
-  counted = s.counted;
-  stands = get_longer net more (0 + (k - 1)) _ s.stands;
+-- Messages that were noted.
+
+pub whole_front : (all log : List (ℕ × Entry)) → all ≡ log
+    → IsFront (net_of (entries_in all)) (net_of (entries_in log))
+whole_front all log same = record {
+  more = [];
+  all_are = ap (λ l. net_of (entries_in l)) (sym same) ∙ sym (append-nil (net_of (entries_in all)));
 }
-stands_longer net more q (Restart k) s = tt
-stands_longer net more q Trim s = tt
 
-pub wanted_longer : (o : Option Entry) (net more : List Envelope) → IsWanted o net → IsWanted o (net ++ more)
-wanted_longer None net more h = tt
-wanted_longer (Some x) net more h = stands_longer net more x.step.process x.step.happening h
+pub front_grows : (ls net more all : List Envelope) → all ≡ net ++ more → IsFront ls net → IsFront ls all
+front_grows ls net more all is f = record {
+  more = f.more ++ more;
+  all_are = is ∙ (ap (λ l. l ++ more) f.all_are ∙ append_assoc ls f.more more);
+}
 
 -- What a pass knows.
 
 -- an entry under its number is its next pair
-pub pairs_mine : (c n : ℕ) (log : List (ℕ × Entry)) (x : Entry)
-    → pairs_by c n (log ++ (c, x) ∷ []) ≡ pairs_by c n log ++ (n + length log, x) ∷ []
-pairs_mine c n [] x =
-    ap (λ b. if b then (n, x) ∷ [] else []) (eq-eqb c c refl) ∙ ap (λ k. (k, x) ∷ []) (omega arith)
-pairs_mine c n (y ∷ ys) x =
-    let rest = pairs_mine c (suc n) ys x in
+mine_one : (c n : ℕ) (log : List (ℕ × Entry)) (z : ℕ × Entry) → z.0 ≡ c
+    → pairs_by c n (log ++ z ∷ []) ≡ pairs_by c n log ++ (n + length log, z.1) ∷ []
+mine_one c n [] z is =
+    ap (λ b. if b then (n, z.1) ∷ [] else []) (eq-eqb c z.0 (sym is)) ∙ ap (λ k. (k, z.1) ∷ []) (omega arith)
+mine_one c n (y ∷ ys) z is =
+    let rest = mine_one c (suc n) ys z is in
     let here : suc n + length ys ≡ n + suc (length ys) = omega arith in
-    let more = rest ∙ ap (λ k. pairs_by c (suc n) ys ++ (k, x) ∷ []) here in
-    by_test (eqb c y.0) (n, y.1) (pairs_by c (suc n) (ys ++ (c, x) ∷ [])) (pairs_by c (suc n) ys)
-    ((n + suc (length ys), x) ∷ []) more
+    let more = rest ∙ ap (λ k. pairs_by c (suc n) ys ++ (k, z.1) ∷ []) here in
+    by_test (eqb c y.0) (n, y.1) (pairs_by c (suc n) (ys ++ z ∷ [])) (pairs_by c (suc n) ys)
+    ((n + suc (length ys), z.1) ∷ []) more
   where
     by_test : (b : Bool) (z : ℕ × Entry) (ls ms more : List (ℕ × Entry)) → ls ≡ ms ++ more
         → (if b then z ∷ ls else ls) ≡ (if b then z ∷ ms else ms) ++ more
@@ -122,17 +135,40 @@ pairs_mine c n (y ∷ ys) x =
     by_test false z ls ms more e = e
 
 -- one under another's is none of it
-pub pairs_other : (c d n : ℕ) (log : List (ℕ × Entry)) (x : Entry) → c ≢ d
-    → pairs_by c n (log ++ (d, x) ∷ []) ≡ pairs_by c n log
-pairs_other c d n [] x ne = ap (λ b. if b then (n, x) ∷ [] else []) (ne_eqb c d ne)
-pairs_other c d n (y ∷ ys) x ne =
-    by_test (eqb c y.0) (n, y.1) (pairs_by c (suc n) (ys ++ (d, x) ∷ [])) (pairs_by c (suc n) ys)
-    (pairs_other c d (suc n) ys x ne)
+else_one : (c d n : ℕ) (log : List (ℕ × Entry)) (z : ℕ × Entry) → c ≢ d → z.0 ≡ d
+    → pairs_by c n (log ++ z ∷ []) ≡ pairs_by c n log
+else_one c d n [] z ne is =
+    ap (λ b. if b then (n, z.1) ∷ [] else []) (ne_eqb c z.0 (λ e. ne (e ∙ is)))
+else_one c d n (y ∷ ys) z ne is =
+    by_test (eqb c y.0) (n, y.1) (pairs_by c (suc n) (ys ++ z ∷ [])) (pairs_by c (suc n) ys)
+    (else_one c d (suc n) ys z ne is)
   where
     by_test : (b : Bool) (z : ℕ × Entry) (ls ms : List (ℕ × Entry)) → ls ≡ ms
         → (if b then z ∷ ls else ls) ≡ (if b then z ∷ ms else ms)
     by_test true z ls ms e = ap (λ l. z ∷ l) e
     by_test false z ls ms e = e
+
+-- so it is of a turn's
+pub pairs_mine : (c : ℕ) (log zs : List (ℕ × Entry)) → AreBy c zs
+    → pairs_by c 0 (log ++ zs) ≡ pairs_by c 0 log ++ pairs_from log zs
+pairs_mine c log [] by_it =
+    ap (pairs_by c 0) (append-nil log) ∙ sym (append-nil (pairs_by c 0 log))
+pairs_mine c log (z ∷ zs) by_it =
+    let long : length (log ++ z ∷ []) ≡ suc (length log) = let e = length_push log z in omega arith in
+    let first : 0 + length log ≡ length log = omega arith in
+    ap (pairs_by c 0) (sym (append_assoc log (z ∷ []) zs))
+    ∙ (pairs_mine c (log ++ z ∷ []) zs by_it.1
+    ∙ (ap (λ n. pairs_by c 0 (log ++ z ∷ []) ++ places_from n zs) long
+    ∙ (ap (λ l. l ++ places_from (suc (length log)) zs) (mine_one c 0 log z by_it.0)
+    ∙ (append_assoc (pairs_by c 0 log) ((0 + length log, z.1) ∷ []) (places_from (suc (length log)) zs)
+    ∙ ap (λ n. pairs_by c 0 log ++ (n, z.1) ∷ places_from (suc (length log)) zs) first))))
+
+pub pairs_else : (c d n : ℕ) (log zs : List (ℕ × Entry)) → c ≢ d → AreBy d zs
+    → pairs_by c n (log ++ zs) ≡ pairs_by c n log
+pairs_else c d n log [] ne by_it = ap (pairs_by c n) (append-nil log)
+pairs_else c d n log (z ∷ zs) ne by_it =
+    ap (pairs_by c n) (sym (append_assoc log (z ∷ []) zs))
+    ∙ (pairs_else c d n (log ++ z ∷ []) zs ne by_it.1 ∙ else_one c d n log z ne by_it.0)
 
 -- no entry is under a number that was not given
 pub no_pairs : (g n : ℕ) (log : List (ℕ × Entry)) → AreBelow g log → pairs_by g n log ≡ []
@@ -142,33 +178,16 @@ no_pairs g n (y ∷ ys) below =
     ap (λ b. if b then (n, y.1) ∷ pairs_by g (suc n) ys else pairs_by g (suc n) ys) (ne_eqb g y.0 ne)
     ∙ no_pairs g (suc n) ys below.1
 
-pub below_one : (g c : ℕ) (log : List (ℕ × Entry)) (x : Entry) → AreBelow g log → c < g
-    → AreBelow g (log ++ (c, x) ∷ [])
-below_one g c [] x below lt = (lt, tt)
-below_one g c (y ∷ ys) x below lt = (below.0, below_one g c ys x below.1 lt)
+pub below_all : (g c : ℕ) (log zs : List (ℕ × Entry)) → AreBelow g log → AreBy c zs → c < g
+    → AreBelow g (log ++ zs)
+below_all g c [] [] below by_it lt = tt
+below_all g c [] (z ∷ zs) below by_it lt =
+    (subst (λ n. n < g) (sym by_it.0) lt, below_all g c [] zs below by_it.1 lt)
+below_all g c (y ∷ ys) zs below by_it lt = (below.0, below_all g c ys zs below.1 by_it lt)
 
 pub below_next : (g : ℕ) (log : List (ℕ × Entry)) → AreBelow g log → AreBelow (suc g) log
 below_next g [] below = tt
 below_next g (y ∷ ys) below = (let lt = below.0 in omega (arith, lt), below_next g ys below.1)
-
--- The last of a list.
-
-nil_snoc : {A : Type 0} (xs : List A) (x : A) → xs ++ x ∷ [] ≡ [] → ⊥
-nil_snoc [] x h = absurd (cc)
-nil_snoc (y ∷ ys) x h = absurd (cc)
-
-tails : {A : Type 0} (x y : A) (xs ys : List A) → x ∷ xs ≡ y ∷ ys → (x ≡ y) × (xs ≡ ys)
-tails x y xs ys h = (cc, cc)
-
--- two lists are the same, if they are with one more each, and so are these
-pub fronts : {A : Type 0} (xs ys : List A) (x y : A) → xs ++ x ∷ [] ≡ ys ++ y ∷ [] → (xs ≡ ys) × (x ≡ y)
-fronts [] [] x y h = (refl, (tails x y [] [] h).0)
-fronts [] (b ∷ ys) x y h = absurd (nil_snoc ys y (sym (tails x b [] (ys ++ y ∷ []) h).1))
-fronts (a ∷ xs) [] x y h = absurd (nil_snoc xs x (tails a y (xs ++ x ∷ []) [] h).1)
-fronts (a ∷ xs) (b ∷ ys) x y h =
-    let t = tails a b (xs ++ x ∷ []) (ys ++ y ∷ []) h in
-    let rest = fronts xs ys x y t.1 in
-    (ap (λ l. a ∷ l) rest.0 ∙ ap (λ c. c ∷ ys) t.0, rest.1)
 
 -- Views.
 

@@ -5,19 +5,18 @@ use mathlib.Core.Option.{some}
 use lib.ListN.{get_elem?}
 use Rattle.atomic_table.proofs.Lists.{at_set, set_again}
 use Rattle.tree_model.specs.declared.names.ProcessId.{ProcessId}
-use Rattle.tree_model.specs.declared.events.Entry.{Entry}
 use Rattle.tree_ties.specs.declared.views.View.{View}
-use Rattle.tree_ties.specs.Views.{AreBelow, beside, beside_pass, given_more, idle_at, new_pass, newcomer, opened_more, pairs_by, pass_part, process_part, spent, without_pass, without_process}
+use Rattle.tree_ties.specs.Views.{AreBelow, beside, beside_pass, given_more, process_at, new_pass, newcomer, opened_more, pairs_by, pass_part, process_part, spent, without_pass, without_process}
 use Rattle.tree_ties.specs.Rule.{Fits, IsTied}
 use Rattle.tree_ties.proofs.Lists.{apart_by, below_next, fits_new, fits_set, no_pairs, off, upd, upd_else, upd_here}
 use Rattle.tree_ties.proofs.Moves.{holds_at, keeps_at, works_at}
 
-module _ (names : List ProcessId) (ws : List ℕ) (views : List View) (id : ℕ) (v : View)
-    (h : IsTied names ws views) (at : get_elem? views id ≡ some v) where
+module _ (names : List ProcessId) (views : List View) (id : ℕ) (v : View)
+    (h : IsTied names views) (at : get_elem? views id ≡ some v) where
   -- the rule holds as it did, with other seats
   reseated : (views' : List View) (ps hs : ℕ → ℕ)
       → ((by : ℕ) (u : View) → get_elem? views' by ≡ some u → Fits names h.js h.o h.g h.log ps hs h.now by u)
-      → IsTied names ws views'
+      → IsTied names views'
   reseated views' ps hs fits = record {
     js = h.js;
     o = h.o;
@@ -26,14 +25,11 @@ module _ (names : List ProcessId) (ws : List ℕ) (views : List View) (id : ℕ)
     ps = ps;
     hs = hs;
     now = h.now;
-    late = h.late;
     tie = h.tie;
     named = h.named;
-    state = h.state;
+    sent = h.sent;
     fresh = h.fresh;
     few = h.few;
-    room = h.room;
-    phases = h.phases;
     apart = h.apart;
     known = h.known;
     fits = fits;
@@ -45,16 +41,16 @@ module _ (names : List ProcessId) (ws : List ℕ) (views : List View) (id : ℕ)
   here j u e = h.fits j u (subst (λ l. get_elem? l j ≡ some u) (set_again views id v at) e)
 
   -- a seat that knows nothing
-  pub spares : IsTied names ws (set views id v ++ spent ∷ [])
+  pub spares : IsTied names (set views id v ++ spent ∷ [])
   spares = reseated (set views id v ++ spent ∷ []) h.ps h.hs
       (fits_new (Fits names h.js h.o h.g h.log h.ps h.hs h.now) (set views id v) spent here
       ((λ w. absurd (off w)), (λ w. absurd (off w)), (λ w. absurd (off w))))
 
   -- The journal's seat and a process's beside it part.
-  pub parts : v.process.works ≡ true → IsTied names ws (set views id (without_process v) ++ process_part v ∷ [])
+  pub parts : v.process.works ≡ true → IsTied names (set views id (without_process v) ++ process_part v ∷ [])
   parts works =
-      let p = v.process.word in
-      let m = works_at names ws views id v h at works in
+      let p = v.process.place in
+      let m = works_at names views id v h at works in
       let place : ℕ = length (set views id (without_process v)) in
       let ps : ℕ → ℕ = upd h.ps p place in
       let F : ℕ → View → Type 0 = Fits names h.js h.o h.g h.log ps h.hs h.now in
@@ -66,18 +62,18 @@ module _ (names : List ProcessId) (ws : List ℕ) (views : List View) (id : ℕ)
         f.0,
         (λ w.
             let x = f.1 w in
-            let ne = apart_by h.ps j id u.process.word p away x.0 m.0 in
-            (x.0 ∙ sym (upd_else h.ps p place u.process.word ne), x.1, x.2)),
+            let ne = apart_by h.ps j id u.process.place p away x.0 m.0 in
+            (x.0 ∙ sym (upd_else h.ps p place u.process.place ne), x.1, x.2)),
         f.2,
       ))
       ((h.fits id v at).0, (λ w. absurd (off w)), (h.fits id v at).2))
       ((λ w. absurd (off w)), (λ w. (sym (upd_here h.ps p place), m.1, m.2)), (λ w. absurd (off w))))
 
   -- The journal's seat and a pass beside it part.
-  pub parts_pass : v.pass.holds ≡ true → IsTied names ws (set views id (without_pass v) ++ pass_part v ∷ [])
+  pub parts_pass : v.pass.holds ≡ true → IsTied names (set views id (without_pass v) ++ pass_part v ∷ [])
   parts_pass holds =
       let c = v.pass.caller in
-      let d = holds_at names ws views id v h at holds in
+      let d = holds_at names views id v h at holds in
       let place : ℕ = length (set views id (without_pass v)) in
       let hs : ℕ → ℕ = upd h.hs c place in
       let F : ℕ → View → Type 0 = Fits names h.js h.o h.g h.log h.ps hs h.now in
@@ -107,9 +103,9 @@ module _ (names : List ProcessId) (ws : List ℕ) (views : List View) (id : ℕ)
 
   pub joins : (other : ℕ) (u : View) → u.process.works ≡ true → other ≢ id
       → get_elem? (set views id (beside v u)) other ≡ some u
-      → IsTied names ws (set (set views id (beside v u)) other spent)
+      → IsTied names (set (set views id (beside v u)) other spent)
   joins other u works ne there =
-      let p = u.process.word in
+      let p = u.process.place in
       let was = was_there (beside v u) other u ne there in
       let m = (h.fits other u was).1 works in
       let ps : ℕ → ℕ = upd h.ps p id in
@@ -122,8 +118,8 @@ module _ (names : List ProcessId) (ws : List ℕ) (views : List View) (id : ℕ)
         f.0,
         (λ w.
             let k = f.1 w in
-            let ne' = apart_by h.ps i other y.process.word p far' k.0 m.0 in
-            (k.0 ∙ sym (upd_else h.ps p id y.process.word ne'), k.1, k.2)),
+            let ne' = apart_by h.ps i other y.process.place p far' k.0 m.0 in
+            (k.0 ∙ sym (upd_else h.ps p id y.process.place ne'), k.1, k.2)),
         f.2,
       ))
       (λ far'. (
@@ -136,7 +132,7 @@ module _ (names : List ProcessId) (ws : List ℕ) (views : List View) (id : ℕ)
 
   pub joins_pass : (other : ℕ) (u : View) → u.pass.holds ≡ true → other ≢ id
       → get_elem? (set views id (beside_pass v u)) other ≡ some u
-      → IsTied names ws (set (set views id (beside_pass v u)) other spent)
+      → IsTied names (set (set views id (beside_pass v u)) other spent)
   joins_pass other u holds ne there =
       let c = u.pass.caller in
       let was = was_there (beside_pass v u) other u ne there in
@@ -165,9 +161,9 @@ module _ (names : List ProcessId) (ws : List ℕ) (views : List View) (id : ℕ)
 
   -- A new pass.
   pub gives : v.journal.keeps ≡ true → v.pass.holds ≡ false
-      → IsTied names ws (set views id (given_more v) ++ new_pass v ∷ [])
+      → IsTied names (set views id (given_more v) ++ new_pass v ∷ [])
   gives keeps spare =
-      let k = keeps_at names ws views id v h at keeps in
+      let k = keeps_at names views id v h at keeps in
       let c = v.journal.given in
       let place : ℕ = length (set views id (given_more v)) in
       let hs : ℕ → ℕ = upd h.hs c place in
@@ -179,14 +175,11 @@ module _ (names : List ProcessId) (ws : List ℕ) (views : List View) (id : ℕ)
         log = h.log;
         ps = h.ps;
         now = h.now;
-        late = h.late;
         tie = h.tie;
         named = h.named;
-        state = h.state;
+        sent = h.sent;
         fresh = h.fresh;
         few = h.few;
-        room = h.room;
-        phases = h.phases;
         apart = h.apart;
         g = suc c;
         hs = hs;
@@ -216,15 +209,15 @@ module _ (names : List ProcessId) (ws : List ℕ) (views : List View) (id : ℕ)
 
   -- The next process gets a seat.
   pub opens : v.journal.keeps ≡ true → v.process.works ≡ false → v.journal.opened < length names
-      → IsTied names ws (set views id (opened_more v) ++ newcomer v ∷ [])
+      → IsTied names (set views id (opened_more v) ++ newcomer v ∷ [])
   opens keeps idle low =
-      let k = keeps_at names ws views id v h at keeps in
+      let k = keeps_at names views id v h at keeps in
       let p = v.journal.opened in
       let place : ℕ = length (set views id (opened_more v)) in
       let ps : ℕ → ℕ = upd h.ps p place in
       let F : ℕ → View → Type 0 = Fits names h.js (suc p) h.g h.log ps h.hs h.now in
       let new : (newcomer v).process ≡ h.now p =
-      ap (λ ns. idle_at p (slice_get ns p) []) k.4 ∙ sym (h.fresh p (let b = k.2 in omega arith)) in
+      ap (λ ns. process_at p (slice_get ns p) [] []) k.4 ∙ sym (h.fresh p (let b = k.2 in omega arith)) in
       record {
         js = h.js;
         g = h.g;
@@ -232,12 +225,9 @@ module _ (names : List ProcessId) (ws : List ℕ) (views : List View) (id : ℕ)
         hs = h.hs;
         known = h.known;
         now = h.now;
-        late = h.late;
         tie = h.tie;
         named = h.named;
-        state = h.state;
-        room = h.room;
-        phases = h.phases;
+        sent = h.sent;
         apart = h.apart;
         o = suc p;
         ps = ps;
@@ -252,8 +242,8 @@ module _ (names : List ProcessId) (ws : List ℕ) (views : List View) (id : ℕ)
                   let x = f.1 w in
                   let less = x.2 in
                   let same = k.2 in
-                  let ne : u.process.word ≢ p = λ e. absurd (omega arith) in
-                  (x.0 ∙ sym (upd_else h.ps p place u.process.word ne), x.1, omega arith)),
+                  let ne : u.process.place ≢ p = λ e. absurd (omega arith) in
+                  (x.0 ∙ sym (upd_else h.ps p place u.process.place ne), x.1, omega arith)),
               f.2,
             )) (
               (λ w. (k.0, k.1, refl, k.3, k.4)),
@@ -269,11 +259,11 @@ module _ (names : List ProcessId) (ws : List ℕ) (views : List View) (id : ℕ)
   -- A pass beside the journal.
   pub met : v.journal.keeps ≡ true → v.pass.holds ≡ true → v.pass.pairs ≡ pairs_by v.pass.caller 0 v.journal.all
   met keeps holds =
-      let k = keeps_at names ws views id v h at keeps in
-      let d = holds_at names ws views id v h at holds in d.1 ∙ ap (pairs_by v.pass.caller 0) (sym k.1)
+      let k = keeps_at names views id v h at keeps in
+      let d = holds_at names views id v h at holds in d.1 ∙ ap (pairs_by v.pass.caller 0) (sym k.1)
 
   -- The journal alone.
   pub known : v.journal.keeps ≡ true → AreBelow v.journal.given v.journal.all
   known keeps =
-      let k = keeps_at names ws views id v h at keeps in
+      let k = keeps_at names views id v h at keeps in
       subst (λ l. AreBelow v.journal.given l) (sym k.1) (subst (λ n. AreBelow n h.log) (sym k.3) h.known)

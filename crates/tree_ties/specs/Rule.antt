@@ -1,31 +1,14 @@
--- The rule of the table: each process's entries are the journal's of it, and then what it has not entered; each pass's
--- pairs are the journal's under its number.
-use Rattle.std.specs.Prelude.{◌≡◌, ◌<◌, ◌≤◌, ⊤, ℕ, true, Option, Some, None, List, [], ◌∷◌, ◌++◌, length, get_or, slice_get}
+-- The rule of the table: each process's entries are the journal's of it, and the messages that it noted are the first of the
+-- journal's; each pass's pairs are the journal's under its number.
+use Rattle.std.specs.Prelude.{◌≡◌, ◌<◌, ◌≤◌, ℕ, true, Some, List, [], length, slice_get}
 use mathlib.Core.Option.{some}
 use lib.ListN.{get_elem?}
 use Rattle.tree_model.specs.declared.names.ProcessId.{ProcessId}
-use Rattle.tree_model.specs.declared.messages.Envelope.{Envelope}
 use Rattle.tree_model.specs.declared.events.Entry.{Entry}
-use Rattle.tree_cut.specs.Cuts.{FindsMessage, net_of}
+use Rattle.tree_cut.specs.Cuts.{net_of}
 use Rattle.tree_ties.specs.declared.views.ProcessView.{ProcessView}
 use Rattle.tree_ties.specs.declared.views.View.{View}
-use Rattle.tree_ties.specs.Views.{AreBelow, entries_in, idle_at, own_of, pairs_by}
-
--- what is wanted may come after this net: a message that it delivers stands there, under its number
-abbrev pub IsWanted : Option Entry → List Envelope → Type 0
-IsWanted None net = ⊤
-IsWanted (Some x) net = FindsMessage net x.step.process x.step.happening
-
--- the entry tells of the step that was wanted
-abbrev pub IsStepOf : Option Entry → Entry → Type 0
-IsStepOf None x = ⊥
-IsStepOf (Some w) x = x.step ≡ w.step
-
--- What a process has made and not entered yet, by its phase: idle, wanting, made.
-pub record InPhase (p : ProcessView) (late : List Entry) (net : List Envelope) : Type 0 where
-  pub idle : p.phase ≡ 0 → late ≡ []
-  pub wants : p.phase ≡ 1 → (late ≡ []) × IsWanted p.wanted net
-  pub makes : p.phase ≡ 2 → (x : Entry) × (late ≡ x ∷ []) × IsStepOf p.wanted x × IsWanted p.wanted net
+use Rattle.tree_ties.specs.Views.{AreBelow, IsFront, entries_in, own_of, pairs_by, process_at}
 
 -- of the seat with this number: if it keeps the journal, it is the one that does
 abbrev pub KeepsLog : List ProcessId → ℕ → ℕ → ℕ → List (ℕ × Entry) → ℕ → View → Type 0
@@ -35,7 +18,7 @@ KeepsLog names js o g log by v = v.journal.keeps ≡ true
 -- if it works for a process, it is the one that does
 abbrev pub Works : ℕ → (ℕ → ℕ) → (ℕ → ProcessView) → ℕ → View → Type 0
 Works o ps now by v = v.process.works ≡ true
-    → (by ≡ ps v.process.word) × (v.process ≡ now v.process.word) × (v.process.word < o)
+    → (by ≡ ps v.process.place) × (v.process ≡ now v.process.place) × (v.process.place < o)
 
 -- if it holds a pass, it is the one that does, and the pass's pairs are just the journal's under its number
 abbrev pub Holds : ℕ → List (ℕ × Entry) → (ℕ → ℕ) → ℕ → View → Type 0
@@ -47,26 +30,24 @@ abbrev pub Fits : List ProcessId → ℕ → ℕ → ℕ → List (ℕ × Entry)
     → Type 0
 Fits names js o g log ps hs now by v = KeepsLog names js o g log by v × Works o ps now by v × Holds g log hs by v
 
--- Each process's entries are the journal's of it, and then what is late; each pass has its own.
-pub record IsTied (names : List ProcessId) (words : List ℕ) (views : List View) : Type 0 where
+-- Each process's entries are the journal's of it; each pass has its own.
+pub record IsTied (names : List ProcessId) (views : List View) : Type 0 where
   -- the seat of the journal, how many processes have a seat, how many passes were given, and the entries with their
   -- callers
   pub js : ℕ
   pub o : ℕ
   pub g : ℕ
   pub log : List (ℕ × Entry)
-  -- by word: the seat of the process, what that knows, and what is late; by number: the seat of the pass
+  -- by place: the seat of the process, and what that knows; by number: the seat of the pass
   pub ps : ℕ → ℕ
   pub now : ℕ → ProcessView
-  pub late : ℕ → List Entry
   pub hs : ℕ → ℕ
-  pub tie : (p : ℕ) → (now p).own ≡ own_of (slice_get names p) (entries_in log) ++ late p
+  pub tie : (p : ℕ) → (now p).own ≡ own_of (slice_get names p) (entries_in log)
   pub named : (p : ℕ) → (now p).name ≡ slice_get names p
-  pub state : (p : ℕ) → InPhase (now p) (late p) (net_of (entries_in log))
-  pub fresh : (p : ℕ) → o ≤ p → now p ≡ idle_at p (slice_get names p) []
+  -- the messages that it noted are the first of the journal's
+  pub sent : (p : ℕ) → IsFront (now p).net (net_of (entries_in log))
+  pub fresh : (p : ℕ) → o ≤ p → now p ≡ process_at p (slice_get names p) [] []
   pub few : o ≤ length names
-  pub room : length words ≡ length names
-  pub phases : (p : ℕ) → get_or words p 0 ≡ (now p).phase
   pub apart : (p q : ℕ) (d : ProcessId) → slice_get names p ≡ Some d → slice_get names q ≡ Some d → p ≡ q
   -- each entry is under the number of a pass that was given
   pub known : AreBelow g log

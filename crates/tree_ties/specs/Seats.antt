@@ -1,5 +1,5 @@
 -- What steps ask of seats.
-use Rattle.std.specs.Prelude.{◌≡◌, ◌<◌, ℕ, true, []}
+use Rattle.std.specs.Prelude.{◌≡◌, ◌<◌, ℕ, true, List, []}
 use Rattle.atomic_table.specs.Seated.{TableId}
 use Rattle.atomic_table.specs.Table.{Me}
 use Rattle.tree_model.specs.declared.events.Entry.{Entry}
@@ -15,18 +15,13 @@ abbrev pub SitTogether : TableId → TableId → TableId → Type 0
 SitTogether table journal seat = (journal ≡ table) × (seat ≡ table) × (0 < table.words)
 
 -- the seat is the journal's
-abbrev pub KeepsJournal : Me Entry View → Type 0
+abbrev pub KeepsJournal : Me (List (ℕ × Entry)) View → Type 0
 KeepsJournal me = let j = me.0.journal in me ≡ (keeper j.names j.opened j.given j.all, [])
 
--- the seat is a process's, which is in this phase
-abbrev pub WorksIn : ℕ → Me Entry View → Type 0
-WorksIn phase me =
-    (me ≡ (worker me.0.process, [])) × (me.0.process.works ≡ true) × (me.0.process.phase ≡ phase)
-
--- this is its word
-abbrev pub HasWord : TableId → ℕ → Me Entry View → Type 0
-HasWord table word me = (me.0.process.word ≡ word) × (word < table.words)
+-- the seat is a process's
+abbrev pub IsProcess : Me (List (ℕ × Entry)) View → Type 0
+IsProcess me = (me ≡ (worker me.0.process, [])) × (me.0.process.works ≡ true)
 
 -- the seat is a pass
-abbrev pub IsPass : Me Entry View → Type 0
+abbrev pub IsPass : Me (List (ℕ × Entry)) View → Type 0
 IsPass me = me ≡ (holder me.0.pass.caller me.0.pass.pairs, [])

@@ -1,9 +1,11 @@
 -- What seats know.
-use Rattle.std.specs.Prelude.{◌≡◌, ◌<◌, ℕ, suc, eqb, if◌then◌else◌, true, false, Option, Some, None, List, [], ◌∷◌, ◌++◌, length, map, slice_get}
+use Rattle.std.specs.Prelude.{◌≡◌, ◌<◌, ⊤, ℕ, suc, eqb, if◌then◌else◌, true, false, Option, Some, None, List, [], ◌∷◌, ◌++◌, length, map, slice_get}
 use Rattle.atomic_table.specs.Seated.{TableId}
 use Rattle.tree_model.specs.declared.names.ProcessId.{ProcessId}
+use Rattle.tree_model.specs.declared.messages.Envelope.{Envelope}
 use Rattle.tree_model.specs.declared.events.Entry.{Entry}
 use Rattle.tree_model.specs.World.{entries_of}
+use Rattle.tree_cut.specs.Cuts.{net_of}
 use Rattle.tree_ties.specs.declared.views.JournalView.{JournalView}
 use Rattle.tree_ties.specs.declared.views.ProcessView.{ProcessView}
 use Rattle.tree_ties.specs.declared.views.PassView.{PassView}
@@ -32,13 +34,37 @@ abbrev pub AreBelow : ℕ → List (ℕ × Entry) → Type 0
 AreBelow n [] = Unit {0}
 AreBelow n (x ∷ xs) = (x.0 < n) × AreBelow n xs
 
+-- each entry is under this caller's number
+abbrev pub AreBy : ℕ → List (ℕ × Entry) → Type 0
+AreBy c [] = ⊤
+AreBy c (z ∷ zs) = (z.0 ≡ c) × AreBy c zs
+
+-- each entry is of the process with this name
+abbrev pub AreOf : Option ProcessId → List (ℕ × Entry) → Type 0
+AreOf o [] = ⊤
+AreOf o (z ∷ zs) = (o ≡ Some z.1.step.process) × AreOf o zs
+
+-- these entries, each with its place, the first of them having this place
+abbrev pub places_from : ℕ → List (ℕ × Entry) → List (ℕ × Entry)
+places_from n [] = []
+places_from n (z ∷ zs) = (n, z.1) ∷ places_from (suc n) zs
+
+-- the entries that come after a journal's, each with its place
+abbrev pub pairs_from : List (ℕ × Entry) → List (ℕ × Entry) → List (ℕ × Entry)
+pairs_from all zs = places_from (length all) zs
+
+-- the first of all messages are these
+pub record IsFront (net all : List Envelope) : Type 0 where
+  pub more : List Envelope
+  pub all_are : all ≡ net ++ more
+
 -- Parts of a view.
 
 abbrev pub no_journal : JournalView
 no_journal = record { keeps = false; names = []; opened = 0; given = 0; all = [] }
 
 abbrev pub no_process : ProcessView
-no_process = record { works = false; word = 0; name = None; own = []; phase = 0; wanted = None }
+no_process = record { works = false; place = 0; name = None; own = []; net = [] }
 
 abbrev pub no_pass : PassView
 no_pass = record { holds = false; caller = 0; pairs = [] }
@@ -87,24 +113,19 @@ without_pass v = record v { pass = no_pass }
 abbrev pub pass_part : View → View
 pass_part v = record { journal = no_journal; process = no_process; pass = v.pass }
 
--- A process between steps.
+-- A process.
 
--- an idle process that has these entries
-abbrev pub idle_at : ℕ → Option ProcessId → List Entry → ProcessView
-idle_at word name own =
-    record { works = true; word = word; name = name; own = own; phase = 0; wanted = None }
+-- a process at this place, with this name, that has these entries and noted these messages
+abbrev pub process_at : ℕ → Option ProcessId → List Entry → List Envelope → ProcessView
+process_at place name own net = record { works = true; place = place; name = name; own = own; net = net }
 
--- one that wants this
-abbrev pub wanting : ProcessView → Entry → ProcessView
-wanting p x = record p { phase = 1; wanted = Some x }
+-- it notes these messages
+abbrev pub noted : ProcessView → List Envelope → ProcessView
+noted p net = record p { net = net }
 
--- it made this
-abbrev pub made : ProcessView → Entry → ProcessView
-made p x = record p { own = p.own ++ x ∷ []; phase = 2 }
-
--- it wants nothing any more
-abbrev pub cleared : ProcessView → ProcessView
-cleared p = record p { phase = 0; wanted = None }
+-- it has the entries of a turn more
+abbrev pub entered_by : ProcessView → List (ℕ × Entry) → ProcessView
+entered_by p zs = record p { own = p.own ++ entries_in zs }
 
 -- Changes of a view.
 
@@ -114,7 +135,7 @@ opened_more v = record v { journal = record v.journal { opened = suc v.journal.o
 
 -- the next process
 abbrev pub newcomer : View → View
-newcomer v = worker (idle_at v.journal.opened (slice_get v.journal.names v.journal.opened) [])
+newcomer v = worker (process_at v.journal.opened (slice_get v.journal.names v.journal.opened) [] [])
 
 -- one pass more was given
 abbrev pub given_more : View → View
@@ -124,14 +145,14 @@ given_more v = record v { journal = record v.journal { given = suc v.journal.giv
 abbrev pub new_pass : View → View
 new_pass v = holder v.journal.given []
 
--- the process of a view stands so
-abbrev pub with_process : View → ProcessView → View
-with_process v p = record v { process = p }
+-- its process notes the messages of its journal
+abbrev pub with_net : View → View
+with_net v = record v { process = noted v.process (net_of (entries_in v.journal.all)) }
 
--- the journal has one entry more, under the pass's number, the pass notes it, and its process is idle
-abbrev pub entered : View → Entry → View
-entered v x = record {
-  journal = record v.journal { all = v.journal.all ++ (v.pass.caller, x) ∷ [] };
-  process = cleared v.process;
-  pass = record v.pass { pairs = v.pass.pairs ++ (length v.journal.all, x) ∷ [] };
+-- the journal has the entries of a turn more, its process and its pass, too
+abbrev pub entered : View → List (ℕ × Entry) → View
+entered v zs = record {
+  journal = record v.journal { all = v.journal.all ++ zs };
+  process = entered_by v.process zs;
+  pass = record v.pass { pairs = v.pass.pairs ++ pairs_from v.journal.all zs };
 }

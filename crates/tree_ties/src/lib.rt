@@ -4,15 +4,16 @@
 //!
 //! A process works under a lock of its own, and the journal lies under one of its own. Neither can see what the
 //! other has. A seat of a shared table tells its holder what is true of both all the same: each step below is
-//! one atomic operation on the word of a process, and keeps the rule that ties them.
+//! one atomic operation on the table, and keeps the rule that ties them.
 //!
 //! ```text
-//! idle --want--> wanting --make--> made --put--> idle
-//!                   \--drop_want--> idle
+//! under both locks        note_net: the process notes the messages of the journal
+//! under the process's     it makes steps, as many as it likes, of which the table knows nothing
+//! under both locks        put: the journal has the entries of these steps, in one piece
 //! ```
 //!
-//! An idle or wanting process has just the journal's entries of it; one that made a step has one more. A pass has
-//! just the pairs of the journal's entries under its caller's number, and each entry is under the number of a pass that
+//! A process's entries are just the journal's of it, and the messages that it noted are the first of the journal's. A pass
+//! has just the pairs of the journal's entries under its caller's number, and each entry is under the number of a pass that
 //! was given.
 #![tactic(auto)]
 

@@ -1,39 +1,20 @@
 //! What each step tells its caller, and how seats are cut and put together.
-use crate::views::View;
+use crate::views::{Told, View};
 use atomic_table::{Join, Play, Split};
-use tree_model::Entry;
 
-/// A process comes to want a step.
-pub struct Wants;
+/// A process notes the messages of the journal.
+pub struct NotesNet;
 
-impl Play<Entry, View> for Wants {
-    ghost use Rattle.tree_ties.specs.Plays.{Wants as Telling};
-
-    ghost then = { Telling };
-}
-
-/// It made the step.
-pub struct Makes;
-
-impl Play<Entry, View> for Makes {
-    ghost use Rattle.tree_ties.specs.Plays.{Makes as Telling};
+impl Play<Told, View> for NotesNet {
+    ghost use Rattle.tree_ties.specs.Plays.{NotesNet as Telling};
 
     ghost then = { Telling };
 }
 
-/// It wants nothing any more.
-pub struct Drops;
-
-impl Play<Entry, View> for Drops {
-    ghost use Rattle.tree_ties.specs.Plays.{Drops as Telling};
-
-    ghost then = { Telling };
-}
-
-/// The journal has what the process made, and the pass notes it.
+/// The journal has what the process made in a turn, and the pass notes it.
 pub struct Puts;
 
-impl Play<Entry, View> for Puts {
+impl Play<Told, View> for Puts {
     ghost use Rattle.tree_ties.specs.Plays.{Puts as Telling};
 
     ghost then = { Telling };
@@ -42,7 +23,7 @@ impl Play<Entry, View> for Puts {
 /// A pass is met by the journal.
 pub struct Meets;
 
-impl Play<Entry, View> for Meets {
+impl Play<Told, View> for Meets {
     ghost use Rattle.tree_ties.specs.Plays.{Meets as Telling};
 
     ghost then = { Telling };
@@ -51,16 +32,16 @@ impl Play<Entry, View> for Meets {
 /// The journal is looked at alone.
 pub struct Looks;
 
-impl Play<Entry, View> for Looks {
+impl Play<Told, View> for Looks {
     ghost use Rattle.tree_ties.specs.Plays.{Looks as Telling};
 
     ghost then = { Telling };
 }
 
-/// An idle process is compared with the journal.
+/// A process is compared with the journal.
 pub struct Sees;
 
-impl Play<Entry, View> for Sees {
+impl Play<Told, View> for Sees {
     ghost use Rattle.tree_ties.specs.Plays.{Sees as Telling};
 
     ghost then = { Telling };

@@ -1,16 +1,16 @@
 //! The table, and who has a seat at it.
 
-ghost use Rattle.std.specs.Prelude.{◌≡◌, ◌<◌, ◌+◌, [], IfOk, length, replicate, slice_get};
-ghost use Rattle.tree_ties.specs.Views.{holder, idle_at, keeper, worker};
+ghost use Rattle.std.specs.Prelude.{◌≡◌, ◌<◌, ◌+◌, [], ◌∷◌, IfOk, length, slice_get};
+ghost use Rattle.tree_ties.specs.Views.{holder, keeper, process_at, worker};
 ghost use Rattle.tree_ties.specs.Rule.{AreApart};
 ghost use Rattle.tree_ties.specs.Seats.{KeepsJournal, SitsAt};
 
 use crate::plays::{Gives, Opens};
-use crate::views::View;
+use crate::views::{Told, View};
 use atomic_table::{Seat, Table, TableRule};
 use std::alloc::{AllocError, Global};
 use std::marker::Brand;
-use tree_model::{Entry, ProcessId};
+use tree_model::ProcessId;
 
 /// Names one table, the tree whose processes have seats there, and how many passes are given. What works with seats is
 /// generic over it, and is called with `Brand`.
@@ -37,25 +37,25 @@ impl Seats for Brand {
     ghost callers = { 0 };
 }
 
-/// The rule of the table: each process's entries are the journal's of it, and then what it has not entered; each pass's
-/// pairs are the journal's under its number.
+/// The rule of the table: each process's entries are the journal's of it, and the messages that it noted are the first of
+/// the journal's; each pass's pairs are the journal's under its number.
 pub struct Tie;
 
-impl TableRule<Entry, View, Vec<ProcessId>> for Tie {
+impl TableRule<Told, View, Vec<ProcessId>> for Tie {
     ghost use Rattle.std.specs.Prelude.{[]};
     ghost use Rattle.tree_ties.specs.Views.{keeper};
     ghost use Rattle.tree_ties.specs.Rule.{IsTied};
 
-    ghost holds = { λ about s. IsTied about.items s.words s.views };
+    ghost holds = { λ about s. IsTied about.items s.views };
 
     ghost first = { λ about. keeper about.items 0 0 [] };
 }
 
-/// The table: a word for each process.
-pub type Ties = Table<Entry, View, Vec<ProcessId>, Tie, Global>;
+/// The table. Each step is one atomic operation on its one word, which stays 0.
+pub type Ties = Table<Told, View, Vec<ProcessId>, Tie, Global>;
 
 /// A seat at it.
-pub type Place = Seat<Entry, View>;
+pub type Place = Seat<Told, View>;
 
 /// A table at which no process has a seat yet, and the journal's seat.
 #[derive(Drop)]
@@ -65,16 +65,16 @@ pub struct Opened {
     /// The journal's seat.
     pub journal: Place,
     ghost sits: { journal.table_id ≡ ties.shared.table_id },
-    ghost words: { ties.shared.table_id.words ≡ length ties.shared.key.items },
+    ghost words: { 0 < ties.shared.table_id.words },
     ghost keeps: { journal.me ≡ (keeper ties.shared.key.items 0 0 [], []) },
 }
 
-/// A word for each of these names.
-fn zeros(alloc: Global, names: &[ProcessId]) -> Result<Vec<u64>, AllocError>
-    ensures { IfOk result (λ words. words.items ≡ replicate (length names.now) 0) }
+/// One word, which is 0.
+fn one_word(alloc: Global) -> Result<Vec<u64>, AllocError>
+    ensures { IfOk result (λ words. words.items ≡ 0 ∷ []) }
 {
     let mut words = Vec::new(alloc);
-    words.resize(names.len(), 0)?;
+    words.push(0)?;
     Ok(words)
 }
 
@@ -84,16 +84,16 @@ pub fn open(alloc: Global, names: &Vec<ProcessId>) -> Result<Opened, AllocError>
     requires { AreApart names.now.items }
     ensures { IfOk result (λ o. o.ties.shared.key ≡ names.now) }
 {
-    let words = zeros(alloc, names)?;
+    let words = one_word(alloc)?;
     let (ties, journal) = Table::of_words(alloc, words.as_slice(), names)?;
     Ok(Opened { ties, journal })
 }
 
-/// The next process, in the order of their names, gets a seat. It is idle, and has made nothing.
+/// The next process, in the order of their names, gets a seat. It has made nothing.
 pub fn seat(ties: &Ties, journal: &mut Place) -> Place
     requires here { SitsAt ties.now.shared.table_id journal.old.table_id }
     requires journal { KeepsJournal journal.old.me }
-    requires word { journal.old.me.0.journal.opened < length ties.now.shared.key.items }
+    requires place { journal.old.me.0.journal.opened < length ties.now.shared.key.items }
     ensures journal { (journal.new.table_id ≡ journal.old.table_id)
         × (journal.new.me ≡ (
           keeper journal.old.me.0.journal.names (journal.old.me.0.journal.opened + 1)
@@ -102,8 +102,8 @@ pub fn seat(ties: &Ties, journal: &mut Place) -> Place
         )) }
     ensures seat { (result.table_id ≡ journal.old.table_id)
         × (result.me ≡ (
-          worker (idle_at journal.old.me.0.journal.opened
-              (slice_get journal.old.me.0.journal.names journal.old.me.0.journal.opened) []),
+          worker (process_at journal.old.me.0.journal.opened
+              (slice_get journal.old.me.0.journal.names journal.old.me.0.journal.opened) [] []),
           [],
         )) }
 {

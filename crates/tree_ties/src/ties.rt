@@ -2,30 +2,30 @@
 //!
 //! A step is told one seat. Where it speaks of more, the others are lent to the journal's for the time of the step.
 
-ghost use Rattle.std.specs.Prelude.{◌≡◌, List, ◌++◌, true, [], ◌∷◌, Some, length};
+ghost use Rattle.std.specs.Prelude.{◌≡◌, ◌++◌, true, []};
 ghost use Rattle.tree_cut.specs.Cuts.{net_of};
-ghost use Rattle.tree_model.specs.declared.events.Entry.{Entry as AnyEntry};
 ghost use Rattle.tree_ties.specs.Views.{
   AreBelow,
+  AreBy,
+  AreOf,
   beside,
   beside_pass,
-  cleared,
+  entered_by,
   entries_in,
   holder,
   keeper,
-  made,
+  noted,
   own_of,
   pairs_by,
-  wanting,
+  pairs_from,
   worker,
 };
-ghost use Rattle.tree_ties.specs.Rule.{IsStepOf, IsWanted};
-ghost use Rattle.tree_ties.specs.Plays.{IsLate};
-ghost use Rattle.tree_ties.specs.Seats.{HasWord, IsPass, KeepsJournal, SitTogether, SitsAt, WorksIn};
+ghost use Rattle.tree_ties.specs.Plays.{IsUpTo};
+ghost use Rattle.tree_ties.specs.Seats.{IsPass, IsProcess, KeepsJournal, SitTogether, SitsAt};
 
-use crate::plays::{Drops, Looks, Makes, Meets, Puts, Sees, Spare, Wants, WithPass, WithProcess};
+use crate::plays::{Looks, Meets, NotesNet, Puts, Sees, Spare, WithPass, WithProcess};
 use crate::seats::{Place, Ties};
-use tree_model::Entry;
+use crate::views::Told;
 
 /// A process's seat is lent to the journal's.
 fn lend(ties: &Ties, journal: &mut Place, seat: &mut Place)
@@ -51,98 +51,65 @@ fn lend_pass(ties: &Ties, journal: &mut Place, pass: &mut Place)
     ties.shared.join_seat::<WithPass>(journal, taken);
 }
 
-/// An idle process comes to want this entry's step; a message that it delivers is the journal's. The
-/// process's entries are the journal's of it.
-pub fn want(ties: &Ties, seat: &mut Place, journal: &mut Place, word: usize, entry: &Entry)
+/// A process notes the messages of the journal: what delivers one of these may come after all that the journal will have
+/// then. The process's entries are the journal's of it.
+pub fn note_net(ties: &Ties, seat: &mut Place, journal: &mut Place)
     requires here { SitTogether ties.now.shared.table_id journal.old.table_id seat.old.table_id }
     requires journal { KeepsJournal journal.old.me }
-    requires seat { WorksIn 0 seat.old.me }
-    requires word { HasWord ties.now.shared.table_id word seat.old.me }
-    requires stands { IsWanted (Some entry.now) (net_of (entries_in journal.old.me.0.journal.all)) }
+    requires seat { IsProcess seat.old.me }
     ensures tied { seat.old.me.0.process.own
         ≡ own_of seat.old.me.0.process.name (entries_in journal.old.me.0.journal.all) }
     ensures journal { (journal.new.table_id ≡ journal.old.table_id) × (journal.new.me ≡ journal.old.me) }
     ensures seat { (seat.new.table_id ≡ seat.old.table_id)
-        × (seat.new.me ≡ (worker (wanting seat.old.me.0.process entry.now), [])) }
+        × (seat.new.me ≡ (
+          worker (noted seat.old.me.0.process (net_of (entries_in journal.old.me.0.journal.all))),
+          [],
+        )) }
 {
     lend(ties, journal, seat);
-    ties.shared
-        .compare_exchange_with::<Wants>(journal, word, 0, 1, entry);
+    ties.shared.load::<NotesNet>(journal, 0);
     *seat = ties.shared.split_seat::<WithProcess>(journal);
 }
 
-/// The process has made an entry of the step that it wanted, under its own lock alone.
-pub fn make(ties: &Ties, seat: &mut Place, word: usize, entry: &Entry)
-    requires here { SitsAt ties.now.shared.table_id seat.old.table_id }
-    requires seat { WorksIn 1 seat.old.me }
-    requires word { HasWord ties.now.shared.table_id word seat.old.me }
-    requires step { IsStepOf seat.old.me.0.process.wanted entry.now }
-    ensures { (seat.new.table_id ≡ seat.old.table_id)
-        × (seat.new.me ≡ (worker (made seat.old.me.0.process entry.now), [])) }
-{
-    ties.shared
-        .compare_exchange_with::<Makes>(seat, word, 1, 2, entry);
-}
-
-/// The process wants nothing any more: the step was refused.
-pub fn drop_want(ties: &Ties, seat: &mut Place, word: usize)
-    requires here { SitsAt ties.now.shared.table_id seat.old.table_id }
-    requires seat { WorksIn 1 seat.old.me }
-    requires word { HasWord ties.now.shared.table_id word seat.old.me }
-    ensures { (seat.new.table_id ≡ seat.old.table_id)
-        × (seat.new.me ≡ (worker (cleared seat.old.me.0.process), [])) }
-{
-    ties.shared.store::<Drops>(seat, word, 0);
-}
-
-/// The journal enters what the process made, under the pass's number, and the pass notes it, with its place: the process
-/// is idle. Its entries before this one were the journal's of it, and the entry may come after them all.
-pub fn put(
-    ties: &Ties,
-    journal: &mut Place,
-    seat: &mut Place,
-    pass: &mut Place,
-    word: usize,
-    entry: &Entry,
-)
+/// The journal enters what the process made in a turn, under the pass's number, and the pass notes it, with its places. The
+/// process's entries before were the journal's of it, and the messages that it noted are the journal's first.
+pub fn put(ties: &Ties, journal: &mut Place, seat: &mut Place, pass: &mut Place, entries: &Told)
     requires here { SitTogether ties.now.shared.table_id journal.old.table_id seat.old.table_id }
     requires pass_here { pass.old.table_id ≡ ties.now.shared.table_id }
     requires journal { KeepsJournal journal.old.me }
-    requires seat { WorksIn 2 seat.old.me }
+    requires seat { IsProcess seat.old.me }
     requires pass { IsPass pass.old.me }
-    requires word { HasWord ties.now.shared.table_id word seat.old.me }
-    requires made { (own : List AnyEntry) × (seat.old.me.0.process.own ≡ own ++ entry.now ∷ []) }
-    requires mine { seat.old.me.0.process.name ≡ Some entry.now.step.process }
-    ensures late { IsLate (beside journal.old.me.0 seat.old.me.0) }
+    requires mine { AreOf seat.old.me.0.process.name entries.now }
+    requires by { AreBy pass.old.me.0.pass.caller entries.now }
+    ensures told { IsUpTo (beside journal.old.me.0 seat.old.me.0) }
     ensures journal { (journal.new.table_id ≡ journal.old.table_id)
         × (journal.new.me ≡ (
           keeper journal.old.me.0.journal.names journal.old.me.0.journal.opened
-              journal.old.me.0.journal.given
-              (journal.old.me.0.journal.all ++ (pass.old.me.0.pass.caller, entry.now) ∷ []),
+              journal.old.me.0.journal.given (journal.old.me.0.journal.all ++ entries.now),
           [],
         )) }
     ensures seat { (seat.new.table_id ≡ seat.old.table_id)
-        × (seat.new.me ≡ (worker (cleared seat.old.me.0.process), [])) }
+        × (seat.new.me ≡ (worker (entered_by seat.old.me.0.process entries.now), [])) }
     ensures pass { (pass.new.table_id ≡ pass.old.table_id)
         × (pass.new.me ≡ (
           holder pass.old.me.0.pass.caller
-              (pass.old.me.0.pass.pairs ++ (length journal.old.me.0.journal.all, entry.now) ∷ []),
+              (pass.old.me.0.pass.pairs ++ pairs_from journal.old.me.0.journal.all entries.now),
           [],
         )) }
 {
     lend(ties, journal, seat);
     lend_pass(ties, journal, pass);
     ties.shared
-        .compare_exchange_with::<Puts>(journal, word, 2, 0, entry);
+        .compare_exchange_with::<Puts>(journal, 0, 0, 0, entries);
     *pass = ties.shared.split_seat::<WithPass>(journal);
     *seat = ties.shared.split_seat::<WithProcess>(journal);
 }
 
-/// Whoever has both locks knows: the entries of an idle process are the journal's of it.
+/// Whoever has both locks knows: the entries of a process are the journal's of it.
 pub fn compare(ties: &Ties, seat: &mut Place, journal: &mut Place)
     requires here { SitTogether ties.now.shared.table_id journal.old.table_id seat.old.table_id }
     requires journal { KeepsJournal journal.old.me }
-    requires seat { WorksIn 0 seat.old.me }
+    requires seat { IsProcess seat.old.me }
     ensures tied { seat.old.me.0.process.own
         ≡ own_of seat.old.me.0.process.name (entries_in journal.old.me.0.journal.all) }
     ensures journal { (journal.new.table_id ≡ journal.old.table_id) × (journal.new.me ≡ journal.old.me) }

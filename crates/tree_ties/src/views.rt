@@ -1,6 +1,9 @@
-//! What seats know. No value of these is made.
+//! What seats know, of which no value is made; and what the table is told.
 use std::collections::LinkedList;
-use tree_model::{Entry, ProcessId};
+use tree_model::{Entry, Envelope, ProcessId};
+
+/// What the table is told at a step: the entries of a turn, each with its caller's number.
+pub type Told = LinkedList<(u64, Entry)>;
 
 /// What the journal's seat knows: the names of all processes, how many of them have a seat, how many passes
 /// were given, and all entries, each with its caller's number.
@@ -17,20 +20,18 @@ pub struct JournalView {
     pub all: LinkedList<(u64, Entry)>,
 }
 
-/// What a process's seat knows: its word, its name, its entries, its phase, and the entry that it wants.
+/// What a process's seat knows: its place, its name, its entries, and the messages that it noted.
 pub struct ProcessView {
     /// Whether the seat is a process's.
     pub works: bool,
-    /// The place of its word.
-    pub word: u64,
+    /// Its place among the names.
+    pub place: u64,
     /// Its name.
     pub name: Option<ProcessId>,
-    /// The entries that it made, the oldest first.
+    /// Its entries in the journal, the oldest first.
     pub own: LinkedList<Entry>,
-    /// 0 idle, 1 wanting, 2 made.
-    pub phase: u64,
-    /// The step that it wants, as an entry that shows nothing yet.
-    pub wanted: Option<Entry>,
+    /// The messages that the journal's entries had sent when it noted them.
+    pub net: LinkedList<Envelope>,
 }
 
 /// What a pass knows: its caller's number, and the places of the entries under it, from 0, with the entries.

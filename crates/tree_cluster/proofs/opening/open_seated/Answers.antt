@@ -5,20 +5,24 @@ use Rattle.tree_cut.specs.Alone.{RunsAlone}
 use Rattle.tree_cut.specs.Owns.{OwnRun}
 use Rattle.tree_node.specs.Nodes.{core_of, data_of}
 use Rattle.tree_node.specs.Openings.{OpenedAs}
-use Rattle.tree_cluster.proofs.Seating.{any_words, has_name, keeps_journal, opened_by_itself, opened_own, sits_at}
+use Rattle.tree_cluster.proofs.Seating.{has_name, keeps_journal, opened_by_itself, opened_own, seat_at, sits_at}
 use Rattle.tree_cluster.proofs.Apart.{listed_at}
 use Rattle.tree_cluster.proofs.opening.open_seated.Goals as goal
 
 pub seat-requires-clause-here : goal.seat-requires-clause-here
 seat-requires-clause-here g c =
-    let words = any_words _ _ _ _ _ c.requires.table c.requires.entry.0 in
-    sits_at _ _ _ _ _ _ c.requires.table.here c.requires.journal words.0
+    sits_at _ _ _ _ _ _ c.requires.table.here c.requires.journal c.requires.table.words
 
 pub seat-requires-clause-journal : goal.seat-requires-clause-journal
 seat-requires-clause-journal g c = keeps_journal _ _ _ _ _ c.requires.journal
 
-pub seat-requires-clause-word : goal.seat-requires-clause-word
-seat-requires-clause-word g c = has_name _ _ _ _ _ _ _ c.requires.table c.requires.journal c.requires.entry.0
+pub seat-requires-clause-place : goal.seat-requires-clause-place
+seat-requires-clause-place g c = has_name _ _ _ _ _ _ _ c.requires.table c.requires.journal c.requires.entry.0
+
+pub new-requires-clause-seat : goal.new-requires-clause-seat
+new-requires-clause-seat g c =
+    seat_at g.N.Seats.table c.args.tree.now c.args.place _ c.args.journal.now c.seat.result c.args.entry.now
+    c.requires.journal c.requires.entry.0 c.requires.entry.1 c.seat.ensures.seat.1
 
 pub new-requires-clause-tree : goal.new-requires-clause-tree
 new-requires-clause-tree g c =

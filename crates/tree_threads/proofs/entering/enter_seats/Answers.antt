@@ -1,50 +1,40 @@
-use Rattle.std.proofs.Common.{◌∙◌, ◌++◌, [], ◌∷◌, Some, ap, length, subst, sym}
-use Rattle.tree_cut.specs.Owns.{OwnRun}
+use Rattle.std.proofs.Common.{◌∙◌, ◌++◌, [], Some, ap, subst, sym}
+use Rattle.tree_ties.specs.Views.{AreBy, AreOf, beside, holder, pairs_from}
 use Rattle.tree_node.specs.Nodes.{core_of}
-use Rattle.tree_ties.specs.Views.{beside, holder, keeper}
 use Rattle.tree_threads.proofs.Entered.{entering}
+use Rattle.tree_threads.proofs.Turning.{are_of}
 use Rattle.tree_threads.proofs.entering.enter_seats.Goals as goal
 
-pub put-requires-clause-made : goal.put-requires-clause-made
-put-requires-clause-made g c = (c.requires.makes.0, c.requires.makes.1)
-
 pub put-requires-clause-mine : goal.put-requires-clause-mine
-put-requires-clause-mine g c = c.requires.seat.1 ∙ ap Some (sym c.requires.listed.1.process)
+put-requires-clause-mine g c =
+    subst (λ o. AreOf o c.args.entries.now) (sym c.requires.seat.1)
+    (are_of g.N.Seats.tree c.args.seat.now.me.0.process.net c.args.me c.args.entries.now c.requires.made.given)
 
-pub returns-clause-journal : goal.returns-clause-journal
-returns-clause-journal g c =
-    let j = c.args.journal.now.me.0.journal in
-    let x = c.args.entry.now in
-    let caller = ap (λ m. m.0.pass.caller) c.requires.pass in (
-      c.put.ensures.journal.0,
-      c.put.ensures.journal.1 ∙ ap (λ n. (keeper j.names j.opened j.given (j.all ++ (n, x) ∷ []), [])) caller,
-    )
+pub put-requires-clause-by : goal.put-requires-clause-by
+put-requires-clause-by g c =
+    let caller = ap (λ m. m.0.pass.caller) c.requires.pass in
+    subst (λ n. AreBy n c.args.entries.now) (sym caller) c.requires.made.by_caller
 
 pub returns-clause-pass : goal.returns-clause-pass
 returns-clause-pass g c =
     let p = c.args.pass.now.me.0.pass in
-    let x = c.args.entry.now in
+    let zs = c.args.entries.now in
     let caller = ap (λ m. m.0.pass.caller) c.requires.pass in (
       c.put.ensures.pass.0,
       c.put.ensures.pass.1
-          ∙ ap (λ n. (holder n (p.pairs ++ (length c.args.journal.now.me.0.journal.all, x) ∷ []), [])) caller,
+          ∙ ap (λ n. (holder n (p.pairs ++ pairs_from c.args.journal.now.me.0.journal.all zs), [])) caller,
     )
 
 pub returns-clause-cut : goal.returns-clause-cut
 returns-clause-cut g c =
-    let makes = c.requires.makes in
     let v = beside c.args.journal.now.me.0 c.args.seat.now.me.0 in
-    let entered = entering g.N.Seats.tree c.args.me v makes.0 c.args.entry.now c.args.caller (core_of c.args.node.now)
-    c.requires.seat.1 c.put.ensures.late makes.1 c.requires.seat.3 c.requires.listed.1 c.requires.listed.0 makes.2
-    c.requires.cut in
+    let entered = entering g.N.Seats.tree c.args.me v c.args.caller c.args.entries.now (core_of c.args.node.now)
+    c.requires.tree.0 c.requires.tree.1 c.requires.seat.1 c.put.ensures.told c.requires.made c.requires.cut in
     entered.has_cut
 
 pub returns-clause-own : goal.returns-clause-own
 returns-clause-own g c =
-    let makes = c.requires.makes in
     let v = beside c.args.journal.now.me.0 c.args.seat.now.me.0 in
-    let entered = entering g.N.Seats.tree c.args.me v makes.0 c.args.entry.now c.args.caller (core_of c.args.node.now)
-    c.requires.seat.1 c.put.ensures.late makes.1 c.requires.seat.3 c.requires.listed.1 c.requires.listed.0 makes.2
-    c.requires.cut in
-    let own = ap (λ m. m.0.process.own) c.put.ensures.seat.1 ∙ makes.1 in
-    subst (λ l. OwnRun g.N.Seats.tree c.args.me l (core_of c.args.node.now)) (sym own) entered.runs
+    let entered = entering g.N.Seats.tree c.args.me v c.args.caller c.args.entries.now (core_of c.args.node.now)
+    c.requires.tree.0 c.requires.tree.1 c.requires.seat.1 c.put.ensures.told c.requires.made c.requires.cut in
+    entered.runs

@@ -7,6 +7,6 @@ split_seat-requires c =
     let is = c.requires.journal in (
       c.requires.here.0,
       c.requires.here.1,
-      λ s h at. parting.gives _ s.words s.views _ _ h at
+      λ s h at. parting.gives _ s.views _ _ h at
           (ap (λ m. m.0.journal.keeps) is) (ap (λ m. m.0.pass.holds) is),
     )

@@ -1,5 +1,4 @@
-use Rattle.std.proofs.Common.{◌∙◌, ap, refl, set, subst, sym}
-use Rattle.std.proofs.lemmas.List.{set-get_or}
+use Rattle.std.proofs.Common.{◌∙◌, ap, refl, subst, sym}
 use Rattle.atomic_table.specs.Table.{keeps}
 use Rattle.atomic_table.proofs.Lists.{set_again}
 use Rattle.tree_ties.specs.Rule.{IsTied}
@@ -12,19 +11,16 @@ load-requires c =
     let v = c.lend_pass.new.journal.me.0 in
     let kept = ap (λ m. m.0.journal.keeps) e.1 ∙ ap (λ m. m.0.journal.keeps) c.requires.journal in
     let holds = ap (λ m. m.0.pass.holds) e.1 ∙ ap (λ m. m.0.pass.holds) c.requires.pass in
-    let key = c.args.ties.now.shared.key.items in
-    let id = c.lend_pass.new.journal.id in (
+    let key = c.args.ties.now.shared.key.items in (
       e.0 ∙ c.requires.here.0,
       c.requires.here.2,
-      λ s h long at fits.
-          let now = subst (IsTied key s.words) (sym (set_again s.views id v at)) h in
-          let met = parting.met _ s.words s.views _ v h at kept holds in (
-            v,
-            keeps,
-            tt,
-            subst (λ l. IsTied key l (set s.views id v)) (sym (set-get_or s.words 0 0)) now,
-            (refl, met),
-          ),
+      λ s h long at fits. (
+        v,
+        keeps,
+        tt,
+        subst (IsTied key) (sym (set_again s.views _ v at)) h,
+        (refl, parting.met _ s.views _ v h at kept holds),
+      ),
     )
 
 pub split_seat-requires : goal.split_seat-requires
@@ -35,5 +31,5 @@ split_seat-requires c =
     ∙ ap (λ m. m.0.pass.holds) c.requires.pass in (
       l.0 ∙ e.0 ∙ c.requires.here.0,
       c.requires.here.2,
-      λ s h at. parting.parts_pass _ s.words s.views _ _ h at holds,
+      λ s h at. parting.parts_pass _ s.views _ _ h at holds,
     )

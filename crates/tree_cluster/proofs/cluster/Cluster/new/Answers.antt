@@ -1,7 +1,7 @@
 use Rattle.std.proofs.Common.{◌∙◌, subst, sym}
 use Rattle.tree_model.specs.Trees.{IsTree}
 use Rattle.tree_cluster.specs.Opening.{IsTableOf, KeepsSeats}
-use Rattle.tree_cluster.proofs.Seating.{given_is, regiven, seats_opened, some_words, table_opened}
+use Rattle.tree_cluster.proofs.Seating.{given_is, regiven, seats_opened, table_opened}
 use Rattle.tree_cluster.proofs.cluster.Cluster.new.Goals as goal
 
 pub give_passes-requires-clause-table : goal.give_passes-requires-clause-table
@@ -12,7 +12,7 @@ give_passes-requires-clause-table g c =
 
 pub give_passes-requires-clause-words : goal.give_passes-requires-clause-words
 give_passes-requires-clause-words g c =
-    some_words _ _ _ _ c.requires.seats.is_tree (table_opened _ _ _ _ _ c.requires.seats c.args.opened.words)
+    let is = table_opened _ _ _ _ _ c.requires.seats c.args.opened.words in is.words
 
 pub give_passes-requires-clause-journal : goal.give_passes-requires-clause-journal
 give_passes-requires-clause-journal g c =

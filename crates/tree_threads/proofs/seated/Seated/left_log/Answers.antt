@@ -17,7 +17,7 @@ returns-clause-left g c =
     let core = core_of c.self.inside.node in
     let held = data_of c.self.inside.node in
     let xs = entries_in c.ledger.inside.journal.entries in
-    let named = ap (λ m. m.0.process.name) c.self.invariant.2 in
+    let named = c.self.invariant.2.1 in
     let all = ap (λ m. m.0.journal.all) c.ledger.invariant.1 in
     let own = c.compare.ensures.tied
     ∙ ap (λ n. own_of n (entries_in c.ledger.inside.seat.me.0.journal.all)) named

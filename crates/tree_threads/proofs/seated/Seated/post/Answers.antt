@@ -1,18 +1,23 @@
-use Rattle.std.proofs.Common.{◌∙◌, ◌++◌, ◌∷◌, [], ap, rules, subst, sym}
+use Rattle.std.proofs.Common.{◌∙◌, ◌++◌, ◌∷◌, [], ap, refl, rules, subst, sym}
 use Rattle.tree_model.specs.declared.events.Step.{Step}
 use Rattle.tree_model.specs.Trees.{root_of}
 use Rattle.cluster_journal.specs.Journals.{ClusterState}
 use Rattle.tree_cut.specs.Alone.{RunsAlone, stays_alone, steps_alone}
-use Rattle.tree_cut.specs.Owns.{CutHolds}
+use Rattle.tree_cut.specs.Cuts.{net_of}
+use Rattle.tree_cut.specs.Owns.{CutHolds, OwnRun}
+use Rattle.tree_cut.proofs.Owns.{same_stays}
 use Rattle.tree_node.specs.Nodes.{core_of, data_of}
+use Rattle.tree_ties.specs.declared.views.ProcessView.{ProcessView}
 use Rattle.tree_ties.specs.Views.{entries_in, pairs_by}
 use Rattle.tree_threads.specs.Locked.{SeatedState}
 use Rattle.tree_threads.specs.Marks.{ActsHere}
 use Rattle.tree_threads.specs.Passes.{NotesOne, PassState}
 use Rattle.tree_threads.specs.Posts.{AsksAt, NotPosted, PostsOne}
-use Rattle.tree_threads.proofs.Asked.{asks_it}
+use Rattle.tree_threads.specs.Turns.{MadeTurn}
+use Rattle.tree_threads.proofs.Asked.{asks_it, finds_it}
 use Rattle.tree_threads.proofs.OwnSteps.{step_alone}
 use Rattle.tree_threads.proofs.Refused.{answered_so, not_made, not_marked}
+use Rattle.tree_threads.proofs.Turning.{further_none, notes_one, of_worker, turn_made}
 use Rattle.tree_threads.proofs.seated.Seated.post.Goals as goal
 
 pub mark-requires-clause-acts : goal.mark-requires-clause-acts
@@ -20,32 +25,57 @@ mark-requires-clause-acts g c =
     subst (λ (s : SeatedState). ActsHere (root_of g.N.Seats.tree) s.me c.args.event) (sym c.self.view_is)
     c.requires.acts
 
+pub enter-place-requires-clause-seat : goal.enter-place-requires-clause-seat
+enter-place-requires-clause-seat g c =
+    let seat = c.in_ok-marked.ensures.seat in
+    (of_worker _ _ seat c.self.invariant.2.0.1, ap (λ m. m.0.process.name) seat ∙ c.self.invariant.2.1)
+
+pub enter-place-requires-clause-made : goal.enter-place-requires-clause-made
+enter-place-requires-clause-made g c =
+    let tree = g.N.Seats.tree in
+    let me = c.self.inside.me in
+    let m = c.in_ok-marked.marked in
+    let marked = c.in_ok-marked.ensures.ok in
+    let step = c.in-Ok.ensures.ok in
+    let own = c.self.inside.seat.me.0.process.own in
+    let old = c.self.inside.node in
+    let new = c.make_step.new.node in
+    let net = net_of (entries_in c.deref_mut-2.result.now.entries) in
+    let zs = c.in-Ok.made.entries in
+    let made = turn_made tree net me c.caller.result own m.wanted m.keep (core_of old) (core_of new) (core_of new)
+    (data_of old) (data_of new) (data_of new) c.in-Ok.made zs c.self.invariant.4 c.self.invariant.5 marked.at
+    c.in_ok-marked.ensures.mine
+    (finds_it net me (core_of old) c.args.event m.wanted.step.happening m.keep marked.happens) step
+    (further_none tree net me c.caller.result zs (core_of new) (data_of new)) in
+    let process = ap (λ w. w.0.process) c.in_ok-marked.ensures.seat in
+    subst (λ (p : ProcessView). MadeTurn tree p.net me c.meets.new.pass.caller p.own zs (core_of new)) (sym process)
+    (subst (λ n. MadeTurn tree net me n own zs (core_of new)) c.caller.ensures made)
+
 pub returns-in-Ok-clause-ok : goal.returns-in-Ok-clause-ok
 returns-in-Ok-clause-ok g c =
-    let marked = c.in_ok-marked.ensures.ok.0 in
+    let marked = c.in_ok-marked.ensures.ok in
     let m = c.in_ok-marked.marked in
-    let x = c.in-Ok.made.entry in
-    let step = c.in-Ok.ensures.ok.1 in
+    let made = c.in-Ok.ensures.ok in
     let me = c.self.inside.me in
     let tree = g.N.Seats.tree in
     let old = c.self.inside.node in
     let place = c.enter-place.result in
-    let notes = subst (λ (p : PassState). NotesOne p c.enter-place.new.pass place x) c.meets.ensures.same.1
-    c.enter-place.ensures.pass in
+    let notes = notes_one _ _ _ _ made.entry _ c.enter-place.ensures.pass made.entries_are in
     subst (λ (s : SeatedState). PostsOne tree s.me c.args.event c.args.pass.now c.enter-place.new.pass place
     c.begun-begun.result) c.self.view_is (record {
-      entry = x;
-      notes = notes;
+      entry = made.entry;
+      notes = subst (λ (p : PassState). NotesOne p c.enter-place.new.pass place made.entry) c.meets.ensures.same.1 notes;
       own = c.self.inside.seat.me.0.process.own;
       before = core_of old;
       behind = core_of c.make_step.new.node;
       held = data_of old;
       kept = data_of c.make_step.new.node;
       ran = c.self.invariant.6;
-      step = step_alone tree me _ _ _ _ m.keep m.wanted x marked.at c.in_ok-marked.ensures.mine step c.in-Ok.ensures.made;
-      is_for = subst (λ (s : Step). AsksAt (core_of old) c.args.event s.happening) (sym step)
+      step = step_alone tree me _ _ _ _ m.keep m.wanted made.entry marked.at c.in_ok-marked.ensures.mine made.step
+          made.makes;
+      is_for = subst (λ (s : Step). AsksAt (core_of old) c.args.event s.happening) (sym made.step)
           (asks_it _ me (core_of old) c.args.event m.wanted.step.happening m.keep marked.happens);
-      begun_is = c.begun-begun.ensures;
+      begun_is = c.begun-begun.ensures ∙ made.begun_is;
     })
 
 pub invariant_of-self-in-Err : goal.invariant_of-self-in-Err
@@ -54,17 +84,19 @@ invariant_of-self-in-Err g c =
     let me = c.self.inside.me in
     let old = c.self.inside.node in
     let new = c.make_step.new.node in
-    let own = ap (λ m. m.0.process.own) c.in-Err.ensures.err
-    ∙ ap (λ m. m.0.process.own) c.in_ok-marked.ensures.ok.1 in (
+    let seat = c.in_ok-marked.ensures.seat in
+    let own = ap (λ m. m.0.process.own) seat in
+    let why = c.in-Err.ensures.err in (
       search rules,
       search rules,
+      (of_worker _ _ seat c.self.invariant.2.0.1, ap (λ m. m.0.process.name) seat ∙ c.self.invariant.2.1),
       search rules,
       search rules,
-      search rules,
-      search rules,
+      subst (λ l. OwnRun tree me l (core_of new)) (sym own)
+          (same_stays tree me c.self.inside.seat.me.0.process.own (core_of old) (core_of new) c.self.invariant.5 why.same),
       subst (λ l. RunsAlone tree me l (core_of new) (data_of new)) (sym own)
           (stays_alone c.self.inside.seat.me.0.process.own (core_of old) (core_of new) (data_of old) (data_of new)
-          c.self.invariant.6 c.in-Err.ensures.refused.same c.in-Err.ensures.refused.rests),
+          c.self.invariant.6 why.same why.rests),
     )
 
 pub invariant_of-self-in-Ok : goal.invariant_of-self-in-Ok
@@ -73,22 +105,26 @@ invariant_of-self-in-Ok g c =
     let me = c.self.inside.me in
     let old = c.self.inside.node in
     let new = c.make_step.new.node in
-    let x = c.in-Ok.made.entry in
     let m = c.in_ok-marked.marked in
-    let own = ap (λ m. m.0.process.own) c.enter-place.ensures.seat.1
-    ∙ ap (λ m. m.0.process.own) c.in-Ok.ensures.ok.0
-    ∙ ap (λ m. m.0.process.own ++ x ∷ []) c.in_ok-marked.ensures.ok.1 in (
+    let made = c.in-Ok.ensures.ok in
+    let seat = c.in_ok-marked.ensures.seat in
+    let entered = c.enter-place.ensures.seat.1 in
+    let works = ap (λ w. w.0.process.works) seat ∙ c.self.invariant.2.0.1 in
+    let name = ap (λ w. w.0.process.name) seat ∙ c.self.invariant.2.1 in
+    let after = ap (λ w. w.0.process.own) entered in
+    let own = after ∙ ap (λ w. w.0.process.own ++ entries_in c.in-Ok.made.entries) seat
+    ∙ ap (λ l. c.self.inside.seat.me.0.process.own ++ entries_in l) made.entries_are in (
       search rules,
       search rules,
+      (of_worker _ _ entered works, ap (λ w. w.0.process.name) entered ∙ name),
       search rules,
       search rules,
-      search rules,
-      search rules,
+      subst (λ l. OwnRun tree me l (core_of new)) (sym after) c.enter-place.ensures.own,
       subst (λ l. RunsAlone tree me l (core_of new) (data_of new)) (sym own)
-          (steps_alone c.self.inside.seat.me.0.process.own x (core_of old) (core_of new) (data_of old) (data_of new)
-          c.self.invariant.6
-          (step_alone tree me (core_of old) (core_of new) (data_of old) (data_of new) m.keep m.wanted x
-          c.in_ok-marked.ensures.ok.0.at c.in_ok-marked.ensures.mine c.in-Ok.ensures.ok.1 c.in-Ok.ensures.made)),
+          (steps_alone c.self.inside.seat.me.0.process.own made.entry (core_of old) (core_of new) (data_of old)
+          (data_of new) c.self.invariant.6
+          (step_alone tree me (core_of old) (core_of new) (data_of old) (data_of new) m.keep m.wanted made.entry
+          c.in_ok-marked.ensures.ok.at c.in_ok-marked.ensures.mine made.step made.makes)),
     )
 
 pub returns-in_err-marked-clause-refused : goal.returns-in_err-marked-clause-refused
@@ -122,6 +158,6 @@ returns-in-Err-clause-refused g c =
     (core_of new) (data_of old) (data_of new) c.in_ok-marked.marked c.in-Err.error
     (subst (λ (j : ClusterState). CutHolds tree (entries_in j.entries)) first c.is_a_run.ensures)
     (c.meets.ensures.met ∙ ap (λ (j : ClusterState). pairs_by pass.caller 0 j.entries) (sym same))
-    c.in_ok-marked.ensures.tied c.self.invariant.6 c.in_ok-marked.ensures.ok.0 c.in-Err.ensures.refused
+    c.in_ok-marked.ensures.tied c.self.invariant.6 c.in_ok-marked.ensures.ok c.in-Err.ensures.err
     c.from.ensures in
     subst (λ (s : SeatedState). NotPosted tree s.me event pass e) c.self.view_is not
