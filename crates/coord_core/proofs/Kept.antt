@@ -20,7 +20,7 @@ use Rattle.core_model.proofs.Wrote.{wrote_form}
 use Rattle.coord_effects.specs.declared.effect.Framed.{Framed}
 use Rattle.coord_effects.specs.Rows.{written_of}
 use Rattle.coord_table.specs.declared.held.Held.{Held}
-use Rattle.coord_table.specs.Cases.{Begins, Gives, IsFresh, Slots, held_view, ticket_in, view_in}
+use Rattle.coord_table.specs.Cases.{Gives, IsFresh, Slots, held_view, ticket_in, view_in}
 use Rattle.coord_table.specs.Takes.{AreKnown, GivenAreActive, retired_if}
 use Rattle.coord_core.specs.States.{CoordinatorValue, IsCoordinator, WritesOpened, own_ticket}
 use Rattle.coord_core.specs.Turned.{WritesDown, framed_of}
@@ -137,18 +137,6 @@ given_known old new parent t known gives k p at =
           let held : (child_case parent.txn t, record { given_for = Some parent; live = open_view }) ≡ p = cc in
           ap (λ (q : Case × Held). is_known q.1.live.standing) (sym held)
       | inr differs ↦ known k p (sym (gives.updates.others k differs) ∙ at)
-    ]
-
--- of a case that begins something is known
-pub begun_known : (old new : Slots) (c : Case) → AreKnown old → Begins old new c → AreKnown new
-begun_known old new c known begins k p at =
-    elim (cases_eq k begins.key) [
-      | inl same ↦
-          let entry : Some (c, record { given_for = None; live = open_view }) ≡ Some p =
-          sym begins.updates.changed ∙ sym (ap (entry_at new) same) ∙ at in
-          let held : (c, record { given_for = None; live = open_view }) ≡ p = cc in
-          ap (λ (q : Case × Held). is_known q.1.live.standing) (sym held)
-      | inr differs ↦ known k p (sym (begins.updates.others k differs) ∙ at)
     ]
 
 -- How many cases are live.

@@ -28,7 +28,7 @@ use Rattle.rec_log.specs.Sights.{Breaks, LogSight, LogState}
 use Rattle.core_model.specs.States.{CoreState, SameCore, kind_of_role, logged, wrote}
 use Rattle.core_model.specs.Turns.{Says as SaysTurn, Takes as TakesTurn, clear_turn, is_refusal, kept_records, reacted, seat_in, no_answer, this_version}
 use Rattle.core_model.specs.Bounds.{FitsBounds}
-use Rattle.core_model.specs.Makes.{BreaksIn, Makes, NotMade, OpensCase, Unbounded, retired_by}
+use Rattle.core_model.specs.Makes.{Makes, NotMade, OpensCase, Unbounded, retired_by}
 use Rattle.core_model.proofs.Alike.{same_view}
 use Rattle.coord_table.specs.Cases.{Begins, FitsGiven, Gives, Slots, held_view, ticket_in, view_in}
 use Rattle.coord_effects.specs.declared.seat.Seat.{Seat}
@@ -214,7 +214,8 @@ step_under v new i turn (Err e) meets stopped = λ is. broken_under v new i turn
 -- a refusal is none of the device
 pub refuses_under : {A : Type 0} (v : CoordinatorValue) (i : Input) (e : StepError) → Meets v i (Refuses e)
     → e ≡ Device → A
-refuses_under v i e meets is = let clash : false ≡ true = subst (λ x. is_refusal x ≡ true) is meets.may in absurd (cc)
+refuses_under v i e meets is =
+    let clash : false ≡ true = subst (λ x. is_refusal x ≡ true) is meets.may in absurd (cc)
 
 pub step_ok : (v : CoordinatorValue) (new : CoreState) (i : Input) (turn : Turn)
     (made : Result Reaction StepError) → Meets v i turn

@@ -39,7 +39,8 @@ vote_itself Yes = refl
 vote_itself No = refl
 vote_itself Read = refl
 
-no_votes : (vs : List (Ticket × Vote)) → ((w : Vote) (t : Ticket) → voted_so w vs t ≡ voted_so w [] t) → vs ≡ []
+no_votes : (vs : List (Ticket × Vote)) → ((w : Vote) (t : Ticket) → voted_so w vs t ≡ voted_so w [] t)
+    → vs ≡ []
 unfolding voted_so
 no_votes [] none = refl
 no_votes (v ∷ vs) none =
@@ -89,7 +90,8 @@ awaited : (st : Standing) (us : List Ticket) (v : CoordinatorView) → is_known 
 awaited st us v known = by_test (none_of us)
   where
     by_test : (b : Bool)
-        → IsKnownOrGone (if b then unknown_view else record v { standing = st; named = v.named ++ us; owed = us })
+        → IsKnownOrGone (if b then unknown_view
+        else record v { standing = st; named = v.named ++ us; owed = us })
     by_test true = inr refl
     by_test false = inl known
 
@@ -128,29 +130,36 @@ module _ (s : Seat) where
   voted_after : (v : CoordinatorView) (w : Vote) → is_known v.standing ≡ true
       → IsKnownOrGone (collecting_after s v w).view
   voted_after v No known = aborted s ByVote v
-  voted_after v Yes known = either (all_voted v.accepted v.votes) (collecting_full s v) _ (full s v) (inl known)
-  voted_after v Read known = either (all_voted v.accepted v.votes) (collecting_full s v) _ (full s v) (inl known)
+  voted_after v Yes known = either (all_voted v.accepted v.votes) (collecting_full s v) _
+      (full s v) (inl known)
+  voted_after v Read known = either (all_voted v.accepted v.votes) (collecting_full s v) _
+      (full s v) (inl known)
 
   voted : (t : Ticket) (w : Vote) (v : CoordinatorView) → is_known v.standing ≡ true
       → IsKnownOrGone (collecting_vote s t w v).view
   voted t w v known = either (is_counted v.accepted v.votes t)
-      (record (collecting_after s (record v { votes = v.votes ++ (t, w) ∷ [] }) w) { counts = (t, w) ∷ [] }) (quiet v)
+      (record (collecting_after s (record v { votes = v.votes ++ (t, w) ∷ [] }) w) { counts = (t, w) ∷ [] })
+      (quiet v)
       (voted_after (record v { votes = v.votes ++ (t, w) ∷ [] }) w known) (inl known)
 
-  acked_by : (o : Outcome) (left : List Ticket) (fs : List Finding) (v : CoordinatorView) → is_known v.standing ≡ true
-      → IsKnownOrGone (decided_ack_by this_version s o left fs v).view
-  acked_by o left fs v known = either (none_of left) _ (quiet (record v { owed = left; found = fs })) (inr refl) (inl known)
+  acked_by : (o : Outcome) (left : List Ticket) (fs : List Finding) (v : CoordinatorView)
+      → is_known v.standing ≡ true → IsKnownOrGone (decided_ack_by this_version s o left fs v).view
+  acked_by o left fs v known = either (none_of left) _ (quiet (record v { owed = left; found = fs }))
+      (inr refl) (inl known)
 
   acked : (o : Outcome) (t : Ticket) (fs : List Finding) (v : CoordinatorView) → is_known v.standing ≡ true
       → IsKnownOrGone (decided_ack this_version s o t fs v).view
-  acked o t fs v known = either (in_list v.owed t) (decided_ack_by this_version s o (other_tickets t v.owed) fs v) (quiet v)
+  acked o t fs v known = either (in_list v.owed t)
+      (decided_ack_by this_version s o (other_tickets t v.owed) fs v) (quiet v)
       (acked_by o (other_tickets t v.owed) fs v known) (inl known)
 
-  commits_by : (v : CoordinatorView) (p : Presumption) → IsKnownOrGone (prepared_commit_by this_version s v p).view
+  commits_by : (v : CoordinatorView) (p : Presumption)
+      → IsKnownOrGone (prepared_commit_by this_version s v p).view
   commits_by v PresumeAbort = awaited Committing v.promised v refl
   commits_by v PresumeCommit = inr refl
 
-  aborts_by : (v : CoordinatorView) (p : Presumption) → IsKnownOrGone (prepared_abort_by this_version s v p).view
+  aborts_by : (v : CoordinatorView) (p : Presumption)
+      → IsKnownOrGone (prepared_abort_by this_version s v p).view
   aborts_by v PresumeAbort = inr refl
   aborts_by v PresumeCommit = awaited Aborting v.promised v refl
 

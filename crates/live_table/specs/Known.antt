@@ -7,8 +7,8 @@ use Rattle.tree_model.specs.Names.{same_case}
 use Rattle.tree_model.specs.Records.{has_case}
 use Rattle.tree_model.specs.Restarts.{is_known}
 
--- of N cases something is known: a list has N cases, each of them once, and it has just those whose standing is not
--- Unknown
+-- of N cases something is known: a list has N cases, each of them once, and it has just those whose standing
+-- is not Unknown
 pub record Knows (standing_of : Case → Standing) (n : ℕ) : Type 0 where
   pub cases : List Case
   pub counted : n ≡ length cases

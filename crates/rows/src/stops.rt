@@ -60,6 +60,16 @@ struct Ending {
     has_mismatch: bool,
 }
 
+/// No stop: the device of this process does all that it is asked.
+fn sound(process: ProcessId) -> Stop {
+    Stop {
+        process,
+        call: StoreCall::Append,
+        nth: 0,
+        keep: 0,
+    }
+}
+
 /// A store without bytes for each process; the device of one of them stops.
 fn stores(alloc: Global, tree: &Tree, stop: Stop) -> Result<Vec<FaultStore>, AllocError> {
     let mut stores = Vec::new(alloc);
@@ -188,19 +198,19 @@ fn audited_behind(
     audited_now(alloc, tree, world)
 }
 
-/// Makes the events up to the first at which a device fails, and audits the logs after each, that one too. Answers
-/// whether there is one.
-fn runs_audited(alloc: Global, script: &Script, world: &mut World<FaultStore>) -> Option<bool> {
+/// Makes the events of a script while no device fails, and audits the logs after each. None where the audit finds a fault.
+fn runs_audited(alloc: Global, script: &Script) -> Option<()> {
+    let root = script.tree.entries().first()?.id;
+    let mut world = opened(alloc, &script.tree, sound(root))?.ok()?;
+    let mut answer = Some(());
     for event in &script.events {
-        let answer = world.apply(event.copied(alloc).ok()?);
-        let _report = audited_now(alloc, &script.tree, world)?;
-        match answer {
-            Ok(()) => {}
-            Err(StepError::Device) => return Some(true),
-            Err(_) => return None,
+        let made = audited_behind(alloc, &script.tree, &mut world, event.copied(alloc).ok()?);
+        if made.is_none() {
+            answer = None;
         }
     }
-    Some(false)
+    world.close();
+    answer
 }
 
 /// Each of these cases asks.
@@ -244,9 +254,10 @@ fn recovers(
     stop: Stop,
     kept: Option<u64>,
 ) -> Option<Ending> {
-    if !runs_audited(alloc, script, world)? {
+    if !runs_into_stop(alloc, world, &script.events)? {
         return None;
     }
+    audited_now(alloc, &script.tree, world)?;
     if world.apply(Event::Trim(stop.process)) != Err(StepError::Failed) {
         return None;
     }
@@ -266,15 +277,9 @@ fn run_on(alloc: Global, script: &Script, stop: Stop, kept: Option<u64>) -> Opti
     ending
 }
 
-/// How many bytes the logs of a tree have that has just opened.
+/// How many bytes the log of a process has in a tree that has just opened.
 fn opened_size(alloc: Global, script: &Script, process: ProcessId) -> Option<usize> {
-    let sound = Stop {
-        process,
-        call: StoreCall::Append,
-        nth: 0,
-        keep: 0,
-    };
-    let world = opened(alloc, &script.tree, sound)?.ok()?;
+    let world = opened(alloc, &script.tree, sound(process))?.ok()?;
     let text = world.log_text(process);
     world.close();
     Some(text.ok()?.len())
@@ -449,12 +454,14 @@ fn sweep(alloc: Global, script: &Script, out: &mut Vec<u8>) -> Option<Met> {
 }
 
 /// Stops each device of a script's tree at each of its calls, with each number of the call's bytes done, and
-/// writes what was met. Before and after the stop the logs are audited after each event. None where a run does not
-/// answer Device at the stop or Failed after it, does not go on after its restart, has two outcomes, or has one that is not
-/// the root's.
+/// writes what was met. The logs are audited after each event: of the events before a stop once, since they leave the same
+/// logs whichever stop comes after them. None where a run does not answer Device at the stop or Failed after it, does not
+/// go on after its restart, has two outcomes, or has one that is not the root's.
 pub(crate) fn run_stops(alloc: Global, input: &[u8], out: &mut Vec<u8>) -> Option<()> {
     let (tree, events) = read(alloc, input).ok()?;
-    let met = sweep(alloc, &Script { tree, events }, out)?;
+    let script = Script { tree, events };
+    runs_audited(alloc, &script)?;
+    let met = sweep(alloc, &script, out)?;
     let Met {
         runs,
         asked,

@@ -78,7 +78,8 @@ pub record NotHandled (old new : CoreState) (before behind : ManagerData) (i : I
   pub not_made : NotMade old new answer i e
   pub keeps : KeepsData before behind e
 
--- the device failed under an input, as its data answer that, and at a coordinator below the root under a record
+-- the device failed under an input, as its data answer that, and at a coordinator below the root under a
+-- record
 pub record FailsUnder (old new : CoreState) (before : ManagerData) (i : Input) : Type 0 where
   pub answer : DataAnswer
   pub answers : AnswersData old.place.role before old answer i

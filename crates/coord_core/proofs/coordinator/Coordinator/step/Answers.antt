@@ -97,44 +97,58 @@ returns-in-Nothing-clause-ok g c =
 
 pub returns-in-Begins-clause-under : goal.returns-in-Begins-clause-under
 returns-in-Begins-clause-under g c =
-    let meets : Meets c.args.self.now (input_of c.args.input) (Begins c.in-Begins.presumption) = search rules in
-    step_under c.args.self.now (state c.begins.new.self) (input_of c.args.input) (Begins c.in-Begins.presumption)
+    let meets : Meets c.args.self.now (input_of c.args.input)
+    (Begins c.in-Begins.presumption) = search rules in
+    step_under c.args.self.now (state c.begins.new.self) (input_of c.args.input)
+    (Begins c.in-Begins.presumption)
     c.begins.result meets c.begins.ensures.err
 
 pub returns-in-Issues-clause-under : goal.returns-in-Issues-clause-under
 returns-in-Issues-clause-under g c =
-    let meets : Meets c.args.self.now (input_of c.args.input) (Issues c.in-Issues.parent c.in-Issues.case) = search rules in
-    step_under c.args.self.now (state c.issues.new.self) (input_of c.args.input) (Issues c.in-Issues.parent c.in-Issues.case)
+    let meets : Meets c.args.self.now (input_of c.args.input)
+    (Issues c.in-Issues.parent c.in-Issues.case) = search rules in
+    step_under c.args.self.now (state c.issues.new.self) (input_of c.args.input)
+    (Issues c.in-Issues.parent c.in-Issues.case)
     c.issues.result meets c.issues.ensures.err
 
 pub returns-in-Takes-clause-under : goal.returns-in-Takes-clause-under
 returns-in-Takes-clause-under g c =
-    let meets : Meets c.args.self.now (input_of c.args.input) (Takes c.in-Takes.key c.in-Takes.case c.in-Takes.asked) = search rules in
-    step_under c.args.self.now (state c.takes.new.self) (input_of c.args.input) (Takes c.in-Takes.key c.in-Takes.case c.in-Takes.asked)
+    let meets : Meets c.args.self.now (input_of c.args.input)
+    (Takes c.in-Takes.key c.in-Takes.case c.in-Takes.asked) = search rules in
+    step_under c.args.self.now (state c.takes.new.self) (input_of c.args.input)
+    (Takes c.in-Takes.key c.in-Takes.case c.in-Takes.asked)
     c.takes.result meets c.takes.ensures.err
 
 pub returns-in-Clears-clause-under : goal.returns-in-Clears-clause-under
 returns-in-Clears-clause-under g c =
-    let meets : Meets c.args.self.now (input_of c.args.input) (Clears c.in-Clears.case) = search rules in
-    step_under c.args.self.now (state c.clears.new.self) (input_of c.args.input) (Clears c.in-Clears.case)
+    let meets : Meets c.args.self.now (input_of c.args.input)
+    (Clears c.in-Clears.case) = search rules in
+    step_under c.args.self.now (state c.clears.new.self) (input_of c.args.input)
+    (Clears c.in-Clears.case)
     c.clears.result meets c.clears.ensures.err
 
 pub returns-in-Answers-clause-under : goal.returns-in-Answers-clause-under
 returns-in-Answers-clause-under g c =
-    let meets : Meets c.args.self.now (input_of c.args.input) (Answers c.in-Answers.case c.in-Answers.asked) = search rules in
-    step_under c.args.self.now (state c.args.self.now) (input_of c.args.input) (Answers c.in-Answers.case c.in-Answers.asked)
+    let meets : Meets c.args.self.now (input_of c.args.input)
+    (Answers c.in-Answers.case c.in-Answers.asked) = search rules in
+    step_under c.args.self.now (state c.args.self.now) (input_of c.args.input)
+    (Answers c.in-Answers.case c.in-Answers.asked)
     c.answers.result meets c.answers.ensures.err
 
 pub returns-in-Repeats-clause-under : goal.returns-in-Repeats-clause-under
 returns-in-Repeats-clause-under g c =
-    let meets : Meets c.args.self.now (input_of c.args.input) (Repeats c.in-Repeats.parent c.in-Repeats.case c.in-Repeats.ticket) = search rules in
-    step_under c.args.self.now (state c.args.self.now) (input_of c.args.input) (Repeats c.in-Repeats.parent c.in-Repeats.case c.in-Repeats.ticket)
+    let meets : Meets c.args.self.now (input_of c.args.input)
+    (Repeats c.in-Repeats.parent c.in-Repeats.case c.in-Repeats.ticket) = search rules in
+    step_under c.args.self.now (state c.args.self.now) (input_of c.args.input)
+    (Repeats c.in-Repeats.parent c.in-Repeats.case c.in-Repeats.ticket)
     c.repeats.result meets c.repeats.ensures.err
 
 pub returns-in-Presumes-clause-under : goal.returns-in-Presumes-clause-under
 returns-in-Presumes-clause-under g c =
-    let meets : Meets c.args.self.now (input_of c.args.input) (Presumes c.in-Presumes.txn c.in-Presumes.ticket) = search rules in
-    step_under c.args.self.now (state c.args.self.now) (input_of c.args.input) (Presumes c.in-Presumes.txn c.in-Presumes.ticket)
+    let meets : Meets c.args.self.now (input_of c.args.input)
+    (Presumes c.in-Presumes.txn c.in-Presumes.ticket) = search rules in
+    step_under c.args.self.now (state c.args.self.now) (input_of c.args.input)
+    (Presumes c.in-Presumes.txn c.in-Presumes.ticket)
     c.presumes.result meets c.presumes.ensures.err
 
 pub returns-in-Refuses-clause-under : goal.returns-in-Refuses-clause-under

@@ -15,6 +15,7 @@ returns-clause-known g c =
       table = c.self.inside.branches;
       manager = g.M.ResourceManager.sight c.self.inside.manager;
     } in
-    subst (λ v. Knows (λ d. ((state g.M.ResourceManager.sight v).branch_of d).standing) c.len.result) c.self.view_is
+    subst (λ v. Knows (λ d. ((state g.M.ResourceManager.sight v).branch_of d).standing) c.len.result)
+    c.self.view_is
     (subst (λ n. Knows (λ d. ((core_of s).branch_of d).standing) n) (sym c.len.ensures.count)
     (known_counted s.table c.len.ensures.kept.apart))
