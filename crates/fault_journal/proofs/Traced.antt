@@ -1,5 +1,5 @@
 -- The trace of a tree is a run, whole, and goes on as one.
-use Rattle.std.proofs.Common.{◌≡◌, ◌≢◌, ◌⊎◌, ◌∙◌, sym, ap, subst, refl, inl, inr, ℕ, Bool, true, false, List, [], ◌∷◌, ◌++◌, Result, Ok, Err, OnOk, IfErr}
+use Rattle.std.proofs.Common.{◌≡◌, ◌≢◌, ◌⊎◌, ◌∙◌, sym, ap, subst, refl, inl, inr, ℕ, Bool, true, false, List, [], ◌∷◌, ◌++◌, Result, Ok, Err, OnOk, IfErr, None, append-nil}
 use Rattle.std.proofs.lemmas.List.{append_cancel_left}
 use Rattle.tree_model.specs.declared.events.Entry.{Entry}
 use Rattle.tree_model.specs.declared.events.Event.{Event}
@@ -13,7 +13,7 @@ use Rattle.core_law.specs.worlds.Ties.{Follows, GoesOn}
 use Rattle.core_law.specs.worlds.Worlds.{Applies, Stops, WorldState}
 use Rattle.failed_steps.specs.Traces.{TraceGoesOn, with_trace}
 use Rattle.failed_steps.proofs.Traces.{applied, failed, led, led_failed, led_until, opened, stopped}
-use Rattle.fault_journal.specs.Faults.{FaultsSight}
+use Rattle.fault_journal.specs.Faults.{FaultsSight, woven}
 use Rattle.fault_journal.specs.Traces.{AddsAfter, AddsToTrace, AddsUntil, KeepsTrace, TraceGoesOnFrom, TraceIsRun, trace_by}
 use Rattle.fault_journal.proofs.Adding.{device_or}
 
@@ -102,3 +102,16 @@ stays_traced true s t before behind keeps goes = tt
 stays_traced false s t before behind keeps goes =
     let on = goes keeps.moves keeps.world keeps.follows in
     record { moves = on.later ++ keeps.moves; world = on.world; follows = on.follows }
+
+-- Where nothing was entered and no device failed there is no step.
+pub no_trace : (s : WorldState) → s.entries ≡ [] → trace_by s (record { counted = []; last = None }) ≡ []
+unfolding woven
+no_trace s none = append-nil s.entries ∙ none
+
+pub kept_opened : (tree : List TreeEntry) (s : WorldState) → IsOpened s tree
+    → KeepsTrace false s (trace_by s (record { counted = []; last = None }))
+kept_opened tree s is = subst (TraceIsRun s) (sym (no_trace s is.entries)) (opened_traced tree s is)
+
+pub trace_run : (b : Bool) (s : WorldState) (trace : List Entry) → KeepsTrace b s trace → b ≡ false → TraceIsRun s trace
+trace_run false s trace keeps is = keeps
+trace_run true s trace keeps is = absurd (cc)

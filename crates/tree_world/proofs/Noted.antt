@@ -1,17 +1,26 @@
 -- A fault as it is noted, and what a count will say of it.
-use Rattle.std.proofs.Common.{◌≡◌, ◌∙◌, ◌+◌, ◌-◌, sym, ap, subst, refl, ℕ, Option, Some, None, List, [], ◌∷◌, length}
+use Rattle.std.proofs.Common.{◌≡◌, ◌∙◌, ◌+◌, ◌-◌, sym, ap, subst, refl, ℕ, Option, Some, None, option_map, List, [], ◌∷◌, length, Result, Err, IfErr}
 use Rattle.tree_model.specs.declared.names.ProcessId.{ProcessId}
 use Rattle.tree_model.specs.declared.events.Entry.{Entry}
 use Rattle.tree_model.specs.declared.events.Fault.{Fault}
 use Rattle.tree_model.specs.declared.events.Happening.{Happening}
 use Rattle.tree_model.specs.declared.events.Happening.TheVariants.{Input as Handles, Restart as Restarting, Trim as Trimming}
+use Rattle.tree_model.specs.declared.events.Act.{Act}
+use Rattle.tree_model.specs.declared.events.Event.TheVariants.{Act as ActOf, Deliver, Restart, Trim}
 use Rattle.tree_model.specs.declared.events.Input.{Input}
+use Rattle.tree_model.specs.declared.events.Input.TheVariants.{Act as ActInput, Message as MessageInput}
+use Rattle.tree_model.specs.declared.events.Reaction.{Reaction}
+use Rattle.tree_model.specs.declared.events.StepError.{StepError}
+use Rattle.tree_model.specs.declared.events.StepError.TheVariants.{Device}
+use Rattle.tree_model.specs.declared.messages.Envelope.{Envelope}
+use Rattle.tree_model.specs.Plays.{process_of_act, sent_as}
+use Rattle.tree_model.specs.Trees.{root_of}
 use Rattle.tree_model.specs.declared.trees.TreeEntry.{TreeEntry}
 use Rattle.core_model.specs.States.{CoreState}
 use Rattle.core_law.specs.Steps.{records_kept, restart_of}
-use Rattle.core_law.specs.worlds.Worlds.{KeepsBytes, WorldState}
+use Rattle.core_law.specs.worlds.Worlds.{KeepsBytes, NotActed, NotDelivered, WorldState}
 use Rattle.rec_log.specs.Sights.{left_by}
-use Rattle.failed_steps.specs.Fails.{InputFails, RestartBreaksOff, TrimBreaksOff}
+use Rattle.failed_steps.specs.Fails.{InputFails, MessageFails, RestartBreaksOff, TrimBreaksOff}
 use Rattle.failed_steps.specs.Faults.{TrimLeaves, fault_entry, trim_fault}
 use Rattle.fault_journal.specs.declared.count.Count.{Count}
 use Rattle.fault_journal.specs.declared.faults.LastFault.{LastFault}
@@ -19,10 +28,12 @@ use Rattle.fault_journal.specs.Counts.{CountsAt, KeepsAt, count_in, left_since, 
 use Rattle.fault_journal.specs.Faults.{FaultsSight, fault_by, failed_entries, happening_by, last_step, log_bytes, step_by}
 use Rattle.fault_journal.proofs.Counting.{kept_alike, left_count}
 use Rattle.tree_world.specs.Counts.{BreaksUnder}
-use Rattle.tree_world.specs.Nodes.{NodesSight}
+use Rattle.tree_world.specs.Nodes.{NoStepAt, NodesSight}
 use Rattle.tree_world.specs.Restarts.{RestartBreaksAt, TrimBreaksAt}
-use Rattle.fault_journal.specs.Traces.{last_in}
+use Rattle.fault_journal.specs.declared.faults.Cause.TheVariants.{Act as ActCause, Message as MessageCause, Restart as RestartCause, Trim as TrimCause}
+use Rattle.fault_journal.specs.Traces.{NotesFault, last_in}
 use Rattle.world_journal.specs.Journals.{JournalState, Keeps}
+use Rattle.tree_world.proofs.Acting.{not_acted, not_delivered, refused_so}
 use Rattle.tree_world.proofs.Handling.{world}
 
 -- what is told of the last fault, where it is known what was to happen and how the process stands
@@ -169,4 +180,83 @@ trim_noted tree nodes after j k g x text keeps breaks counts last happens number
         entry = ap (fault_entry x.process Trimming)
             (numbers behind ∙ ap (λ c. trim_fault (trim_left text (log_bytes behind) c (count_in behind))) is);
       };
+    }
+
+-- What a call leaves where the device failed.
+
+-- the same of a step whose device failed
+under_so : (nodes after : NodesSight) (q : ProcessId) (i : Input) (made : Result Reaction StepError) → made ≡ Err Device
+    → IfErr made (λ e. e ≡ Device → BreaksUnder nodes after q i) → BreaksUnder nodes after q i
+under_so nodes after q i made is under =
+    subst (λ (m : Result Reaction StepError). IfErr m (λ e. e ≡ Device → BreaksUnder nodes after q i)) is under refl
+
+-- an act
+pub act_fails : (tree : List TreeEntry) (nodes after : NodesSight) (j k : JournalState) (q p : ProcessId) (a : Act)
+    (made : Result Reaction StepError) → p ≡ q → Keeps j k → made ≡ Err Device
+    → IfErr made (NoStepAt nodes after p (ActInput a))
+    → NotActed (world tree nodes j) (world tree after k) q a Device
+act_fails tree nodes after j k q p a made at keeps is stops =
+    subst (λ (x : ProcessId). NotActed (world tree nodes j) (world tree after k) x a Device) at
+    (not_acted tree nodes after j k p a Device keeps (refused_so nodes after p (ActInput a) made Device is stops))
+
+pub delivery_fails : (tree : List TreeEntry) (nodes after : NodesSight) (j k : JournalState) (n : ℕ) (m : Envelope)
+    (made : Result Reaction StepError) → Keeps j k → sent_as k.net n ≡ Some m → made ≡ Err Device
+    → IfErr made (NoStepAt nodes after m.to (MessageInput n m.message))
+    → NotDelivered (world tree nodes j) (world tree after k) n Device
+delivery_fails tree nodes after j k n m made keeps sent is stops =
+    not_delivered tree nodes after j k n m Device keeps (ap (λ ls. sent_as ls n) (sym keeps.net) ∙ sent)
+    (refused_so nodes after m.to (MessageInput n m.message) made Device is stops)
+
+pub act_noted : (tree : List TreeEntry) (nodes after : NodesSight) (j k : JournalState) (f g : FaultsSight)
+    (q : ProcessId) (a : Act) (c : Count) (made : Result Reaction StepError) → q ≡ process_of_act (root_of tree) a
+    → Keeps j k → made ≡ Err Device → IfErr made (λ e. e ≡ Device → BreaksUnder nodes after q (ActInput a))
+    → CountsAt c (nodes.node_at q) → g ≡ record f { last = Some (record { process = q; cause = ActCause a; before = c }) }
+    → NotesFault (world tree nodes j) f (ActOf a) (world tree after k) g
+act_noted tree nodes after j k f g q a c made at keeps is under counts noted =
+    let x : LastFault = record { process = q; cause = ActCause a; before = c } in
+    let n = input_noted tree nodes after j k g x (ActInput a) keeps (under_so nodes after q (ActInput a) made is under)
+    counts (ap (λ (h : FaultsSight). h.last) noted) refl (λ s. refl) in
+    record {
+      counted = ap (λ (h : FaultsSight). h.counted) noted;
+      entry = n.entry;
+      last = n.last;
+      fails = subst (λ p. InputFails (world tree nodes j) (world tree after k) p (ActInput a) n.entry) at n.fails;
+    }
+
+-- a delivery
+pub delivery_noted : (tree : List TreeEntry) (nodes after : NodesSight) (j k : JournalState) (f g : FaultsSight)
+    (n : ℕ) (m : Envelope) (c : Count) (made : Result Reaction StepError) → Keeps j k → sent_as k.net n ≡ Some m
+    → made ≡ Err Device → IfErr made (λ e. e ≡ Device → BreaksUnder nodes after m.to (MessageInput n m.message))
+    → CountsAt c (nodes.node_at m.to)
+    → g ≡ record f { last = Some (record { process = m.to; cause = MessageCause n; before = c }) }
+    → NotesFault (world tree nodes j) f (Deliver n) (world tree after k) g
+delivery_noted tree nodes after j k f g n m c made keeps sent is under counts noted =
+    let x : LastFault = record { process = m.to; cause = MessageCause n; before = c } in
+    let i : Input = MessageInput n m.message in
+    let note = input_noted tree nodes after j k g x i keeps (under_so nodes after m.to i made is under)
+    counts (ap (λ (h : FaultsSight). h.last) noted)
+    (ap (option_map (λ (l : Envelope). Handles (MessageInput n l.message))) sent) (λ s. refl) in
+    record {
+      counted = ap (λ (h : FaultsSight). h.counted) noted;
+      entry = note.entry;
+      last = note.last;
+      fails = subst (λ o. MessageFails (world tree nodes j) (world tree after k) n o note.entry)
+          (sym (ap (λ ls. sent_as ls n) (sym keeps.net) ∙ sent)) note.fails;
+    }
+
+-- a restart
+pub restart_fault : (tree : List TreeEntry) (nodes after : NodesSight) (j k : JournalState) (f g : FaultsSight)
+    (q : ProcessId) (bytes : Option ℕ) (kept : ℕ) (c : Count) → Keeps j k → RestartBreaksAt nodes after q bytes
+    → CountsAt c (nodes.node_at q) → KeepsAt bytes (nodes.node_at q) kept
+    → g ≡ record f { last = Some (record { process = q; cause = RestartCause kept; before = c }) }
+    → NotesFault (world tree nodes j) f (Restart q bytes) (world tree after k) g
+restart_fault tree nodes after j k f g q bytes kept c keeps breaks counts left noted =
+    let x : LastFault = record { process = q; cause = RestartCause kept; before = c } in
+    let n = restart_noted tree nodes after j k g x bytes kept keeps breaks counts left
+    (ap (λ (h : FaultsSight). h.last) noted) refl (λ s. refl) in
+    record {
+      counted = ap (λ (h : FaultsSight). h.counted) noted;
+      entry = n.entry;
+      last = n.last;
+      fails = n.fails;
     }
