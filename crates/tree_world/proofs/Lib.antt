@@ -21,3 +21,4 @@ pub mod FromRestarted
 pub mod ReopenedTrees
 pub mod Counts
 pub mod Noted
+pub mod Making

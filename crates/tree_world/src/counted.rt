@@ -1,12 +1,11 @@
 //! The processes of a tree, and how many records stand in the log of each.
 
-ghost use Rattle.std.specs.Prelude.{◌≡◌, ◌≢◌, ◌+◌, ◌++◌, All, IfErr, IfOk, IfSome, None, OnErr, Option, Some, false, length, option_map};
+ghost use Rattle.std.specs.Prelude.{◌≡◌, ◌≢◌, ◌+◌, ◌++◌, All, IfErr, IfOk, IfSome, None, OnErr, OnOk, Option, Some, false, length, option_map};
 ghost use Rattle.std.specs.Map.{lookup};
 ghost use Rattle.tree_model.specs.contracts.names.ProcessIdPartialEq.TheImpl as processes;
 ghost use Rattle.tree_model.specs.declared.names.ProcessId.{ProcessId as AnyProcess};
 ghost use Rattle.tree_model.specs.declared.events.StepError.TheVariants.{Device};
 ghost use Rattle.tree_model.specs.Names.{same_process};
-ghost use Rattle.log_text.specs.Forms.{header};
 ghost use Rattle.log_text.specs.Payloads.{FitsFrame, records_text};
 ghost use Rattle.core_model.specs.Inputs.{input_of};
 ghost use Rattle.core_model.specs.States.{form_of};
@@ -40,13 +39,15 @@ pub(crate) struct Counted<L: LogStore> {
 }
 
 impl<L: LogStore> Model for Counted<L> {
-    ghost use Rattle.tree_world.specs.declared.nodes.Nodes.{Nodes as TheNodes};
+    ghost use Rattle.std.specs.Prelude.{List};
+    ghost use Rattle.tree_model.specs.declared.names.ProcessId.{ProcessId as AnyProcess};
+    ghost use Rattle.tree_node.specs.declared.node.Node.{Node as AnyNode};
     ghost use Rattle.tree_world.specs.Counts.{AreCounts};
     ghost use Rattle.tree_world.specs.Nodes.{kept_at};
 
-    ghost Value = { TheNodes L };
+    ghost Value = { List (AnyProcess × AnyNode L) };
 
-    ghost view = { λ c. c.nodes };
+    ghost view = { λ c. c.nodes.nodes.entries };
 
     ghost invariant = { λ c. AreCounts c.counts.entries (kept_at c.nodes.nodes.entries).node_at };
 }
@@ -91,18 +92,23 @@ fn form_by<L: LogStore>(node: &Node<L>) -> LogForm
     }
 }
 
-/// The bytes of a log of these records.
-fn bytes_of(alloc: Global, form: LogForm, records: &[LogRecord]) -> Result<Vec<u8>, AllocError>
+/// Adds the frames of these records in a log of this form.
+#[tactic(auto, unfolding(log_text::specs::Payloads::records_text))]
+fn push_records(
+    bytes: &mut Vec<u8>,
+    alloc: Global,
+    form: LogForm,
+    records: &[LogRecord],
+) -> Result<(), AllocError>
     requires second { form.format ≡ LogFormat.Second }
     requires fit { All FitsFrame records.now }
-    ensures { IfOk result (λ bytes. bytes.items ≡ header LogFormat.Second ++ records_text form records.now) }
+    ensures { OnOk result (bytes.new.items ≡ bytes.old.items ++ records_text form records.now) }
 {
-    let mut bytes = Vec::from_slice(alloc, &form.header())?;
     for record in records {
         let frame = Frame::of(&record.entry, record.parent, alloc)?;
-        frame.push(form, &mut bytes)?;
+        frame.push(form, bytes)?;
     }
-    Ok(bytes)
+    Ok(())
 }
 
 /// The bytes of a log of the records that a process has, and no more.
@@ -111,7 +117,10 @@ fn whole_bytes<L: LogStore>(alloc: Global, node: &Node<L>) -> Result<Vec<u8>, Al
 {
     node.records_are_sound();
     let records = node.records()?;
-    bytes_of(alloc, form_by(node), &records)
+    let form = form_by(node);
+    let mut bytes = Vec::from_slice(alloc, &form.format.header())?;
+    push_records(&mut bytes, alloc, form, &records)?;
+    Ok(bytes)
 }
 
 /// The fault of a step with this cause, by the count before it.
@@ -214,7 +223,7 @@ impl<L: LogStore> Nodes<L> {
 impl<L: LogStore> Counted<L> {
     /// These processes, no count of which is known. It takes no memory.
     pub(crate) fn new(alloc: Global, nodes: Nodes<L>) -> Counted<L>
-        ensures { result ≡ nodes }
+        ensures { result ≡ nodes.nodes.entries }
     {
         Counted {
             nodes,
@@ -225,7 +234,7 @@ impl<L: LogStore> Counted<L> {
     /// The count of the log of a process, which is known from then on. Memory: nothing changed.
     pub(crate) fn count(&mut self, process: ProcessId) -> Result<Count, AllocError>
         ensures nodes { self.new ≡ self.old }
-        ensures ok { IfOk result (λ count. CountsAt count ((kept_at self.old.nodes.entries).node_at process)) }
+        ensures ok { IfOk result (λ count. CountsAt count ((kept_at self.old).node_at process)) }
     {
         if let Some(Some(count)) = self.counts.get(&process) {
             return Ok(*count);
@@ -242,13 +251,13 @@ impl<L: LogStore> Counted<L> {
         input: InputRef<'_>,
         before: Count,
     ) -> Result<Reaction, StepError>
-        requires { CountsAt before ((kept_at self.old.nodes.entries).node_at process) }
-        ensures ok { IfOk result (StepsAt (kept_at self.old.nodes.entries)
-            (kept_at self.new.nodes.entries) process (input_of input.entry)) }
-        ensures err { IfErr result (NoStepAt (kept_at self.old.nodes.entries)
-            (kept_at self.new.nodes.entries) process (input_of input.entry)) }
-        ensures under { IfErr result (λ e. e ≡ Device → BreaksUnder (kept_at self.old.nodes.entries)
-            (kept_at self.new.nodes.entries) process (input_of input.entry)) }
+        requires { CountsAt before ((kept_at self.old).node_at process) }
+        ensures ok { IfOk result (StepsAt (kept_at self.old)
+            (kept_at self.new) process (input_of input.entry)) }
+        ensures err { IfErr result (NoStepAt (kept_at self.old)
+            (kept_at self.new) process (input_of input.entry)) }
+        ensures under { IfErr result (λ e. e ≡ Device → BreaksUnder (kept_at self.old)
+            (kept_at self.new) process (input_of input.entry)) }
     {
         let made = self.nodes.step(process, input);
         set(&mut self.counts, process, count_after(before, &made));
@@ -262,11 +271,11 @@ impl<L: LogStore> Counted<L> {
         bytes: Option<u64>,
         before: Count,
     ) -> Result<(u64, Reaction), StepError>
-        requires { CountsAt before ((kept_at self.old.nodes.entries).node_at process) }
-        ensures ok { IfOk result (RestartsAt (kept_at self.old.nodes.entries)
-            (kept_at self.new.nodes.entries) process bytes) }
-        ensures err { IfErr result (NoRestartAt (kept_at self.old.nodes.entries)
-            (kept_at self.new.nodes.entries) process bytes) }
+        requires { CountsAt before ((kept_at self.old).node_at process) }
+        ensures ok { IfOk result (RestartsAt (kept_at self.old)
+            (kept_at self.new) process bytes) }
+        ensures err { IfErr result (NoRestartAt (kept_at self.old)
+            (kept_at self.new) process bytes) }
     {
         let made = self.nodes.restart(process, bytes);
         set(
@@ -279,10 +288,10 @@ impl<L: LogStore> Counted<L> {
 
     /// The log of a process is trimmed; as `Nodes::trim` says.
     pub(crate) fn trim(&mut self, process: ProcessId) -> Result<u64, StepError>
-        ensures ok { IfOk result (TrimsAt (kept_at self.old.nodes.entries)
-            (kept_at self.new.nodes.entries) process) }
-        ensures err { IfErr result (NoTrimAt (kept_at self.old.nodes.entries)
-            (kept_at self.new.nodes.entries) process) }
+        ensures ok { IfOk result (TrimsAt (kept_at self.old)
+            (kept_at self.new) process) }
+        ensures err { IfErr result (NoTrimAt (kept_at self.old)
+            (kept_at self.new) process) }
     {
         let made = self.nodes.trim(process);
         set(&mut self.counts, process, count_after_trim(&made));
