@@ -8,11 +8,11 @@ use Rattle.picture_shapes.specs.Svg.{shapes_text, squares_text, strokes_text}
 use Rattle.run_picture.specs.Pictures.{IsPicture}
 use Rattle.picture_parts.specs.Captions.{Surrounds}
 
--- what stands before a text of ten parts belongs to the first, and what stands after it to the last
-around : (x a b c d e f g h i j y : List ℕ)
-    → x ++ ((((((((((a ++ b) ++ c) ++ d) ++ e) ++ f) ++ g) ++ h) ++ i) ++ j) ++ y)
-    ≡ (((((((((x ++ a) ++ b) ++ c) ++ d) ++ e) ++ f) ++ g) ++ h) ++ i) ++ (j ++ y)
-around x a b c d e f g h i j y = simp append_assoc refl
+-- what stands before a text of eleven parts belongs to the first, and what stands after it to the last
+around : (x a b c d e f g h i j k y : List ℕ)
+    → x ++ (((((((((((a ++ b) ++ c) ++ d) ++ e) ++ f) ++ g) ++ h) ++ i) ++ j) ++ k) ++ y)
+    ≡ ((((((((((x ++ a) ++ b) ++ c) ++ d) ++ e) ++ f) ++ g) ++ h) ++ i) ++ j) ++ (k ++ y)
+around x a b c d e f g h i j k y = simp append_assoc refl
 
 pub framed : (tree : List TreeEntry) (es : List Entry) (text whole : List ℕ)
     → ((refused : Option Event) × IsPicture tree es refused text) → Surrounds text whole
@@ -32,23 +32,35 @@ framed tree es text whole (refused, p) s = (
     head = s.head ++ p.head;
     below = p.below;
     strokes = p.strokes;
+    departures = p.departures;
     lines = p.lines;
     boxes = p.boxes;
     openings = p.openings;
     signs = p.signs;
     squares = p.squares;
+    names = p.names;
+    captions = p.captions;
+    records = p.records;
+    apart_words = p.apart_words;
     words = p.words;
     tail = p.tail ++ s.tail;
     arrows = p.arrows;
     ways = p.ways;
     marks = p.marks;
-    stubs = p.stubs;
+    room = p.room;
+    said = p.said;
+    fates = p.fates;
+    fated = p.fated;
+    leaving = p.leaving;
+    depart = p.depart;
+    named = p.named;
     others = p.others;
     opened = p.opened;
     layers = s.is
         ∙ ap (λ (xs : List ℕ). s.head ++ (xs ++ s.tail)) p.layers
-        ∙ around s.head p.head (shapes_text p.below) (strokes_text p.strokes) (strokes_text p.lines)
-        (shapes_text p.boxes) (squares_text p.openings) (shapes_text p.signs) (squares_text p.squares)
-        (shapes_text p.words) p.tail s.tail;
+        ∙ around s.head p.head (shapes_text p.below) (strokes_text p.strokes) (strokes_text p.departures)
+        (strokes_text p.lines) (shapes_text p.boxes) (squares_text p.openings) (shapes_text p.signs)
+        (squares_text p.squares)
+        (shapes_text ((((p.names ++ p.captions) ++ p.records) ++ p.apart_words) ++ p.words)) p.tail s.tail;
   },
 )
