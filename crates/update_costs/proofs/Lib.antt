@@ -1,1 +1,6 @@
 mod Costs
+mod Chains
+mod Handling
+mod Entries
+mod OtherBranches
+mod ManagerCosts
