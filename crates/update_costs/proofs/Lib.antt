@@ -4,3 +4,7 @@ mod Handling
 mod Entries
 mod OtherBranches
 mod ManagerCosts
+mod OtherTxns
+mod RootEffects
+mod OpenRoots
+mod RootCosts
