@@ -1,5 +1,5 @@
 -- What an entry shows: its cost, and what made its process move.
-use Rattle.std.proofs.Common.{◌≡◌, ◌∙◌, ◌+◌, ◌||◌, ℕ, Bool, true, false, List, [], ◌∷◌, refl, ap, sym, arith, length, fold, if◌then◌else◌}
+use Rattle.std.proofs.Common.{◌≡◌, ◌∙◌, ◌+◌, ◌||◌, ℕ, Bool, false, List, [], ◌∷◌, refl, ap, arith, length, fold, if◌then◌else◌}
 use Rattle.std.specs.Prelude.{count_by, map}
 use Rattle.std.specs.List.{list_any}
 use Rattle.tree_model.specs.declared.names.Case.{Case}
@@ -12,7 +12,7 @@ use Rattle.tree_model.specs.declared.events.Input.{Input}
 use Rattle.tree_model.specs.declared.events.Input.TheVariants.{Act as ActInput, Message as MessageInput}
 use Rattle.tree_model.specs.declared.events.Reaction.{Reaction}
 use Rattle.tree_model.specs.Counts.{Cost, cost_of, together}
-use Rattle.tree_model.specs.Nodes.{Effect, Heard, Version, Written, logged_of, reaction_of}
+use Rattle.tree_model.specs.Nodes.{Effect, Written, logged_of, reaction_of}
 use Rattle.update_costs.specs.Journals.{Acts, Brings, begun_is_of, cause_of, entry_cost, happening_is_of, is_of, message_is_of, no_cost, record_is_of}
 
 -- Costs.

@@ -1,14 +1,13 @@
 -- What a process does with a message, or with an act, if it reacts.
-use Rattle.std.proofs.Common.{◌≡◌, ◌∙◌, ℕ, Bool, true, false, List, refl, sym, subst, if◌then◌else◌}
+use Rattle.std.proofs.Common.{◌≡◌, ℕ, Bool, true, false, subst, if◌then◌else◌}
 use Rattle.tree_model.specs.declared.messages.Message.{Message}
 use Rattle.tree_model.specs.declared.events.Act.{Act}
 use Rattle.tree_model.specs.declared.events.Input.{Input}
 use Rattle.tree_model.specs.declared.events.Input.TheVariants.{Act as ActInput, Message as MessageInput}
 use Rattle.tree_model.specs.declared.events.StepError.{StepError}
 use Rattle.tree_model.specs.declared.events.StepError.TheVariants.{Failed, NoSuch}
-use Rattle.tree_model.specs.declared.trees.TreeEntry.{TreeEntry}
 use Rattle.tree_model.specs.Nodes.{Effect, Heard, Node, Place}
-use Rattle.tree_model.specs.Reactions.{Does, Reacts, Refused, act_is_listed, acts, handles, hears, names_listed, reacts}
+use Rattle.tree_model.specs.Reactions.{Does, Refused, act_is_listed, acts, handles, hears, names_listed, reacts}
 
 does_so : (g e : Effect) → Does g ≡ Does e → g ≡ e
 does_so g e q = cc

@@ -1,6 +1,6 @@
 -- What a committed update costs a manager in a journal.
-use Rattle.std.proofs.Common.{◌≡◌, ◌∙◌, ◌+◌, ◌||◌, ◌==◌, ◌&&◌, not, ℕ, Bool, true, false, List, [], ◌∷◌, refl, sym, ap, subst, if◌then◌else◌, arith, fold, length}
-use Rattle.std.specs.Prelude.{⊤, count_by, filter}
+use Rattle.std.proofs.Common.{◌≡◌, ◌∙◌, ◌||◌, ◌==◌, ◌&&◌, not, ℕ, Bool, true, false, List, [], ◌∷◌, refl, sym, ap, subst, if◌then◌else◌}
+use Rattle.std.specs.Prelude.{⊤, filter}
 use Rattle.std.specs.List.{list_any}
 use Rattle.tree_model.specs.declared.names.Case.{Case}
 use Rattle.tree_model.specs.declared.names.Outcome.TheVariants.{Committed}
@@ -12,7 +12,6 @@ use Rattle.tree_model.specs.declared.messages.Message.{Message}
 use Rattle.tree_model.specs.declared.messages.Message.TheVariants.{Ack, Commit, No, Prepare}
 use Rattle.tree_model.specs.declared.records.Record.{Record}
 use Rattle.tree_model.specs.declared.events.Entry.{Entry}
-use Rattle.tree_model.specs.declared.events.Happening.{Happening}
 use Rattle.tree_model.specs.declared.events.Happening.TheVariants.{Input as Handles}
 use Rattle.tree_model.specs.declared.events.Input.{Input}
 use Rattle.tree_model.specs.declared.events.Input.TheVariants.{Act as ActInput, Message as MessageInput}
@@ -20,20 +19,19 @@ use Rattle.tree_model.specs.declared.events.Reaction.{Reaction}
 use Rattle.tree_model.specs.declared.standings.Standing.{Standing}
 use Rattle.tree_model.specs.declared.standings.Standing.TheVariants.{Active}
 use Rattle.tree_model.specs.declared.trees.TreeEntry.{TreeEntry}
-use Rattle.tree_model.specs.Counts.{Cost, cost_of, manager_price, together}
+use Rattle.tree_model.specs.Counts.{cost_of, manager_price, together}
 use Rattle.tree_model.specs.CoordinatorRows.{post}
-use Rattle.tree_model.specs.Nodes.{AtLeaf, Effect, Heard, Holding, Holds, Node, Place, ReadsOnly, Role, Version, after, kept, place_of, reaction_of, role_of}
+use Rattle.tree_model.specs.Nodes.{AtLeaf, Effect, Heard, Holding, Holds, Node, Place, ReadsOnly, Role, Version, after, kept, reaction_of}
 use Rattle.tree_model.specs.Outcomes.{is_yes_message}
-use Rattle.tree_model.specs.NameLaws.{same_case-refl}
 use Rattle.tree_model.specs.Standings.{ManagerView, manager_view, unknown_branch}
 use Rattle.tree_model.specs.ManagerRows.{Leaf, LeafRow, is_acknowledged}
 use Rattle.tree_model.specs.ManagerRows as leaf
-use Rattle.tree_model.specs.Reactions.{Does, hears, leaf_effect, leaf_of, reacts}
-use Rattle.tree_model.specs.Views.{hears_act, hears_message, leaf_place}
+use Rattle.tree_model.specs.Reactions.{Does, leaf_effect, leaf_of, reacts}
+use Rattle.tree_model.specs.Views.{hears_message, leaf_place}
 use Rattle.tree_model.specs.World.{Continues, IsRun, Made, World, entries_of, journal_of}
 use Rattle.tree_model.proofs.ManagerViewLaws.{manager_views}
-use Rattle.update_costs.specs.Journals.{Brings, Cause, ManagerCommits, ManagerPays, cause_of, causes, entries_cost, entry_cost, happening_is_of, is_of, message_is_of, no_cost, of_case, shows_yes}
-use Rattle.update_costs.proofs.Chains.{Chain, Next, Plain, chain_of, next_of, none_next, plain_of}
+use Rattle.update_costs.specs.Journals.{Brings, ManagerCommits, ManagerPays, cause_of, causes, entries_cost, entry_cost, happening_is_of, is_of, message_is_of, of_case, shows_yes}
+use Rattle.update_costs.proofs.Chains.{Chain, Plain, chain_of, next_of, none_next, plain_of}
 use Rattle.update_costs.proofs.Entries.{IsOther, after_nothing, brought, entry_pays, is_other}
 use Rattle.update_costs.proofs.Handling.{acts_so, hears_so}
 use Rattle.update_costs.proofs.OtherBranches.{other_act, other_message}
@@ -154,12 +152,44 @@ module _ (me p : ProcessId) (tree : List TreeEntry) (d : Case) where
   abbrev mine : List Entry → List Entry
   mine es = filter (is_of (of_case d)) es
 
+  -- what two entries cost and say
+  two_pay : (a b : Entry) (r q : LeafRow) → a.reaction ≡ reaction_of (leaf_effect r)
+      → b.reaction ≡ reaction_of (leaf_effect q)
+      → entries_cost (a ∷ b ∷ []) ≡ together (cost_of r.written r.messages) (cost_of q.written q.messages)
+  unfolding entries_cost
+  two_pay a b r q e f =
+      ap (λ c. together c (entry_cost b)) (after_nothing (entry_cost a) ∙ entry_pays a (leaf_effect r) e)
+      ∙ ap (together (cost_of r.written r.messages)) (entry_pays b (leaf_effect q) f)
+
+  two_say : (a b : Entry) (r q : LeafRow) → a.reaction ≡ reaction_of (leaf_effect r)
+      → b.reaction ≡ reaction_of (leaf_effect q) → list_any (shows_yes d) (a ∷ b ∷ []) ≡ true
+      → (list_any (λ x. is_yes_message d x.message) r.messages
+      || (list_any (λ x. is_yes_message d x.message) q.messages || false)) ≡ true
+  two_say a b r q e f said =
+      subst (λ (x : Reaction). (list_any (λ z. is_yes_message d z.message) x.messages
+      || (list_any (λ z. is_yes_message d z.message) q.messages || false)) ≡ true) e
+      (subst (λ (x : Reaction). (list_any (λ z. is_yes_message d z.message) a.reaction.messages
+      || (list_any (λ z. is_yes_message d z.message) x.messages || false)) ≡ true) f said)
+
+  abbrev own : Leaf
+  own = leaf_of place p d
+
+  two_paid : (ver : Version) (rs : List Record) (es : List Entry) (a b : Entry) (r : LeafRow) (v : ManagerView)
+      → es ≡ a ∷ b ∷ [] → a.reaction ≡ reaction_of (leaf_effect r)
+      → b.reaction ≡ reaction_of (leaf_effect (leaf.on_commit ver own rs v v.standing))
+      → Paid own ver rs r v → list_any (shows_yes d) es ≡ true
+      → (entries_cost es ≡ manager_price d.txn.presumption)
+      × ((leaf.on_commit ver own rs v v.standing).view ≡ unknown_branch)
+  two_paid ver rs es a b r v both e f known votes =
+      let q = leaf.on_commit ver own rs v v.standing in
+      let k = known (two_say a b r q e f (ap (list_any (shows_yes d)) (sym both) ∙ votes)) in
+      (ap entries_cost both ∙ (two_pay a b r q e f ∙ k.0), k.1)
+
   -- what they cost
   pub paid : (n : Node) (es : List Entry) (n' : Node) → Plain place Any n es n' → (i : ℕ) → (see n).standing ≡ Active
       → causes (mine es) ≡ Brings (Prepare d i) ∷ Brings (Commit d) ∷ []
       → list_any (shows_yes d) (mine es) ≡ true
       → (entries_cost (mine es) ≡ manager_price d.txn.presumption) × (see n' ≡ unknown_branch)
-  unfolding entries_cost
   paid n es n' plain i active are votes =
       let a = next_of place Any (of_case d) see leaves n es n' plain (Brings (Prepare d i)) (Brings (Commit d) ∷ []) are in
       let ab = brought a.heard.input (Prepare d i) (ap cause_of (sym a.handles_it) ∙ a.by_cause) in
@@ -170,31 +200,18 @@ module _ (me p : ProcessId) (tree : List TreeEntry) (d : Case) where
       let br = commits b.at b.heard b.effect b.reacts_so bb.0 bb.1 in
       let z = none_next place Any (of_case d) see leaves (after b.at b.heard b.effect) b.rest n' b.goes_on_plain
       b.then_causes in
-      let l = leaf_of place p d in
       let hold = a.heard.data_answer.holding in
-      let row = leaf.on_prepare l i hold (see a.at) (see a.at).standing in
-      let last = leaf.on_commit b.heard.version l (kept b.at) (see b.at) (see b.at).standing in
-      let both : mine es ≡ a.entry ∷ b.entry ∷ [] =
-      a.is_next ∙ ap (λ xs. a.entry ∷ xs) (b.is_next ∙ ap (λ xs. b.entry ∷ xs) z.0) in
-      let known : Paid l b.heard.version (kept b.at) row (see b.at) =
-      subst (λ (v : ManagerView). Paid l b.heard.version (kept b.at) row v) (sym (b.seen ∙ ar.1))
-      (subst (λ (s : Standing). let r = leaf.on_prepare l i hold (see a.at) s in
-      Paid l b.heard.version (kept b.at) r r.view)
-      (sym (ap (λ (v : ManagerView). v.standing) a.seen ∙ active)) (by_done l b.heard.version (kept b.at) i hold (see a.at))) in
-      let said : (says_yes l b.heard.version (kept b.at) row.messages
-      || (says_yes l b.heard.version (kept b.at) last.messages || false)) ≡ true =
-      (λ j. list_any (λ x. is_yes_message d x.message) (ar.0 j).messages
-      || (list_any (λ x. is_yes_message d x.message) (br.0 j).messages || false))
-      ∙ ((λ j. list_any (λ x. is_yes_message d x.message) (sym a.shows_it j).messages
-      || (list_any (λ x. is_yes_message d x.message) (sym b.shows_it j).messages || false))
-      ∙ (ap (list_any (shows_yes d)) (sym both) ∙ votes)) in
-      let k = known said in (
-        ap (λ xs. fold (λ c e. together c (entry_cost e)) no_cost xs) both
-            ∙ ((λ j. together (after_nothing (entry_pays a.entry a.effect a.shows_it j) j) (entry_pays b.entry b.effect b.shows_it j))
-            ∙ ((λ j. together (cost_of (sym ar.0 j).written (sym ar.0 j).messages) (cost_of (sym br.0 j).written (sym br.0 j).messages))
-            ∙ k.0)),
-        z.1 ∙ (br.1 ∙ k.1),
-      )
+      let ver = b.heard.version in
+      let rs = kept b.at in
+      let first = leaf.on_prepare own i hold (see a.at) (see a.at).standing in
+      let begun : Paid own ver rs first first.view =
+      subst (λ (s : Standing). let r = leaf.on_prepare own i hold (see a.at) s in Paid own ver rs r r.view)
+      (sym (ap (λ (v : ManagerView). v.standing) a.seen ∙ active)) (by_done own ver rs i hold (see a.at)) in
+      let k = two_paid ver rs (mine es) a.entry b.entry first (see b.at)
+      (a.is_next ∙ ap (λ xs. a.entry ∷ xs) (b.is_next ∙ ap (λ xs. b.entry ∷ xs) z.0))
+      (a.shows_it ∙ ap reaction_of (sym ar.0)) (b.shows_it ∙ ap reaction_of (sym br.0))
+      (subst (Paid own ver rs first) (sym (b.seen ∙ ar.1)) begun) votes in
+      (k.0, z.1 ∙ (br.1 ∙ k.1))
 
 -- In a run.
 

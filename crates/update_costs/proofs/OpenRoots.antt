@@ -1,5 +1,5 @@
 -- While a transaction is Active at its root, no vote was counted, and nothing was found.
-use Rattle.std.proofs.Common.{◌≡◌, ◌∙◌, ◌++◌, ℕ, Bool, true, false, None, List, [], ◌∷◌, refl, sym, ap, subst, if◌then◌else◌}
+use Rattle.std.proofs.Common.{◌≡◌, ◌∙◌, ℕ, Bool, true, false, None, List, [], ◌∷◌, refl, sym, ap, subst, if◌then◌else◌}
 use Rattle.std.specs.Prelude.{fold}
 use Rattle.tree_model.specs.declared.names.Case.{Case}
 use Rattle.tree_model.specs.declared.names.Outcome.{Outcome}
@@ -16,7 +16,7 @@ use Rattle.tree_model.specs.Names.{root_case}
 use Rattle.tree_model.specs.Records.{boot_of, has, is_abort, is_collecting, is_commit, is_end, is_prepare, none_of, owing_by}
 use Rattle.tree_model.specs.Nodes.{AtRoot, First, Heard, Node, kept}
 use Rattle.tree_model.specs.Memory.{Asked, Memory, Open, Over, Phase, found_of, fresh_memory, memory_of, phase_after, remembers, root_remembers}
-use Rattle.tree_model.specs.Standings.{CoordinatorView, coordinator_view, phase_standing, view_at}
+use Rattle.tree_model.specs.Standings.{CoordinatorView, coordinator_view, phase_standing}
 use Rattle.tree_model.specs.Views.{root_place}
 use Rattle.tree_model.proofs.AckLaws.{QuietAt}
 use Rattle.tree_model.proofs.FoundLaws.{nothing_noted, root_noted_all}

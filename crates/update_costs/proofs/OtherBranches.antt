@@ -1,32 +1,24 @@
 -- What a manager does with an input of another case leaves what it sees of this one.
-use Rattle.std.proofs.Common.{◌≡◌, ◌∙◌, ◌+◌, ◌||◌, ◌==◌, ◌&&◌, not, inl, inr, ℕ, Bool, true, false, Option, Some, None, List, [], ◌∷◌, refl, sym, ap, subst, if◌then◌else◌, arith, fold}
-use Rattle.std.specs.Prelude.{filter}
+use Rattle.std.proofs.Common.{◌≡◌, ℕ, Bool, true, false, Option, Some, None, List, refl, subst, arith}
 use Rattle.std.specs.List.{list_any}
 use Rattle.tree_model.specs.declared.names.Case.{Case}
 use Rattle.tree_model.specs.declared.names.ProcessId.{ProcessId}
 use Rattle.tree_model.specs.declared.names.Ticket.{Ticket}
-use Rattle.tree_model.specs.declared.messages.Envelope.{Envelope}
 use Rattle.tree_model.specs.declared.messages.Message.{Message}
 use Rattle.tree_model.specs.declared.messages.Message.TheVariants.{Join, Joined, Work, Prepare, Yes, No, Read, Commit, Abort, Ack, Inquire}
 use Rattle.tree_model.specs.declared.events.Act.{Act}
 use Rattle.tree_model.specs.declared.events.Act.TheVariants.{Begin, Join as JoinAct, Work as WorkAct, Commit as CommitAct, Abort as AbortAct, Ask, Decide, Forget}
-use Rattle.tree_model.specs.declared.events.Entry.{Entry}
-use Rattle.tree_model.specs.declared.events.Input.{Input}
-use Rattle.tree_model.specs.declared.events.Input.TheVariants.{Act as ActInput, Message as MessageInput}
-use Rattle.tree_model.specs.declared.events.Happening.{Happening}
-use Rattle.tree_model.specs.declared.events.Happening.TheVariants.{Input as Handles}
 use Rattle.tree_model.specs.declared.events.StepError.TheVariants.{Closed, NoSuch, NotAChild, NotInDoubt, NothingToForget, UnknownTxn}
 use Rattle.tree_model.specs.declared.standings.Standing.{Standing}
 use Rattle.tree_model.specs.declared.standings.Standing.TheVariants.{Unknown, Active, Collecting, Prepared, Committing, Aborting, Heuristic}
 use Rattle.tree_model.specs.declared.trees.TreeEntry.{TreeEntry}
-use Rattle.tree_model.specs.Names.{child_case, same_case}
+use Rattle.tree_model.specs.Names.{same_case}
 use Rattle.tree_model.specs.NameLaws.{same_case_tells}
-use Rattle.tree_model.specs.Nodes.{AtLeaf, DataAnswer, Effect, Heard, Node, Place, Version, after, kept, no_effect}
+use Rattle.tree_model.specs.Nodes.{AtLeaf, DataAnswer, Effect, Node, Place, Version, after, kept, no_effect}
 use Rattle.tree_model.specs.Memory.{active_ticket, memory_of}
 use Rattle.tree_model.specs.Standings.{ManagerView, manager_view}
 use Rattle.tree_model.specs.ManagerRows.{prepared_decide, heuristic_forget, untold_ask}
-use Rattle.tree_model.specs.ManagerRows as leaf
-use Rattle.tree_model.specs.Reactions.{Does, Reacts, Refused, acts, asks_untold, childless_by, decide_by, forget_by, hears, leaf_ask_by, leaf_effect, leaf_joins, leaf_of, reacts}
+use Rattle.tree_model.specs.Reactions.{Does, acts, asks_untold, childless_by, decide_by, forget_by, hears, leaf_ask_by, leaf_effect, leaf_joins, leaf_of}
 use Rattle.tree_model.specs.Views.{hears_act, hears_message, leaf_place}
 use Rattle.tree_model.proofs.ManagerViewLaws.{manager_views, quiet-after}
 use Rattle.update_costs.specs.Journals.{act_is_of, message_is_of, of_case}

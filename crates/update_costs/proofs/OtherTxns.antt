@@ -1,12 +1,11 @@
 -- What a root does with an input of another transaction leaves what it sees of this one.
-use Rattle.std.proofs.Common.{◌≡◌, ◌∙◌, ◌||◌, ℕ, Bool, true, false, Option, Some, None, List, [], ◌∷◌, ◌++◌, refl, sym, ap, subst, if◌then◌else◌}
+use Rattle.std.proofs.Common.{◌≡◌, ◌∙◌, ℕ, Bool, true, false, Option, Some, None, List, [], ◌∷◌, ◌++◌, refl, sym, ap, subst}
 use Rattle.std.specs.Prelude.{fold}
 use Rattle.std.proofs.lemmas.List.{append-nil}
 use Rattle.tree_model.specs.declared.names.Case.{Case}
 use Rattle.tree_model.specs.declared.names.ProcessId.{ProcessId}
 use Rattle.tree_model.specs.declared.names.Ticket.{Ticket}
 use Rattle.tree_model.specs.declared.names.Txn.{Txn}
-use Rattle.tree_model.specs.declared.names.Outcome.{Outcome}
 use Rattle.tree_model.specs.declared.names.Presumption.{Presumption}
 use Rattle.tree_model.specs.declared.names.Presumption.TheVariants.{PresumeAbort, PresumeCommit}
 use Rattle.tree_model.specs.declared.messages.Message.{Message}
@@ -14,30 +13,28 @@ use Rattle.tree_model.specs.declared.messages.Message.TheVariants.{Join, Joined,
 use Rattle.tree_model.specs.declared.records.Record.{Record}
 use Rattle.tree_model.specs.declared.records.Record.TheVariants.{Cleared as ClearedRecord, Prepare as PrepareRecord}
 use Rattle.tree_model.specs.declared.standings.Vote.TheVariants.{Yes as VoteYes, No as VoteNo, Read as VoteRead}
-use Rattle.tree_model.specs.declared.events.Act.{Act}
 use Rattle.tree_model.specs.declared.events.Act.TheVariants.{Begin, Join as JoinAct, Work as WorkAct, Commit as CommitAct, Abort as AbortAct, Ask, Decide, Forget}
 use Rattle.tree_model.specs.declared.events.Input.{Input}
 use Rattle.tree_model.specs.declared.events.Input.TheVariants.{Act as ActInput, Message as MessageInput}
 use Rattle.tree_model.specs.declared.events.Happening.TheVariants.{Input as Handles}
 use Rattle.tree_model.specs.declared.trees.TreeEntry.{TreeEntry}
 use Rattle.tree_model.specs.Names.{child_case, root_case, same_case, same_txn}
-use Rattle.tree_model.specs.NameLaws.{same_txn-refl}
 use Rattle.tree_model.specs.Records.{boot_after, boot_of}
-use Rattle.tree_model.specs.Nodes.{Effect, Heard, Node, Place, Version, after, entries_written, kept, no_effect}
+use Rattle.tree_model.specs.Nodes.{Effect, Heard, Node, Place, after, entries_written, kept, no_effect}
 use Rattle.tree_model.specs.Memory.{Memory, memory_of, root_remembers}
 use Rattle.tree_model.specs.Standings.{coordinator_standing, coordinator_view, view_at}
 use Rattle.tree_model.specs.CoordinatorRows.{Row}
 use Rattle.tree_model.specs.Reactions.{Does, reacts, row_effect}
-use Rattle.tree_model.specs.Views.{begin_effect, hears_act, next_begun, root_place}
+use Rattle.tree_model.specs.Views.{begin_effect, next_begun, root_place}
 use Rattle.tree_model.proofs.BeginLaws.{root_begins}
 use Rattle.tree_model.proofs.RootViewLaws.{IsOf, abort_of, collecting_of, commit_of, end_of, quiet_of}
 use Rattle.tree_model.proofs.StandingLaws.{view-after}
 use Rattle.tree_model.proofs.TicketLaws.{pushed}
-use Rattle.tree_pairs.specs.turns.CoordinatorTurns.{CaseTurn, ChildSays, CoordinatorTurn, IsOfNoCase, abort_act, accepts, acknowledged, acknowledges, aborts, answers, asks, asks_for_votes, begins, belongs_nowhere, clears, commits, counts_vote, does_nothing, ends, finds_nobody, gives_again, gives_fresh, gives_up, hears_no, inquires, invites, not_taken, of_case, passes_abort, passes_commit, presumes, promises, reads_only, refuses, repeats_yes, rests, sends_work, unticketed, votes, waits_for_acks}
+use Rattle.tree_pairs.specs.turns.CoordinatorTurns.{CaseTurn, ChildSays, CoordinatorTurn, IsOfNoCase, accepts, acknowledged, acknowledges, aborts, answers, asks, asks_for_votes, begins, belongs_nowhere, clears, commits, counts_vote, does_nothing, ends, finds_nobody, gives_again, gives_fresh, gives_up, hears_no, inquires, invites, not_taken, of_case, passes_abort, passes_commit, presumes, promises, reads_only, refuses, repeats_yes, rests, sends_work, unticketed, votes, waits_for_acks}
 use Rattle.tree_nodes.proofs.CaseSteps.{Concerns, by_child, by_name, named_case, turn_concerns}
 use Rattle.tree_nodes.proofs.CoordinatorAccepts.{turn_here}
 use Rattle.tree_nodes.proofs.OwnCases.{child_txn}
-use Rattle.update_costs.specs.Journals.{begun_is_of, happening_is_of, message_is_of, of_txn}
+use Rattle.update_costs.specs.Journals.{begun_is_of, happening_is_of, of_txn}
 use Rattle.update_costs.proofs.Entries.{either_none}
 
 -- Rows: what a row of a case writes, no other case reads.

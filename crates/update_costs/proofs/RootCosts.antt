@@ -1,32 +1,27 @@
 -- What a committed update costs a root in a journal.
-use Rattle.std.proofs.Common.{◌≡◌, ◌∙◌, ◌+◌, ℕ, Bool, true, false, Option, Some, None, List, [], ◌∷◌, ◌++◌, refl, sym, ap, subst, if◌then◌else◌, fold, length}
+use Rattle.std.proofs.Common.{◌≡◌, ◌∙◌, ℕ, false, None, List, [], ◌∷◌, ◌++◌, refl, sym, ap, subst, fold, length}
 use Rattle.std.specs.Prelude.{filter, map}
 use Rattle.std.proofs.lemmas.List.{append-nil}
 use Rattle.tree_model.specs.declared.names.Case.{Case}
 use Rattle.tree_model.specs.declared.names.Outcome.TheVariants.{Committed as CommittedOutcome}
-use Rattle.tree_model.specs.declared.names.Presumption.{Presumption}
 use Rattle.tree_model.specs.declared.names.ProcessId.{ProcessId}
 use Rattle.tree_model.specs.declared.names.Ticket.{Ticket}
 use Rattle.tree_model.specs.declared.names.Txn.{Txn}
-use Rattle.tree_model.specs.declared.messages.Finding.{Finding}
 use Rattle.tree_model.specs.declared.messages.Message.{Message}
 use Rattle.tree_model.specs.declared.messages.Message.TheVariants.{Ack, Yes}
-use Rattle.tree_model.specs.declared.events.Act.{Act}
 use Rattle.tree_model.specs.declared.events.Act.TheVariants.{Commit as CommitAct}
 use Rattle.tree_model.specs.declared.events.Entry.{Entry}
-use Rattle.tree_model.specs.declared.events.Happening.{Happening}
 use Rattle.tree_model.specs.declared.events.Happening.TheVariants.{Input as Handles}
 use Rattle.tree_model.specs.declared.events.Input.{Input}
 use Rattle.tree_model.specs.declared.events.Input.TheVariants.{Act as ActInput, Message as MessageInput}
 use Rattle.tree_model.specs.declared.events.Reaction.{Reaction}
-use Rattle.tree_model.specs.declared.standings.Standing.{Standing}
 use Rattle.tree_model.specs.declared.standings.Standing.TheVariants.{Active}
 use Rattle.tree_model.specs.declared.standings.Vote.TheVariants.{Yes as VoteYes}
 use Rattle.tree_model.specs.declared.trees.TreeEntry.{TreeEntry}
 use Rattle.tree_model.specs.Counts.{Cost, IsOrderOf, Walked, acknowledging, asks, cost_of, hears_yes, root_price, row_cost, together}
 use Rattle.tree_model.specs.Names.{child_case, root_case}
 use Rattle.tree_model.specs.Records.{none_of}
-use Rattle.tree_model.specs.Nodes.{AtRoot, Effect, First, Heard, Node, Place, Role, Second, Version, after, kept, place_of, reaction_of, role_of}
+use Rattle.tree_model.specs.Nodes.{AtRoot, Effect, First, Heard, Node, Place, Role, Second, Version, after, reaction_of}
 use Rattle.tree_model.specs.Standings.{CoordinatorView, coordinator_view, unknown_view}
 use Rattle.tree_model.specs.CoordinatorRows.{Row, Seat, active_commit, active_commit_alone, on_ack, on_vote}
 use Rattle.tree_model.specs.Reactions.{Does, commit_by, reacts, row_effect}
@@ -36,10 +31,10 @@ use Rattle.tree_model.proofs.RootViewLaws.{root_views}
 use Rattle.tree_pairs.proofs.turns.Steps.{turn_of}
 use Rattle.tree_nodes.proofs.CoordinatorsHold.{coordinates}
 use Rattle.update_costs.specs.Costs.{hears_ack, root_walk}
-use Rattle.update_costs.specs.Journals.{Acts, Brings, Cause, RootCommits, RootPays, begun_is_of, cause_of, causes, entries_cost, entry_cost, happening_is_of, is_of, no_cost, of_txn, update_causes}
-use Rattle.update_costs.proofs.Chains.{Chain, Next, Plain, chain_of, next_of, none_next, plain_of}
+use Rattle.update_costs.specs.Journals.{Acts, Brings, RootCommits, RootPays, begun_is_of, cause_of, causes, entries_cost, entry_cost, happening_is_of, is_of, no_cost, of_txn, update_causes}
+use Rattle.update_costs.proofs.Chains.{Chain, Plain, chain_of, next_of, none_next, plain_of}
 use Rattle.update_costs.proofs.Costs as costs
-use Rattle.update_costs.proofs.Entries.{IsOther, acted, after_nothing, brought, entry_pays, is_other}
+use Rattle.update_costs.proofs.Entries.{acted, after_nothing, brought, entry_pays, is_other}
 use Rattle.update_costs.proofs.Handling.{acts_so, hears_so}
 use Rattle.update_costs.proofs.OpenRoots.{none_yet}
 use Rattle.update_costs.proofs.OtherTxns.{other_leaves}

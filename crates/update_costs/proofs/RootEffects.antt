@@ -1,7 +1,6 @@
 -- What a vote and an acknowledgement do at a root, also if the ticket belongs to no case: what their rows say.
-use Rattle.std.proofs.Common.{◌≡◌, ◌∙◌, ◌+◌, ◌||◌, ◌&&◌, not, ℕ, Bool, true, false, Option, Some, None, List, [], ◌∷◌, ◌++◌, refl, sym, ap, subst, if◌then◌else◌, arith, fold, length}
-use Rattle.std.specs.Prelude.{filter, map}
-use Rattle.std.proofs.lemmas.List.{append-nil}
+use Rattle.std.proofs.Common.{◌≡◌, Bool, true, false, Some, None, List, [], ◌∷◌, ◌++◌, refl, sym, ap, if◌then◌else◌}
+use Rattle.std.specs.Prelude.{filter}
 use Rattle.tree_model.specs.declared.names.Case.{Case}
 use Rattle.tree_model.specs.declared.names.Outcome.{Outcome}
 use Rattle.tree_model.specs.declared.names.Outcome.TheVariants.{Committed as CommittedOutcome}
@@ -9,20 +8,18 @@ use Rattle.tree_model.specs.declared.names.ProcessId.{ProcessId}
 use Rattle.tree_model.specs.declared.names.Ticket.{Ticket}
 use Rattle.tree_model.specs.declared.names.Txn.{Txn}
 use Rattle.tree_model.specs.declared.messages.Finding.{Finding}
-use Rattle.tree_model.specs.declared.messages.Message.{Message}
-use Rattle.tree_model.specs.declared.messages.Message.TheVariants.{Ack, Yes}
 use Rattle.tree_model.specs.declared.records.Record.{Record}
 use Rattle.tree_model.specs.declared.records.Record.TheVariants.{Abort as AbortRecord, Commit as CommitRecord}
 use Rattle.tree_model.specs.declared.standings.Standing.{Standing}
 use Rattle.tree_model.specs.declared.standings.Standing.TheVariants.{Unknown, Active, Collecting, Prepared, Committing, Aborting, Heuristic}
 use Rattle.tree_model.specs.declared.standings.Vote.TheVariants.{Yes as VoteYes}
 use Rattle.tree_model.specs.declared.trees.TreeEntry.{TreeEntry}
-use Rattle.tree_model.specs.Names.{child_case, root_case, same_ticket}
+use Rattle.tree_model.specs.Names.{root_case, same_ticket}
 use Rattle.tree_model.specs.Records.{in_list, named_by, named_in, owing_by, owing_in}
-use Rattle.tree_model.specs.Nodes.{Effect, Heard, Node, Place, Version, kept, no_effect}
-use Rattle.tree_model.specs.Memory.{Memory, has_voted, memory_of}
-use Rattle.tree_model.specs.Standings.{CoordinatorView, belongs, coordinator_standing, coordinator_view, found_below, still_owed, view_at}
-use Rattle.tree_model.specs.CoordinatorRows.{Row, Seat, on_ack, on_vote, quiet}
+use Rattle.tree_model.specs.Nodes.{Node, Place, Version, kept}
+use Rattle.tree_model.specs.Memory.{Memory, memory_of}
+use Rattle.tree_model.specs.Standings.{belongs, coordinator_standing, coordinator_view, found_below, still_owed, view_at}
+use Rattle.tree_model.specs.CoordinatorRows.{Seat, on_ack, on_vote, quiet}
 use Rattle.tree_model.specs.Reactions.{ack_for, row_effect, vote_for}
 use Rattle.tree_model.specs.Views.{root_place, root_seat}
 use Rattle.tree_model.proofs.TicketLaws.{either_false, other_false}

@@ -18,11 +18,12 @@ pub fn committed_updates_cost_the_same()
     ensures { (ver : Version) (s : Seat) → CommittedUpdateCostsBy ver s }
 {}
 
-/// In every run of every tree, whatever the version of each move, the entries of a committed update in the journal cost the
-/// root and each manager what R* says, with any entries of other transactions between them: if they are its commit act and
-/// one YES of each child and, under Presumed Abort, one acknowledgement of each that finds nothing; at a manager PREPARE, to
-/// which it answers YES, and COMMIT. A repeated message may cost more, and so may a restart.
-pub fn journals_cost_what_is_said()
+/// In every run of every tree, whatever the version of each move, a committed update costs a root and a manager what R*
+/// says. The journal's entries show it, and any entries of others may stand between them. Those of the transaction at its
+/// root are the commit act, one YES of each child and, under Presumed Abort, one acknowledgement of each that finds nothing.
+/// Those of the case at a manager are PREPARE, which it answers by YES, and COMMIT. If there are more, as a repeated message
+/// or a restart, the update may cost more.
+pub fn runs_cost_the_same()
     ensures root { (tree : List TreeEntry) (es : List Made) (w : World) → IsRun tree es w
         → (later : List Made) (w2 : World) → Continues tree w later w2 → (p : ProcessId) (x : Txn) (votes acks : List Ticket)
         → RootCommits tree w (journal_of later) p x votes acks → RootPays tree w w2 (journal_of later) p x }
