@@ -217,7 +217,7 @@ module _ (place : Place) (F : Node → Type 0) (q : Case → Bool) {V : Type 0} 
               then_causes = l.then_causes;
             }
 
-    -- where none is of the case, what is seen of it stays
+    -- if none is of the case, what is seen of it stays
     pub none_next : (n : Node) (es : List Entry) (n' : Node) → Plain place F n es n'
         → causes (filter (is_of q) es) ≡ [] → (filter (is_of q) es ≡ []) × (see n' ≡ see n)
     none_next _ _ _ (done n) e = (refl, refl)

@@ -117,7 +117,7 @@ module _ (me : ProcessId) (tree : List TreeEntry) (x : Txn) where
           → row_effect (root_case x) (active_commit seat (see n)) ≡ e
       does_so q = cc
 
-  -- an acknowledgement that finds nothing, where nothing was found, is handled alike by each version
+  -- an acknowledgement that finds nothing, if nothing was found before, is handled alike by each version
   ack_alike : (ver : Version) (t : Ticket) (v : CoordinatorView) → v.found ≡ []
       → on_ack ver seat t CommittedOutcome (v.found ++ []) v v.standing
       ≡ on_ack First seat t CommittedOutcome v.found v v.standing

@@ -72,7 +72,7 @@ still_not : (acks : List (Ticket × Outcome)) (o : Outcome) (ts : List Ticket) (
 unfolding still_owed
 still_not acks o ts t h = filter_not _ ts t h
 
--- The effects of votes and acknowledgements are their rows', also where the ticket belongs to no case.
+-- The effects of votes and acknowledgements are their rows', also if the ticket belongs to no case.
 
 module _ (me : ProcessId) (tree : List TreeEntry) (n : Node) (x : Txn) (t : Ticket) where
   abbrev place : Place

@@ -19,10 +19,10 @@ pub fn committed_updates_cost_the_same()
 {}
 
 /// In every run of every tree, whatever the version of each move, a committed update costs a root and a manager what R*
-/// says. The journal's entries show it, and any entries of others may stand between them. Those of the transaction at its
-/// root are the commit act, one YES of each child and, under Presumed Abort, one acknowledgement of each that finds nothing.
-/// Those of the case at a manager are PREPARE, which it answers by YES, and COMMIT. If there are more, as a repeated message
-/// or a restart, the update may cost more.
+/// says. The journal's entries show it, with any entries of others between them. Those of the transaction at its root are the
+/// commit act, one YES of each child and, under Presumed Abort, one acknowledgement of each that finds nothing. Those of the
+/// case at a manager are PREPARE, which it answers by YES, and COMMIT. If there are more, as a repeated message or a restart,
+/// the update may cost more.
 pub fn runs_cost_the_same()
     ensures root { (tree : List TreeEntry) (es : List Made) (w : World) → IsRun tree es w
         → (later : List Made) (w2 : World) → Continues tree w later w2 → (p : ProcessId) (x : Txn) (votes acks : List Ticket)
