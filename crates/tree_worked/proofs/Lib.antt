@@ -1,5 +1,6 @@
 pub mod RowLaws
 pub mod SecondLaws
+pub mod CostLaws
 pub mod Histories
 pub mod OverRuns
 pub mod TicketsJoined

@@ -4,6 +4,7 @@ ghost use Rattle.tree_model.specs.Rows.{Runs};
 ghost use Rattle.tree_worked.specs.FlatRuns.{flat_pa_commit, flat_pc_commit, late_no_vote_pa, late_no_vote_pc, readonly_transactions, forgotten_ticket_votes_no, commit_again_after_end, commit_again_before_votes};
 ghost use Rattle.tree_worked.specs.TreeRuns.{cascaded_abort_after_prepare_pc, cascaded_readonly_vote_end_lost_pc, cascaded_restart_pa, cascaded_pa_commit, cascaded_in_doubt_pa};
 ghost use Rattle.tree_worked.specs.DoubtRuns.{root_restart_collecting_pc, late_inquiry_after_trim_pa, heuristic_rollback_mismatch, root_restart_committing_pa, heuristic_rollback_forgotten, heuristic_forgotten_before_vote, ask_before_prepare, ask_after_commit, trim_manager_twice, collecting_in_doubt_pc};
+ghost use Rattle.tree_worked.specs.CostRuns.{CostsAreMet};
 ghost use Rattle.tree_worked.specs.SecondPlays.{RunsBySecond};
 ghost use Rattle.tree_worked.specs.SecondRuns.{acknowledged_from_below_pa, acknowledged_from_below_pc, mismatch_is_reported, mismatch_below_is_reported, first_acknowledgement_counts, abort_below_is_unreported};
 
@@ -42,4 +43,10 @@ pub fn second_runs()
     ensures mismatch_below_is_reported { RunsBySecond mismatch_below_is_reported }
     ensures first_acknowledgement_counts { RunsBySecond first_acknowledgement_counts }
     ensures abort_below_is_unreported { RunsBySecond abort_below_is_unreported }
+{}
+
+/// The law of costs (`update_costs`) speaks of something: in a run by the second version two transactions commit at once, one
+/// under each presumption, and meet its premises at the root and at each manager.
+pub fn costs_are_met()
+    ensures { CostsAreMet }
 {}

@@ -24,7 +24,7 @@ use Rattle.update_costs.specs.Costs.{CommittedUpdateCostsBy, hears_ack, manager_
 -- Nothing is found that was not.
 
 -- of two rows the one that a test picks leaves nothing found
-either : (b : Bool) (r q : Row) → r.view.found ≡ [] → q.view.found ≡ [] → (if b then r else q).view.found ≡ []
+pub either : (b : Bool) (r q : Row) → r.view.found ≡ [] → q.view.found ≡ [] → (if b then r else q).view.found ≡ []
 either true r q this that = this
 either false r q this that = that
 
@@ -36,7 +36,7 @@ awaited st us v none = by_test (none_of us)
     by_test true = refl
     by_test false = none
 
-asked : (s : Seat) (v : CoordinatorView) (p : Presumption) → v.found ≡ [] → (active_commit_with s v p).view.found ≡ []
+pub asked : (s : Seat) (v : CoordinatorView) (p : Presumption) → v.found ≡ [] → (active_commit_with s v p).view.found ≡ []
 asked s v PresumeAbort none = none
 asked s v PresumeCommit none = none
 
@@ -54,7 +54,7 @@ full : (s : Seat) (v : CoordinatorView) → v.found ≡ [] → (collecting_full 
 full s v none = either (none_of (yes_of v.accepted v.votes)) (collecting_read_only s) _ refl
     (decided s v (yes_of v.accepted v.votes) s.parent none)
 
-voted : (s : Seat) (t : Ticket) (v : CoordinatorView) (at : Standing) → v.found ≡ []
+pub voted : (s : Seat) (t : Ticket) (v : CoordinatorView) (at : Standing) → v.found ≡ []
     → (on_vote s t Yes v at).view.found ≡ []
 voted s t v Collecting none =
     let w : CoordinatorView = record v { votes = v.votes ++ (t, Yes) ∷ [] } in
@@ -82,7 +82,7 @@ acked_by : (s : Seat) (left : List Ticket) (v : CoordinatorView) → s.parent �
 acked_by s left v at_root = λ i.
     decided_ack_by Second (record s { parent = at_root i }) Committed left [] v
 
-acked : (s : Seat) (t : Ticket) (v : CoordinatorView) (at : Standing) → s.parent ≡ None
+pub acked : (s : Seat) (t : Ticket) (v : CoordinatorView) (at : Standing) → s.parent ≡ None
     → on_ack Second s t Committed [] v at ≡ on_ack First s t Committed [] v at
 acked s t v Committing at_root =
     ap (λ (r : Row). if in_list v.owed t then r else quiet v) (acked_by s (other_tickets t v.owed) v at_root)
@@ -116,7 +116,7 @@ heard s w t at_root none =
     ∙ ap (walks w) (acked s t w.view w.view.standing at_root)
     ∙ ap (λ fs. walks w (on_ack First s t Committed fs w.view w.view.standing)) (sym none)
 
-found_then : (s : Seat) (w : Walked) (t : Ticket) → w.view.found ≡ [] → (first.hears_ack s w t).view.found ≡ []
+pub found_then : (s : Seat) (w : Walked) (t : Ticket) → w.view.found ≡ [] → (first.hears_ack s w t).view.found ≡ []
 found_then s w t none =
     ap (λ fs. (on_ack First s t Committed fs w.view w.view.standing).view.found) none
     ∙ found_none s t w.view w.view.standing none

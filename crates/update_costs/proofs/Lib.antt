@@ -1,1 +1,10 @@
 mod Costs
+mod Chains
+mod Handling
+mod Entries
+mod OtherBranches
+mod ManagerCosts
+mod OtherTxns
+mod RootEffects
+mod OpenRoots
+mod RootCosts
