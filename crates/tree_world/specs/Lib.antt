@@ -1,4 +1,5 @@
 pub mod Nodes
+pub mod Counts
 pub mod LogsLeft
 pub mod Openings
 pub mod Restarts

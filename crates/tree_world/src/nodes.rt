@@ -2,7 +2,9 @@
 
 ghost use Rattle.std.specs.Prelude.{◌≡◌, false, IfErr, IfOk, option_map};
 ghost use Rattle.core_model.specs.Inputs.{input_of};
+ghost use Rattle.tree_model.specs.declared.events.StepError.TheVariants.{Device};
 ghost use Rattle.tree_node.specs.Nodes.{live_at};
+ghost use Rattle.tree_world.specs.Counts.{BreaksUnder};
 ghost use Rattle.tree_world.specs.LogsLeft.{LogStandsBy};
 ghost use Rattle.tree_world.specs.Nodes.{NoStepAt, SpellsLogBy, StepsAt, kept_at, log_by, node_in, nodes_at};
 ghost use Rattle.tree_world.specs.Restarts.{NoRestartAt, NoTrimAt, RestartsAt, TrimsAt};
@@ -31,6 +33,8 @@ impl<L: LogStore> Nodes<L> {
         ensures ok { IfOk result (StepsAt (kept_at self.old.nodes.entries)
             (kept_at self.new.nodes.entries) process (input_of input.entry)) }
         ensures err { IfErr result (NoStepAt (kept_at self.old.nodes.entries)
+            (kept_at self.new.nodes.entries) process (input_of input.entry)) }
+        ensures under { IfErr result (λ e. e ≡ Device → BreaksUnder (kept_at self.old.nodes.entries)
             (kept_at self.new.nodes.entries) process (input_of input.entry)) }
     {
         let Some(node) = self.nodes.get_mut(&process) else {

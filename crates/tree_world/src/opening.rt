@@ -16,11 +16,13 @@ ghost use Rattle.tree_node.specs.Nodes.{core_of, data_of};
 ghost use Rattle.tree_node.specs.Openings.{HandsBack, OpenedAs, ProcessNotOpened};
 ghost use Rattle.tree_world.specs.Nodes.{kept_at};
 ghost use Rattle.tree_world.specs.Openings.{AreHandedBack, AreOpened, NotOpened};
-ghost use Rattle.tree_world.specs.Worlds.{state};
+ghost use Rattle.tree_world.specs.Worlds.{state, trace};
 
+use crate::counted::Counted;
 use crate::nodes::Nodes;
 use crate::running_tree::RunningTree;
 use crate::world::World;
+use fault_journal::Faults;
 use indexmap::IndexMap;
 use log_store::{LogStore, MemoryStore};
 use std::alloc::{AllocError, Global};
@@ -144,6 +146,7 @@ impl<L: LogStore + Drop> World<L> {
     ) -> Result<World<L>, (OpenError, Vec<L>)>
         requires { IsTree tree }
         ensures opened { IfOk result (λ world. IsOpened (state world) tree) }
+        ensures trace { IfOk result (λ world. trace world ≡ []) }
         ensures headline { IfOk result (λ world. KeepsHeadline (state world)) }
         ensures flag { IfOk result (λ world. world.reopened ≡ false) }
         ensures err { IfErr result (λ e. NotOpened L.bytes L.failures tree stores.items e.0) }
@@ -164,8 +167,9 @@ impl<L: LogStore + Drop> World<L> {
             running: RunningTree {
                 alloc,
                 tree,
-                nodes: Nodes { nodes },
+                nodes: Counted::new(alloc, Nodes { nodes }),
                 journal: Journal::new(alloc),
+                faults: Faults::new(alloc),
             },
             reopened: false,
         })
@@ -177,6 +181,7 @@ impl World<MemoryStore> {
     pub fn new(alloc: Global, tree: Tree) -> Result<World<MemoryStore>, OpenError>
         requires { IsTree tree }
         ensures opened { IfOk result (λ world. IsOpened (state world) tree) }
+        ensures trace { IfOk result (λ world. trace world ≡ []) }
         ensures headline { IfOk result (λ world. KeepsHeadline (state world)) }
         ensures flag { IfOk result (λ world. world.reopened ≡ false) }
         ensures err { IfErr result (λ e. e ≡ OpenError.Memory) }

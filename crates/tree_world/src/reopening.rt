@@ -35,11 +35,13 @@ ghost use Rattle.tree_world.specs.Reopenings.{
 };
 ghost use Rattle.tree_world.specs.Worlds.{state};
 
+use crate::counted::Counted;
 use crate::nodes::Nodes;
 use crate::opening::{put_back, put_by_name};
 use crate::own_names::fault_in;
 use crate::running_tree::RunningTree;
 use crate::world::World;
+use fault_journal::Faults;
 use indexmap::IndexMap;
 use log_store::LogStore;
 use rec_log::{MigrateError, RecLog};
@@ -291,8 +293,9 @@ impl<L: LogStore + Drop> World<L> {
             running: RunningTree {
                 alloc,
                 tree,
-                nodes: Nodes { nodes },
+                nodes: Counted::new(alloc, Nodes { nodes }),
                 journal,
+                faults: Faults::new(alloc),
             },
             reopened: true,
         })

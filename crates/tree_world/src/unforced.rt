@@ -39,6 +39,7 @@ impl<L: LogStore> World<L> {
     {
         self.running
             .nodes
+            .nodes
             .unforced_sizes(self.running.alloc, process)
     }
 }

@@ -12,7 +12,8 @@ ghost use Rattle.short_steps.specs.Shown.{entry_part, shown_part};
 ghost use Rattle.tree_node.specs.Nodes.{live_at};
 ghost use Rattle.tree_world.specs.LogsLeft.{LogStandsBy};
 ghost use Rattle.tree_world.specs.Nodes.{SpellsLogBy, node_in};
-ghost use Rattle.tree_world.specs.Worlds.{logs_at, state};
+ghost use Rattle.fault_journal.specs.Traces.{TraceGoesOnFrom, TraceIsRun};
+ghost use Rattle.tree_world.specs.Worlds.{logs_at, state, trace};
 
 use crate::running_tree::RunningTree;
 use log_store::LogStore;
@@ -31,13 +32,13 @@ pub struct World<L: LogStore> {
 }
 
 impl<L: LogStore> Model for World<L> {
-    ghost use Rattle.tree_world.specs.Worlds.{KeepsRun, WorldValue, running_state, value_by};
+    ghost use Rattle.tree_world.specs.Worlds.{KeepsWorld, WorldValue, running_state, value_by};
 
     ghost Value = { WorldValue L };
 
     ghost view = { λ w. value_by w.running w.reopened };
 
-    ghost invariant = { λ w. KeepsRun w.reopened (running_state w.running) };
+    ghost invariant = { λ w. KeepsWorld w.reopened (running_state w.running) w.running.faults };
 }
 
 impl<L: LogStore> World<L> {
@@ -64,10 +65,20 @@ impl<L: LogStore> World<L> {
     }
 
     /// Every step that was made, with its reaction, as a list made again.
-    pub fn trace(&self) -> Result<Vec<Entry>, AllocError>
-        ensures { IfOk result (λ trace. trace.items ≡ (state self.now).entries) }
+    pub fn steps(&self) -> Result<Vec<Entry>, AllocError>
+        ensures { IfOk result (λ steps. steps.items ≡ (state self.now).entries) }
     {
         self.running.journal.entries()
+    }
+
+    /// The steps of the run, whole: those that were made, and among them each in which a device failed, after those made
+    /// before it, as a list made again. Such a step names its event, how many of its records stand and how many more are
+    /// forced, and shows nothing.
+    pub fn trace(&self) -> Result<Vec<Entry>, AllocError>
+        ensures steps { IfOk result (λ steps. steps.items ≡ trace self.now) }
+        ensures run { self.now.reopened ≡ false → TraceIsRun (state self.now) (trace self.now) }
+    {
+        self.running.trace()
     }
 
     /// What the step at this place shows, from 0, as the journal has it; None, where N were not made.
@@ -103,21 +114,24 @@ impl<L: LogStore> World<L> {
     pub fn live(&self, process: ProcessId) -> Option<usize>
         ensures { result ≡ option_map live_at (node_in self.now.nodes process) }
     {
-        self.running.nodes.live(process)
+        self.running.nodes.nodes.live(process)
     }
 
     /// The bytes of a process's log, as a list made again; none, where there is no such process.
     pub fn log_text(&self, process: ProcessId) -> Result<Vec<u8>, AllocError>
         ensures { IfOk result (λ text. SpellsLogBy ((state self.now).node_at process) text.items) }
     {
-        self.running.nodes.log_text(self.running.alloc, process)
+        self.running
+            .nodes
+            .nodes
+            .log_text(self.running.alloc, process)
     }
 
     /// Each record of a process's log can stand there, and a manager's may follow one another. It does nothing.
     pub(crate) fn log_stands(&self, process: ProcessId)
         ensures { LogStandsBy ((state self.now).node_at process) }
     {
-        self.running.nodes.log_stands(process);
+        self.running.nodes.nodes.log_stands(process);
     }
 
     /// The records of each process's log, in the order of the tree.
@@ -146,6 +160,7 @@ impl<L: LogStore> World<L> {
             → GoesOnBehindFaults es w (state self.new) }
         ensures goes_on_since { (past : Earlier) (es : List Made) (w : ModelWorld)
             → FollowsSince past es w (state self.old) → GoesOnKeeping past es w (state self.new) }
+        ensures traced { TraceGoesOnFrom (state self.old) (trace self.old) (state self.new) (trace self.new) }
         ensures headline { self.old.reopened ≡ false → KeepsHeadline (state self.new) }
         ensures reopened { self.new.reopened ≡ self.old.reopened }
     {
@@ -164,6 +179,7 @@ impl<L: LogStore> World<L> {
             → GoesOnBehindFaults es w (state self.new) }
         ensures goes_on_since { (past : Earlier) (es : List Made) (w : ModelWorld)
             → FollowsSince past es w (state self.old) → GoesOnKeeping past es w (state self.new) }
+        ensures traced { TraceGoesOnFrom (state self.old) (trace self.old) (state self.new) (trace self.new) }
         ensures headline { self.old.reopened ≡ false → KeepsHeadline (state self.new) }
         ensures reopened { self.new.reopened ≡ self.old.reopened }
     {

@@ -1,7 +1,7 @@
 use Rattle.std.proofs.Common.{rules}
 use Rattle.core_model.specs.Inputs.{input_of}
 use Rattle.tree_world.proofs.Processes.{process_equality}
-use Rattle.tree_world.proofs.Steps.{stepped, stopped}
+use Rattle.tree_world.proofs.Steps.{broken_under, stepped, stopped}
 use Rattle.tree_world.proofs.nodes.Nodes.step.Goals as goal
 
 pub returns-clause-ok : goal.returns-clause-ok
@@ -15,3 +15,9 @@ returns-clause-err g c =
     stopped _ _ c.args.process (input_of c.args.input) c.in-Some.node.now c.handle.new.self c.handle.result
     (search rules) (search rules)
     (search (rules, process_equality)) c.handle.ensures.err
+
+pub returns-clause-under : goal.returns-clause-under
+returns-clause-under g c =
+    broken_under _ _ c.args.process (input_of c.args.input) c.in-Some.node.now c.handle.new.self c.handle.result
+    (search rules) (search rules)
+    (search (rules, process_equality)) c.handle.ensures.under

@@ -1,3 +1,4 @@
+use Rattle.std.proofs.Common.{arith}
 use Rattle.tree_world.specs.Nodes.{kept_at}
 use Rattle.reopened_trees.proofs.Openings.{reopened_on}
 use Rattle.tree_world.proofs.FromReady.{all_returned}
@@ -42,6 +43,9 @@ returns-in-Err-restart_from-clause-handed_back g c =
     c.reverse-in-Err-restart_from.ensures.items c.in-Err-restart_from.ensures.handed_back
 
 -- The tree was opened.
+
+pub invariant_of-result : goal.invariant_of-result
+invariant_of-result g c = record { run = c.requires; trace = tt; places = omega arith }
 
 pub returns-clause-sound : goal.returns-clause-sound
 returns-clause-sound g c =
