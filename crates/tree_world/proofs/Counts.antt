@@ -1,7 +1,14 @@
 -- The counts of logs that are known, as processes move.
-use Rattle.std.proofs.Common.{◌≡◌, ◌≢◌, ◌⊎◌, ◌∙◌, sym, ap, subst, refl, inl, inr, ℕ, true, false, List, Option, Some, None, Result, Ok, Err, IfErr, IfOk, OnErr, ◌+◌}
-use Rattle.std.specs.Prelude.{IfSome, length}
+use Rattle.std.proofs.Common.{◌≡◌, ◌≢◌, ◌⊎◌, ◌∙◌, sym, ap, subst, refl, inl, inr, ℕ, true, false, List, Option, Some, None, Result, Ok, Err, IfErr, IfOk, OnErr, ◌+◌, [], ◌∷◌}
+use Rattle.std.specs.Prelude.{All, IfSome, length}
 use Rattle.std.specs.Map.{lookup}
+use Rattle.std.specs.List.{AllByRecursion}
+use Rattle.std.proofs.lemmas.List.Elements.{All-from_recursion}
+use Rattle.tree_model.specs.declared.names.Kind.{Kind}
+use Rattle.tree_model.specs.declared.records.LogRecord.{LogRecord}
+use Rattle.log_text.specs.Payloads.{FitsFrame}
+use Rattle.log_rules.specs.sound.Sound.{IsSound}
+use Rattle.log_rules.proofs.sound.Sizes.{sound_fits}
 use Rattle.tree_model.specs.declared.names.ProcessId.{ProcessId}
 use Rattle.tree_model.specs.contracts.names.ProcessIdPartialEq.TheImpl as processes
 use Rattle.tree_model.specs.declared.events.Input.{Input}
@@ -214,3 +221,11 @@ module _ (old new : NodesSight) (q : ProcessId) where
   trimmed_counts m n made known was ok err counts none own others =
       counts_set m n old.node_at new.node_at q known was own others (trim_stays made ok err)
       (trim_now made known ok counts none)
+
+-- each record that can stand in a log fits a frame
+pub sound_fit : (k : Kind) (ls : List LogRecord) → AllByRecursion (IsSound k) ls → All FitsFrame ls
+sound_fit k ls sound = All-from_recursion FitsFrame ls (fits ls sound)
+  where
+    fits : (ls : List LogRecord) → AllByRecursion (IsSound k) ls → AllByRecursion FitsFrame ls
+    fits [] sound = tt
+    fits (l ∷ ls) sound = (sound_fits k l sound.0, fits ls sound.1)

@@ -24,11 +24,16 @@ use Rattle.failed_steps.specs.Fails.{InputFails, MessageFails, RestartBreaksOff,
 use Rattle.failed_steps.specs.Faults.{TrimLeaves, fault_entry, trim_fault}
 use Rattle.fault_journal.specs.declared.count.Count.{Count}
 use Rattle.fault_journal.specs.declared.faults.LastFault.{LastFault}
+use Rattle.fault_journal.specs.declared.faults.Cause.{Cause}
+use Rattle.fault_journal.proofs.Trims.{trim_leaves}
+use Rattle.log_rules.specs.sound.Written.{AreBytes}
+use Rattle.log_text.proofs.NumberBytes.{bytes_behind}
 use Rattle.fault_journal.specs.Counts.{CountsAt, KeepsAt, count_in, left_since, trim_left}
 use Rattle.fault_journal.specs.Faults.{FaultsSight, fault_by, failed_entries, happening_by, last_step, log_bytes, step_by}
 use Rattle.fault_journal.proofs.Counting.{kept_alike, left_count}
 use Rattle.tree_world.specs.Counts.{BreaksUnder}
-use Rattle.tree_world.specs.Nodes.{NoStepAt, NodesSight}
+use Rattle.tree_world.specs.LogsLeft.{LogStandsBy}
+use Rattle.tree_world.specs.Nodes.{NoStepAt, NodesSight, SpellsLogBy}
 use Rattle.tree_world.specs.Restarts.{RestartBreaksAt, TrimBreaksAt}
 use Rattle.fault_journal.specs.declared.faults.Cause.TheVariants.{Act as ActCause, Message as MessageCause, Restart as RestartCause, Trim as TrimCause}
 use Rattle.fault_journal.specs.Traces.{NotesFault, last_in}
@@ -254,6 +259,30 @@ restart_fault tree nodes after j k f g q bytes kept c keeps breaks counts left n
     let x : LastFault = record { process = q; cause = RestartCause kept; before = c } in
     let n = restart_noted tree nodes after j k g x bytes kept keeps breaks counts left
     (ap (λ (h : FaultsSight). h.last) noted) refl (λ s. refl) in
+    record {
+      counted = ap (λ (h : FaultsSight). h.counted) noted;
+      entry = n.entry;
+      last = n.last;
+      fails = n.fails;
+    }
+
+-- a trim, where the bytes of the log before it are known
+pub trim_fault_noted : (tree : List TreeEntry) (nodes after : NodesSight) (j k : JournalState) (f g : FaultsSight)
+    (q : ProcessId) (cause : Cause) (text : List ℕ) (c : Count) → Keeps j k → TrimBreaksAt nodes after q
+    → CountsAt c (nodes.node_at q) → SpellsLogBy (nodes.node_at q) text → AreBytes text → LogStandsBy (after.node_at q)
+    → happening_by k.net cause ≡ Some Trimming
+    → ((b : Count) (s : CoreState) → fault_by cause b s ≡ trim_fault (trim_left text (log_bytes s) b (count_in s)))
+    → g ≡ record f { last = Some (record { process = q; cause = cause; before = c }) }
+    → NotesFault (world tree nodes j) f (Trim q) (world tree after k) g
+trim_fault_noted tree nodes after j k f g q cause text c keeps breaks counts spelled bytes stand happens numbers noted =
+    let x : LastFault = record { process = q; cause = cause; before = c } in
+    let spells = subst (λ (o : Option CoreState). SpellsLogBy o text) breaks.moves.stood spelled in
+    let stands = subst LogStandsBy breaks.moves.stands stand in
+    let broken = breaks.breaks.broken in
+    let leaves = trim_leaves breaks.before breaks.behind text (bytes_behind 5 text bytes) spells breaks.breaks.works
+    broken.place stands.sound broken in
+    let n = trim_noted tree nodes after j k g x text keeps breaks counts (ap (λ (h : FaultsSight). h.last) noted)
+    happens (numbers c) leaves in
     record {
       counted = ap (λ (h : FaultsSight). h.counted) noted;
       entry = n.entry;

@@ -1,9 +1,10 @@
 //! The processes of a tree.
 
-ghost use Rattle.std.specs.Prelude.{◌≡◌, false, IfErr, IfOk, option_map};
+ghost use Rattle.std.specs.Prelude.{◌≡◌, false, IfErr, IfOk, IfSome, option_map};
 ghost use Rattle.core_model.specs.Inputs.{input_of};
 ghost use Rattle.tree_model.specs.declared.events.StepError.TheVariants.{Device};
-ghost use Rattle.tree_node.specs.Nodes.{live_at};
+ghost use Rattle.live_table.specs.Known.{Knows};
+ghost use Rattle.tree_node.specs.Nodes.{live_at, standing_at};
 ghost use Rattle.tree_world.specs.Counts.{BreaksUnder};
 ghost use Rattle.tree_world.specs.LogsLeft.{LogStandsBy};
 ghost use Rattle.tree_world.specs.Nodes.{NoStepAt, SpellsLogBy, StepsAt, kept_at, log_by, node_in, nodes_at};
@@ -76,7 +77,9 @@ impl<L: LogStore> Nodes<L> {
 
     /// How many cases are live at a process, if there is one.
     pub(crate) fn live(&self, process: ProcessId) -> Option<usize>
-        ensures { result ≡ option_map live_at (node_in self.now.nodes.entries process) }
+        ensures known { IfSome (node_in self.now.nodes.entries process)
+            (λ node. IfSome result (Knows (standing_at node))) }
+        ensures entries { result ≡ option_map live_at (node_in self.now.nodes.entries process) }
     {
         match self.nodes.get(&process) {
             None => None,

@@ -163,13 +163,16 @@ impl<L: LogStore + Drop> World<L> {
             stores.reverse();
             return Err((error, stores));
         }
+        let nodes = Counted::new(alloc, Nodes { nodes });
+        let journal = Journal::new(alloc);
+        let faults = Faults::new(alloc);
         Ok(World {
             running: RunningTree {
                 alloc,
                 tree,
-                nodes: Counted::new(alloc, Nodes { nodes }),
-                journal: Journal::new(alloc),
-                faults: Faults::new(alloc),
+                nodes,
+                journal,
+                faults,
             },
             reopened: false,
         })

@@ -289,13 +289,15 @@ impl<L: LogStore + Drop> World<L> {
             stores.reverse();
             return Err((error, stores));
         }
+        let nodes = Counted::new(alloc, Nodes { nodes });
+        let faults = Faults::new(alloc);
         Ok(World {
             running: RunningTree {
                 alloc,
                 tree,
-                nodes: Counted::new(alloc, Nodes { nodes }),
+                nodes,
                 journal,
-                faults: Faults::new(alloc),
+                faults,
             },
             reopened: true,
         })

@@ -3,6 +3,7 @@
 ghost use Rattle.std.specs.Prelude.{◌≡◌, ◌≢◌, ◌<◌, [], Err, IfErr, IfOk, IsFalse, IsTrue, None, OnOk, length, map};
 ghost use Rattle.tree_model.specs.declared.events.StepError.TheVariants.{Device};
 ghost use Rattle.tree_model.specs.Plays.{process_of_act};
+ghost use Rattle.log_rules.specs.sound.Written.{AreBytes};
 ghost use Rattle.core_law.specs.Steps.{trim_reaction};
 ghost use Rattle.core_law.specs.worlds.Worlds.{Applies, Stops};
 ghost use Rattle.core_law.specs.worlds.Runs.{Leads, LeadsUntil};
@@ -72,6 +73,11 @@ fn is_fault(made: &Result<Reaction, StepError>) -> bool
 {
     matches!(made, Err(StepError::Device))
 }
+
+/// What the type says of bytes: each is below 256. It does nothing.
+fn are_bytes(bytes: &[u8])
+    ensures { AreBytes bytes.now }
+{}
 
 /// Lets go of logs.
 fn discard(_logs: Vec<Vec<LogRecord>>) {}
@@ -299,6 +305,7 @@ impl<L: LogStore> RunningTree<L> {
         self.journal.make_room()?;
         let before = self.nodes.count(process)?;
         let text = self.nodes.nodes.log_text(self.alloc, process)?;
+        are_bytes(&text);
         match self.nodes.trim(process) {
             Ok(remain) => {
                 self.journal
@@ -306,6 +313,7 @@ impl<L: LogStore> RunningTree<L> {
                 Ok(())
             }
             Err(StepError::Device) => {
+                self.nodes.nodes.log_stands(process);
                 self.faults.note(process, Cause::Trim(text), before);
                 Err(StepError::Device)
             }

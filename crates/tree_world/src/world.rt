@@ -1,6 +1,6 @@
 //! The tree that runs, as a caller sees it.
 
-ghost use Rattle.std.specs.Prelude.{◌≡◌, ◌<◌, ℕ, List, false, IfErr, IfOk, OnOk, length, map, option_map, slice_get};
+ghost use Rattle.std.specs.Prelude.{◌≡◌, ◌<◌, ℕ, List, false, IfErr, IfOk, IfSome, OnOk, length, map, option_map, slice_get};
 ghost use Rattle.tree_model.specs.World.{Made, World as ModelWorld};
 ghost use Rattle.core_law.specs.worlds.Worlds.{Applies, Stops};
 ghost use Rattle.core_law.specs.worlds.Runs.{Leads, LeadsUntil};
@@ -9,7 +9,8 @@ ghost use Rattle.core_law.specs.worlds.Modelled.{KeepsHeadline};
 ghost use Rattle.reopened_trees.specs.Earlier.{Earlier};
 ghost use Rattle.reopened_trees.specs.Since.{FollowsSince, GoesOnKeeping};
 ghost use Rattle.short_steps.specs.Shown.{entry_part, shown_part};
-ghost use Rattle.tree_node.specs.Nodes.{live_at};
+ghost use Rattle.live_table.specs.Known.{Knows};
+ghost use Rattle.tree_node.specs.Nodes.{live_at, standing_at};
 ghost use Rattle.tree_world.specs.LogsLeft.{LogStandsBy};
 ghost use Rattle.tree_world.specs.Nodes.{SpellsLogBy, node_in};
 ghost use Rattle.fault_journal.specs.Traces.{TraceGoesOnFrom, TraceIsRun};
@@ -110,9 +111,10 @@ impl<L: LogStore> World<L> {
         L: Drop,
     {}
 
-    /// How many cases are live at a process, if there is one.
+    /// How many cases are live at a process, if there is one: those that are not Unknown.
     pub fn live(&self, process: ProcessId) -> Option<usize>
-        ensures { result ≡ option_map live_at (node_in self.now.nodes process) }
+        ensures known { IfSome (node_in self.now.nodes process) (λ node. IfSome result (Knows (standing_at node))) }
+        ensures entries { result ≡ option_map live_at (node_in self.now.nodes process) }
     {
         self.running.nodes.nodes.live(process)
     }

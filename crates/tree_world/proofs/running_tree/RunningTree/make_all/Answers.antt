@@ -1,5 +1,5 @@
-use Rattle.std.proofs.Common.{[], refl}
-use Rattle.fault_journal.proofs.Adding.{adds_nothing, adds_then}
+use Rattle.std.proofs.Common.{[], refl, rules}
+use Rattle.fault_journal.proofs.Adding.{adds_nothing, adds_then, until_after}
 use Rattle.tree_world.specs.Worlds.{running_state}
 use Rattle.tree_world.proofs.Running.{run_goes_on, run_ends}
 use Rattle.tree_world.proofs.running_tree.RunningTree.make_all.Goals as goal
@@ -32,3 +32,10 @@ loop-made-init g c = (
   adds_nothing (running_state c.args.self.now) c.args.self.now.faults
       c.args.self.now.faults refl,
 )
+
+pub returns-in-Err-clause-until : goal.returns-in-Err-clause-until
+returns-in-Err-clause-until g c =
+    until_after (running_state c.args.self.now) (running_state c.loop-made.self) (running_state c.make_copy.new.self)
+    c.args.self.now.faults c.loop-made.self.faults c.make_copy.new.self.faults c.args.events.now c.loop-made.made
+    c.index-events-made.result.now c.in-Err.refusal (search rules) c.loop-made.invariant.0 c.loop-made.invariant.2
+    c.in-Err.ensures.until

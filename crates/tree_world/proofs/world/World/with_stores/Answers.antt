@@ -17,21 +17,24 @@ returns-in-Err-clause-handed_back g c =
 
 pub invariant_of-result : goal.invariant_of-result
 invariant_of-result g c =
-    let opened = all_opened c.args.tree c.entries-2.result.now (kept_at c.open_from.new.nodes.entries) c.new.result
-    c.entries-2.ensures c.in_default.ensures.ok c.new.ensures.net c.new.ensures.delivered c.new.ensures.entries in
-    record {
+    let opened = all_opened c.args.tree c.entries-2.result.now (kept_at c.open_from.new.nodes.entries) c.new-journal.result
+    c.entries-2.ensures c.in_default.ensures.ok c.new-journal.ensures.net c.new-journal.ensures.delivered
+    c.new-journal.ensures.entries in
+    rw (c.new-nodes.ensures, c.new-faults.ensures) (record {
       run = opened_modelled c.args.tree _ c.requires opened;
       trace = kept_opened c.args.tree _ opened;
       places = omega arith;
-    }
+    })
 
 pub returns-clause-opened : goal.returns-clause-opened
 returns-clause-opened g c =
-    all_opened c.args.tree c.entries-2.result.now (kept_at c.open_from.new.nodes.entries) c.new.result
-    c.entries-2.ensures c.in_default.ensures.ok c.new.ensures.net c.new.ensures.delivered c.new.ensures.entries
+    rw c.new-nodes.ensures
+    (all_opened c.args.tree c.entries-2.result.now (kept_at c.open_from.new.nodes.entries) c.new-journal.result
+    c.entries-2.ensures c.in_default.ensures.ok c.new-journal.ensures.net c.new-journal.ensures.delivered
+    c.new-journal.ensures.entries)
 
 pub returns-clause-trace : goal.returns-clause-trace
-returns-clause-trace g c = no_trace _ c.new.ensures.entries
+returns-clause-trace g c = rw c.new-faults.ensures (no_trace _ c.new-journal.ensures.entries)
 
 pub returns-clause-headline : goal.returns-clause-headline
 returns-clause-headline g c =
