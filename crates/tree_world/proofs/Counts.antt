@@ -59,6 +59,19 @@ counts_set m n at at' q known was own others stay now p c found = by_name (same_
         (now c (sym (own (Some c) (subst (λ r. lookup (processes.ghosts.eq r) n ≡ Some (Some c)) (sym here.1) found))))
     by_name (inr there) = stay p there.0 c (was p c (sym (others p there.0) ∙ found))
 
+-- where one count is known from now on
+pub counts_put : (m n : Counted) (at : ProcessId → Option CoreState) (q : ProcessId) (count : Count) → AreCounts m at
+    → lookup (processes.ghosts.eq q) n ≡ Some (Some count)
+    → ((p : ProcessId) → same_process q p ≡ false
+    → lookup (processes.ghosts.eq p) n ≡ lookup (processes.ghosts.eq p) m)
+    → CountsAt count (at q) → AreCounts n at
+counts_put m n at q count was own others now =
+    counts_set m n at at q (Some count) was (λ k found. some_is k (Some count) (sym found ∙ own)) others
+    (λ p apart d is. is) (λ d is. subst (λ e. CountsAt e (at q)) (some_is count d is) now)
+  where
+    some_is : {X : Type 0} (d e : X) → Some d ≡ Some e → d ≡ e
+    some_is d e is = subst (λ (o : Option _). IfSome o (λ x. d ≡ x)) is refl
+
 module _ (old new : NodesSight) (q : ProcessId) (c : Count) (is : CountsAt c (old.node_at q)) where
   -- after an input
   step_stays : (i : Input) (made : Result Reaction StepError) → IfOk made (StepsAt old new q i)

@@ -15,10 +15,12 @@ ghost use Rattle.fault_journal.specs.Counts.{CountsAt, KeepsAt, KeepsCount, afte
 ghost use Rattle.fault_journal.specs.Faults.{fault_by, log_bytes};
 ghost use Rattle.tree_node.specs.Nodes.{core_of};
 ghost use Rattle.tree_world.specs.Counts.{BreaksUnder};
-ghost use Rattle.tree_world.specs.Nodes.{NoStepAt, StepsAt, kept_at, nodes_at};
+ghost use Rattle.tree_world.specs.LogsLeft.{LogStandsBy};
+ghost use Rattle.tree_world.specs.Nodes.{NoStepAt, SpellsLogBy, StepsAt, kept_at, nodes_at};
 ghost use Rattle.tree_world.specs.Restarts.{NoRestartAt, NoTrimAt, RestartsAt, TrimsAt};
 
 use crate::nodes::Nodes;
+use crate::opening::put_by_name;
 use core_model::InputRef;
 use fault_journal::{Cause, Count, LastFault};
 use indexmap::IndexMap;
@@ -175,6 +177,16 @@ fn count_after_trim(made: &Result<u64, StepError>) -> Option<Count>
     }
 }
 
+/// The count of a process, if it is known.
+fn known_in(counts: &IndexMap<ProcessId, Option<Count>>, process: ProcessId) -> Option<Count>
+    ensures { IfSome result (λ count. lookup (processes.ghosts.eq process) counts.now.entries ≡ Some (Some count)) }
+{
+    match counts.get(&process) {
+        Some(Some(count)) => Some(*count),
+        _ => None,
+    }
+}
+
 /// A count is set, if the process has one.
 fn set(counts: &mut IndexMap<ProcessId, Option<Count>>, process: ProcessId, count: Option<Count>)
     ensures own { (known : Option AnyCount) → lookup (processes.ghosts.eq process) counts.new.entries ≡ Some known
@@ -199,7 +211,7 @@ impl<L: LogStore> Nodes<L> {
     }
 
     /// How many of its unforced records a process keeps in a restart that names these bytes.
-    pub(crate) fn kept(&self, process: ProcessId, bytes: Option<u64>) -> Result<u64, AllocError>
+    fn kept(&self, process: ProcessId, bytes: Option<u64>) -> Result<u64, AllocError>
         ensures { IfOk result (KeepsAt bytes (nodes_at self.now.nodes.entries process)) }
     {
         match self.nodes.get(&process) {
@@ -236,11 +248,12 @@ impl<L: LogStore> Counted<L> {
         ensures nodes { self.new ≡ self.old }
         ensures ok { IfOk result (λ count. CountsAt count ((kept_at self.old).node_at process)) }
     {
-        if let Some(Some(count)) = self.counts.get(&process) {
-            return Ok(*count);
+        if let Some(count) = known_in(&self.counts, process) {
+            return Ok(count);
         }
         let count = self.nodes.count(process)?;
-        let _ = self.counts.insert(process, Some(count))?;
+        self.counts.reserve(1)?;
+        put_by_name(&mut self.counts, process, Some(count));
         Ok(count)
     }
 
@@ -296,5 +309,26 @@ impl<L: LogStore> Counted<L> {
         let made = self.nodes.trim(process);
         set(&mut self.counts, process, count_after_trim(&made));
         made
+    }
+
+    /// How many of its unforced records a process keeps in a restart that names these bytes.
+    pub(crate) fn kept(&self, process: ProcessId, bytes: Option<u64>) -> Result<u64, AllocError>
+        ensures { IfOk result (KeepsAt bytes ((kept_at self.now).node_at process)) }
+    {
+        self.nodes.kept(process, bytes)
+    }
+
+    /// The bytes of a process's log; none, where there is no such process.
+    pub(crate) fn log_text(&self, alloc: Global, process: ProcessId) -> Result<Vec<u8>, AllocError>
+        ensures { IfOk result (λ text. SpellsLogBy ((kept_at self.now).node_at process) text.items) }
+    {
+        self.nodes.log_text(alloc, process)
+    }
+
+    /// What `Node::log_stands` says of a process, where there is one. It does nothing.
+    pub(crate) fn log_stands(&self, process: ProcessId)
+        ensures { LogStandsBy ((kept_at self.now).node_at process) }
+    {
+        self.nodes.log_stands(process);
     }
 }

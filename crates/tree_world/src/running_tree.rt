@@ -276,7 +276,7 @@ impl<L: LogStore> RunningTree<L> {
     {
         self.journal.make_room()?;
         let before = self.nodes.count(process)?;
-        let keeps = self.nodes.nodes.kept(process, bytes)?;
+        let keeps = self.nodes.kept(process, bytes)?;
         match self.nodes.restart(process, bytes, before) {
             Ok((kept, reaction)) => {
                 self.journal
@@ -304,7 +304,7 @@ impl<L: LogStore> RunningTree<L> {
     {
         self.journal.make_room()?;
         let before = self.nodes.count(process)?;
-        let text = self.nodes.nodes.log_text(self.alloc, process)?;
+        let text = self.nodes.log_text(self.alloc, process)?;
         are_bytes(&text);
         match self.nodes.trim(process) {
             Ok(remain) => {
@@ -313,7 +313,7 @@ impl<L: LogStore> RunningTree<L> {
                 Ok(())
             }
             Err(StepError::Device) => {
-                self.nodes.nodes.log_stands(process);
+                self.nodes.log_stands(process);
                 self.faults.note(process, Cause::Trim(text), before);
                 Err(StepError::Device)
             }

@@ -123,17 +123,14 @@ impl<L: LogStore> World<L> {
     pub fn log_text(&self, process: ProcessId) -> Result<Vec<u8>, AllocError>
         ensures { IfOk result (λ text. SpellsLogBy ((state self.now).node_at process) text.items) }
     {
-        self.running
-            .nodes
-            .nodes
-            .log_text(self.running.alloc, process)
+        self.running.nodes.log_text(self.running.alloc, process)
     }
 
     /// Each record of a process's log can stand there, and a manager's may follow one another. It does nothing.
     pub(crate) fn log_stands(&self, process: ProcessId)
         ensures { LogStandsBy ((state self.now).node_at process) }
     {
-        self.running.nodes.nodes.log_stands(process);
+        self.running.nodes.log_stands(process);
     }
 
     /// The records of each process's log, in the order of the tree.

@@ -1,4 +1,5 @@
-use Rattle.std.proofs.Common.{[], refl, rules}
+use Rattle.std.proofs.Common.{[], length, refl}
+use Rattle.std.proofs.lemmas.Option.{slice_get_read}
 use Rattle.fault_journal.proofs.Adding.{adds_nothing, adds_then, until_after}
 use Rattle.tree_world.specs.Worlds.{running_state}
 use Rattle.tree_world.proofs.Running.{run_goes_on, run_ends}
@@ -37,5 +38,7 @@ pub returns-in-Err-clause-until : goal.returns-in-Err-clause-until
 returns-in-Err-clause-until g c =
     until_after (running_state c.args.self.now) (running_state c.loop-made.self) (running_state c.make_copy.new.self)
     c.args.self.now.faults c.loop-made.self.faults c.make_copy.new.self.faults c.args.events.now c.loop-made.made
-    c.index-events-made.result.now c.in-Err.refusal (search rules) c.loop-made.invariant.0 c.loop-made.invariant.2
+    c.index-events-made.result c.in-Err.refusal
+    (slice_get_read c.args.events.now (length c.args.events.now) c.loop-made.made c.index-events-made.result refl
+    c.loop-made-test.true c.index-events-made.is) c.loop-made.invariant.0 c.loop-made.invariant.2
     c.in-Err.ensures.until

@@ -1,5 +1,7 @@
-use Rattle.std.proofs.Common.{rules}
+use Rattle.std.proofs.Common.{◌≡◌, rules, subst}
+use Rattle.tree_model.specs.declared.events.StepError.TheVariants.{Device}
 use Rattle.tree_world.specs.Nodes.{kept_at}
+use Rattle.tree_world.specs.Restarts.{NoRestartAt}
 use Rattle.tree_world.proofs.Noted.{restart_fault}
 use Rattle.tree_world.proofs.Restarted.{world_restarts}
 use Rattle.tree_world.proofs.running_tree.RunningTree.restart.Goals as goal
@@ -14,7 +16,9 @@ returns-in-Ok-clause-ok g c =
 
 pub returns-in-Err-Device-clause-noted : goal.returns-in-Err-Device-clause-noted
 returns-in-Err-Device-clause-noted g c =
+    let device : c.in-Err-Device.field-0 ≡ Device = search rules in
     rw (← c.count.ensures.nodes)
     (restart_fault _ (kept_at c.count.new.self) (kept_at c.restart.new.self) c.args.self.now.journal
     c.make_room.new.self c.args.self.now.faults _ c.args.process c.args.bytes _ _ c.in_ok-make_room.ensures.keeps
-    c.in-Err-Device.ensures.err (search rules) c.in_ok-keeps.ensures c.note.ensures)
+    (subst (NoRestartAt (kept_at c.count.new.self) (kept_at c.restart.new.self) c.args.process c.args.bytes) device
+    c.in-Err-Device.ensures.err) (search rules) c.in_ok-keeps.ensures c.note.ensures)

@@ -1,5 +1,8 @@
-use Rattle.std.proofs.Common.{refl, rules}
+use Rattle.std.proofs.Common.{◌≡◌, refl, rules, subst}
+use Rattle.tree_model.specs.declared.events.StepError.TheVariants.{Device}
+use Rattle.log_rules.specs.sound.Written.{AreBytes}
 use Rattle.tree_world.specs.Nodes.{kept_at}
+use Rattle.tree_world.specs.Restarts.{NoTrimAt}
 use Rattle.tree_world.proofs.Noted.{trim_fault_noted}
 use Rattle.tree_world.proofs.Restarted.{world_trims}
 use Rattle.tree_world.proofs.running_tree.RunningTree.trim.Goals as goal
@@ -15,8 +18,11 @@ returns-in-Ok-clause-ok g c =
 
 pub returns-in-Err-Device-clause-noted : goal.returns-in-Err-Device-clause-noted
 returns-in-Err-Device-clause-noted g c =
+    let device : c.in-Err-Device.field-0 ≡ Device = search rules in
     rw (← c.count.ensures.nodes)
     (trim_fault_noted _ (kept_at c.count.new.self) (kept_at c.trim.new.self) c.args.self.now.journal
     c.make_room.new.self c.args.self.now.faults _ c.args.process _ c.in_ok-text.text.items _
-    c.in_ok-make_room.ensures.keeps c.in-Err-Device.ensures.err (search rules) c.in_ok-text.ensures
-    c.are_bytes.ensures c.log_stands.ensures refl (λ b s. refl) c.note.ensures)
+    c.in_ok-make_room.ensures.keeps
+    (subst (NoTrimAt (kept_at c.count.new.self) (kept_at c.trim.new.self) c.args.process) device
+    c.in-Err-Device.ensures.err) (search rules) c.in_ok-text.ensures
+    (subst AreBytes c.deref.ensures.value c.are_bytes.ensures) c.log_stands.ensures refl (λ b s. refl) c.note.ensures)

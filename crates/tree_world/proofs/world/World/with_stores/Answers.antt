@@ -3,6 +3,7 @@ use Rattle.fault_journal.proofs.Traced.{kept_opened, no_trace}
 use Rattle.tree_world.specs.Nodes.{kept_at}
 use Rattle.tree_world.proofs.FromPlaces.{all_opened}
 use Rattle.tree_world.proofs.HandedBack.{handed_back_all}
+use Rattle.tree_world.proofs.Handling.{world}
 use Rattle.tree_world.proofs.Modelled.{keeps_headline, opened_modelled}
 use Rattle.tree_world.proofs.StorePlaces.{none_open}
 use Rattle.tree_world.proofs.world.World.with_stores.Goals as goal
@@ -34,7 +35,9 @@ returns-clause-opened g c =
     c.new-journal.ensures.entries)
 
 pub returns-clause-trace : goal.returns-clause-trace
-returns-clause-trace g c = rw c.new-faults.ensures (no_trace _ c.new-journal.ensures.entries)
+returns-clause-trace g c =
+    rw c.new-faults.ensures
+    (no_trace (world c.args.tree (kept_at c.new-nodes.result) c.new-journal.result) c.new-journal.ensures.entries)
 
 pub returns-clause-headline : goal.returns-clause-headline
 returns-clause-headline g c =
