@@ -1,5 +1,5 @@
 -- A fault as it is noted, and what a count will say of it.
-use Rattle.std.proofs.Common.{◌≡◌, ◌∙◌, ◌+◌, ◌-◌, sym, ap, subst, refl, ℕ, Option, Some, None, option_map, List, [], ◌∷◌, length, Result, Err, IfErr}
+use Rattle.std.proofs.Common.{◌≡◌, ◌∙◌, ◌+◌, ◌-◌, sym, ap, subst, refl, ℕ, Option, Some, None, option_map, List, [], ◌∷◌, length, Result, Ok, Err, IfErr, IfOk}
 use Rattle.tree_model.specs.declared.names.ProcessId.{ProcessId}
 use Rattle.tree_model.specs.declared.events.Entry.{Entry}
 use Rattle.tree_model.specs.declared.events.Fault.{Fault}
@@ -31,9 +31,8 @@ use Rattle.log_text.proofs.NumberBytes.{bytes_behind}
 use Rattle.fault_journal.specs.Counts.{CountsAt, KeepsAt, count_in, left_since, trim_left}
 use Rattle.fault_journal.specs.Faults.{FaultsSight, fault_by, failed_entries, happening_by, last_step, log_bytes, step_by}
 use Rattle.fault_journal.proofs.Counting.{kept_alike, left_count}
-use Rattle.tree_world.specs.Counts.{BreaksUnder}
 use Rattle.tree_world.specs.LogsLeft.{LogStandsBy}
-use Rattle.tree_world.specs.Nodes.{NoStepAt, NodesSight, SpellsLogBy}
+use Rattle.tree_world.specs.Nodes.{BreaksUnder, NoStepAt, NodesSight, SpellsLogBy}
 use Rattle.tree_world.specs.Restarts.{RestartBreaksAt, TrimBreaksAt}
 use Rattle.fault_journal.specs.declared.faults.Cause.TheVariants.{Act as ActCause, Message as MessageCause, Restart as RestartCause, Trim as TrimCause}
 use Rattle.fault_journal.specs.Traces.{NotesFault, last_in}
@@ -189,11 +188,19 @@ trim_noted tree nodes after j k g x text keeps breaks counts last happens number
 
 -- What a call leaves where the device failed.
 
--- the same of a step whose device failed
-under_so : (nodes after : NodesSight) (q : ProcessId) (i : Input) (made : Result Reaction StepError) → made ≡ Err Device
-    → IfErr made (λ e. e ≡ Device → BreaksUnder nodes after q i) → BreaksUnder nodes after q i
-under_so nodes after q i made is under =
-    subst (λ (m : Result Reaction StepError). IfErr m (λ e. e ≡ Device → BreaksUnder nodes after q i)) is under refl
+-- what is said of each error is said of this one
+pub with_device : {T : Type 0} (made : Result T StepError) (P : StepError → Type 0) → made ≡ Err Device → IfErr made P
+    → P Device
+with_device made P is h = subst (λ (m : Result _ StepError). IfErr m P) is h
+
+-- what is said of each success is said of this one
+pub with_ok : {T : Type 0} (made : Result T StepError) (x : T) (P : T → Type 0) → made ≡ Ok x → IfOk made P → P x
+with_ok made x P is h = subst (λ (m : Result _ StepError). IfOk m P) is h
+
+-- and what is said of this one alone
+pub where_failed : {T : Type 0} (made : Result T StepError) (P : Type 0) → made ≡ Err Device
+    → IfErr made (λ e. e ≡ Device → P) → P
+where_failed made P is h = with_device made (λ e. e ≡ Device → P) is h refl
 
 -- an act
 pub act_fails : (tree : List TreeEntry) (nodes after : NodesSight) (j k : JournalState) (q p : ProcessId) (a : Act)
@@ -219,7 +226,7 @@ pub act_noted : (tree : List TreeEntry) (nodes after : NodesSight) (j k : Journa
     → NotesFault (world tree nodes j) f (ActOf a) (world tree after k) g
 act_noted tree nodes after j k f g q a c made at keeps is under counts noted =
     let x : LastFault = record { process = q; cause = ActCause a; before = c } in
-    let n = input_noted tree nodes after j k g x (ActInput a) keeps (under_so nodes after q (ActInput a) made is under)
+    let n = input_noted tree nodes after j k g x (ActInput a) keeps (where_failed made (BreaksUnder nodes after q (ActInput a)) is under)
     counts (ap (λ (h : FaultsSight). h.last) noted) refl (λ s. refl) in
     record {
       counted = ap (λ (h : FaultsSight). h.counted) noted;
@@ -238,7 +245,7 @@ pub delivery_noted : (tree : List TreeEntry) (nodes after : NodesSight) (j k : J
 delivery_noted tree nodes after j k f g n m c made keeps sent is under counts noted =
     let x : LastFault = record { process = m.to; cause = MessageCause n; before = c } in
     let i : Input = MessageInput n m.message in
-    let note = input_noted tree nodes after j k g x i keeps (under_so nodes after m.to i made is under)
+    let note = input_noted tree nodes after j k g x i keeps (where_failed made (BreaksUnder nodes after m.to i) is under)
     counts (ap (λ (h : FaultsSight). h.last) noted)
     (ap (option_map (λ (l : Envelope). Handles (MessageInput n l.message))) sent) (λ s. refl) in
     record {

@@ -14,8 +14,7 @@ use Rattle.core_law.specs.worlds.Worlds.{HandlesInput, RefusesAt, SameNode, Want
 use Rattle.tree_node.specs.declared.node.Node.{Node}
 use Rattle.tree_node.specs.Nodes.{FailsUnder, NotHandled, core_of, data_of}
 use Rattle.tree_node.proofs.Same.{rests, same_core}
-use Rattle.tree_world.specs.Counts.{BreaksUnder}
-use Rattle.tree_world.specs.Nodes.{MovesAt, NoStepAt, NodesSight, SameNodes, StepsAt, data_in, kept_at, node_in}
+use Rattle.tree_world.specs.Nodes.{BreaksUnder, MovesAt, NoStepAt, NodesSight, SameNodes, StepsAt, data_in, kept_at, node_in}
 use Rattle.manager_model.specs.Data.{Rests}
 
 -- each process is the same as it is
@@ -71,6 +70,18 @@ same_nodes old new q s t moves same keeps = record {
     data_at p (inl here) = subst (λ r. Rests (old.data_at r) (new.data_at r)) here.1 keeps
     data_at p (inr there) =
         subst (λ d. Rests (old.data_at p) d) (sym (moves.others_data p there.0)) (rests (old.data_at p))
+
+-- where one process is as it was, and so is each other, nothing is otherwise
+pub unmoved : {L : Type 0} (es fs : List (ProcessId × Node L)) (q : ProcessId) (before behind : Node L)
+    → node_in es q ≡ Some before → node_in fs q ≡ Some behind
+    → ((p : ProcessId) → same_process q p ≡ false → node_in fs p ≡ node_in es p)
+    → behind ≡ before → SameNodes (kept_at es) (kept_at fs)
+unmoved es fs q before behind stood stands others is =
+    same_nodes (kept_at es) (kept_at fs) q (core_of before) (core_of behind)
+    (moves_at es fs q before behind stood stands others)
+    (subst (λ (n : Node _). SameCore (core_of before) (core_of n)) (sym is) (same_core (core_of before)))
+    (kept_data es fs q before behind stood stands
+    (subst (λ (n : Node _). Rests (data_of before) (data_of n)) (sym is) (rests (data_of before))))
 
 -- a process handled an input
 pub stepped : {L E : Type 0} (es fs : List (ProcessId × Node L)) (q : ProcessId) (i : Input)

@@ -1,5 +1,4 @@
 pub mod Nodes
-pub mod Counts
 pub mod LogsLeft
 pub mod Openings
 pub mod Restarts

@@ -39,7 +39,7 @@ abbrev pub value_by : {L : Type 0} → RunningTree L → Bool → WorldValue L
 value_by w reopened =
     record {
       tree = w.tree;
-      nodes = w.nodes;
+      nodes = w.nodes.nodes.entries;
       journal = w.journal;
       faults = w.faults;
       reopened = reopened;

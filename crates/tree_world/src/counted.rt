@@ -1,57 +1,45 @@
-//! The processes of a tree, and how many records stand in the log of each.
+//! A process of a tree, and how many records stand in its log.
 
-ghost use Rattle.std.specs.Prelude.{◌≡◌, ◌≢◌, ◌+◌, ◌++◌, All, IfErr, IfOk, IfSome, None, OnErr, OnOk, Option, Some, false, length, option_map};
-ghost use Rattle.std.specs.Map.{lookup};
-ghost use Rattle.tree_model.specs.contracts.names.ProcessIdPartialEq.TheImpl as processes;
-ghost use Rattle.tree_model.specs.declared.names.ProcessId.{ProcessId as AnyProcess};
+ghost use Rattle.std.specs.Prelude.{◌≡◌, ◌≢◌, ◌+◌, ◌++◌, All, IfErr, IfOk, IfSome, None, OnErr, OnOk, Some, length};
 ghost use Rattle.tree_model.specs.declared.events.StepError.TheVariants.{Device};
-ghost use Rattle.tree_model.specs.Names.{same_process};
 ghost use Rattle.log_text.specs.Payloads.{FitsFrame, records_text};
 ghost use Rattle.core_model.specs.Inputs.{input_of};
 ghost use Rattle.core_model.specs.States.{form_of};
-ghost use Rattle.core_law.specs.worlds.Worlds.{KeepsBytes};
-ghost use Rattle.fault_journal.specs.declared.count.Count.{Count as AnyCount};
-ghost use Rattle.fault_journal.specs.Counts.{CountsAt, KeepsAt, KeepsCount, after_written, all_forced, count_in};
+ghost use Rattle.core_law.specs.worlds.Worlds.{HandlesInput, KeepsBytes};
+ghost use Rattle.fault_journal.specs.Counts.{KeepsCount, after_written, all_forced, count_in};
 ghost use Rattle.fault_journal.specs.Faults.{fault_by, log_bytes};
-ghost use Rattle.tree_node.specs.Nodes.{core_of};
-ghost use Rattle.tree_world.specs.Counts.{BreaksUnder};
-ghost use Rattle.tree_world.specs.LogsLeft.{LogStandsBy};
-ghost use Rattle.tree_world.specs.Nodes.{NoStepAt, SpellsLogBy, StepsAt, kept_at, nodes_at};
-ghost use Rattle.tree_world.specs.Restarts.{NoRestartAt, NoTrimAt, RestartsAt, TrimsAt};
+ghost use Rattle.tree_node.specs.Nodes.{FailsUnder, NotHandled, core_of, data_of};
+ghost use Rattle.tree_node.specs.Restarts.{NoRestart, NoTrim, RestartsNode, TrimsNode};
 
-use crate::nodes::Nodes;
-use crate::opening::put_by_name;
 use core_model::InputRef;
-use fault_journal::{Cause, Count, LastFault};
-use indexmap::IndexMap;
+use fault_journal::{Cause, Count};
 use log_store::LogStore;
 use log_text::{Frame, LogForm, LogFormat};
 use std::alloc::{AllocError, Global};
 use std::marker::Model;
-use tree_model::{Fault, Kind, LogRecord, ProcessId, Reaction, StepError};
+use tree_model::{Fault, Kind, LogRecord, Reaction, StepError};
 use tree_node::Node;
 
-/// The processes of a tree, each by its name, and the counts of their logs. A step leaves the count that its reaction
-/// says, so that no log is read for it. A count is not known before the first step of a process, and after its device
-/// failed: then its log is read.
+/// A process, and the count of its log, where that is known. A step leaves the count that its reaction says, so that no
+/// log is read for it. A count is not known before the first step of a process, and after its device failed: then its log
+/// is read.
 #[derive(Drop)]
-pub(crate) struct Counted<L: LogStore> {
-    pub(crate) nodes: Nodes<L>,
-    counts: IndexMap<ProcessId, Option<Count>>,
+pub(crate) struct CountedNode<L: LogStore> {
+    node: Node<L>,
+    count: Option<Count>,
 }
 
-impl<L: LogStore> Model for Counted<L> {
-    ghost use Rattle.std.specs.Prelude.{List};
-    ghost use Rattle.tree_model.specs.declared.names.ProcessId.{ProcessId as AnyProcess};
+impl<L: LogStore> Model for CountedNode<L> {
+    ghost use Rattle.std.specs.Prelude.{◌≡◌, IfSome};
+    ghost use Rattle.fault_journal.specs.Counts.{count_in};
+    ghost use Rattle.tree_node.specs.Nodes.{core_of};
     ghost use Rattle.tree_node.specs.declared.node.Node.{Node as AnyNode};
-    ghost use Rattle.tree_world.specs.Counts.{AreCounts};
-    ghost use Rattle.tree_world.specs.Nodes.{kept_at};
 
-    ghost Value = { List (AnyProcess × AnyNode L) };
+    ghost Value = { AnyNode L };
 
-    ghost view = { λ c. c.nodes.nodes.entries };
+    ghost view = { λ c. c.node };
 
-    ghost invariant = { λ c. AreCounts c.counts.entries (kept_at c.nodes.nodes.entries).node_at };
+    ghost invariant = { λ c. IfSome c.count (λ count. count ≡ count_in (core_of c.node)) };
 }
 
 /// The count of a process's log, by its records.
@@ -77,7 +65,7 @@ fn keep_of<L: LogStore>(node: &Node<L>, bytes: Option<u64>) -> usize
 }
 
 /// How many of its unforced records it keeps then.
-fn kept_by<L: LogStore>(node: &Node<L>, bytes: Option<u64>) -> Result<u64, AllocError>
+pub(crate) fn kept_by<L: LogStore>(node: &Node<L>, bytes: Option<u64>) -> Result<u64, AllocError>
     ensures { IfOk result (KeepsCount (core_of node.now) bytes) }
 {
     let keep = keep_of(node, bytes);
@@ -126,7 +114,7 @@ fn whole_bytes<L: LogStore>(alloc: Global, node: &Node<L>) -> Result<Vec<u8>, Al
 }
 
 /// The fault of a step with this cause, by the count before it.
-fn fault_of<L: LogStore>(
+pub(crate) fn fault_of<L: LogStore>(
     alloc: Global,
     node: &Node<L>,
     cause: &Cause,
@@ -177,158 +165,79 @@ fn count_after_trim(made: &Result<u64, StepError>) -> Option<Count>
     }
 }
 
-/// The count of a process, if it is known.
-fn known_in(counts: &IndexMap<ProcessId, Option<Count>>, process: ProcessId) -> Option<Count>
-    ensures { IfSome result (λ count. lookup (processes.ghosts.eq process) counts.now.entries ≡ Some (Some count)) }
-{
-    match counts.get(&process) {
-        Some(Some(count)) => Some(*count),
-        _ => None,
-    }
-}
-
-/// A count is set, if the process has one.
-fn set(counts: &mut IndexMap<ProcessId, Option<Count>>, process: ProcessId, count: Option<Count>)
-    ensures own { (known : Option AnyCount) → lookup (processes.ghosts.eq process) counts.new.entries ≡ Some known
-        → known ≡ count }
-    ensures others { (q : AnyProcess) → same_process process q ≡ false
-        → lookup (processes.ghosts.eq q) counts.new.entries ≡ lookup (processes.ghosts.eq q) counts.old.entries }
-{
-    if let Some(known) = counts.get_mut(&process) {
-        *known = count;
-    }
-}
-
-impl<L: LogStore> Nodes<L> {
-    /// The count of the log of a process.
-    fn count(&self, process: ProcessId) -> Result<Count, AllocError>
-        ensures { IfOk result (λ count. CountsAt count (nodes_at self.now.nodes.entries process)) }
+impl<L: LogStore> CountedNode<L> {
+    /// A process, the count of whose log is not known.
+    pub(crate) fn new(node: Node<L>) -> CountedNode<L>
+        ensures { result ≡ node }
     {
-        match self.nodes.get(&process) {
-            None => Ok(Count::all_forced(0)),
-            Some(node) => count_of(node),
-        }
+        CountedNode { node, count: None }
     }
 
-    /// How many of its unforced records a process keeps in a restart that names these bytes.
-    fn kept(&self, process: ProcessId, bytes: Option<u64>) -> Result<u64, AllocError>
-        ensures { IfOk result (KeepsAt bytes (nodes_at self.now.nodes.entries process)) }
+    /// The process.
+    pub(crate) fn node(&self) -> &Node<L>
+        ensures { result.now ≡ self.now }
     {
-        match self.nodes.get(&process) {
-            None => Ok(0),
-            Some(node) => kept_by(node, bytes),
-        }
+        &self.node
     }
 
-    /// What the last fault left of its process's log; None where there is no such process.
-    pub(crate) fn fault(&self, alloc: Global, last: &LastFault) -> Result<Option<Fault>, AllocError>
-        ensures { IfOk result (λ fault. fault
-            ≡ option_map (fault_by last.now.cause last.now.before) (nodes_at self.now.nodes.entries last.now.process)) }
+    /// The count of its log, which is known from then on. Memory: nothing changed.
+    pub(crate) fn count(&mut self) -> Result<Count, AllocError>
+        ensures same { self.new ≡ self.old }
+        ensures ok { IfOk result (λ count. count ≡ count_in (core_of self.old)) }
     {
-        match self.nodes.get(&last.process) {
-            None => Ok(None),
-            Some(node) => Ok(Some(fault_of(alloc, node, &last.cause, last.before)?)),
-        }
-    }
-}
-
-impl<L: LogStore> Counted<L> {
-    /// These processes, no count of which is known. It takes no memory.
-    pub(crate) fn new(alloc: Global, nodes: Nodes<L>) -> Counted<L>
-        ensures { result ≡ nodes.nodes.entries }
-    {
-        Counted {
-            nodes,
-            counts: IndexMap::new(alloc),
-        }
-    }
-
-    /// The count of the log of a process, which is known from then on. Memory: nothing changed.
-    pub(crate) fn count(&mut self, process: ProcessId) -> Result<Count, AllocError>
-        ensures nodes { self.new ≡ self.old }
-        ensures ok { IfOk result (λ count. CountsAt count ((kept_at self.old).node_at process)) }
-    {
-        if let Some(count) = known_in(&self.counts, process) {
+        if let Some(count) = self.count {
             return Ok(count);
         }
-        let count = self.nodes.count(process)?;
-        self.counts.reserve(1)?;
-        put_by_name(&mut self.counts, process, Some(count));
+        let count = count_of(&self.node)?;
+        self.count = Some(count);
         Ok(count)
     }
 
-    /// A process handles an input, before which its log has this count; as `Nodes::step` says.
-    pub(crate) fn step(
+    /// It handles an input, before which its log has this count; as `Node::handle` says.
+    pub(crate) fn handle(
         &mut self,
-        process: ProcessId,
         input: InputRef<'_>,
         before: Count,
     ) -> Result<Reaction, StepError>
-        requires { CountsAt before ((kept_at self.old).node_at process) }
-        ensures ok { IfOk result (StepsAt (kept_at self.old)
-            (kept_at self.new) process (input_of input.entry)) }
-        ensures err { IfErr result (NoStepAt (kept_at self.old)
-            (kept_at self.new) process (input_of input.entry)) }
-        ensures under { IfErr result (λ e. e ≡ Device → BreaksUnder (kept_at self.old)
-            (kept_at self.new) process (input_of input.entry)) }
+        requires { before ≡ count_in (core_of self.old) }
+        ensures ok { IfOk result (HandlesInput (core_of self.old) (core_of self.new)
+            (data_of self.old) (data_of self.new) (input_of input.entry)) }
+        ensures err { IfErr result (NotHandled (core_of self.old) (core_of self.new)
+            (data_of self.old) (data_of self.new) (input_of input.entry)) }
+        ensures under { IfErr result (λ e. e ≡ Device → FailsUnder (core_of self.old) (core_of self.new)
+            (data_of self.old) (input_of input.entry)) }
     {
-        let made = self.nodes.step(process, input);
-        set(&mut self.counts, process, count_after(before, &made));
+        let made = self.node.handle(input);
+        self.count = count_after(before, &made);
         made
     }
 
-    /// A process restarts, before which its log has this count; as `Nodes::restart` says.
+    /// It restarts, before which its log has this count; as `Node::restart_keeping` says.
     pub(crate) fn restart(
         &mut self,
-        process: ProcessId,
         bytes: Option<u64>,
         before: Count,
     ) -> Result<(u64, Reaction), StepError>
-        requires { CountsAt before ((kept_at self.old).node_at process) }
-        ensures ok { IfOk result (RestartsAt (kept_at self.old)
-            (kept_at self.new) process bytes) }
-        ensures err { IfErr result (NoRestartAt (kept_at self.old)
-            (kept_at self.new) process bytes) }
+        requires { before ≡ count_in (core_of self.old) }
+        ensures ok { IfOk result (RestartsNode (core_of self.old) (core_of self.new)
+            (data_of self.new) bytes) }
+        ensures err { IfErr result (NoRestart (core_of self.old) (core_of self.new)
+            (data_of self.old) (data_of self.new) bytes) }
     {
-        let made = self.nodes.restart(process, bytes);
-        set(
-            &mut self.counts,
-            process,
-            count_after_restart(before, &made),
-        );
+        let made = self.node.restart_keeping(bytes);
+        self.count = count_after_restart(before, &made);
         made
     }
 
-    /// The log of a process is trimmed; as `Nodes::trim` says.
-    pub(crate) fn trim(&mut self, process: ProcessId) -> Result<u64, StepError>
-        ensures ok { IfOk result (TrimsAt (kept_at self.old)
-            (kept_at self.new) process) }
-        ensures err { IfErr result (NoTrimAt (kept_at self.old)
-            (kept_at self.new) process) }
+    /// Its log is trimmed; as `Node::trim_sound` says.
+    pub(crate) fn trim(&mut self) -> Result<u64, StepError>
+        ensures ok { IfOk result (TrimsNode (core_of self.old) (core_of self.new)
+            (data_of self.old) (data_of self.new)) }
+        ensures err { IfErr result (NoTrim (core_of self.old) (core_of self.new)
+            (data_of self.old) (data_of self.new)) }
     {
-        let made = self.nodes.trim(process);
-        set(&mut self.counts, process, count_after_trim(&made));
+        let made = self.node.trim_sound();
+        self.count = count_after_trim(&made);
         made
-    }
-
-    /// How many of its unforced records a process keeps in a restart that names these bytes.
-    pub(crate) fn kept(&self, process: ProcessId, bytes: Option<u64>) -> Result<u64, AllocError>
-        ensures { IfOk result (KeepsAt bytes ((kept_at self.now).node_at process)) }
-    {
-        self.nodes.kept(process, bytes)
-    }
-
-    /// The bytes of a process's log; none, where there is no such process.
-    pub(crate) fn log_text(&self, alloc: Global, process: ProcessId) -> Result<Vec<u8>, AllocError>
-        ensures { IfOk result (λ text. SpellsLogBy ((kept_at self.now).node_at process) text.items) }
-    {
-        self.nodes.log_text(alloc, process)
-    }
-
-    /// What `Node::log_stands` says of a process, where there is one. It does nothing.
-    pub(crate) fn log_stands(&self, process: ProcessId)
-        ensures { LogStandsBy ((kept_at self.now).node_at process) }
-    {
-        self.nodes.log_stands(process);
     }
 }

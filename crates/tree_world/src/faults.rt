@@ -52,7 +52,7 @@ impl<L: LogStore> RunningTree<L> {
     /// The step of the last fault, where what it left is not counted yet, with what it left.
     fn last_step(&self) -> Result<Option<Step>, AllocError>
         ensures { IfOk result (λ step. step ≡ last_step self.now.journal.net
-            (kept_at self.now.nodes).node_at self.now.faults.last) }
+            (kept_at self.now.nodes.nodes.entries).node_at self.now.faults.last) }
     {
         let Some(last) = self.faults.last() else {
             return Ok(None);
@@ -60,7 +60,7 @@ impl<L: LogStore> RunningTree<L> {
         let Some(happening) = self.happening_of(&last.cause)? else {
             return Ok(None);
         };
-        let Some(fault) = self.nodes.nodes.fault(self.alloc, last)? else {
+        let Some(fault) = self.nodes.fault(self.alloc, last)? else {
             return Ok(None);
         };
         Ok(Some(Step {
@@ -77,7 +77,7 @@ impl<L: LogStore> RunningTree<L> {
         ensures none { OnOk result (self.new.faults.last ≡ None) }
         ensures counted { OnOk result (self.new.faults.counted ≡ self.old.faults.counted
             ++ placed_in (length self.old.journal.entries) (last_step self.old.journal.net
-            (kept_at self.old.nodes).node_at self.old.faults.last)) }
+            (kept_at self.old.nodes.nodes.entries).node_at self.old.faults.last)) }
     {
         let step = self.last_step()?;
         self.faults.count(self.journal.len(), step)

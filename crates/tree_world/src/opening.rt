@@ -18,7 +18,7 @@ ghost use Rattle.tree_world.specs.Nodes.{kept_at};
 ghost use Rattle.tree_world.specs.Openings.{AreHandedBack, AreOpened, NotOpened};
 ghost use Rattle.tree_world.specs.Worlds.{state, trace};
 
-use crate::counted::Counted;
+use crate::counted::CountedNode;
 use crate::nodes::Nodes;
 use crate::running_tree::RunningTree;
 use crate::world::World;
@@ -79,7 +79,7 @@ fn open_from<L: LogStore + Drop>(
     tree: &[TreeEntry],
     place: usize,
     stores: &mut Vec<L>,
-    nodes: &mut IndexMap<ProcessId, Node<L>>,
+    nodes: &mut IndexMap<ProcessId, CountedNode<L>>,
 ) -> Result<(), OpenError>
     requires tree { IsTree tree.now }
     requires place { place ≤ length tree.now }
@@ -108,7 +108,7 @@ fn open_from<L: LogStore + Drop>(
     };
     match open_from(alloc, tree, place + 1, stores, nodes) {
         Ok(()) => {
-            put_by_name(nodes, entry.id, node);
+            put_by_name(nodes, entry.id, CountedNode::new(node));
             Ok(())
         }
         Err(error) => {
@@ -163,7 +163,7 @@ impl<L: LogStore + Drop> World<L> {
             stores.reverse();
             return Err((error, stores));
         }
-        let nodes = Counted::new(alloc, Nodes { nodes });
+        let nodes = Nodes { nodes };
         let journal = Journal::new(alloc);
         let faults = Faults::new(alloc);
         Ok(World {

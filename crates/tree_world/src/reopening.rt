@@ -35,7 +35,7 @@ ghost use Rattle.tree_world.specs.Reopenings.{
 };
 ghost use Rattle.tree_world.specs.Worlds.{state};
 
-use crate::counted::Counted;
+use crate::counted::CountedNode;
 use crate::nodes::Nodes;
 use crate::opening::{put_back, put_by_name};
 use crate::own_names::fault_in;
@@ -170,7 +170,7 @@ fn restart_from<L: LogStore + Drop>(
     tree: &Tree,
     place: usize,
     stores: &mut Vec<L>,
-    nodes: &mut IndexMap<ProcessId, Node<L>>,
+    nodes: &mut IndexMap<ProcessId, CountedNode<L>>,
     journal: &mut Journal,
 ) -> Result<(), ReopenError>
     requires tree { IsTree tree.now }
@@ -203,7 +203,7 @@ fn restart_from<L: LogStore + Drop>(
     };
     match restart_from(alloc, tree, place + 1, stores, nodes, journal) {
         Ok(()) => {
-            put_by_name(nodes, entry.id, node);
+            put_by_name(nodes, entry.id, CountedNode::new(node));
             Ok(())
         }
         Err(error) => {
@@ -289,7 +289,7 @@ impl<L: LogStore + Drop> World<L> {
             stores.reverse();
             return Err((error, stores));
         }
-        let nodes = Counted::new(alloc, Nodes { nodes });
+        let nodes = Nodes { nodes };
         let faults = Faults::new(alloc);
         Ok(World {
             running: RunningTree {

@@ -11,7 +11,7 @@ ghost use Rattle.world_journal.specs.Journals.{IsReady};
 ghost use Rattle.fault_journal.specs.Traces.{AddsAfter, AddsToTrace, AddsUntil, AreInPlace, NotedUntil};
 ghost use Rattle.tree_world.specs.Worlds.{logs_at, running_state};
 
-use crate::counted::Counted;
+use crate::nodes::Nodes;
 use core_model::InputRef;
 use fault_journal::{Cause, Faults};
 use log_store::LogStore;
@@ -30,7 +30,7 @@ const SETTLE_LIMIT: u32 = 10_000;
 pub(crate) struct RunningTree<L: LogStore> {
     pub(crate) alloc: Global,
     pub(crate) tree: Tree,
-    pub(crate) nodes: Counted<L>,
+    pub(crate) nodes: Nodes<L>,
     pub(crate) journal: Journal,
     pub(crate) faults: Faults,
 }
@@ -105,7 +105,7 @@ impl<L: LogStore> RunningTree<L> {
             ≡ logs_at (running_state self.now) (running_state self.now).tree) }
     {
         for entry in self.tree.entries() {
-            logs.push(self.nodes.nodes.records(self.alloc, entry.id)?)?;
+            logs.push(self.nodes.records(self.alloc, entry.id)?)?;
         }
         Ok(())
     }
@@ -193,8 +193,7 @@ impl<L: LogStore> RunningTree<L> {
     {
         self.journal.make_room()?;
         let process = process_of(self.tree.root(), &act);
-        let before = self.nodes.count(process)?;
-        let made = self.nodes.step(process, InputRef::Act(&act), before);
+        let (before, made) = self.nodes.step(process, InputRef::Act(&act));
         if is_fault(&made) {
             self.faults.note(process, Cause::Act(act), before);
             return Err(StepError::Device);
@@ -233,9 +232,8 @@ impl<L: LogStore> RunningTree<L> {
             return Err(StepError::NoSuch);
         };
         let to = envelope.to;
-        let before = self.nodes.count(to)?;
         let input = InputRef::Message(number, &envelope.message);
-        let made = self.nodes.step(to, input, before);
+        let (before, made) = self.nodes.step(to, input);
         if is_fault(&made) {
             self.faults.note(to, Cause::Message(number), before);
             return Err(StepError::Device);
@@ -275,9 +273,9 @@ impl<L: LogStore> RunningTree<L> {
             (running_state self.new) self.new.faults) }
     {
         self.journal.make_room()?;
-        let before = self.nodes.count(process)?;
         let keeps = self.nodes.kept(process, bytes)?;
-        match self.nodes.restart(process, bytes, before) {
+        let (before, made) = self.nodes.restart(process, bytes);
+        match made {
             Ok((kept, reaction)) => {
                 self.journal
                     .enter(process, Happening::Restart(kept), reaction);
@@ -303,10 +301,10 @@ impl<L: LogStore> RunningTree<L> {
             (running_state self.new) self.new.faults) }
     {
         self.journal.make_room()?;
-        let before = self.nodes.count(process)?;
         let text = self.nodes.log_text(self.alloc, process)?;
         are_bytes(&text);
-        match self.nodes.trim(process) {
+        let (before, made) = self.nodes.trim(process);
+        match made {
             Ok(remain) => {
                 self.journal
                     .enter(process, Happening::Trim, trimmed(self.alloc, remain));

@@ -24,7 +24,7 @@ impl<L: LogStore> Nodes<L> {
     {
         match self.nodes.get(&process) {
             None => Ok(Vec::new(alloc)),
-            Some(node) => node.unforced_sizes(alloc),
+            Some(node) => node.node().unforced_sizes(alloc),
         }
     }
 }
@@ -38,7 +38,6 @@ impl<L: LogStore> World<L> {
             ≡ map record_size (unforced_by ((state self.now).node_at process))) }
     {
         self.running
-            .nodes
             .nodes
             .unforced_sizes(self.running.alloc, process)
     }

@@ -116,7 +116,7 @@ impl<L: LogStore> World<L> {
         ensures known { IfSome (node_in self.now.nodes process) (λ node. IfSome result (Knows (standing_at node))) }
         ensures entries { result ≡ option_map live_at (node_in self.now.nodes process) }
     {
-        self.running.nodes.nodes.live(process)
+        self.running.nodes.live(process)
     }
 
     /// The bytes of a process's log, as a list made again; none, where there is no such process.

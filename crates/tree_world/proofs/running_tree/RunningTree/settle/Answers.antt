@@ -14,7 +14,7 @@ pub loop-preserved : goal.loop-preserved
 loop-preserved g c =
     let first : Some c.in-Some.number ≡ least_open 1 (running_state c.loop.self).delivered = search rules in (
       settles_one_more c.loop.counter (running_state c.args.self.now)
-          (world c.loop.self.tree (kept_at c.loop.self.nodes)
+          (world c.loop.self.tree (kept_at c.loop.self.nodes.nodes.entries)
           c.least_open.new.self) (running_state c.loop.self)
           (running_state c.deliver_ready.new.self) c.in-Some.number
           (stays _ _ _ _ c.least_open.ensures.keeps) c.loop.invariant.0 first
@@ -29,12 +29,12 @@ pub returns-in_default-clause-ok : goal.returns-in_default-clause-ok
 returns-in_default-clause-ok g c =
     let none : None ≡ least_open 1 (running_state c.loop.self).delivered = search rules in
     settled 10000 c.loop.counter (running_state c.args.self.now) (running_state c.loop.self)
-    (world c.loop.self.tree (kept_at c.loop.self.nodes) c.least_open.new.self)
+    (world c.loop.self.tree (kept_at c.loop.self.nodes.nodes.entries) c.least_open.new.self)
     c.loop-test.true c.loop.invariant.0 none (stays _ _ _ _ c.least_open.ensures.keeps)
 
 pub returns-in_err-number-clause-err : goal.returns-in_err-number-clause-err
 returns-in_err-number-clause-err g c =
-    let new = world c.loop.self.tree (kept_at c.loop.self.nodes) c.least_open.new.self in
+    let new = world c.loop.self.tree (kept_at c.loop.self.nodes.nodes.entries) c.least_open.new.self in
     passed_on c.from_residual.result Memory (λ e. Stops (running_state c.args.self.now) Settle e
     new) c.from_residual.ensures.1
     (short 10000 c.loop.counter (running_state c.args.self.now) (running_state c.loop.self) new
@@ -44,7 +44,7 @@ returns-in_err-number-clause-err g c =
 pub returns-in_err-number-clause-noted : goal.returns-in_err-number-clause-noted
 returns-in_err-number-clause-noted g c =
     passed_on c.from_residual.result Memory (NotedUntil (running_state c.args.self.now) c.args.self.now.faults Settle
-    (world c.loop.self.tree (kept_at c.loop.self.nodes) c.least_open.new.self) c.loop.self.faults)
+    (world c.loop.self.tree (kept_at c.loop.self.nodes.nodes.entries) c.least_open.new.self) c.loop.self.faults)
     c.from_residual.ensures.1 c.loop.invariant.1
 
 pub returns-clause-ok : goal.returns-clause-ok

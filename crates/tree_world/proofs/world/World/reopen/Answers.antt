@@ -55,7 +55,7 @@ returns-clause-sound g c =
 
 pub returns-clause-reopened : goal.returns-clause-reopened
 returns-clause-reopened g c =
-    rw c.new-nodes.ensures (reopened_first g.L.LogStore.bytes g.L.LogStore.forced g.L.LogStore.failures c.args.tree c.args.stores.items
+    (reopened_first g.L.LogStore.bytes g.L.LogStore.forced g.L.LogStore.failures c.args.tree c.args.stores.items
     c.reverse.new.self.items c.reverse.ensures.items c.ready_from.new.stores.items c.in_default.ensures.ok
     (kept_at c.restart_from.new.nodes.entries) c.new-journal.result c.restart_from.new.journal
     c.in_default-restart_from.ensures.ok c.new-journal.ensures.net c.new-journal.ensures.delivered c.new-journal.ensures.entries)

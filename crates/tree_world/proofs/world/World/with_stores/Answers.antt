@@ -21,7 +21,7 @@ invariant_of-result g c =
     let opened = all_opened c.args.tree c.entries-2.result.now (kept_at c.open_from.new.nodes.entries) c.new-journal.result
     c.entries-2.ensures c.in_default.ensures.ok c.new-journal.ensures.net c.new-journal.ensures.delivered
     c.new-journal.ensures.entries in
-    rw (c.new-nodes.ensures, c.new-faults.ensures) (record {
+    rw c.new-faults.ensures (record {
       run = opened_modelled c.args.tree _ c.requires opened;
       trace = kept_opened c.args.tree _ opened;
       places = omega arith;
@@ -29,7 +29,6 @@ invariant_of-result g c =
 
 pub returns-clause-opened : goal.returns-clause-opened
 returns-clause-opened g c =
-    rw c.new-nodes.ensures
     (all_opened c.args.tree c.entries-2.result.now (kept_at c.open_from.new.nodes.entries) c.new-journal.result
     c.entries-2.ensures c.in_default.ensures.ok c.new-journal.ensures.net c.new-journal.ensures.delivered
     c.new-journal.ensures.entries)
@@ -37,7 +36,7 @@ returns-clause-opened g c =
 pub returns-clause-trace : goal.returns-clause-trace
 returns-clause-trace g c =
     rw c.new-faults.ensures
-    (no_trace (world c.args.tree (kept_at c.new-nodes.result) c.new-journal.result) c.new-journal.ensures.entries)
+    (no_trace (world c.args.tree (kept_at c.open_from.new.nodes.entries) c.new-journal.result) c.new-journal.ensures.entries)
 
 pub returns-clause-headline : goal.returns-clause-headline
 returns-clause-headline g c =
