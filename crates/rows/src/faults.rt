@@ -42,7 +42,7 @@ struct Wanted {
 fn shows(world: &mut World<FaultStore>, event: Event, wanted: &Wanted) -> Option<bool> {
     let fails = world.apply(event) == Err(StepError::Device);
     let trace = world.trace().ok()?;
-    let whole = trace.len() == world.made() + 1;
+    let whole = trace.len() == world.made().saturating_add(1);
     let last = match trace.last() {
         Some(entry) => is_fault(entry, wanted.process, wanted.appended, wanted.forced),
         None => false,
@@ -157,7 +157,7 @@ pub(crate) fn faults_stand_in_the_trace(alloc: Global) -> Option<bool> {
 
 /// Whether the step at this place of a trace is a fault, and the next one the restart after it.
 fn restarts_after(trace: &[Entry], place: usize) -> bool {
-    match (trace.get(place), trace.get(place + 1)) {
+    match (trace.get(place), trace.get(place.saturating_add(1))) {
         (Some(fault), Some(restart)) => {
             is_fault(fault, ROOT, 1, 0)
                 && matches!(fault.step.happening, Happening::Input(Input::Act(_)))
@@ -170,7 +170,7 @@ fn restarts_after(trace: &[Entry], place: usize) -> bool {
 /// What the trace of a tree is to be that went on after a fault: the fault stands before the steps made since.
 fn goes_on(world: &World<FaultStore>, before: usize) -> Result<bool, AllocError> {
     let trace = world.trace()?;
-    Ok(trace.len() == world.made() + 1 && restarts_after(&trace, before))
+    Ok(trace.len() == world.made().saturating_add(1) && restarts_after(&trace, before))
 }
 
 /// After a fault the root restarts, and the tree goes on: the fault stands in the trace where it was.
