@@ -1,0 +1,62 @@
+-- Receivers by their names.
+use Rattle.std.proofs.Common.{◌≡◌, ◌≢◌, ◌⊎◌, ◌∙◌, ap, sym, subst, refl, inl, inr, ℕ, zero, suc, ◌+◌, ◌<◌, Bool, true, false, ◌&&◌, not, if◌then◌else◌, position, All, count_by, Option, None, Some, List, [], ◌∷◌, ◌++◌, length, get_or, slice_set, arith}
+use Rattle.std.specs.List.{list_any}
+use Rattle.std.specs.Prelude.{◌||◌, HoldsAt, slice_get}
+use Rattle.std.proofs.Math.Seq.{get_or-append_seam}
+use Rattle.std.proofs.lemmas.List.{get_or-set_other, get_or-set_same, get_or_append_left, length-append, length-set}
+use Rattle.std.proofs.lemmas.List.Elements.{All-cons, All-nil, All-push, All-set, All-weaker}
+use Rattle.std.proofs.lemmas.List.Quantifiers.{position-Some}
+use Rattle.std.proofs.lemmas.Bool.Decides.{nat_tests}
+use Rattle.std.proofs.lemmas.Option.{slice_get-get_or}
+use Rattle.tree_model.specs.declared.names.ProcessId.{ProcessId}
+use Rattle.tree_model.specs.contracts.names.ProcessIdPartialEq.TheImpl as processes
+use Rattle.tree_model.specs.Names.{same_process}
+use Rattle.cluster_journal.specs.declared.marks.Mark.{Mark}
+use Rattle.cluster_journal.specs.declared.marks.Mark.TheVariants.{Open}
+use Rattle.cluster_journal.specs.declared.marks.Marked.{Marked}
+use Rattle.cluster_journal.specs.declared.queues.Link.{Link}
+use Rattle.cluster_journal.specs.declared.queues.Queues.{Queues}
+use Rattle.cluster_journal.specs.declared.queues.Receiver.{Receiver}
+use Rattle.cluster_journal.specs.Marks.{AreApart, AreLinked, AreQueued, IsFree, IsLinked, IsNextTo, IsNotFree, IsTold, NoneOpen, NoneTo, NoneToClaim, claimed_to, first_open, is_claimed, is_free, is_open, is_open_by, is_open_to, is_to, is_undelivered, marked, one_if, open_to, processes_of}
+use Rattle.cluster_journal.proofs.Chains.{first_is_none, has_next, next_last, next_new, next_push, next_set, three, within}
+use Rattle.cluster_journal.proofs.Counts.{and_false, both_right, count_at, count_none, count_push, count_some, is_itself, is_other, is_the_one, none_at, process_equality}
+use Rattle.cluster_journal.proofs.Numbers.{marks_it}
+use Rattle.cluster_journal.proofs.Telling.{told_first, told_more, told_other, told_still}
+
+-- no receiver is a process that is not among the names
+pub absent : (rs : List Receiver) (to : ProcessId) → list_any (processes.ghosts.eq to) (processes_of rs) ≡ false
+    → All (λ r. r.process ≢ to) rs
+absent [] to h = All-nil (λ r. r.process ≢ to)
+absent (r ∷ rs) to h = by (processes.ghosts.eq to r.process) refl h (λ so. absent rs to so)
+  where
+    by : (b : Bool) → processes.ghosts.eq to r.process ≡ b → b || list_any (processes.ghosts.eq to) (processes_of rs) ≡ false
+        → (list_any (processes.ghosts.eq to) (processes_of rs) ≡ false → All (λ x. x.process ≢ to) rs)
+        → All (λ x. x.process ≢ to) (r ∷ rs)
+    by true is so rest = absurd (cc)
+    by false is so rest =
+        All-cons (λ x. x.process ≢ to) r rs (λ one.
+        let mine = is_itself to r.process (sym one) in
+        let it = process_equality to r.process in
+        absurd (cc)) (rest so)
+
+-- the receiver at the place of a name
+pub named_at : (rs : List Receiver) (at : ℕ) (p to : ProcessId) → slice_get (processes_of rs) at ≡ Some p
+    → processes.ghosts.eq to p ≡ true → (at < length rs) × HoldsAt (λ r. r.process ≡ to) rs at
+named_at [] at p to is same = absurd (cc)
+named_at (r ∷ rs) zero p to is same =
+    (omega arith, λ d. some_is r.process p is ∙ sym (is_the_one to p (sym (process_equality to p) ∙ same)))
+  where
+    some_is : (a b : ProcessId) → Some a ≡ Some b → a ≡ b
+    some_is a b h = cc
+named_at (r ∷ rs) (suc at) p to is same =
+    let rest = named_at rs at p to is same in
+    (let less = rest.0 in omega (arith, less), rest.1)
+
+-- the receiver at which a name was found
+pub named_found : (rs : List Receiver) (at : ℕ) (to : ProcessId)
+    → position (processes.ghosts.eq to) (processes_of rs) ≡ Some at
+    → (at < length rs) × HoldsAt (λ r. r.process ≡ to) rs at
+named_found rs at to is =
+    let ps = processes_of rs in
+    let there = position-Some (processes.ghosts.eq to) ps at to is in
+    named_at rs at (get_or ps at to) to (slice_get-get_or ps at to there.0) there.1
