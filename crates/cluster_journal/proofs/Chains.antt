@@ -6,7 +6,7 @@ use Rattle.std.proofs.lemmas.Option.{slice_get_within}
 use Rattle.tree_model.specs.declared.names.ProcessId.{ProcessId}
 use Rattle.tree_model.specs.Names.{same_process}
 use Rattle.cluster_journal.specs.declared.marks.Marked.{Marked}
-use Rattle.cluster_journal.specs.Marks.{IsNextOpen, IsNextTo, NoneOpen, NoneTo, first_open, is_open, is_open_at, is_open_by, is_open_to, is_to}
+use Rattle.cluster_journal.specs.Marks.{IsNextTo, NoneOpen, NoneTo, first_open, is_open, is_open_by, is_open_to, is_to}
 use Rattle.cluster_journal.proofs.Counts.{and_false, both_right, is_the_one}
 
 -- Lists.

@@ -1,27 +1,15 @@
 -- Receivers by their names.
-use Rattle.std.proofs.Common.{◌≡◌, ◌≢◌, ◌⊎◌, ◌∙◌, ap, sym, subst, refl, inl, inr, ℕ, zero, suc, ◌+◌, ◌<◌, Bool, true, false, ◌&&◌, not, if◌then◌else◌, position, All, count_by, Option, None, Some, List, [], ◌∷◌, ◌++◌, length, get_or, slice_set, arith}
+use Rattle.std.proofs.Common.{◌≡◌, ◌≢◌, ◌∙◌, sym, refl, ℕ, zero, suc, ◌<◌, Bool, true, false, position, All, Some, List, [], ◌∷◌, length, get_or, arith}
 use Rattle.std.specs.List.{list_any}
 use Rattle.std.specs.Prelude.{◌||◌, HoldsAt, slice_get}
-use Rattle.std.proofs.Math.Seq.{get_or-append_seam}
-use Rattle.std.proofs.lemmas.List.{get_or-set_other, get_or-set_same, get_or_append_left, length-append, length-set}
-use Rattle.std.proofs.lemmas.List.Elements.{All-cons, All-nil, All-push, All-set, All-weaker}
+use Rattle.std.proofs.lemmas.List.Elements.{All-cons, All-nil}
 use Rattle.std.proofs.lemmas.List.Quantifiers.{position-Some}
-use Rattle.std.proofs.lemmas.Bool.Decides.{nat_tests}
 use Rattle.std.proofs.lemmas.Option.{slice_get-get_or}
 use Rattle.tree_model.specs.declared.names.ProcessId.{ProcessId}
 use Rattle.tree_model.specs.contracts.names.ProcessIdPartialEq.TheImpl as processes
-use Rattle.tree_model.specs.Names.{same_process}
-use Rattle.cluster_journal.specs.declared.marks.Mark.{Mark}
-use Rattle.cluster_journal.specs.declared.marks.Mark.TheVariants.{Open}
-use Rattle.cluster_journal.specs.declared.marks.Marked.{Marked}
-use Rattle.cluster_journal.specs.declared.queues.Link.{Link}
-use Rattle.cluster_journal.specs.declared.queues.Queues.{Queues}
 use Rattle.cluster_journal.specs.declared.queues.Receiver.{Receiver}
-use Rattle.cluster_journal.specs.Marks.{AreApart, AreLinked, AreQueued, IsFree, IsLinked, IsNextTo, IsNotFree, IsTold, NoneOpen, NoneTo, NoneToClaim, claimed_to, first_open, is_claimed, is_free, is_open, is_open_by, is_open_to, is_to, is_undelivered, marked, one_if, open_to, processes_of}
-use Rattle.cluster_journal.proofs.Chains.{first_is_none, has_next, next_last, next_new, next_push, next_set, three, within}
-use Rattle.cluster_journal.proofs.Counts.{and_false, both_right, count_at, count_none, count_push, count_some, is_itself, is_other, is_the_one, none_at, process_equality}
-use Rattle.cluster_journal.proofs.Numbers.{marks_it}
-use Rattle.cluster_journal.proofs.Telling.{told_first, told_more, told_other, told_still}
+use Rattle.cluster_journal.specs.Marks.{processes_of}
+use Rattle.cluster_journal.proofs.Counts.{is_itself, is_the_one, process_equality}
 
 -- no receiver is a process that is not among the names
 pub absent : (rs : List Receiver) (to : ProcessId) → list_any (processes.ghosts.eq to) (processes_of rs) ≡ false
