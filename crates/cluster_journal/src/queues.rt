@@ -1,8 +1,8 @@
 //! The queue of each process: the open messages to it, in order of sending.
 //!
-//! Each message is linked to the next one to its receiver, whatever became of either; these links never change. A queue is what
-//! is open on that chain, from the place on where its receiver says that it begins. So a claim meets messages to this
-//! receiver alone, and each that is delivered once: the queue then begins after it.
+//! Each message is linked to the next one to its receiver, whatever becomes of either, so links of sent messages stay. A queue
+//! is what is open along these links, from where its receiver says that it begins: at the first message at first, and
+//! after a claim at the claimed one. So a message that is delivered is passed once, and one that is given back is in its place.
 
 ghost use Rattle.std.specs.Prelude.{◌≡◌, ◌≢◌, ◌+◌, ◌<◌, ◌≤◌, ◌⊎◌, ◌∷◌, [], All, HoldsAt, IfNone, IfSome, OnOk, None, Some, count_by, get_or, length, not, slice_get, slice_set, true};
 ghost use Rattle.std.specs.Vec.{vec_capacity, vec_len};
