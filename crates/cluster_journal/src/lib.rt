@@ -7,13 +7,16 @@
 //! late entries            each in the room that its process brought: a linked list
 //! marks of messages       open --claim--> claimed --enter--> delivered
 //!                              <--give_back--
+//! queues of processes     for each process its messages, each linked to the next one to it: found by the process's name
 //! ```
 //!
 //! The entries of a turn are entered without a growth, in room that was made before; `place` moves them to the placed ones.
 #![tactic(auto)]
 
+mod adding;
 mod journal;
 mod marks;
+mod queues;
 mod room;
 mod spots;
 
