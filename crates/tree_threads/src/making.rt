@@ -144,14 +144,12 @@ pub fn make_step(
     let Marked { wanted, keep, room } = marked;
     let reaction = make_it(alloc, node, &wanted.step.happening, keep)?;
     let begun = reaction.begun;
+    let entry = Entry {
+        step: wanted.step,
+        reaction,
+    };
     let mut turn = room;
-    turn.push(
-        caller,
-        Entry {
-            step: wanted.step,
-            reaction,
-        },
-    );
+    turn.push(caller, entry);
     Ok(Made { turn, begun })
 }
 
@@ -182,13 +180,11 @@ fn make_next<N: Seats, R: Wait, G: Gate>(
     let Ok(reaction) = make_it(alloc, node, &wanted.step.happening, 0) else {
         return false;
     };
-    made.turn.push(
-        caller,
-        Entry {
-            step: wanted.step,
-            reaction,
-        },
-    );
+    let entry = Entry {
+        step: wanted.step,
+        reaction,
+    };
+    made.turn.push(caller, entry);
     gate.before(rt, me);
     true
 }

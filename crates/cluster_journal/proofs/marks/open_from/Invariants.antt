@@ -1,4 +1,4 @@
-use Rattle.std.proofs.Common.{◌≡◌, ◌≤◌, ◌<◌, ℕ, suc, false}
+use Rattle.std.proofs.Common.{◌≡◌, ◌<◌, ℕ, suc, false}
 use Rattle.cluster_journal.specs.Marks.{is_open_at}
 use Rattle.cluster_journal.proofs.marks.open_from.Given as goal
 

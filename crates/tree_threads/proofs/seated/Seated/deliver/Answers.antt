@@ -13,7 +13,7 @@ use Rattle.tree_threads.specs.Locked.{SeatedState}
 use Rattle.tree_threads.specs.Passes.{PassState}
 use Rattle.tree_threads.specs.Posts.{DeliversTurn, NotPosted}
 use Rattle.tree_threads.specs.Marks.{Delivers}
-use Rattle.tree_threads.specs.Turns.{IsDeliveryAt, MadeTurn, wanted_in}
+use Rattle.tree_threads.specs.Turns.{IsDeliveryAt, MadeTurn}
 use Rattle.tree_threads.proofs.Asked.{finds_it}
 use Rattle.tree_threads.proofs.Refused.{answered_so, not_made, not_marked}
 use Rattle.tree_threads.proofs.Turning.{deliveries_of, of_worker, turn_delivers, turn_made, turn_runs}
@@ -83,7 +83,7 @@ returns-in-Err-clause-refused g c =
 pub make_more-requires : goal.make_more-requires
 make_more-requires g c =
     let me = c.self.inside.me in
-    let xs = wanted_in c.mark_more-more.result in
+    let xs = c.mark_more-more.result in
     let process = ap (λ w. w.0.process) c.in_ok-marked.ensures.seat in
     let now = ap (λ (j : ClusterState). j.entries) c.deref-3.ensures ∙ c.in_ok-marked.ensures.ledger.0 in
     let next = c.mark_more-more.ensures.next in
@@ -103,7 +103,7 @@ enter-place-requires-clause-made g c =
     let new = c.make_more.new.node in
     let seat = c.in_ok-marked.ensures.seat in
     let net = c.mark.new.seat.me.0.process.net in
-    let zs = c.make_more.new.made.entries in
+    let zs = c.make_more.new.made.turn.entries in
     let h = m.wanted.step.happening in
     let finds = subst (λ l. FindsMessage l me h) (sym (ap (λ w. w.0.process.net) seat))
     (finds_it _ me (core_of old) (Deliver c.args.number) h m.keep marked.happens) in
@@ -121,7 +121,7 @@ invariant_of-self-in-Ok g c =
     let mid = c.make_step.new.node in
     let new = c.make_more.new.node in
     let m = c.in_ok-marked.marked in
-    let zs = c.make_more.new.made.entries in
+    let zs = c.make_more.new.made.turn.entries in
     let seat = c.in_ok-marked.ensures.seat in
     let entered = c.enter-place.ensures.seat.1 in
     let works = ap (λ w. w.0.process.works) seat ∙ c.self.invariant.2.0.1 in
@@ -157,7 +157,7 @@ returns-in-Ok-clause-ok g c =
     (sym (ap (λ w. w.0.process.net) c.in_ok-marked.ensures.seat)) marked.happens in
     let turn = turn_delivers tree c.mark.new.seat.me.0.process.net me c.caller-caller.result
     c.self.inside.seat.me.0.process.own c.args.number m.wanted m.keep (core_of old) (core_of mid) (core_of new)
-    (data_of old) (data_of mid) (data_of new) c.in-Ok.first c.make_more.new.made.entries c.meets.new.pass left place
+    (data_of old) (data_of mid) (data_of new) c.in-Ok.first c.make_more.new.made.turn.entries c.meets.new.pass left place
     marked.at c.in_ok-marked.ensures.mine delivers c.in-Ok.ensures.ok c.make_more.ensures c.self.invariant.6
     c.enter-place.ensures.pass in
     subst (λ (s : SeatedState). DeliversTurn tree s.me c.args.number c.args.pass.now left place) c.self.view_is
