@@ -1,6 +1,7 @@
 pub mod Asked
 pub mod Empty
 pub mod Entered
+pub mod Marking
 pub mod OwnSteps
 pub mod Refusing
 pub mod Turning
