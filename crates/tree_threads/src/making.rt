@@ -10,7 +10,7 @@ ghost use Rattle.tree_node.specs.Nodes.{core_of, data_of};
 ghost use Rattle.tree_threads.specs.Makes.{FitsNode, NotMadeIt};
 ghost use Rattle.tree_threads.specs.Turns.{GoesFurther, IsDeliveryAt, MakesStep};
 
-use crate::marking::Marked;
+use crate::marked::Marked;
 use crate::seated::Gate;
 use core_model::InputRef;
 use journal_turns::Room;

@@ -16,6 +16,7 @@ ghost use Rattle.tree_threads.specs.Turns.{AreNext, IsNext};
 
 use crate::errors::PostError;
 use crate::ledger::Ledger;
+use crate::marked::Marked;
 use journal_turns::Room;
 use log_store::MemoryStore;
 use std::alloc::{AllocError, Global};
@@ -30,17 +31,6 @@ pub const MOST_ENTRIES: usize = 1_000_000;
 
 /// The most steps that a process makes in a turn.
 pub const MOST_STEPS: usize = 32;
-
-/// What a process wants to do, as an entry that shows nothing yet; how many bytes after its forced front it
-/// keeps, where that is a restart; and room for the entry that comes of it, and for more of the same turn.
-#[derive(Drop)]
-pub struct Marked {
-    pub(crate) wanted: Entry,
-    pub(crate) keep: usize,
-    pub(crate) room: Room,
-    ghost unused: { room.entries ≡ [] },
-    ghost roomy: { 0 < room.more },
-}
 
 /// Whether these are one process.
 pub fn is_same(a: ProcessId, b: ProcessId) -> bool
@@ -227,11 +217,7 @@ fn mark_next<N: Seats>(
 {
     let envelope = message_for(ledger, me, number)?;
     let message = envelope.message.copied(alloc).ok()?;
-    Some(wanted(
-        alloc,
-        me,
-        Happening::Input(Input::Message(number, message)),
-    ))
+    Some(wanted(alloc, me, Happening::Input(Input::Message(number, message))))
 }
 
 /// Adds a step to these. Whether there was memory for it.

@@ -15,8 +15,8 @@ use Rattle.tree_threads.specs.Posts.{DeliversTurn, NotPosted}
 use Rattle.tree_threads.specs.Marks.{Delivers}
 use Rattle.tree_threads.specs.Turns.{IsDeliveryAt, MadeTurn}
 use Rattle.tree_threads.proofs.Asked.{finds_it}
-use Rattle.tree_threads.proofs.Marking.{marked_still, mine_still}
 use Rattle.tree_threads.proofs.Refused.{answered_so, not_made, not_marked}
+use Rattle.tree_threads.proofs.Staying.{marked_still, mine_still}
 use Rattle.tree_threads.proofs.Turning.{deliveries_of, of_worker, turn_delivers, turn_made, turn_runs}
 use Rattle.tree_threads.proofs.seated.Seated.deliver.Goals as goal
 

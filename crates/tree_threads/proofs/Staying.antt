@@ -8,7 +8,7 @@ use Rattle.tree_model.specs.declared.trees.TreeEntry.{TreeEntry}
 use Rattle.tree_model.specs.Trees.{root_of}
 use Rattle.core_model.specs.States.{CoreState}
 use Rattle.tree_cut.specs.Alone.{IsMine}
-use Rattle.tree_threads.specs.declared.marking.Marked.{Marked}
+use Rattle.tree_threads.specs.declared.marked.Marked.{Marked}
 use Rattle.tree_threads.specs.Makes.{FitsNode, IsAt}
 use Rattle.tree_threads.specs.Marks.{Happens, IsMarked}
 
