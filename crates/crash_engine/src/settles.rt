@@ -41,7 +41,7 @@ pub(crate) fn deliveries_after(
 ) -> Result<Vec<Event>, AllocError>
     ensures { IfOk result (λ events. events.items ≡ deliveries_in (drop steps (state world.now).entries)) }
 {
-    let trace = world.trace()?;
+    let trace = world.steps()?;
     match trace.get(steps..) {
         Some(later) => deliveries_among(alloc, later),
         None => Ok(Vec::new(alloc)),

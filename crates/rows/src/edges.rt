@@ -1,7 +1,7 @@
 //! What no script can show: streams and devices that fail, a script cut at every byte, and the calls of a
 //! tree that runs.
 
-use crate::{floods, judges, reopenings, scripts, stops, streams, worlds};
+use crate::{faults, floods, judges, reopenings, scripts, stops, streams, worlds};
 use std::alloc::Global;
 
 /// Whether the edge of this name holds. There is none of another name, nor where memory is refused.
@@ -16,6 +16,8 @@ pub(crate) fn holds(alloc: Global, name: &str) -> bool {
         "stores_are_refused" => worlds::stores_are_refused(alloc) == Ok(true),
         "a_world_runs" => worlds::a_world_runs(alloc) == Some(true),
         "a_root_fails_with_its_device" => worlds::a_root_fails_with_its_device(alloc) == Some(true),
+        "faults_stand_in_the_trace" => faults::faults_stand_in_the_trace(alloc) == Some(true),
+        "a_run_goes_on_after_a_fault" => faults::a_run_goes_on_after_a_fault(alloc) == Some(true),
         "a_promise_cut_at_each_byte" => stops::a_promise_cut_at_each_byte(alloc) == Some(true),
         "a_reopening_that_stops_at_each_write" => {
             reopenings::a_reopening_that_stops_at_each_write(alloc) == Some(true)

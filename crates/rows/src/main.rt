@@ -9,6 +9,7 @@
 mod damages;
 mod edges;
 mod fakes;
+mod faults;
 mod floods;
 mod judges;
 mod migrations;

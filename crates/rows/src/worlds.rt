@@ -9,9 +9,9 @@ use tree_model::{
 };
 use tree_world::{OpenError, World};
 
-const ROOT: ProcessId = ProcessId(1);
+pub(crate) const ROOT: ProcessId = ProcessId(1);
 
-const CHILD: ProcessId = ProcessId(2);
+pub(crate) const CHILD: ProcessId = ProcessId(2);
 
 fn listed(id: ProcessId, kind: Kind, parent: Option<ProcessId>) -> TreeEntry {
     TreeEntry {
@@ -26,7 +26,10 @@ fn listed(id: ProcessId, kind: Kind, parent: Option<ProcessId>) -> TreeEntry {
 type Refusal = (OpenError, Vec<FaultStore>);
 
 /// A root with one manager below it, over these stores, or why they are refused.
-fn opened(alloc: Global, stores: Vec<FaultStore>) -> Option<Result<World<FaultStore>, Refusal>> {
+pub(crate) fn opened(
+    alloc: Global,
+    stores: Vec<FaultStore>,
+) -> Option<Result<World<FaultStore>, Refusal>> {
     let entries = vec![in alloc;
         listed(ROOT, Kind::Coordinator, None),
         listed(CHILD, Kind::Manager, Some(ROOT)),
@@ -43,7 +46,7 @@ fn store_of(alloc: Global, bytes: &[u8]) -> Result<FaultStore, AllocError> {
 }
 
 /// A store without bytes, whose device does not fail.
-fn sound_store(alloc: Global) -> FaultStore {
+pub(crate) fn sound_store(alloc: Global) -> FaultStore {
     FaultStore::new(MemoryStore::new(alloc), StoreCall::Append, 0, 0)
 }
 
@@ -92,12 +95,12 @@ fn txn_of(sequence: u64, presumption: Presumption) -> Txn {
 }
 
 /// The first transaction of the root.
-fn first_txn(presumption: Presumption) -> Txn {
+pub(crate) fn first_txn(presumption: Presumption) -> Txn {
     txn_of(1, presumption)
 }
 
 /// The transaction begins, the child is invited, and joins.
-fn joining(txn: Txn) -> [Event; 3] {
+pub(crate) fn joining(txn: Txn) -> [Event; 3] {
     [
         Event::Act(Act::Begin(txn.presumption)),
         Event::Act(Act::Join(Case { txn, ticket: None }, CHILD)),
@@ -114,7 +117,7 @@ fn world_of(alloc: Global, root: FaultStore) -> Option<World<FaultStore>> {
 }
 
 /// Makes these events, and answers whether each was made.
-fn runs(world: &mut World<FaultStore>, events: &[Event]) -> bool {
+pub(crate) fn runs(world: &mut World<FaultStore>, events: &[Event]) -> bool {
     world.run(events).is_ok()
 }
 
@@ -166,7 +169,7 @@ pub(crate) fn a_root_fails_with_its_device(alloc: Global) -> Option<bool> {
 }
 
 /// A child's write of a transaction of the root.
-fn put(alloc: Global, txn: Txn) -> Result<Event, AllocError> {
+pub(crate) fn put(alloc: Global, txn: Txn) -> Result<Event, AllocError> {
     let key = Bytes::from_slice(alloc, b"k")?;
     let value = Bytes::from_slice(alloc, b"v")?;
     let case = Case { txn, ticket: None };

@@ -53,7 +53,7 @@ same tree nodes after j k keeps alike = record {
   entries = keeps.entries;
 }
 
-breaks : (tree : List TreeEntry) (nodes after : NodesSight) (j k : JournalState)
+pub breaks : (tree : List TreeEntry) (nodes after : NodesSight) (j k : JournalState)
     (q : ProcessId) (i : Input) → Keeps j k → NoStepAt nodes after q i Device
     → DeviceFails (world tree nodes j) (world tree after k) q i
 breaks tree nodes after j k q i keeps stops = record {
@@ -124,7 +124,7 @@ made_so nodes after q i made r is steps = subst (λ (m : Result Reaction StepErr
     (StepsAt nodes after q i)) is steps
 
 -- likewise its refusal
-refused_so : (nodes after : NodesSight) (q : ProcessId) (i : Input)
+pub refused_so : (nodes after : NodesSight) (q : ProcessId) (i : Input)
     (made : Result Reaction StepError) (e : StepError) → made ≡ Err e → IfErr made (NoStepAt nodes after q i)
     → NoStepAt nodes after q i e
 refused_so nodes after q i made e is stops = subst (λ (m : Result Reaction StepError). IfErr m

@@ -19,3 +19,6 @@ pub mod ReadyLogs
 pub mod FromReady
 pub mod FromRestarted
 pub mod ReopenedTrees
+pub mod Counts
+pub mod Noted
+pub mod Making

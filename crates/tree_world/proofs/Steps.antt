@@ -12,9 +12,9 @@ use Rattle.core_model.specs.States.{CoreState, SameCore}
 use Rattle.core_model.specs.Makes.{IsRefused}
 use Rattle.core_law.specs.worlds.Worlds.{HandlesInput, RefusesAt, SameNode, WantsNumbersAt}
 use Rattle.tree_node.specs.declared.node.Node.{Node}
-use Rattle.tree_node.specs.Nodes.{NotHandled, core_of, data_of}
+use Rattle.tree_node.specs.Nodes.{FailsUnder, NotHandled, core_of, data_of}
 use Rattle.tree_node.proofs.Same.{rests, same_core}
-use Rattle.tree_world.specs.Nodes.{MovesAt, NoStepAt, NodesSight, SameNodes, StepsAt, data_in, kept_at, node_in}
+use Rattle.tree_world.specs.Nodes.{BreaksUnder, MovesAt, NoStepAt, NodesSight, SameNodes, StepsAt, data_in, kept_at, node_in}
 use Rattle.manager_model.specs.Data.{Rests}
 
 -- each process is the same as it is
@@ -70,6 +70,18 @@ same_nodes old new q s t moves same keeps = record {
     data_at p (inl here) = subst (λ r. Rests (old.data_at r) (new.data_at r)) here.1 keeps
     data_at p (inr there) =
         subst (λ d. Rests (old.data_at p) d) (sym (moves.others_data p there.0)) (rests (old.data_at p))
+
+-- where one process is as it was, and so is each other, nothing is otherwise
+pub unmoved : {L : Type 0} (es fs : List (ProcessId × Node L)) (q : ProcessId) (before behind : Node L)
+    → node_in es q ≡ Some before → node_in fs q ≡ Some behind
+    → ((p : ProcessId) → same_process q p ≡ false → node_in fs p ≡ node_in es p)
+    → behind ≡ before → SameNodes (kept_at es) (kept_at fs)
+unmoved es fs q before behind stood stands others is =
+    same_nodes (kept_at es) (kept_at fs) q (core_of before) (core_of behind)
+    (moves_at es fs q before behind stood stands others)
+    (subst (λ (n : Node _). SameCore (core_of before) (core_of n)) (sym is) (same_core (core_of before)))
+    (kept_data es fs q before behind stood stands
+    (subst (λ (n : Node _). Rests (data_of before) (data_of n)) (sym is) (rests (data_of before))))
 
 -- a process handled an input
 pub stepped : {L E : Type 0} (es fs : List (ProcessId × Node L)) (q : ProcessId) (i : Input)
@@ -146,3 +158,18 @@ stopped es fs q i before behind (Err e) stood stands others h =
     (sym (data_stood es q before stood))
     (subst (λ d. NotHandled (core_of before) (core_of behind) (data_of before) d i e)
     (sym (data_stood fs q behind stands)) h))
+
+-- the device failed under it
+pub broken_under : {L A : Type 0} (es fs : List (ProcessId × Node L)) (q : ProcessId) (i : Input)
+    (before behind : Node L) (made : Result A StepError)
+    → node_in es q ≡ Some before → node_in fs q ≡ Some behind
+    → ((p : ProcessId) → same_process q p ≡ false → node_in fs p ≡ node_in es p)
+    → IfErr made (λ e. e ≡ Device → FailsUnder (core_of before) (core_of behind) (data_of before) i)
+    → IfErr made (λ e. e ≡ Device → BreaksUnder (kept_at es) (kept_at fs) q i)
+broken_under es fs q i before behind (Ok r) stood stands others h = tt
+broken_under es fs q i before behind (Err e) stood stands others h = λ is. record {
+  before = core_of before;
+  behind = core_of behind;
+  moves = moves_at es fs q before behind stood stands others;
+  fails = subst (λ d. FailsUnder (core_of before) (core_of behind) d i) (sym (data_stood es q before stood)) (h is);
+}

@@ -16,7 +16,7 @@ use Rattle.core_model.specs.Makes.{IsBroken}
 use Rattle.manager_model.specs.Data.{ManagerData, Rests, no_data}
 use Rattle.core_law.specs.worlds.Worlds.{AnswersData, HandlesInput, RefusesAt, SameNode, WantsNumbersAt}
 use Rattle.tree_node.specs.declared.node.Node.{Node}
-use Rattle.tree_node.specs.Nodes.{SpellsLog, core_of, data_of}
+use Rattle.tree_node.specs.Nodes.{FailsUnder, SpellsLog, core_of, data_of}
 
 -- the process with this name
 abbrev pub node_in : {L : Type 0} → List (ProcessId × Node L) → ProcessId → Option (Node L)
@@ -73,6 +73,13 @@ pub record BreaksAt (old new : NodesSight) (q : ProcessId) (input : Input) : Typ
   pub answer : DataAnswer
   pub answers : AnswersData before.place.role (old.data_at q) before answer input
   pub broken : IsBroken before behind answer input
+
+-- the same, and at a coordinator below the root it failed under a record
+pub record BreaksUnder (old new : NodesSight) (q : ProcessId) (input : Input) : Type 0 where
+  pub before : CoreState
+  pub behind : CoreState
+  pub moves : MovesAt old new q before behind
+  pub fails : FailsUnder before behind (old.data_at q) input
 
 -- nothing is otherwise at any process
 pub record SameNodes (old new : NodesSight) : Type 0 where

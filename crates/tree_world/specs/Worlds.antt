@@ -1,22 +1,26 @@
 -- What the code of a world keeps, as the definitions see it.
 use Rattle.std.specs.Prelude.{Bool, true, false, List, map}
 use Rattle.tree_model.specs.declared.names.ProcessId.{ProcessId}
+use Rattle.tree_model.specs.declared.events.Entry.{Entry}
 use Rattle.tree_model.specs.declared.records.LogRecord.{LogRecord}
 use Rattle.tree_model.specs.declared.trees.TreeEntry.{TreeEntry}
 use Rattle.tree_model.specs.Trees.{IsTree}
 use Rattle.core_law.specs.worlds.Worlds.{WorldState}
 use Rattle.core_law.specs.worlds.Modelled.{IsModelledTree}
 use Rattle.world_journal.specs.Journals.{JournalState}
+use Rattle.fault_journal.specs.Faults.{FaultsSight}
 use Rattle.tree_node.specs.declared.node.Node.{Node}
 use Rattle.tree_world.specs.declared.running_tree.RunningTree.{RunningTree}
 use Rattle.tree_world.specs.Nodes.{kept_at, log_by}
+use Rattle.fault_journal.specs.Traces.{AreInPlace, KeepsTrace, trace_by}
 
--- what a contract sees of a tree that runs: the tree, its processes by name, the journal of their steps, and whether
--- it was opened over the logs that an earlier run left
+-- what a contract sees of a tree that runs: the tree, its processes by name, the journal of their steps, the steps in
+-- which a device failed, and whether it was opened over the logs that an earlier run left
 pub record WorldValue (L : Type 0) : Type 0 where
   pub tree : List TreeEntry
   pub nodes : List (ProcessId × Node L)
   pub journal : JournalState
+  pub faults : FaultsSight
   pub reopened : Bool
 
 -- what the definitions see of it
@@ -33,17 +37,33 @@ state w = record {
 -- what a contract sees of what the code keeps
 abbrev pub value_by : {L : Type 0} → RunningTree L → Bool → WorldValue L
 value_by w reopened =
-    record { tree = w.tree; nodes = w.nodes.nodes.entries; journal = w.journal; reopened = reopened }
+    record {
+      tree = w.tree;
+      nodes = w.nodes.nodes.entries;
+      journal = w.journal;
+      faults = w.faults;
+      reopened = reopened;
+    }
 
 -- what the definitions see of what the code keeps
 abbrev pub running_state : {L : Type 0} → RunningTree L → WorldState
 running_state w = state (value_by w false)
+
+-- every step, with those in which a device failed
+abbrev pub trace : {L : Type 0} → WorldValue L → List Entry
+trace w = trace_by (state w) w.faults
 
 -- what is kept of the state of a tree: where it was opened over empty logs it stands for a run; where it was opened
 -- over those that an earlier run left, its processes are a tree
 abbrev pub KeepsRun : Bool → WorldState → Type 0
 KeepsRun false s = IsModelledTree s
 KeepsRun true s = IsTree s.tree
+
+-- what is kept of a tree with its faults
+pub record KeepsWorld (reopened : Bool) (s : WorldState) (f : FaultsSight) : Type 0 where
+  pub run : KeepsRun reopened s
+  pub trace : KeepsTrace reopened s (trace_by s f)
+  pub places : AreInPlace s f
 
 -- the records of these processes
 abbrev pub logs_at : WorldState → List TreeEntry → List (List LogRecord)

@@ -4,6 +4,8 @@
 #![tactic(auto)]
 
 mod byte_logs;
+mod counted;
+mod faults;
 mod nodes;
 mod opening;
 mod own_names;

@@ -16,11 +16,13 @@ ghost use Rattle.tree_node.specs.Nodes.{core_of, data_of};
 ghost use Rattle.tree_node.specs.Openings.{HandsBack, OpenedAs, ProcessNotOpened};
 ghost use Rattle.tree_world.specs.Nodes.{kept_at};
 ghost use Rattle.tree_world.specs.Openings.{AreHandedBack, AreOpened, NotOpened};
-ghost use Rattle.tree_world.specs.Worlds.{state};
+ghost use Rattle.tree_world.specs.Worlds.{state, trace};
 
+use crate::counted::CountedNode;
 use crate::nodes::Nodes;
 use crate::running_tree::RunningTree;
 use crate::world::World;
+use fault_journal::Faults;
 use indexmap::IndexMap;
 use log_store::{LogStore, MemoryStore};
 use std::alloc::{AllocError, Global};
@@ -77,7 +79,7 @@ fn open_from<L: LogStore + Drop>(
     tree: &[TreeEntry],
     place: usize,
     stores: &mut Vec<L>,
-    nodes: &mut IndexMap<ProcessId, Node<L>>,
+    nodes: &mut IndexMap<ProcessId, CountedNode<L>>,
 ) -> Result<(), OpenError>
     requires tree { IsTree tree.now }
     requires place { place ≤ length tree.now }
@@ -106,7 +108,7 @@ fn open_from<L: LogStore + Drop>(
     };
     match open_from(alloc, tree, place + 1, stores, nodes) {
         Ok(()) => {
-            put_by_name(nodes, entry.id, node);
+            put_by_name(nodes, entry.id, CountedNode::new(node));
             Ok(())
         }
         Err(error) => {
@@ -144,6 +146,7 @@ impl<L: LogStore + Drop> World<L> {
     ) -> Result<World<L>, (OpenError, Vec<L>)>
         requires { IsTree tree }
         ensures opened { IfOk result (λ world. IsOpened (state world) tree) }
+        ensures trace { IfOk result (λ world. trace world ≡ []) }
         ensures headline { IfOk result (λ world. KeepsHeadline (state world)) }
         ensures flag { IfOk result (λ world. world.reopened ≡ false) }
         ensures err { IfErr result (λ e. NotOpened L.bytes L.failures tree stores.items e.0) }
@@ -160,12 +163,16 @@ impl<L: LogStore + Drop> World<L> {
             stores.reverse();
             return Err((error, stores));
         }
+        let nodes = Nodes { nodes };
+        let journal = Journal::new(alloc);
+        let faults = Faults::new(alloc);
         Ok(World {
             running: RunningTree {
                 alloc,
                 tree,
-                nodes: Nodes { nodes },
-                journal: Journal::new(alloc),
+                nodes,
+                journal,
+                faults,
             },
             reopened: false,
         })
@@ -177,6 +184,7 @@ impl World<MemoryStore> {
     pub fn new(alloc: Global, tree: Tree) -> Result<World<MemoryStore>, OpenError>
         requires { IsTree tree }
         ensures opened { IfOk result (λ world. IsOpened (state world) tree) }
+        ensures trace { IfOk result (λ world. trace world ≡ []) }
         ensures headline { IfOk result (λ world. KeepsHeadline (state world)) }
         ensures flag { IfOk result (λ world. world.reopened ≡ false) }
         ensures err { IfErr result (λ e. e ≡ OpenError.Memory) }

@@ -35,11 +35,13 @@ ghost use Rattle.tree_world.specs.Reopenings.{
 };
 ghost use Rattle.tree_world.specs.Worlds.{state};
 
+use crate::counted::CountedNode;
 use crate::nodes::Nodes;
 use crate::opening::{put_back, put_by_name};
 use crate::own_names::fault_in;
 use crate::running_tree::RunningTree;
 use crate::world::World;
+use fault_journal::Faults;
 use indexmap::IndexMap;
 use log_store::LogStore;
 use rec_log::{MigrateError, RecLog};
@@ -168,7 +170,7 @@ fn restart_from<L: LogStore + Drop>(
     tree: &Tree,
     place: usize,
     stores: &mut Vec<L>,
-    nodes: &mut IndexMap<ProcessId, Node<L>>,
+    nodes: &mut IndexMap<ProcessId, CountedNode<L>>,
     journal: &mut Journal,
 ) -> Result<(), ReopenError>
     requires tree { IsTree tree.now }
@@ -201,7 +203,7 @@ fn restart_from<L: LogStore + Drop>(
     };
     match restart_from(alloc, tree, place + 1, stores, nodes, journal) {
         Ok(()) => {
-            put_by_name(nodes, entry.id, node);
+            put_by_name(nodes, entry.id, CountedNode::new(node));
             Ok(())
         }
         Err(error) => {
@@ -287,12 +289,15 @@ impl<L: LogStore + Drop> World<L> {
             stores.reverse();
             return Err((error, stores));
         }
+        let nodes = Nodes { nodes };
+        let faults = Faults::new(alloc);
         Ok(World {
             running: RunningTree {
                 alloc,
                 tree,
-                nodes: Nodes { nodes },
+                nodes,
                 journal,
+                faults,
             },
             reopened: true,
         })

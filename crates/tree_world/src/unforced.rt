@@ -24,7 +24,7 @@ impl<L: LogStore> Nodes<L> {
     {
         match self.nodes.get(&process) {
             None => Ok(Vec::new(alloc)),
-            Some(node) => node.unforced_sizes(alloc),
+            Some(node) => node.node().unforced_sizes(alloc),
         }
     }
 }

@@ -1,6 +1,6 @@
 //! The tree that runs, as a caller sees it.
 
-ghost use Rattle.std.specs.Prelude.{◌≡◌, ◌<◌, ℕ, List, false, IfErr, IfOk, OnOk, length, map, option_map, slice_get};
+ghost use Rattle.std.specs.Prelude.{◌≡◌, ◌<◌, ℕ, List, false, IfErr, IfOk, IfSome, OnOk, length, map, option_map, slice_get};
 ghost use Rattle.tree_model.specs.World.{Made, World as ModelWorld};
 ghost use Rattle.core_law.specs.worlds.Worlds.{Applies, Stops};
 ghost use Rattle.core_law.specs.worlds.Runs.{Leads, LeadsUntil};
@@ -9,10 +9,12 @@ ghost use Rattle.core_law.specs.worlds.Modelled.{KeepsHeadline};
 ghost use Rattle.reopened_trees.specs.Earlier.{Earlier};
 ghost use Rattle.reopened_trees.specs.Since.{FollowsSince, GoesOnKeeping};
 ghost use Rattle.short_steps.specs.Shown.{entry_part, shown_part};
-ghost use Rattle.tree_node.specs.Nodes.{live_at};
+ghost use Rattle.live_table.specs.Known.{Knows};
+ghost use Rattle.tree_node.specs.Nodes.{live_at, standing_at};
 ghost use Rattle.tree_world.specs.LogsLeft.{LogStandsBy};
 ghost use Rattle.tree_world.specs.Nodes.{SpellsLogBy, node_in};
-ghost use Rattle.tree_world.specs.Worlds.{logs_at, state};
+ghost use Rattle.fault_journal.specs.Traces.{TraceGoesOnFrom, TraceIsRun};
+ghost use Rattle.tree_world.specs.Worlds.{logs_at, state, trace};
 
 use crate::running_tree::RunningTree;
 use log_store::LogStore;
@@ -31,13 +33,13 @@ pub struct World<L: LogStore> {
 }
 
 impl<L: LogStore> Model for World<L> {
-    ghost use Rattle.tree_world.specs.Worlds.{KeepsRun, WorldValue, running_state, value_by};
+    ghost use Rattle.tree_world.specs.Worlds.{KeepsWorld, WorldValue, running_state, value_by};
 
     ghost Value = { WorldValue L };
 
     ghost view = { λ w. value_by w.running w.reopened };
 
-    ghost invariant = { λ w. KeepsRun w.reopened (running_state w.running) };
+    ghost invariant = { λ w. KeepsWorld w.reopened (running_state w.running) w.running.faults };
 }
 
 impl<L: LogStore> World<L> {
@@ -64,10 +66,20 @@ impl<L: LogStore> World<L> {
     }
 
     /// Every step that was made, with its reaction, as a list made again.
-    pub fn trace(&self) -> Result<Vec<Entry>, AllocError>
-        ensures { IfOk result (λ trace. trace.items ≡ (state self.now).entries) }
+    pub fn steps(&self) -> Result<Vec<Entry>, AllocError>
+        ensures { IfOk result (λ steps. steps.items ≡ (state self.now).entries) }
     {
         self.running.journal.entries()
+    }
+
+    /// The steps of the run, whole: those that were made, and among them each in which a device failed, after those made
+    /// before it, as a list made again. Such a step names its event, how many of its records stand and how many more are
+    /// forced, and shows nothing.
+    pub fn trace(&self) -> Result<Vec<Entry>, AllocError>
+        ensures steps { IfOk result (λ steps. steps.items ≡ trace self.now) }
+        ensures run { self.now.reopened ≡ false → TraceIsRun (state self.now) (trace self.now) }
+    {
+        self.running.trace()
     }
 
     /// What the step at this place shows, from 0, as the journal has it; None, where N were not made.
@@ -99,9 +111,10 @@ impl<L: LogStore> World<L> {
         L: Drop,
     {}
 
-    /// How many cases are live at a process, if there is one.
+    /// How many cases are live at a process, if there is one: those that are not Unknown.
     pub fn live(&self, process: ProcessId) -> Option<usize>
-        ensures { result ≡ option_map live_at (node_in self.now.nodes process) }
+        ensures known { IfSome (node_in self.now.nodes process) (λ node. IfSome result (Knows (standing_at node))) }
+        ensures entries { result ≡ option_map live_at (node_in self.now.nodes process) }
     {
         self.running.nodes.live(process)
     }
@@ -146,6 +159,7 @@ impl<L: LogStore> World<L> {
             → GoesOnBehindFaults es w (state self.new) }
         ensures goes_on_since { (past : Earlier) (es : List Made) (w : ModelWorld)
             → FollowsSince past es w (state self.old) → GoesOnKeeping past es w (state self.new) }
+        ensures traced { TraceGoesOnFrom (state self.old) (trace self.old) (state self.new) (trace self.new) }
         ensures headline { self.old.reopened ≡ false → KeepsHeadline (state self.new) }
         ensures reopened { self.new.reopened ≡ self.old.reopened }
     {
@@ -164,6 +178,7 @@ impl<L: LogStore> World<L> {
             → GoesOnBehindFaults es w (state self.new) }
         ensures goes_on_since { (past : Earlier) (es : List Made) (w : ModelWorld)
             → FollowsSince past es w (state self.old) → GoesOnKeeping past es w (state self.new) }
+        ensures traced { TraceGoesOnFrom (state self.old) (trace self.old) (state self.new) (trace self.new) }
         ensures headline { self.old.reopened ≡ false → KeepsHeadline (state self.new) }
         ensures reopened { self.new.reopened ≡ self.old.reopened }
     {

@@ -1,4 +1,4 @@
-use Rattle.std.proofs.Common.{◌∙◌, sym}
+use Rattle.std.proofs.Common.{◌∙◌, sym, ap, Some}
 use Rattle.std.proofs.lemmas.List.{nil_from_length}
 use Rattle.tree_world.proofs.FromPlaces.{found_at, handed_back_at, handed_back_from, no_store_at, none_from, none_handed_back_at, opened_from, refused_at, refused_from}
 use Rattle.tree_world.proofs.opening.+open_from.Goals as goal
@@ -50,7 +50,7 @@ returns-in-Ok-open_from-clause-ok g t c =
     let at = found_at c.args.tree.now c.args.place c.in-Some.entry c.in-Some.ensures.lookup in
     opened_from c.args.tree.now c.args.place c.in-Some.entry.now c.open_from.new.nodes.entries
     c.put_by_name.new.values.entries c.in-Ok.node c.requires.tree at.0 at.1 c.in-Ok.ensures.ok
-    c.in-Ok.ensures.holdings c.put_by_name.ensures.own c.put_by_name.ensures.others
+    c.in-Ok.ensures.holdings (c.put_by_name.ensures.own ∙ ap Some c.new.ensures) c.put_by_name.ensures.others
     c.in-Ok-open_from.ensures.ok
 
 -- It opened, and one after it did not.

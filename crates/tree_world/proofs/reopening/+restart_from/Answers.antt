@@ -1,4 +1,4 @@
-use Rattle.std.proofs.Common.{rules, ◌∙◌, ◌+◌, ◌≤◌, arith, drop, length, reverse, sym}
+use Rattle.std.proofs.Common.{rules, ◌∙◌, ◌+◌, ◌≤◌, arith, drop, length, reverse, sym, ap, Some}
 use Rattle.std.proofs.lemmas.List.{nil_from_length}
 use Rattle.tree_world.specs.Readied.{AreReady}
 use Rattle.tree_world.proofs.FromReady.{found_in, past_in}
@@ -84,7 +84,7 @@ returns-in-Ok-restart_from-clause-ok g t c =
     c.in-Some.entry.now at.0 at.1 c.args.stores.now.items c.pop.new.self.items c.in-Some-pop.store c.in-Ok.node
     c.restart_from.new.nodes.entries c.put_by_name.new.values.entries c.args.journal.now c.restarted.new.journal
     c.restart_from.new.journal c.requires.tree c.in-Some-pop.ensures.items c.in-Ok.ensures.ok
-    c.put_by_name.ensures.own c.put_by_name.ensures.others c.in-Ok-restart_from.ensures.ok
+    (c.put_by_name.ensures.own ∙ ap Some c.new.ensures) c.put_by_name.ensures.others c.in-Ok-restart_from.ensures.ok
 
 -- It did, and one after it did not.
 

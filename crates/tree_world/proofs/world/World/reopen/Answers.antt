@@ -1,3 +1,4 @@
+use Rattle.std.proofs.Common.{arith}
 use Rattle.tree_world.specs.Nodes.{kept_at}
 use Rattle.reopened_trees.proofs.Openings.{reopened_on}
 use Rattle.tree_world.proofs.FromReady.{all_returned}
@@ -43,6 +44,10 @@ returns-in-Err-restart_from-clause-handed_back g c =
 
 -- The tree was opened.
 
+pub invariant_of-result : goal.invariant_of-result
+invariant_of-result g c =
+    rw c.new-faults.ensures (record { run = c.requires; trace = tt; places = omega arith })
+
 pub returns-clause-sound : goal.returns-clause-sound
 returns-clause-sound g c =
     never_faulty g.L.LogStore.bytes g.L.LogStore.forced g.L.LogStore.failures c.args.tree c.args.stores.items
@@ -50,10 +55,10 @@ returns-clause-sound g c =
 
 pub returns-clause-reopened : goal.returns-clause-reopened
 returns-clause-reopened g c =
-    reopened_first g.L.LogStore.bytes g.L.LogStore.forced g.L.LogStore.failures c.args.tree c.args.stores.items
+    (reopened_first g.L.LogStore.bytes g.L.LogStore.forced g.L.LogStore.failures c.args.tree c.args.stores.items
     c.reverse.new.self.items c.reverse.ensures.items c.ready_from.new.stores.items c.in_default.ensures.ok
     (kept_at c.restart_from.new.nodes.entries) c.new-journal.result c.restart_from.new.journal
-    c.in_default-restart_from.ensures.ok c.new-journal.ensures.net c.new-journal.ensures.delivered c.new-journal.ensures.entries
+    c.in_default-restart_from.ensures.ok c.new-journal.ensures.net c.new-journal.ensures.delivered c.new-journal.ensures.entries)
 
 pub returns-clause-goes_on : goal.returns-clause-goes_on
 returns-clause-goes_on g c es w =

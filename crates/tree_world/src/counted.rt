@@ -1,0 +1,243 @@
+//! A process of a tree, and how many records stand in its log.
+
+ghost use Rattle.std.specs.Prelude.{◌≡◌, ◌≢◌, ◌+◌, ◌++◌, All, IfErr, IfOk, IfSome, None, OnErr, OnOk, Some, length};
+ghost use Rattle.tree_model.specs.declared.events.StepError.TheVariants.{Device};
+ghost use Rattle.log_text.specs.Payloads.{FitsFrame, records_text};
+ghost use Rattle.core_model.specs.Inputs.{input_of};
+ghost use Rattle.core_model.specs.States.{form_of};
+ghost use Rattle.core_law.specs.worlds.Worlds.{HandlesInput, KeepsBytes};
+ghost use Rattle.fault_journal.specs.Counts.{KeepsCount, after_written, all_forced, count_in};
+ghost use Rattle.fault_journal.specs.Faults.{fault_by, log_bytes};
+ghost use Rattle.tree_node.specs.Nodes.{FailsUnder, NotHandled, core_of, data_of};
+ghost use Rattle.tree_node.specs.Restarts.{NoRestart, NoTrim, RestartsNode, TrimsNode};
+
+use core_model::InputRef;
+use fault_journal::{Cause, Count};
+use log_store::LogStore;
+use log_text::{Frame, LogForm, LogFormat};
+use std::alloc::{AllocError, Global};
+use std::marker::Model;
+use tree_model::{Fault, Kind, LogRecord, Reaction, StepError};
+use tree_node::Node;
+
+/// A process, and the count of its log, where that is known. A step leaves the count that its reaction says, so that no
+/// log is read for it. A count is not known before the first step of a process, and after its device failed: then its log
+/// is read.
+#[derive(Drop)]
+pub(crate) struct CountedNode<L: LogStore> {
+    node: Node<L>,
+    count: Option<Count>,
+}
+
+impl<L: LogStore> Model for CountedNode<L> {
+    ghost use Rattle.std.specs.Prelude.{◌≡◌, IfSome};
+    ghost use Rattle.fault_journal.specs.Counts.{count_in};
+    ghost use Rattle.tree_node.specs.Nodes.{core_of};
+    ghost use Rattle.tree_node.specs.declared.node.Node.{Node as AnyNode};
+
+    ghost Value = { AnyNode L };
+
+    ghost view = { λ c. c.node };
+
+    ghost invariant = { λ c. IfSome c.count (λ count. count ≡ count_in (core_of c.node)) };
+}
+
+/// The count of a process's log, by its records.
+fn count_of<L: LogStore>(node: &Node<L>) -> Result<Count, AllocError>
+    ensures { IfOk result (λ count. count ≡ count_in (core_of node.now)) }
+{
+    let records = node.records()?.len();
+    let unforced = node.left_behind(node.log_size())?;
+    Ok(Count {
+        records: records as u64,
+        forced: records.saturating_sub(unforced) as u64,
+    })
+}
+
+/// How many bytes after its forced front a process keeps in a restart that names these.
+fn keep_of<L: LogStore>(node: &Node<L>, bytes: Option<u64>) -> usize
+    ensures { KeepsBytes (core_of node.now) bytes result }
+{
+    match bytes {
+        None => node.log_size(),
+        Some(bytes) => bytes as usize,
+    }
+}
+
+/// How many of its unforced records it keeps then.
+pub(crate) fn kept_by<L: LogStore>(node: &Node<L>, bytes: Option<u64>) -> Result<u64, AllocError>
+    ensures { IfOk result (KeepsCount (core_of node.now) bytes) }
+{
+    let keep = keep_of(node, bytes);
+    Ok(node.left_behind(keep)? as u64)
+}
+
+/// The form of a process's log.
+fn form_by<L: LogStore>(node: &Node<L>) -> LogForm
+    ensures { result ≡ form_of (core_of node.now).place }
+{
+    match node {
+        Node::Coordinator(coordinator) => LogForm::of(coordinator.me(), Kind::Coordinator),
+        Node::Manager(manager) => LogForm::of(manager.me(), Kind::Manager),
+    }
+}
+
+/// Adds the frames of these records in a log of this form.
+#[tactic(auto, unfolding(log_text::specs::Payloads::records_text))]
+fn push_records(
+    bytes: &mut Vec<u8>,
+    alloc: Global,
+    form: LogForm,
+    records: &[LogRecord],
+) -> Result<(), AllocError>
+    requires second { form.format ≡ LogFormat.Second }
+    requires fit { All FitsFrame records.now }
+    ensures { OnOk result (bytes.new.items ≡ bytes.old.items ++ records_text form records.now) }
+{
+    for record in records {
+        let frame = Frame::of(&record.entry, record.parent, alloc)?;
+        frame.push(form, bytes)?;
+    }
+    Ok(())
+}
+
+/// The bytes of a log of the records that a process has, and no more.
+fn whole_bytes<L: LogStore>(alloc: Global, node: &Node<L>) -> Result<Vec<u8>, AllocError>
+    ensures { IfOk result (λ bytes. bytes.items ≡ log_bytes (core_of node.now)) }
+{
+    node.records_are_sound();
+    let records = node.records()?;
+    let form = form_by(node);
+    let mut bytes = Vec::from_slice(alloc, &form.format.header())?;
+    push_records(&mut bytes, alloc, form, &records)?;
+    Ok(bytes)
+}
+
+/// The fault of a step with this cause, by the count before it.
+pub(crate) fn fault_of<L: LogStore>(
+    alloc: Global,
+    node: &Node<L>,
+    cause: &Cause,
+    before: Count,
+) -> Result<Fault, AllocError>
+    ensures { IfOk result (λ fault. fault ≡ fault_by cause.now before (core_of node.now)) }
+{
+    let now = count_of(node)?;
+    Ok(match cause {
+        Cause::Act(_) | Cause::Message(_) => before.left_by_input(now),
+        Cause::Restart(kept) => before.left_by_restart(*kept, now),
+        Cause::Trim(text) => before.left_by_trim(text, &whole_bytes(alloc, node)?, now),
+    })
+}
+
+/// The count once a process handled an input or did not; None where it is not known.
+fn count_after(before: Count, made: &Result<Reaction, StepError>) -> Option<Count>
+    ensures ok { IfOk made.now (λ reaction. IfSome result (λ count. count ≡ after_written before reaction.written)) }
+    ensures err { IfErr made.now (λ e. IfSome result (λ count. (count ≡ before) × (e ≢ Device))) }
+{
+    match made {
+        Ok(reaction) => before.after(reaction.written.as_slice()),
+        Err(StepError::Device) => None,
+        Err(_) => Some(before),
+    }
+}
+
+/// The same of a restart.
+fn count_after_restart(before: Count, made: &Result<(u64, Reaction), StepError>) -> Option<Count>
+    ensures ok { IfOk made.now (λ r. IfSome result (λ count. count
+        ≡ all_forced ((before.forced + r.0) + length r.1.written))) }
+    ensures err { OnErr made.now (result ≡ None) }
+{
+    match made {
+        Ok((kept, reaction)) => before.after_restart(*kept, reaction.written.as_slice()),
+        Err(_) => None,
+    }
+}
+
+/// The same of a trim.
+fn count_after_trim(made: &Result<u64, StepError>) -> Option<Count>
+    ensures ok { IfOk made.now (λ remain. result ≡ Some (all_forced remain)) }
+    ensures err { OnErr made.now (result ≡ None) }
+{
+    match made {
+        Ok(remain) => Some(Count::all_forced(*remain)),
+        Err(_) => None,
+    }
+}
+
+impl<L: LogStore> CountedNode<L> {
+    /// A process, the count of whose log is not known.
+    pub(crate) fn new(node: Node<L>) -> CountedNode<L>
+        ensures { result ≡ node }
+    {
+        CountedNode { node, count: None }
+    }
+
+    /// The process.
+    pub(crate) fn node(&self) -> &Node<L>
+        ensures { result.now ≡ self.now }
+    {
+        &self.node
+    }
+
+    /// The count of its log, which is known from then on. Memory: nothing changed.
+    pub(crate) fn count(&mut self) -> Result<Count, AllocError>
+        ensures same { self.new ≡ self.old }
+        ensures ok { IfOk result (λ count. count ≡ count_in (core_of self.old)) }
+    {
+        if let Some(count) = self.count {
+            return Ok(count);
+        }
+        let count = count_of(&self.node)?;
+        self.count = Some(count);
+        Ok(count)
+    }
+
+    /// It handles an input, before which its log has this count; as `Node::handle` says.
+    pub(crate) fn handle(
+        &mut self,
+        input: InputRef<'_>,
+        before: Count,
+    ) -> Result<Reaction, StepError>
+        requires { before ≡ count_in (core_of self.old) }
+        ensures ok { IfOk result (HandlesInput (core_of self.old) (core_of self.new)
+            (data_of self.old) (data_of self.new) (input_of input.entry)) }
+        ensures err { IfErr result (NotHandled (core_of self.old) (core_of self.new)
+            (data_of self.old) (data_of self.new) (input_of input.entry)) }
+        ensures under { IfErr result (λ e. e ≡ Device → FailsUnder (core_of self.old) (core_of self.new)
+            (data_of self.old) (input_of input.entry)) }
+    {
+        let made = self.node.handle(input);
+        self.count = count_after(before, &made);
+        made
+    }
+
+    /// It restarts, before which its log has this count; as `Node::restart_keeping` says.
+    pub(crate) fn restart(
+        &mut self,
+        bytes: Option<u64>,
+        before: Count,
+    ) -> Result<(u64, Reaction), StepError>
+        requires { before ≡ count_in (core_of self.old) }
+        ensures ok { IfOk result (RestartsNode (core_of self.old) (core_of self.new)
+            (data_of self.new) bytes) }
+        ensures err { IfErr result (NoRestart (core_of self.old) (core_of self.new)
+            (data_of self.old) (data_of self.new) bytes) }
+    {
+        let made = self.node.restart_keeping(bytes);
+        self.count = count_after_restart(before, &made);
+        made
+    }
+
+    /// Its log is trimmed; as `Node::trim_sound` says.
+    pub(crate) fn trim(&mut self) -> Result<u64, StepError>
+        ensures ok { IfOk result (TrimsNode (core_of self.old) (core_of self.new)
+            (data_of self.old) (data_of self.new)) }
+        ensures err { IfErr result (NoTrim (core_of self.old) (core_of self.new)
+            (data_of self.old) (data_of self.new)) }
+    {
+        let made = self.node.trim_sound();
+        self.count = count_after_trim(&made);
+        made
+    }
+}
