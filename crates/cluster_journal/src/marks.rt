@@ -1,7 +1,7 @@
 //! What became of each message, by its number.
 
 ghost use Rattle.std.specs.Prelude.{◌≡◌, ◌+◌, ◌<◌, ◌⊎◌, ◌++◌, [], IsTrue, OnOk, OnErr, IfSome, IfNone, Some, length, map, slice_get, true};
-ghost use Rattle.cluster_journal.specs.Journals.{marked_by, marked_by_all};
+ghost use Rattle.cluster_journal.specs.Journals.{marked_by};
 ghost use Rattle.cluster_journal.specs.Marks.{
   AreAllDelivered,
   IsNextOpen,
@@ -20,9 +20,8 @@ use crate::adding::add_all;
 use crate::queues::{Queues, claim_for, is_claimed, open_from, picked, set_mark};
 use indexmap::IndexSet;
 use std::alloc::{AllocError, Global};
-use std::collections::LinkedList;
 use std::marker::Model;
-use tree_model::{Entry, Envelope, Happening, Input, ProcessId};
+use tree_model::{Envelope, Happening, Input, ProcessId};
 
 /// What became of a message.
 #[derive(Clone, Copy, PartialEq, Eq)]
@@ -178,16 +177,6 @@ impl Marks {
     {
         if let Happening::Input(Input::Message(number, _)) = happening {
             self.deliver(*number);
-        }
-    }
-
-    /// These have happened: the messages that they deliver are delivered.
-    pub(crate) fn note_all(&mut self, made: &LinkedList<(u64, Entry)>)
-        ensures { self.new ≡ marked_by_all made.now self.old }
-    {
-        let mut rest = made.iter();
-        while let Some((_, entry)) = rest.next() {
-            self.note(&entry.step.happening);
         }
     }
 
