@@ -31,6 +31,7 @@ fn is_fault(entry: &Entry, process: ProcessId, appended: u64, forced: u64) -> bo
 }
 
 /// What the last entry of a trace is to be: a fault at this process, with these numbers.
+#[derive(Drop)]
 struct Wanted {
     process: ProcessId,
     appended: u64,
