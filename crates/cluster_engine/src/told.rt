@@ -81,11 +81,7 @@ fn told_at(told: &[Told], place: usize) -> Option<Told>
 }
 
 /// Adds the lines of what was told at these places, one after another.
-fn push_lines(
-    out: &mut Vec<u8>,
-    told: &[Told],
-    places: &[ToldPlace],
-) -> Result<(), AllocError>
+fn push_lines(out: &mut Vec<u8>, told: &[Told], places: &[ToldPlace]) -> Result<(), AllocError>
     ensures { OnOk result (AddsTold told.now places.now out.old.items out.new.items) }
 {
     for line in places {
