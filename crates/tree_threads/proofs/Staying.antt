@@ -1,5 +1,5 @@
 -- A step that is marked stays so while more room is taken.
-use Rattle.std.proofs.Common.{◌≡◌, ap, subst, sym, List}
+use Rattle.std.proofs.Common.{◌≡◌, subst, sym, List}
 use Rattle.tree_model.specs.declared.names.ProcessId.{ProcessId}
 use Rattle.tree_model.specs.declared.messages.Envelope.{Envelope}
 use Rattle.tree_model.specs.declared.events.Entry.{Entry}

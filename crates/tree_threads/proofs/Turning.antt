@@ -1,20 +1,18 @@
 -- What a process makes in a turn.
-use Rattle.std.proofs.Common.{◌≡◌, ◌∙◌, ap, refl, sym, subst, ℕ, true, Some, None, All, Option, List, [], ◌∷◌, ◌++◌, append-nil, append_assoc, length, suc, ◌+◌, ◌≤◌, arith}
+use Rattle.std.proofs.Common.{◌≡◌, ◌∙◌, ap, refl, sym, subst, ℕ, true, Some, All, Option, List, [], ◌∷◌, ◌++◌, append-nil, append_assoc, length, suc, ◌+◌, ◌≤◌, arith}
 use Rattle.std.specs.Option.{option_to_list}
 use Rattle.std.proofs.lemmas.List.Elements.{All-append, All-cons, All-head, All-nil, All-tail}
 use Rattle.tree_model.specs.declared.names.ProcessId.{ProcessId}
 use Rattle.tree_model.specs.declared.messages.Envelope.{Envelope}
 use Rattle.tree_model.specs.declared.events.Entry.{Entry}
 use Rattle.tree_model.specs.declared.events.Step.{Step}
-use Rattle.tree_model.specs.declared.events.Happening.TheVariants.{Input as Handles}
-use Rattle.tree_model.specs.declared.events.Input.TheVariants.{Message as MessageInput}
 use Rattle.tree_model.specs.declared.events.Event.TheVariants.{Deliver}
 use Rattle.tree_model.specs.declared.trees.TreeEntry.{TreeEntry}
 use Rattle.tree_model.specs.Nodes.{is_listed}
 use Rattle.tree_model.specs.Trees.{root_of}
 use Rattle.core_model.specs.States.{CoreState, SameCore}
 use Rattle.manager_model.specs.Data.{ManagerData, Rests}
-use Rattle.tree_cut.specs.Alone.{IsMine, MakesAlone, RunsAlone, StepAlone}
+use Rattle.tree_cut.specs.Alone.{IsMine, MakesAlone, RunsAlone}
 use Rattle.tree_cut.specs.Cuts.{FindsMessage, IsGiven}
 use Rattle.tree_cut.specs.Owns.{OwnRun}
 use Rattle.tree_cut.specs.Turns.{AllGiven, GoesAlone, begins_alone, goes_alone, rests_alone}
@@ -27,12 +25,12 @@ use Rattle.tree_ties.specs.Seats.{IsProcess}
 use Rattle.tree_ties.specs.Views.{AreBy, AreOf, entries_in, places_from, worker}
 use Rattle.tree_ties.proofs.Lists.{in_more}
 use Rattle.tree_threads.specs.declared.making.Made.{Made}
-use Rattle.tree_threads.specs.Makes.{FitsNode, IsAt}
+use Rattle.tree_threads.specs.Makes.{IsAt}
 use Rattle.tree_threads.specs.Marks.{Delivers}
 use Rattle.tree_threads.specs.Passes.{NotesAll, NotesOne, PassState}
 use Rattle.tree_threads.specs.Posts.{DeliversTurn}
 use Rattle.tree_threads.specs.Turns.{AreNext, AreNumbered, AreOpen, GoesFurther, IsDeliveryAt, IsNext, MadeTurn, MakesStep}
-use Rattle.tree_threads.proofs.Asked.{finds_it, fits_it, mine_it}
+use Rattle.tree_threads.proofs.Asked.{finds_it, mine_it}
 use Rattle.tree_threads.proofs.OwnSteps.{step_alone}
 
 -- Seats.

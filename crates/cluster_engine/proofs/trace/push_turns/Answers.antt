@@ -1,8 +1,22 @@
+use Rattle.std.proofs.Common.{◌∙◌, ◌+◌, ◌++◌, ap}
+use Rattle.trace_lines.specs.Trace.{entries_text}
+use Rattle.tree_engine.specs.Failures.{message_count}
+use Rattle.tree_ties.specs.Views.{entries_in}
 use Rattle.cluster_engine.proofs.Tracing.{turn_added, turn_more, turns_added}
 use Rattle.cluster_engine.proofs.trace.push_turns.Goals as goal
 
 pub loop-place-preserved : goal.loop-place-preserved
-loop-place-preserved c = ?
+loop-place-preserved c =
+    let h = c.loop-place.invariant in
+    let value = c.as_slice.ensures.value in
+    let sent = c.loop-place.sent in
+    let old = c.loop-place.out.items in
+    let next = c.in_ok-sent.ensures.sent ∙ ap (λ l. sent + message_count (entries_in l)) value in (
+      turn_added c.args.turns.now c.loop-place.place c.index-turns-place.result sent _ old c.push_turn.new.out.items _
+          c.loop-place-test.true next
+          (c.in_ok-sent.ensures.text ∙ ap (λ l. old ++ entries_text sent (entries_in l)) value) h.0,
+      turn_more c.args.turns.now c.loop-place.place c.index-turns-place.result sent _ _ c.loop-place-test.true next h.1,
+    )
 
 pub returns-clause-text : goal.returns-clause-text
 returns-clause-text c =

@@ -1,4 +1,4 @@
-use Rattle.std.proofs.Common.{◌∙◌, ◌++◌, ap, refl}
+use Rattle.std.proofs.Common.{refl}
 use Rattle.tree_node.specs.Nodes.{core_of, data_of}
 use Rattle.tree_threads.proofs.Turning.{first_of, further_none, further_one, further_rests, popped, rest_of}
 use Rattle.tree_threads.proofs.making.make_next.Goals as goal

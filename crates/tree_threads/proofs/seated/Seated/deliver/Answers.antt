@@ -1,4 +1,4 @@
-use Rattle.std.proofs.Common.{ℕ, All, List, ◌∙◌, ◌++◌, ◌∷◌, [], ap, refl, rules, subst, sym}
+use Rattle.std.proofs.Common.{ℕ, All, List, ◌∙◌, ◌++◌, ap, rules, subst, sym}
 use Rattle.tree_model.specs.declared.events.Entry.{Entry}
 use Rattle.tree_model.specs.declared.events.Event.TheVariants.{Deliver}
 use Rattle.cluster_journal.specs.Journals.{ClusterState}

@@ -1,4 +1,4 @@
-use Rattle.std.proofs.Common.{◌∙◌, ◌++◌, ◌∷◌, [], ap, refl, rules, subst, sym}
+use Rattle.std.proofs.Common.{◌∙◌, ◌++◌, ap, rules, subst, sym}
 use Rattle.tree_model.specs.declared.events.Step.{Step}
 use Rattle.tree_model.specs.Trees.{root_of}
 use Rattle.cluster_journal.specs.Journals.{ClusterState}
