@@ -185,7 +185,8 @@ class Checkout:
 
     def text(self, path):
         if path not in self.texts:
-            self.texts[path] = (self.top / path).read_text(encoding="utf-8")
+            with open(self.top / path, encoding="utf-8", newline="") as file:
+                self.texts[path] = file.read()
         return self.texts[path]
 
     def sources(self):
