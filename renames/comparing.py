@@ -48,7 +48,8 @@ class Side:
     def name(self, path, name):
         path, name = self.owner(path, name)
         if self.renamer:
-            return self.renamer.module_path(path), self.renamer.new_name(path, name)
+            target = self.renamer.cut[path, name][0] if (path, name) in self.renamer.cut else self.renamer.module_path(path)
+            return target, self.renamer.new_name(path, name)
         return path, name
 
     def place(self, place):
@@ -92,14 +93,20 @@ class Side:
             before, previous = (previous, token)
         return out
 
-    def antt_words(self, path, text):
+    def antt_words(self, path, text, skip=(), only=None):
         found = Definitions(path, text)
         module = antt_module(path)
         top = [name for name, at in found.declared.items() if name in found.public or found.text.rfind("\n", 0, at) == at - 1 or at == 0
                or not found.text[found.text.rfind("\n", 0, at) + 1:at].startswith(" ")]
+        top += [name for name in found.declared if self.is_of_table(module, name)]
         names, modules = self.locals(found.imports, top, module)
         spans = [(it.start, it.end) for it in found.imports] + [it.span() for it in re.finditer(r"^(?:pub )?mod \S+$", text, re.M)]
-        return self.words([t for t in antt_tokens(text) if not any(a <= t.start < b for a, b in spans)], names, modules)
+        spans += skip
+        return self.words([t for t in antt_tokens(text) if not any(a <= t.start < b for a, b in spans)
+                           and (only is None or only[0] <= t.start < only[1])], names, modules)
+
+    def is_of_table(self, module, name):
+        return (module, name) in (self.renamer.names if self.renamer else self.given)
 
     def rust_words(self, path, text):
         crate = path.split("/")[1]
@@ -255,6 +262,7 @@ def compare(checker, old_top, table_path):
     if old_top is None:
         return
     renamer = apply.Renamer(old_top, table)
+    new.given = {(renamer.module_path(module), name) for (module, _), name in renamer.names.items()}
     old = Side(renamer.checkout, renamer.rust, renamer.antt, renamer)
     seen = set()
     for path in renamer.checkout.files:
@@ -267,7 +275,17 @@ def compare(checker, old_top, table_path):
                 checker.fault(path, f"is not there as {new_path}")
             continue
         if re.fullmatch(r"crates/\w+/(specs|proofs)/.*\.antt", path):
-            words = old.antt_words(path, renamer.checkout.text(path)), new.antt_words(new_path, checker.checkout.text(new_path))
+            cuts = [(begin, end) for (module, _), (_, begin, end) in renamer.cut.items() if module == antt_module(path)]
+            words = old.antt_words(path, renamer.checkout.text(path), cuts), new.antt_words(new_path, checker.checkout.text(new_path))
+            for (module, name), (target, begin, end) in renamer.cut.items():
+                if target == antt_module(new_path):
+                    source = renamer.antt[module]
+                    block = old.antt_words(source, renamer.checkout.text(source), (), (begin, end))
+                    at = [at for at in range(len(words[1])) if words[1][at:at + len(block)] == block]
+                    if len(at) == 1:
+                        words = words[0], words[1][:at[0]] + words[1][at[0] + len(block):]
+                    else:
+                        checker.fault(new_path, f"has not {name} as it was")
         elif re.fullmatch(r"crates/\w+/src/.*\.rt", path):
             words = old.rust_words(path, renamer.checkout.text(path)), new.rust_words(new_path, checker.checkout.text(new_path))
         elif re.fullmatch(r"crates/\w+/(must-fail|refused)/.*\.edit", path):
