@@ -79,9 +79,19 @@ class Side:
         return names, modules
 
     def words(self, tokens, names, modules):
-        out, previous, before = [], None, None
+        out, previous, before, path = [], None, None, None
         for token in tokens:
             if token.kind == "comment":
+                continue
+            if path is not None:
+                if token.text == "." or previous.text == ".":
+                    path += token.text
+                    previous = token
+                    continue
+                out.append(self.written_out(path))
+                path = None
+            elif token.text == "Rattle" and not (previous is not None and previous.text == "."):
+                path, previous = "Rattle", token
                 continue
             dotted = previous is not None and previous.text == "." and previous.end == token.start
             if token.kind == "word" and dotted and before is not None and before.text in modules:
@@ -91,7 +101,18 @@ class Side:
             else:
                 out.append(token.text)
             before, previous = (previous, token)
+        if path is not None:
+            out.append(self.written_out(path))
         return out
+
+    def written_out(self, path):
+        """A name that is written with its whole path."""
+        parts = path.split(".")
+        for length in range(len(parts), 2, -1):
+            module = ".".join(parts[:length])
+            if module in self.antt and length < len(parts):
+                return self.name(module, parts[length]), parts[length + 1:]
+        return self.module(path)
 
     def antt_words(self, path, text, skip=(), only=None):
         found = Definitions(path, text)
