@@ -8,11 +8,12 @@ ghost use Rattle.cluster_engine.specs.Reports.{ClosesUnnumbered, IsPostFailure, 
 use crate::engine::Output;
 use crate::told::push_told;
 use crate::trace::push_trace;
+use journal_turns::Journal;
 use report_io::{Failure, Status};
 use std::alloc::{AllocError, Global};
-use tree_cluster::{Cluster, Journal};
+use tree_cluster::Cluster;
 use tree_engine::{own_refusal, push_refused};
-use tree_model::{Entry, LogRecord, StepError, Tree, TreeEntry};
+use tree_model::{LogRecord, StepError, Tree, TreeEntry};
 use tree_threads::{Pass, PostError};
 use tree_ties::seats::Seats;
 
@@ -88,7 +89,7 @@ fn journal_told(
     alloc: Global,
     output: Output,
     tree: &[TreeEntry],
-    journal: &[(u64, Entry)],
+    journal: &Journal,
 ) -> Result<Vec<u8>, Failure>
     ensures text { IfOk result (λ text. Tells output tree.now journal.now text.items) }
     ensures err { IfErr result (λ e. (e ≡ Failure.Memory)
@@ -107,7 +108,7 @@ fn journal_told(
 
 /// The lines of what was told, and after them that a tree on one thread which makes the events of the journal leaves the
 /// same logs. It is so of each cluster that closes (`Cluster::close`), so it is not tried.
-fn told_text(alloc: Global, journal: &[(u64, Entry)]) -> Result<Vec<u8>, AllocError>
+fn told_text(alloc: Global, journal: &Journal) -> Result<Vec<u8>, AllocError>
     ensures { IfOk result (λ text. TellsJournal journal.now same_line text.items) }
 {
     let mut out = Vec::new(alloc);

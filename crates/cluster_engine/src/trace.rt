@@ -2,10 +2,13 @@
 
 ghost use Rattle.std.specs.Prelude.{◌≡◌, ◌⊎◌, ◌+◌, ◌≤◌, ◌^◌, ◌++◌, IfErr, IfOk, OnOk, length, string_bytes};
 ghost use Rattle.trace_lines.specs.Trace.{entries_text, entry_text};
+ghost use Rattle.journal_turns.specs.Turns.{all_of};
+ghost use Rattle.tree_engine.specs.Failures.{message_count};
 ghost use Rattle.tree_engine.specs.Trees.{opened_text, opening_text};
 ghost use Rattle.tree_ties.specs.Views.{entries_in};
 ghost use Rattle.cluster_engine.specs.Reports.{IsUnnumbered, journal_text};
 
+use journal_turns::{Entries, Journal};
 use report_io::Failure;
 use std::alloc::{AllocError, Global};
 use trace_lines::{push_begun, push_conclusion, push_kept, push_messages, push_written};
@@ -58,33 +61,48 @@ fn push_entry(out: &mut Vec<u8>, sent: u64, entry: &Entry) -> Result<u64, Failur
     Ok(next)
 }
 
-/// The lines of these entries.
-fn push_entries(out: &mut Vec<u8>, journal: &[(u64, Entry)]) -> Result<(), Failure>
-    ensures text { OnOk result (out.new.items ≡ out.old.items ++ entries_text 0 (entries_in journal.now)) }
+/// The lines of the entries of a turn, before which N messages were sent. How many were with theirs. Exhausted: 2^64 or
+/// more.
+fn push_turn(out: &mut Vec<u8>, before: u64, turn: &[(u64, Entry)]) -> Result<u64, Failure>
+    ensures sent { IfOk result (λ next. next ≡ before + message_count (entries_in turn.now)) }
+    ensures text { OnOk result (out.new.items ≡ out.old.items ++ entries_text before (entries_in turn.now)) }
     ensures err { IfErr result (λ e. (e ≡ Failure.Memory)
-        ⊎ ((e ≡ Failure.Exhausted) × IsUnnumbered journal.now)) }
+        ⊎ ((e ≡ Failure.Exhausted) × (2 ^ 64 ≤ before + message_count (entries_in turn.now)))) }
+{
+    let mut sent = before;
+    for place in 0..turn.len() {
+        sent = push_entry(out, sent, &turn[place].1)?;
+    }
+    Ok(sent)
+}
+
+/// The lines of these turns.
+fn push_turns(out: &mut Vec<u8>, turns: &[Entries]) -> Result<(), Failure>
+    ensures text { OnOk result (out.new.items ≡ out.old.items ++ entries_text 0 (entries_in (all_of turns.now))) }
+    ensures err { IfErr result (λ e. (e ≡ Failure.Memory)
+        ⊎ ((e ≡ Failure.Exhausted) × IsUnnumbered (all_of turns.now))) }
 {
     let mut sent = 0;
-    for place in 0..journal.len() {
-        sent = push_entry(out, sent, &journal[place].1)?;
+    for place in 0..turns.len() {
+        sent = push_turn(out, sent, turns[place].as_slice())?;
     }
     Ok(())
 }
 
-/// Adds the trace of these entries, as a tree on one thread that makes their events writes it. Exhausted:
-/// they sent 2^64 messages or more.
+/// Adds the trace of a journal, as a tree on one thread that makes its events writes it. Exhausted: in it 2^64 messages or
+/// more were sent.
 pub(crate) fn push_trace(
     alloc: Global,
     out: &mut Vec<u8>,
     tree: &[TreeEntry],
-    journal: &[(u64, Entry)],
+    journal: &Journal,
 ) -> Result<(), Failure>
     ensures text { OnOk result (out.new.items ≡ out.old.items ++ journal_text tree.now journal.now) }
     ensures err { IfErr result (λ e. (e ≡ Failure.Memory)
         ⊎ ((e ≡ Failure.Exhausted) × IsUnnumbered journal.now)) }
 {
     push_opened(alloc, out, tree)?;
-    push_entries(out, journal)?;
+    push_turns(out, journal.turns())?;
     out.extend_from_slice(b"end\n")?;
     Ok(())
 }

@@ -1,7 +1,7 @@
 -- What is marked as delivered is delivered in an entry.
-use Rattle.std.proofs.Common.{IfNone, IfSome, ◌≡◌, ◌⊎◌, ◌∙◌, ap, sym, subst, refl, inl, inr, ℕ, zero, suc, ◌<◌, Option, Some, None, List, [], ◌∷◌, ◌++◌, map, length, slice_set, arith}
+use Rattle.std.proofs.Common.{IfNone, IfSome, ◌≡◌, ◌⊎◌, ◌∙◌, ap, sym, subst, refl, inl, inr, ℕ, zero, suc, ◌<◌, Option, Some, None, List, [], ◌∷◌, ◌++◌, map, length, slice_set, ◌+◌, get_or, take, arith}
 use Rattle.std.specs.Prelude.{slice_get}
-use Rattle.std.proofs.lemmas.List.{append-nil, append_assoc, length-set}
+use Rattle.std.proofs.lemmas.List.{append-nil, append_assoc, length-set, take_more}
 use Rattle.std.proofs.lemmas.List.Elements.{All-head, All-tail}
 use Rattle.tree_model.specs.declared.names.ProcessId.{ProcessId}
 use Rattle.tree_model.specs.declared.messages.Envelope.{Envelope}
@@ -182,3 +182,16 @@ pub all_in : (ms : List Marked) (xs : List (ℕ × Entry)) → AreAllDelivered m
 all_in ms xs all long so k lt =
     let at = at_all ms k (omega (arith, lt, long)) all in
     so k at.0 at.1
+
+-- the marks after one entry more
+marked_more : (xs : List (ℕ × Entry)) (x : ℕ × Entry) (ms : List Marked)
+    → marked_by_all (xs ++ x ∷ []) ms ≡ marked_by x.1.step.happening (marked_by_all xs ms)
+marked_more [] x ms = refl
+marked_more (y ∷ xs) x ms = marked_more xs x (marked_by y.1.step.happening ms)
+
+pub noted_more : (xs : List (ℕ × Entry)) (i : ℕ) (d : ℕ × Entry) (first now new : List Marked) → i < length xs
+    → now ≡ marked_by_all (take i xs) first → new ≡ marked_by (get_or xs i d).1.step.happening now
+    → new ≡ marked_by_all (take (i + 1) xs) first
+noted_more xs i d first now new lt so noted =
+    noted ∙ ap (marked_by (get_or xs i d).1.step.happening) so ∙ sym (marked_more (take i xs) (get_or xs i d) first)
+    ∙ ap (λ l. marked_by_all l first) (sym (take_more xs i d lt))

@@ -1,4 +1,9 @@
+mod Chains
+mod Counts
 mod Delivering
 mod Finding
-mod FirstOpen
+mod Names
+mod Numbers
+mod Queued
+mod Sending
 mod Telling

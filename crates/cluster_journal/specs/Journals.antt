@@ -11,7 +11,7 @@ use Rattle.tree_model.specs.declared.names.ProcessId.{ProcessId}
 use Rattle.tree_cut.specs.Cuts.{net_of}
 use Rattle.cluster_journal.specs.Marks.{marked}
 
--- Every entry with its caller's number, the oldest first; how many of the last ones are not placed yet; and
+-- Every entry with its caller's number, the oldest first; how many of the last turns are not placed yet; and
 -- what became of each message of those that are.
 pub record ClusterState : Type 0 where
   pub entries : List (ℕ × Entry)
@@ -45,6 +45,10 @@ pub record IsDelivered (xs : List (ℕ × Entry)) (number : ℕ) : Type 0 where
 abbrev pub AreDelivered : List Marked → List (ℕ × Entry) → Type 0
 AreDelivered ms xs = (k : ℕ) (to : ProcessId) → slice_get ms k ≡ Some (record { to = to; mark = Delivered })
     → IsDelivered xs (suc k)
+
+-- what is marked as delivered in the new marks is so wherever it was so of the old ones
+abbrev pub KeepsDelivered : List Marked → List Marked → Type 0
+KeepsDelivered old new = (xs : List (ℕ × Entry)) → AreDelivered old xs → AreDelivered new xs
 
 -- it is so of each message that these entries send
 abbrev pub AllDelivered : List (ℕ × Entry) → Type 0

@@ -1,12 +1,16 @@
 -- What became of each message.
-use Rattle.std.specs.Prelude.{◌≡◌, ◌⊎◌, ◌+◌, ◌<◌, ◌≤◌, ℕ, zero, suc, All, Contains, count_by, Bool, true, false, ◌&&◌, if◌then◌else◌, Option, Some, None, List, [], ◌∷◌, length, map, take, slice_get, slice_set}
+use Rattle.std.specs.Prelude.{◌≡◌, ◌⊎◌, ◌+◌, ◌<◌, ◌≤◌, ◌==◌, ℕ, zero, suc, nat_lt, not, All, HoldsAt, count_by, Bool, true, false, ◌&&◌, if◌then◌else◌, Option, Some, None, List, [], ◌∷◌, length, map, get_or, slice_get, slice_set}
+use Rattle.std.specs.Global.{Vec}
+use Rattle.std.specs.Vec.{vec_capacity, vec_len}
 use Rattle.tree_model.specs.declared.names.ProcessId.{ProcessId}
 use Rattle.tree_model.specs.declared.messages.Envelope.{Envelope}
 use Rattle.tree_model.specs.Names.{same_process}
 use Rattle.cluster_journal.specs.declared.marks.Mark.{Mark}
 use Rattle.cluster_journal.specs.declared.marks.Mark.TheVariants.{Open, Claimed, Delivered}
 use Rattle.cluster_journal.specs.declared.marks.Marked.{Marked}
-use Rattle.cluster_journal.specs.declared.marks.Receiver.{Receiver}
+use Rattle.cluster_journal.specs.declared.queues.Link.{Link}
+use Rattle.cluster_journal.specs.declared.queues.Queues.{Queues}
+use Rattle.cluster_journal.specs.declared.queues.Receiver.{Receiver}
 
 -- a message that was just sent
 abbrev pub sent_to : Envelope → Marked
@@ -92,32 +96,98 @@ NoneToClaim ms = (q : ProcessId) → (first_open q 1 ms ≡ None) ⊎ (0 < claim
 abbrev pub AreAllDelivered : List Marked → Type 0
 AreAllDelivered ms = All (λ m. m.mark ≡ Delivered) ms
 
+-- whether a mark says that the message was delivered
+abbrev pub is_delivered : Mark → Bool
+is_delivered Delivered = true
+is_delivered _ = false
+
+-- whether a message was not delivered
+abbrev pub is_undelivered : Marked → Bool
+is_undelivered m = not (is_delivered m.mark)
+
 -- a count of 1, if so
 abbrev pub one_if : Bool → ℕ
 one_if true = 1
 one_if false = 0
 
--- Of these messages: none to this receiver is open before the place that it names, and N to it are open, and
--- claimed, as it says.
+-- Queues. A place is counted from 0.
+
+-- whether this is a message to this process
+abbrev pub is_to : ProcessId → Option Marked → Bool
+is_to q None = false
+is_to q (Some m) = same_process q m.to
+
+-- from the low place on, and before the high one, no message to this process stands
+abbrev pub NoneTo : ProcessId → List Marked → ℕ → ℕ → Type 0
+NoneTo q ms low high = (k : ℕ) → low ≤ k → k < high → is_to q (slice_get ms k) ≡ false
+
+-- likewise, none that is open
+abbrev pub NoneOpen : ProcessId → List Marked → ℕ → ℕ → Type 0
+NoneOpen q ms low high = (k : ℕ) → low ≤ k → k < high → is_open_by q (slice_get ms k) ≡ false
+
+-- after this place the next message to this process is there; or there is none
+abbrev pub IsNextTo : ProcessId → List Marked → ℕ → Option ℕ → Type 0
+IsNextTo q ms k None = NoneTo q ms (suc k) (length ms)
+IsNextTo q ms k (Some next) = (k < next) × (is_to q (slice_get ms next) ≡ true) × NoneTo q ms (suc k) next
+
+-- The link of the message at this place, which is sent to this process: its receiver is there, and so is the next
+-- message to it.
+pub record IsLinked (q : ProcessId) (ms : List Marked) (k : ℕ) (rs : List Receiver) (l : Link) : Type 0 where
+  pub within : l.receiver < length rs
+  pub named : HoldsAt (λ r. r.process ≡ q) rs l.receiver
+  pub next : IsNextTo q ms k l.next
+
+-- it is so of the link of each message
+abbrev pub AreLinked : List Marked → List Receiver → List Link → Type 0
+AreLinked ms rs ls = (k : ℕ) (d : Marked) (e : Link) → k < length ms
+    → IsLinked (get_or ms k d).to ms k rs (get_or ls k e)
+
+-- Of these messages: one to this receiver stands where it says that its queue begins, and none to it is open before
+-- that place; its last one stands where it says; and N to it are open, and claimed, as it says.
 pub record IsTold (ms : List Marked) (r : Receiver) : Type 0 where
-  pub within : r.settled ≤ length ms
-  pub none : first_open r.process 1 (take r.settled ms) ≡ None
+  pub begins : is_to r.process (slice_get ms r.first) ≡ true
+  pub none : NoneOpen r.process ms 0 r.first
+  pub ends : is_to r.process (slice_get ms r.last) ≡ true
+  pub last : NoneTo r.process ms (suc r.last) (length ms)
   pub waiting : r.waiting ≡ open_to r.process ms
   pub claimed : r.claimed ≡ claimed_to r.process ms
-
--- the processes of these receivers
-abbrev pub processes_of : List Receiver → List ProcessId
-processes_of rs = map (λ r. r.process) rs
-
--- these are the messages' receivers, and what they tell of them is so
-pub record AreTold (ms : List Marked) (rs : List Receiver) : Type 0 where
-  pub told : All (IsTold ms) rs
-  pub listed : All (λ m. Contains (processes_of rs) m.to) ms
 
 -- a worker may be sent to this receiver
 abbrev pub IsFree : Receiver → Type 0
 IsFree r = (r.claimed ≡ 0) × (0 < r.waiting)
 
+-- whether it may
+abbrev pub is_free : Receiver → Bool
+is_free r = (r.claimed == 0) && nat_lt 0 r.waiting
+
 -- no worker may
 abbrev pub IsNotFree : Receiver → Type 0
 IsNotFree r = (r.waiting ≡ 0) ⊎ (0 < r.claimed)
+
+-- the processes of these receivers
+abbrev pub processes_of : List Receiver → List ProcessId
+processes_of rs = map (λ r. r.process) rs
+
+-- no two of these receivers are one process
+abbrev pub AreApart : List Receiver → Type 0
+AreApart rs = (i j : ℕ) (d e : Receiver) → i < length rs → j < length rs
+    → (get_or rs i d).process ≡ (get_or rs j e).process → i ≡ j
+
+-- These are the queues of the messages: each message is linked to its receiver and to the next one to it; what the
+-- receivers tell is so, each is told of once, and the counts are right.
+pub record AreQueued (ms : List Marked) (q : Queues) : Type 0 where
+  pub long : length q.links.items ≡ length ms
+  pub linked : AreLinked ms q.receivers.items q.links.items
+  pub told : All (IsTold ms) q.receivers.items
+  pub apart : AreApart q.receivers.items
+  pub free : q.free ≡ count_by is_free q.receivers.items
+  pub undelivered : q.undelivered ≡ count_by is_undelivered ms
+
+-- there is room for N messages more, for their links and for as many receivers
+abbrev pub HasRoom : Vec Marked → Queues → ℕ → Type 0
+HasRoom ms q n = (vec_len ms + n ≤ vec_capacity ms) × (vec_len q.links + n ≤ vec_capacity q.links)
+    × (vec_len q.receivers + n ≤ vec_capacity q.receivers)
+
+-- one message more has taken room for one
+abbrev pub TakesRoom : Vec Marked → Queues → Vec Marked → Queues → Type 0
+TakesRoom ms q ns p = (n : ℕ) → HasRoom ms q (n + 1) → HasRoom ns p n

@@ -3,6 +3,7 @@
 ghost use Rattle.std.specs.Prelude.{◌≡◌, ◌+◌, ◌-◌, ◌++◌, [], IsTrue, OnOk, OnErr, IfSome, IfNone, None, Some, length};
 ghost use Rattle.std.specs.Option.{option_copied};
 ghost use Rattle.tree_model.specs.Plays.{sent_as};
+ghost use Rattle.journal_turns.specs.Turns.{all_of};
 ghost use Rattle.tree_cut.specs.Cuts.{net_of};
 ghost use Rattle.cluster_journal.specs.Journals.{AllDelivered, entries_of, marked_by_all};
 ghost use Rattle.cluster_journal.specs.Marks.{IsNextOpen, NoneToClaim, claimed_to, first_open, given_back, marked};
@@ -10,55 +11,70 @@ ghost use Rattle.cluster_journal.specs.Spots.{message_in};
 ghost use Rattle.cluster_journal.specs.declared.marks.Mark.TheVariants as kinds;
 
 use crate::marks::{Claim, Marks};
-use crate::spots::{Spot, add_spots, spot_at};
+use crate::spots::{Spot, find_rest, spot_at};
+use journal_turns::{Entries, Turn};
 use std::alloc::{AllocError, Global};
 use std::collections::LinkedList;
 use std::marker::Model;
 use std::sync::Wait;
 use tree_model::{Entry, Envelope, ProcessId};
 
-/// Every entry with its caller's number, and what became of each message.
+/// Every entry with its caller's number, and what became of each message. It is a list of turns, of which no entry moves.
 #[derive(Drop)]
 pub struct ClusterJournal {
-    /// The entries that are placed, the oldest first.
-    placed: Vec<(u64, Entry)>,
-    /// Those after them, each in the room that was made for it.
-    late: LinkedList<(u64, Entry)>,
-    /// Where each message of the placed entries stands.
+    /// The turns that are placed, the oldest first.
+    placed: Vec<Entries>,
+    /// Those after them, each in the node that was made for it.
+    late: LinkedList<Entries>,
+    /// How many entries all turns have.
+    count: usize,
+    /// Where each message of the placed turns stands, and of the first entries of the turn after them.
     spots: Vec<Spot>,
+    /// Of N entries of that turn the messages were found.
+    found: usize,
     /// What became of each of these messages.
     marks: Marks,
 }
 
 impl Model for ClusterJournal {
     ghost use Rattle.std.specs.Prelude.{◌≡◌, ◌++◌, length};
+    ghost use Rattle.journal_turns.specs.Turns.{all_of};
     ghost use Rattle.cluster_journal.specs.Journals.{AreDelivered, ClusterState};
-    ghost use Rattle.cluster_journal.specs.Spots.{spots_of};
+    ghost use Rattle.cluster_journal.specs.Spots.{AreFound};
 
     ghost Value = { ClusterState };
 
     ghost view = { λ j. record {
-      entries = j.placed.items ++ j.late;
+      entries = all_of j.placed.items ++ all_of j.late;
       late = length j.late;
       marks = j.marks;
     } };
 
-    ghost invariant = { λ j. (j.spots.items ≡ spots_of 0 j.placed.items)
+    ghost invariant = { λ j. AreFound j.placed.items j.late j.found j.spots.items
         × (length j.marks ≡ length j.spots.items)
-        × AreDelivered j.marks (j.placed.items ++ j.late) };
+        × AreDelivered j.marks (all_of j.placed.items ++ all_of j.late)
+        × (j.count ≡ length (all_of j.placed.items ++ all_of j.late)) };
 }
 
-/// Links entries after others. It takes no memory. No journal has as many entries as would fail here.
-pub fn link<R: Wait>(
-    rt: &R,
-    entries: &mut LinkedList<(u64, Entry)>,
-    made: &mut LinkedList<(u64, Entry)>,
-)
-    ensures { entries.new ≡ entries.old ++ made.old }
+/// How many entries there are with those of a turn. No journal has as many as would fail here.
+fn counted<R: Wait>(rt: &R, count: usize, made: usize) -> usize
+    ensures { result ≡ count + made }
 {
-    if entries.append(made).is_err() {
-        for _ in rt.forever() {}
-        unreachable!()
+    match count.checked_add(made) {
+        Some(count) => count,
+        None => {
+            for _ in rt.forever() {}
+            unreachable!()
+        }
+    }
+}
+
+/// The messages that these entries deliver are marked so.
+fn note(marks: &mut Marks, made: &[(u64, Entry)])
+    ensures { marks.new ≡ marked_by_all made.now marks.old }
+{
+    for (_, entry) in made {
+        marks.note(&entry.step.happening);
     }
 }
 
@@ -71,7 +87,9 @@ impl ClusterJournal {
         ClusterJournal {
             placed: Vec::new(alloc),
             late: LinkedList::new(alloc),
+            count: 0,
             spots: Vec::new(alloc),
+            found: 0,
             marks: Marks::new(alloc),
         }
     }
@@ -80,10 +98,10 @@ impl ClusterJournal {
     pub fn len(&self) -> usize
         ensures { result ≡ length self.now.entries }
     {
-        self.placed.len() + self.late.len()
+        self.count
     }
 
-    /// Places every entry, so that its messages are found. Memory: a growth was refused, and some are not
+    /// Places every turn, so that its messages are found. Memory: a growth was refused, and some are not
     /// placed. The entries stay in any case.
     pub fn place(&mut self) -> Result<(), AllocError>
         ensures entries { self.new.entries ≡ self.old.entries }
@@ -95,23 +113,26 @@ impl ClusterJournal {
         Ok(())
     }
 
-    /// Places the next entry, if there is one.
+    /// Places the next turn, if there is one. It goes from one list to the other, and its entries stay where they are.
     fn place_one(&mut self) -> Result<(), AllocError>
         ensures entries { self.new.entries ≡ self.old.entries }
         ensures ok { OnOk result (self.new.late ≡ self.old.late - 1) }
     {
-        let Some((_, entry)) = self.late.front() else {
+        let Some(entries) = self.late.front() else {
             return Ok(());
         };
-        let messages = entry.reaction.messages.as_slice();
-        let more = messages.len();
         self.placed.reserve(1)?;
-        self.spots.reserve(more)?;
-        self.marks.extend(messages)?;
         let place = self.placed.len();
-        if let Some(entry) = self.late.pop_front() {
-            add_spots(&mut self.spots, place, more);
-            self.placed.push_reserved(entry);
+        find_rest(
+            &mut self.spots,
+            &mut self.marks,
+            &mut self.found,
+            place,
+            entries,
+        )?;
+        if let Some(turn) = self.late.pop_front() {
+            self.placed.push_reserved(turn);
+            self.found = 0;
         }
         Ok(())
     }
@@ -176,31 +197,33 @@ impl ClusterJournal {
         self.marks.give_back(number);
     }
 
-    /// The entries of a turn more, each in the room that was made for it: it takes no memory. The messages that they
-    /// deliver are marked so.
-    pub fn enter<R: Wait>(&mut self, rt: &R, mut made: LinkedList<(u64, Entry)>)
+    /// The entries of a turn more, in the room that was made for it: it takes no memory, and moves none of them. The messages
+    /// that they deliver are marked so.
+    pub fn enter<R: Wait>(&mut self, rt: &R, made: Turn)
         ensures entries { self.new.entries ≡ self.old.entries ++ made }
         ensures marks { self.new.marks ≡ marked_by_all made self.old.marks }
     {
-        self.marks.note_all(&made);
-        link(rt, &mut self.late, &mut made);
+        let entries = made.entries();
+        self.count = counted(rt, self.count, entries.len());
+        note(&mut self.marks, entries);
+        made.link(rt, &mut self.late);
     }
 
-    /// The entries with their callers' numbers, where all of them are placed.
-    pub fn into_entries(self) -> Vec<(u64, Entry)>
+    /// The turns, as they were made, where all of them are placed. To a contract they are their entries, one after another,
+    /// with their callers' numbers.
+    pub fn into_turns(self) -> Vec<Entries>
         requires { self.late ≡ 0 }
-        ensures { result.items ≡ self.entries }
+        ensures { all_of result.items ≡ self.entries }
     {
         self.placed
     }
 }
 
 /// The message at this spot, if there is one.
-fn message_at(placed: &[(u64, Entry)], spot: Spot) -> Option<&Envelope>
+fn message_at(placed: &[Entries], spot: Spot) -> Option<&Envelope>
     ensures { option_copied result ≡ message_in placed.now spot }
 {
-    match placed.get(spot.entry) {
-        None => None,
-        Some((_, entry)) => entry.reaction.messages.as_slice().get(spot.message),
-    }
+    let turn = placed.get(spot.turn)?;
+    let (_, entry) = turn.get(spot.entry)?;
+    entry.reaction.messages.as_slice().get(spot.message)
 }

@@ -3,7 +3,8 @@
 ghost use Rattle.std.specs.Prelude.{◌≡◌};
 ghost use Rattle.tree_cluster.specs.Opening.{SeatsTree};
 
-use crate::opening::{close, tree};
+use crate::opening::{close, length, tree};
+use journal_turns::Journal;
 use std::alloc::Global;
 use std::marker::Brand;
 use std::sync::{Mutex, Wait};
@@ -41,22 +42,51 @@ fn begin_all<N: Seats, R: Wait>(
     }
 }
 
+/// The entry at this place, from 0, with its caller's number.
+fn entry_at(journal: &Journal, place: usize) -> Option<&(u64, Entry)> {
+    let mut rest = place;
+    for turn in journal.turns() {
+        if let Some(found) = turn.get(rest) {
+            return Some(found);
+        }
+        rest = rest.saturating_sub(turn.len());
+    }
+    None
+}
+
 /// Whether the entry at the answered place is the caller's, and began the transaction.
-fn is_there(journal: &[(u64, Entry)], answer: &Answer) -> bool {
+fn is_there(journal: &Journal, answer: &Answer) -> bool {
     let (caller, number, txn) = answer;
-    match journal.get(number.saturating_sub(1)) {
+    match entry_at(journal, number.saturating_sub(1)) {
         None => false,
         Some((by, entry)) => by == caller && entry.reaction.begun == Some(*txn),
     }
 }
 
-/// Whether the journal has one entry for each answer, each at the place that was answered.
-fn are_answered(journal: &[(u64, Entry)], answers: &[Answer]) -> bool {
-    let mut holds = journal.len() as u64 == 4 * TIMES && answers.len() == journal.len();
-    for answer in answers {
-        holds = holds && is_there(journal, answer);
+/// Notes that a place, from 1, was answered. Whether it is one of the journal's, and was not answered before.
+fn is_first(answered: &mut [bool], number: usize) -> bool {
+    match answered.get_mut(number.saturating_sub(1)) {
+        None => false,
+        Some(was) => {
+            let first = !*was;
+            *was = true;
+            first
+        }
     }
-    holds
+}
+
+/// Whether the journal has one entry for each answer, at the place that was answered, and no two answers share one.
+fn are_answered(alloc: Global, journal: &Journal, answers: &[Answer]) -> Option<bool> {
+    let entries = length(journal);
+    let mut answered = Vec::new(alloc);
+    for _ in 0..entries {
+        answered.push(false).ok()?;
+    }
+    let mut holds = entries as u64 == 4 * TIMES && answers.len() == entries;
+    for answer in answers {
+        holds = holds && is_there(journal, answer) && is_first(&mut answered, answer.1);
+    }
+    Some(holds)
 }
 
 /// Four callers begin transactions at the same time: each that was answered is in the journal, at its place.
@@ -81,7 +111,7 @@ fn begin_at_once<N: Seats + Send + Sync, R: Threads + Wait + Sync>(
     );
     let (journal, _) = close(cluster, passes.as_mut_slice())?;
     let answers = answers.into_inner();
-    Some(are_answered(&journal, &answers))
+    are_answered(alloc, &journal, &answers)
 }
 
 /// Whether each answered call stands in the journal.

@@ -4,6 +4,7 @@ ghost use Rattle.std.specs.Prelude.{◌≡◌, ◌<◌, ◌≤◌};
 ghost use Rattle.tree_cluster.specs.Opening.{SeatsTree};
 
 use crate::opening::{begin, close, deliver_by, tree};
+use journal_turns::Journal;
 use std::alloc::{AllocError, Global};
 use std::marker::Brand;
 use std::sync::Wait;
@@ -24,25 +25,34 @@ pub fn invite<N: Seats, R: Wait>(rt: &R, cluster: &Cluster<N>, pass: &mut Pass<N
     }
 }
 
-/// How many messages these entries sent.
-fn messages(journal: &[(u64, Entry)]) -> usize {
+/// How many messages a journal sent.
+fn messages(journal: &Journal) -> usize {
     let mut sent: usize = 0;
-    for (_, entry) in journal {
-        sent = sent.saturating_add(entry.reaction.messages.len());
+    for turn in journal.turns() {
+        for (_, entry) in turn {
+            sent = sent.saturating_add(entry.reaction.messages.len());
+        }
     }
     sent
 }
 
+/// Counts the message that this entry delivers, if it delivers one.
+fn count(counts: &mut [u64], entry: &Entry) {
+    if let Happening::Input(Input::Message(number, _)) = &entry.step.happening {
+        let place = number.saturating_sub(1) as usize;
+        if let Some(count) = counts.get_mut(place) {
+            *count = count.saturating_add(1);
+        }
+    }
+}
+
 /// How often each message was delivered, in order of sending.
-fn times_delivered(alloc: Global, journal: &[(u64, Entry)]) -> Result<Vec<u64>, AllocError> {
+fn times_delivered(alloc: Global, journal: &Journal) -> Result<Vec<u64>, AllocError> {
     let mut counts = Vec::new(alloc);
     counts.resize(messages(journal), 0u64)?;
-    for (_, entry) in journal {
-        if let Happening::Input(Input::Message(number, _)) = &entry.step.happening {
-            let place = number.saturating_sub(1) as usize;
-            if let Some(count) = counts.get_mut(place) {
-                *count = count.saturating_add(1);
-            }
+    for turn in journal.turns() {
+        for (_, entry) in turn {
+            count(counts.as_mut_slice(), entry);
         }
     }
     Ok(counts)

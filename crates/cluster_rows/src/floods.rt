@@ -3,7 +3,7 @@
 ghost use Rattle.std.specs.Prelude.{◌≡◌};
 ghost use Rattle.tree_cluster.specs.Opening.{SeatsTree};
 
-use crate::opening::{begin, close, deliver_by, tree};
+use crate::opening::{begin, close, deliver_by, length, tree};
 use std::alloc::Global;
 use std::marker::Brand;
 use std::sync::Wait;
@@ -59,7 +59,7 @@ fn fill<N: Seats + Send + Sync, R: Threads + Wait + Sync>(
     let flooded = invite_and_flood(rt, &cluster, passes.as_mut_slice());
     let (journal, _) = close(cluster, passes.as_mut_slice())?;
     let (last, why) = flooded?;
-    Some(last == MOST_ENTRIES && why == PostError::JournalFull && journal.len() == MOST_ENTRIES)
+    Some(last == MOST_ENTRIES && why == PostError::JournalFull && length(&journal) == MOST_ENTRIES)
 }
 
 /// Whether the entry after the last that a journal takes is refused, and the journal stands.

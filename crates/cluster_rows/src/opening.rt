@@ -3,10 +3,11 @@
 ghost use Rattle.std.specs.Prelude.{IfSome};
 ghost use Rattle.tree_model.specs.Trees.{IsTree};
 
+use journal_turns::Journal;
 use std::alloc::{AllocError, Global};
 use std::sync::Wait;
 use std::thread::Threads;
-use tree_cluster::{Cluster, Journal};
+use tree_cluster::Cluster;
 use tree_model::{Act, Case, Event, Kind, LogRecord, Presumption, ProcessId, Tree, TreeEntry};
 use tree_threads::{Gate, Open, Pass};
 use tree_ties::seats::Seats;
@@ -71,6 +72,15 @@ pub fn close<N: Seats>(cluster: Cluster<N>, passes: &mut [Pass<N>]) -> Option<Le
             None
         }
     }
+}
+
+/// How many entries a journal has.
+pub fn length(journal: &Journal) -> usize {
+    let mut length: usize = 0;
+    for turn in journal.turns() {
+        length = length.saturating_add(turn.len());
+    }
+    length
 }
 
 /// Lets go of a cluster. One function does it: what letting go of one means is proved once.

@@ -3,6 +3,7 @@
 ghost use Rattle.tree_model.specs.Trees.{IsTree};
 
 use crate::records::are_same_logs;
+use journal_turns::Journal;
 use log_store::MemoryStore;
 use std::alloc::{AllocError, Global};
 use tree_model::{Entry, Event, Happening, Input, LogRecord, StepError, Tree};
@@ -37,15 +38,17 @@ fn event_of(alloc: Global, world: &World<MemoryStore>, entry: &Entry) -> Result<
 fn leaves(
     alloc: Global,
     world: &mut World<MemoryStore>,
-    journal: &[(u64, Entry)],
+    journal: &Journal,
     logs: &[Vec<LogRecord>],
 ) -> Result<bool, AllocError> {
-    for (_, entry) in journal {
-        let event = event_of(alloc, world, entry)?;
-        match world.apply(event) {
-            Ok(()) => {}
-            Err(StepError::Memory) => return Err(AllocError),
-            Err(_) => return Ok(false),
+    for turn in journal.turns() {
+        for (_, entry) in turn {
+            let event = event_of(alloc, world, entry)?;
+            match world.apply(event) {
+                Ok(()) => {}
+                Err(StepError::Memory) => return Err(AllocError),
+                Err(_) => return Ok(false),
+            }
         }
     }
     let left = world.logs()?;
@@ -57,7 +60,7 @@ fn leaves(
 pub fn is_replayed(
     alloc: Global,
     tree: Tree,
-    journal: &[(u64, Entry)],
+    journal: &Journal,
     logs: &[Vec<LogRecord>],
 ) -> Result<bool, AllocError>
     requires { IsTree tree }

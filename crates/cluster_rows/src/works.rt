@@ -4,6 +4,7 @@ ghost use Rattle.std.specs.Prelude.{◌≡◌, ◌<◌, ◌≤◌};
 ghost use Rattle.tree_cluster.specs.Opening.{SeatsTree};
 
 use crate::opening::{begin, close, deliver_by, tree};
+use journal_turns::Journal;
 use std::alloc::Global;
 use std::marker::Brand;
 use std::sync::Wait;
@@ -105,12 +106,20 @@ fn make_all<N: Seats + Send + Sync, R: Threads + Wait + Sync>(
     Some(())
 }
 
+/// Whether this entry told the application that a transaction is committed.
+fn is_commit(entry: &Entry) -> bool {
+    match entry.reaction.told {
+        None => false,
+        Some(told) => told.conclusion == Conclusion::Committed,
+    }
+}
+
 /// How many transactions the application was told to be committed.
-fn committed(journal: &[(u64, Entry)]) -> u32 {
+fn committed(journal: &Journal) -> u32 {
     let mut count: u32 = 0;
-    for (_, entry) in journal {
-        if let Some(told) = entry.reaction.told {
-            if told.conclusion == Conclusion::Committed {
+    for turn in journal.turns() {
+        for (_, entry) in turn {
+            if is_commit(entry) {
                 count = count.saturating_add(1);
             }
         }

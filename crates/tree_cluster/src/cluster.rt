@@ -17,15 +17,13 @@ ghost use Rattle.tree_cluster.specs.Refusals.{IsAddressed, IsReceiver, IsRefused
 
 use crate::closing::{left_logs, let_go, meet_all};
 use crate::opening::{give_passes, open_all};
+use journal_turns::Journal;
 use std::alloc::{AllocError, Global};
 use std::sync::{Condvar, Mutex, Wait};
-use tree_model::{Act, Entry, Event, LogRecord, ProcessId, StepError, Tree, TreeEntry, Txn};
+use tree_model::{Act, Event, LogRecord, ProcessId, StepError, Tree, TreeEntry, Txn};
 use tree_node::OpenError;
 use tree_threads::{Delivered, Gate, Ledger, Pass, PostError, Posted, Seated, is_same};
 use tree_ties::seats::{Opened, Seats, Ties};
-
-/// Every entry with its caller's number, the oldest first.
-pub type Journal = Vec<(u64, Entry)>;
 
 /// A tree whose processes run at the same time, each under a lock of its own, and the journal under one of its
 /// own. Its callers have passes. Its table of seats and its tree are those that `N` names.
@@ -284,8 +282,8 @@ impl<N: Seats> Cluster<N> {
         self,
         passes: &mut [Pass<N>],
     ) -> Result<(Journal, Vec<Vec<LogRecord>>), (Cluster<N>, AllocError)>
-        ensures ok { IfOk result (λ r. IsClosed N.tree r.0.items (map (λ log. log.items) r.1.items)
-            × AreMet r.0.items passes.old × AreBelow N.callers r.0.items) }
+        ensures ok { IfOk result (λ r. IsClosed N.tree r.0 (map (λ log. log.items) r.1.items)
+            × AreMet r.0 passes.old × AreBelow N.callers r.0) }
     {
         let Cluster {
             alloc,
@@ -308,7 +306,7 @@ impl<N: Seats> Cluster<N> {
         ) {
             Ok(logs) => {
                 let_go(processes, ties);
-                Ok((ledger.into_entries(), logs))
+                Ok((ledger.into_journal(), logs))
             }
             Err(error) => Err((
                 Cluster {

@@ -10,6 +10,6 @@ mod opening;
 mod rounds;
 mod workers;
 
-pub use cluster::{Cluster, Journal};
+pub use cluster::Cluster;
 pub use opening::seats;
 pub use rounds::Rounds;

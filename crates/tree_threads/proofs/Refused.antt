@@ -14,7 +14,7 @@ use Rattle.tree_cut.specs.Cuts.{net_of}
 use Rattle.tree_cut.specs.Owns.{CutHolds}
 use Rattle.tree_ties.specs.Views.{entries_in, pairs_by}
 use Rattle.tree_threads.specs.declared.errors.PostError.{PostError}
-use Rattle.tree_threads.specs.declared.marking.Marked.{Marked}
+use Rattle.tree_threads.specs.declared.marked.Marked.{Marked}
 use Rattle.tree_threads.specs.Makes.{NotMadeIt}
 use Rattle.tree_threads.specs.Marks.{IsMarked, NotMarked}
 use Rattle.tree_threads.specs.Passes.{PassState}

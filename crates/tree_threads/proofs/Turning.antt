@@ -1,20 +1,18 @@
 -- What a process makes in a turn.
-use Rattle.std.proofs.Common.{◌≡◌, ◌∙◌, ap, refl, sym, subst, ℕ, true, Some, None, All, Option, List, [], ◌∷◌, ◌++◌, append-nil, append_assoc, map}
+use Rattle.std.proofs.Common.{◌≡◌, ◌∙◌, ap, refl, sym, subst, ℕ, true, Some, All, Option, List, [], ◌∷◌, ◌++◌, append-nil, append_assoc, length, suc, ◌+◌, ◌≤◌, arith}
 use Rattle.std.specs.Option.{option_to_list}
 use Rattle.std.proofs.lemmas.List.Elements.{All-append, All-cons, All-head, All-nil, All-tail}
 use Rattle.tree_model.specs.declared.names.ProcessId.{ProcessId}
 use Rattle.tree_model.specs.declared.messages.Envelope.{Envelope}
 use Rattle.tree_model.specs.declared.events.Entry.{Entry}
 use Rattle.tree_model.specs.declared.events.Step.{Step}
-use Rattle.tree_model.specs.declared.events.Happening.TheVariants.{Input as Handles}
-use Rattle.tree_model.specs.declared.events.Input.TheVariants.{Message as MessageInput}
 use Rattle.tree_model.specs.declared.events.Event.TheVariants.{Deliver}
 use Rattle.tree_model.specs.declared.trees.TreeEntry.{TreeEntry}
 use Rattle.tree_model.specs.Nodes.{is_listed}
 use Rattle.tree_model.specs.Trees.{root_of}
 use Rattle.core_model.specs.States.{CoreState, SameCore}
 use Rattle.manager_model.specs.Data.{ManagerData, Rests}
-use Rattle.tree_cut.specs.Alone.{IsMine, MakesAlone, RunsAlone, StepAlone}
+use Rattle.tree_cut.specs.Alone.{IsMine, MakesAlone, RunsAlone}
 use Rattle.tree_cut.specs.Cuts.{FindsMessage, IsGiven}
 use Rattle.tree_cut.specs.Owns.{OwnRun}
 use Rattle.tree_cut.specs.Turns.{AllGiven, GoesAlone, begins_alone, goes_alone, rests_alone}
@@ -27,13 +25,12 @@ use Rattle.tree_ties.specs.Seats.{IsProcess}
 use Rattle.tree_ties.specs.Views.{AreBy, AreOf, entries_in, places_from, worker}
 use Rattle.tree_ties.proofs.Lists.{in_more}
 use Rattle.tree_threads.specs.declared.making.Made.{Made}
-use Rattle.tree_threads.specs.declared.marking.Marked.{Marked}
-use Rattle.tree_threads.specs.Makes.{FitsNode, IsAt}
+use Rattle.tree_threads.specs.Makes.{IsAt}
 use Rattle.tree_threads.specs.Marks.{Delivers}
 use Rattle.tree_threads.specs.Passes.{NotesAll, NotesOne, PassState}
 use Rattle.tree_threads.specs.Posts.{DeliversTurn}
-use Rattle.tree_threads.specs.Turns.{AreNext, AreNumbered, AreOpen, GoesFurther, IsDeliveryAt, IsNext, MadeTurn, MakesStep, wanted_in}
-use Rattle.tree_threads.proofs.Asked.{finds_it, fits_it, mine_it}
+use Rattle.tree_threads.specs.Turns.{AreNext, AreNumbered, AreOpen, GoesFurther, IsDeliveryAt, IsNext, MadeTurn, MakesStep}
+use Rattle.tree_threads.proofs.Asked.{finds_it, mine_it}
 use Rattle.tree_threads.proofs.OwnSteps.{step_alone}
 
 -- Seats.
@@ -168,7 +165,7 @@ module _ (tree : List TreeEntry) (net : List Envelope) (q : ProcessId) (caller :
 
   pub whole : (w : Entry) (keep : ℕ) (s t u : CoreState) (d e f : ManagerData) (m : Made) (new : List (ℕ × Entry))
       → IsAt q w → IsMine (root_of tree) q w.step.happening → MakesStep caller w keep s t d e m
-      → GoesFurther tree net q caller m.entries new t u e f → WholeTurn new s u d f
+      → GoesFurther tree net q caller m.turn.entries new t u e f → WholeTurn new s u d f
   whole w keep s t u d e f m new is mine step further = record {
     entry = step.entry;
     more = further.more;
@@ -206,7 +203,7 @@ module _ (tree : List TreeEntry) (net : List Envelope) (q : ProcessId) (caller :
   pub turn_made : (own : List Entry) (w : Entry) (keep : ℕ) (s t u : CoreState) (d e f : ManagerData) (m : Made)
       (new : List (ℕ × Entry)) → is_listed tree q ≡ true → OwnRun tree q own s → IsAt q w
       → IsMine (root_of tree) q w.step.happening → FindsMessage net q w.step.happening
-      → MakesStep caller w keep s t d e m → GoesFurther tree net q caller m.entries new t u e f
+      → MakesStep caller w keep s t d e m → GoesFurther tree net q caller m.turn.entries new t u e f
       → MadeTurn tree net q caller own new u
   unfolding whole
   turn_made own w keep s t u d e f m new listed run is mine finds step further =
@@ -216,7 +213,7 @@ module _ (tree : List TreeEntry) (net : List Envelope) (q : ProcessId) (caller :
   -- and it made it by itself
   pub turn_runs : (own : List Entry) (w : Entry) (keep : ℕ) (s t u : CoreState) (d e f : ManagerData) (m : Made)
       (new : List (ℕ × Entry)) → IsAt q w → IsMine (root_of tree) q w.step.happening
-      → MakesStep caller w keep s t d e m → GoesFurther tree net q caller m.entries new t u e f
+      → MakesStep caller w keep s t d e m → GoesFurther tree net q caller m.turn.entries new t u e f
       → RunsAlone tree q own s d → RunsAlone tree q (own ++ entries_in new) u f
   turn_runs own w keep s t u d e f m new is mine step further ran =
       let turn = whole w keep s t u d e f m new is mine step further in
@@ -227,7 +224,7 @@ module _ (tree : List TreeEntry) (net : List Envelope) (q : ProcessId) (caller :
   pub turn_delivers : (own : List Entry) (number : ℕ) (w : Entry) (keep : ℕ) (s t u : CoreState) (d e f : ManagerData)
       (m : Made) (new : List (ℕ × Entry)) (old_pass new_pass : PassState) (place : ℕ) → IsAt q w
       → IsMine (root_of tree) q w.step.happening → Delivers net q number w.step.happening
-      → MakesStep caller w keep s t d e m → GoesFurther tree net q caller m.entries new t u e f
+      → MakesStep caller w keep s t d e m → GoesFurther tree net q caller m.turn.entries new t u e f
       → RunsAlone tree q own s d → NotesAll old_pass new_pass place new
       → DeliversTurn tree q number old_pass new_pass place
   unfolding whole
@@ -254,19 +251,29 @@ module _ (tree : List TreeEntry) (net : List Envelope) (q : ProcessId) (caller :
 
 -- The first of what is marked.
 
-pub popped : (old new : List Marked) (o : Option Marked) (m : Marked) → old ≡ option_to_list o ++ new → o ≡ Some m
-    → old ≡ m ∷ new
-popped old new o m is some = is ∙ ap (λ x. option_to_list x ++ new) some
+pub popped : (old new : List Entry) (o : Option Entry) (x : Entry) → old ≡ option_to_list o ++ new → o ≡ Some x
+    → old ≡ x ∷ new
+popped old new o x is some = is ∙ ap (λ y. option_to_list y ++ new) some
 
-pub first_of : (net : List Envelope) (q : ProcessId) (old new : List Marked) (m : Marked)
-    → All (IsDeliveryAt net q) (wanted_in old) → old ≡ m ∷ new → IsDeliveryAt net q m.wanted
-first_of net q old new m all is =
-    All-head (IsDeliveryAt net q) m.wanted (wanted_in new) (subst (λ l. All (IsDeliveryAt net q) (wanted_in l)) is all)
+pub first_of : (net : List Envelope) (q : ProcessId) (old new : List Entry) (x : Entry)
+    → All (IsDeliveryAt net q) old → old ≡ x ∷ new → IsDeliveryAt net q x
+first_of net q old new x all is =
+    All-head (IsDeliveryAt net q) x new (subst (λ l. All (IsDeliveryAt net q) l) is all)
 
-pub rest_of : (net : List Envelope) (q : ProcessId) (old new : List Marked) (m : Marked)
-    → All (IsDeliveryAt net q) (wanted_in old) → old ≡ m ∷ new → All (IsDeliveryAt net q) (wanted_in new)
-rest_of net q old new m all is =
-    All-tail (IsDeliveryAt net q) m.wanted (wanted_in new) (subst (λ l. All (IsDeliveryAt net q) (wanted_in l)) is all)
+pub rest_of : (net : List Envelope) (q : ProcessId) (old new : List Entry) (x : Entry)
+    → All (IsDeliveryAt net q) old → old ≡ x ∷ new → All (IsDeliveryAt net q) new
+rest_of net q old new x all is =
+    All-tail (IsDeliveryAt net q) x new (subst (λ l. All (IsDeliveryAt net q) l) is all)
+
+-- one is less to be made than were, and there is room for one less
+pub room_of : (old new : List Entry) (x : Entry) (was now : ℕ) → old ≡ x ∷ new → length old ≤ was → now + 1 ≡ was
+    → length new ≤ now
+room_of old new x was now is fits pushed =
+    let long : length old ≡ length new + 1 = ap length is ∙ one (length new) in
+    omega (arith, long, fits, pushed)
+  where
+    one : (n : ℕ) → suc n ≡ n + 1
+    one n = omega arith
 
 -- What a pass notes of one entry.
 pub notes_one : (old new : PassState) (place c : ℕ) (x : Entry) (zs : List (ℕ × Entry)) → NotesAll old new place zs
@@ -292,9 +299,9 @@ last_of k [] = k
 last_of k (n ∷ ns) = last_of n ns
 
 -- those that are marked so far, of which this number is the last
-pub record NextSoFar (net : List Envelope) (q : ProcessId) (marks : List MarkOf) (after : ℕ) (ms : List Marked)
+pub record NextSoFar (net : List Envelope) (q : ProcessId) (marks : List MarkOf) (after : ℕ) (xs : List Entry)
     (last : ℕ) : Type 0 where
-  pub next : AreNext net q marks after (wanted_in ms)
+  pub next : AreNext net q marks after xs
   pub last_is : last_of after next.numbers ≡ last
 
 pub none_yet : (net : List Envelope) (q : ProcessId) (marks : List MarkOf) (after : ℕ)
@@ -320,22 +327,17 @@ numbered_more net q [] (y ∷ xs) n x are is = absurd are
 numbered_more net q (m ∷ ns) [] n x are is = absurd are
 numbered_more net q (m ∷ ns) (y ∷ xs) n x are is = (are.0, numbered_more net q ns xs n x are.1 is)
 
-wanted_more : (ms : List Marked) (m : Marked) → wanted_in (ms ++ m ∷ []) ≡ wanted_in ms ++ m.wanted ∷ []
-wanted_more [] m = refl
-wanted_more (k ∷ ms) m = ap (λ l. k.wanted ∷ l) (wanted_more ms m)
-
-pub one_next : (net : List Envelope) (q : ProcessId) (marks : List MarkOf) (after last n : ℕ) (ms new : List Marked)
-    (m : Marked) → NextSoFar net q marks after ms last → IsNextOpen q last n marks → IsNext net q n m.wanted
-    → new ≡ ms ++ m ∷ [] → NextSoFar net q marks after new n
-one_next net q marks after last n ms new m far is_next is are =
+pub one_next : (net : List Envelope) (q : ProcessId) (marks : List MarkOf) (after last n : ℕ) (xs new : List Entry)
+    (x : Entry) → NextSoFar net q marks after xs last → IsNextOpen q last n marks → IsNext net q n x
+    → new ≡ xs ++ x ∷ [] → NextSoFar net q marks after new n
+one_next net q marks after last n xs new x far is_next is are =
     let ns = far.next.numbers in
     subst (λ l. NextSoFar net q marks after l n) (sym are) (record {
       next = record {
         numbers = ns ++ n ∷ [];
         in_order = open_more q marks after ns n far.next.in_order
             (subst (λ k. IsNextOpen q k n marks) (sym far.last_is) is_next);
-        deliver = subst (λ l. AreNumbered net q (ns ++ n ∷ []) l) (sym (wanted_more ms m))
-            (numbered_more net q ns (wanted_in ms) n m.wanted far.next.deliver is);
+        deliver = numbered_more net q ns xs n x far.next.deliver is;
       };
       last_is = last_more after ns n;
     })

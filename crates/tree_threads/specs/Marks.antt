@@ -13,7 +13,7 @@ use Rattle.core_law.specs.Steps.{restart_of}
 use Rattle.core_law.specs.worlds.Worlds.{KeepsBytes}
 use Rattle.tree_threads.specs.declared.errors.PostError.{PostError}
 use Rattle.tree_threads.specs.declared.errors.PostError.TheVariants.{Stranger, JournalFull, Step, Memory}
-use Rattle.tree_threads.specs.declared.marking.Marked.{Marked}
+use Rattle.tree_threads.specs.declared.marked.Marked.{Marked}
 use Rattle.tree_threads.specs.Makes.{FitsNode, IsAt}
 
 -- the message with this number was sent to this process, and is delivered

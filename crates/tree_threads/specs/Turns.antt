@@ -1,5 +1,5 @@
 -- Turns: what a process is marked to do, and what it makes of that.
-use Rattle.std.specs.Prelude.{◌≡◌, ⊤, ℕ, All, List, [], ◌∷◌, ◌++◌, map}
+use Rattle.std.specs.Prelude.{◌≡◌, ⊤, ℕ, All, List, [], ◌∷◌, ◌++◌}
 use Rattle.tree_model.specs.declared.names.ProcessId.{ProcessId}
 use Rattle.tree_model.specs.declared.messages.Envelope.{Envelope}
 use Rattle.tree_model.specs.declared.events.Entry.{Entry}
@@ -13,13 +13,8 @@ use Rattle.cluster_journal.specs.declared.marks.Marked.{Marked as MarkOf}
 use Rattle.cluster_journal.specs.Marks.{IsNextOpen}
 use Rattle.tree_ties.specs.Views.{AreBy, entries_in}
 use Rattle.tree_threads.specs.declared.making.Made.{Made}
-use Rattle.tree_threads.specs.declared.marking.Marked.{Marked}
 use Rattle.tree_threads.specs.Makes.{IsAt}
 use Rattle.tree_threads.specs.Marks.{Delivers}
-
--- the steps that are marked, as entries that show nothing yet
-abbrev pub wanted_in : List Marked → List Entry
-wanted_in ms = map (λ m. m.wanted) ms
 
 -- the entry is of the delivery of the message with this number, which was sent to the process
 pub record IsNext (net : List Envelope) (q : ProcessId) (number : ℕ) (x : Entry) : Type 0 where
@@ -54,7 +49,7 @@ pub record AreNext (net : List Envelope) (q : ProcessId) (marks : List MarkOf) (
 pub record MakesStep (caller : ℕ) (wanted : Entry) (keep : ℕ) (s t : CoreState) (d e : ManagerData)
     (made : Made) : Type 0 where
   pub entry : Entry
-  pub entries_are : made.entries ≡ (caller, entry) ∷ []
+  pub entries_are : made.turn.entries ≡ (caller, entry) ∷ []
   pub step : entry.step ≡ wanted.step
   pub begun_is : made.begun ≡ entry.reaction.begun
   pub makes : MakesAlone s t d e keep entry.step.happening entry.reaction

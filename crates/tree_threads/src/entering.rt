@@ -14,6 +14,7 @@ ghost use Rattle.tree_threads.specs.Turns.{MadeTurn};
 use crate::ledger::Ledger;
 use crate::making::Made;
 use crate::pass::Pass;
+use journal_turns::Turn;
 use log_store::MemoryStore;
 use std::sync::Wait;
 use tree_model::ProcessId;
@@ -79,17 +80,18 @@ pub fn enter<N: Seats, R: Wait>(
     requires here { (ties.now.shared.table_id ≡ N.table) × (seat.old.table_id ≡ N.table) × (0 < N.table.words) }
     requires seat { IsProcess seat.old.me × (seat.old.me.0.process.name ≡ Some me) }
     requires listed { is_listed N.tree me ≡ true }
-    requires made { MadeTurn N.tree seat.old.me.0.process.net me pass.old.caller seat.old.me.0.process.own made.entries
+    requires made { MadeTurn N.tree seat.old.me.0.process.net me pass.old.caller seat.old.me.0.process.own made.turn.entries
         (core_of node.now) }
-    ensures entered { ledger.new.entries ≡ ledger.old.entries ++ made.entries }
+    ensures entered { ledger.new.entries ≡ ledger.old.entries ++ made.turn.entries }
     ensures seat { (seat.new.table_id ≡ seat.old.table_id)
-        × (seat.new.me ≡ (worker (entered_by seat.old.me.0.process made.entries), [])) }
-    ensures own { OwnRun N.tree me (seat.old.me.0.process.own ++ entries_in made.entries) (core_of node.now) }
-    ensures pass { NotesAll pass.old pass.new result made.entries }
+        × (seat.new.me ≡ (worker (entered_by seat.old.me.0.process made.turn.entries), [])) }
+    ensures own { OwnRun N.tree me (seat.old.me.0.process.own ++ entries_in made.turn.entries) (core_of node.now) }
+    ensures pass { NotesAll pass.old pass.new result made.turn.entries }
     ensures place { result ≡ length ledger.old.entries }
 {
     let place = ledger.journal.len();
-    let Made { entries, begun: _ } = made;
+    let Made { turn, begun: _ } = made;
+    let turn = Turn::new(turn);
     enter_seats::<N>(
         ties,
         me,
@@ -98,8 +100,8 @@ pub fn enter<N: Seats, R: Wait>(
         &mut ledger.seat,
         &mut pass.seat,
         pass.caller,
-        &entries,
+        &turn,
     );
-    ledger.journal.enter(rt, entries);
+    ledger.journal.enter(rt, turn);
     place
 }

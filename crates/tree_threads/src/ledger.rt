@@ -13,9 +13,10 @@ ghost use Rattle.tree_threads.specs.Locked.{IsClaimed};
 
 use crate::pass::Pass;
 use cluster_journal::ClusterJournal;
+use journal_turns::Journal;
 use std::alloc::{AllocError, Global};
 use std::marker::{Model, PhantomData};
-use tree_model::{Entry, Envelope, ProcessId};
+use tree_model::{Envelope, ProcessId};
 use tree_ties::seats::{Place, Seats, Ties};
 use tree_ties::ties::{look, meet};
 
@@ -256,11 +257,11 @@ impl<N: Seats> Ledger<N> {
         look(ties, &mut self.seat);
     }
 
-    /// The entries, as plain data, where all of them are placed.
-    pub fn into_entries(self) -> Vec<(u64, Entry)>
+    /// The journal, as plain data, where all turns are placed.
+    pub fn into_journal(self) -> Journal
         requires { self.late ≡ 0 }
-        ensures same { result.items ≡ self.entries }
-        ensures run { CutHolds N.tree (entries_in result.items) }
+        ensures same { result ≡ self.entries }
+        ensures run { CutHolds N.tree (entries_in result) }
     {
         let Ledger {
             journal,
@@ -268,6 +269,6 @@ impl<N: Seats> Ledger<N> {
             turns: _,
             name: _,
         } = self;
-        journal.into_entries()
+        Journal::new(journal.into_turns())
     }
 }

@@ -1,6 +1,6 @@
 //! The steps of a turn: what a process makes under its own lock alone.
 
-ghost use Rattle.std.specs.Prelude.{◌≡◌, All, IfErr, IfOk};
+ghost use Rattle.std.specs.Prelude.{◌≡◌, ◌+◌, ◌≤◌, All, IfErr, IfOk, length};
 ghost use Rattle.tree_model.specs.declared.events.Happening.TheVariants as kinds;
 ghost use Rattle.core_model.specs.Inputs.{input_of};
 ghost use Rattle.core_law.specs.Steps.{records_kept, trim_reaction};
@@ -8,12 +8,12 @@ ghost use Rattle.core_law.specs.worlds.Worlds.{HandlesInput};
 ghost use Rattle.tree_cut.specs.Alone.{MakesAlone, RestartsAlone, TrimsAlone};
 ghost use Rattle.tree_node.specs.Nodes.{core_of, data_of};
 ghost use Rattle.tree_threads.specs.Makes.{FitsNode, NotMadeIt};
-ghost use Rattle.tree_threads.specs.Turns.{GoesFurther, IsDeliveryAt, MakesStep, wanted_in};
+ghost use Rattle.tree_threads.specs.Turns.{GoesFurther, IsDeliveryAt, MakesStep};
 
-use crate::marking::Marked;
+use crate::marked::Marked;
 use crate::seated::Gate;
-use cluster_journal::link;
 use core_model::InputRef;
+use journal_turns::Room;
 use log_store::MemoryStore;
 use std::alloc::Global;
 use std::collections::LinkedList;
@@ -22,11 +22,11 @@ use tree_model::{Entry, Happening, Input, ProcessId, Reaction, Sequence, StepErr
 use tree_node::Node;
 use tree_ties::seats::{Place, Seats};
 
-/// What a process has made in a turn: the entries, each with its caller's number, in the room that was made for it; and
+/// What a process has made in a turn: the entries, each with its caller's number, in the room that was made for them; and
 /// the transaction that the first of them began, if it began one.
 #[derive(Drop)]
 pub struct Made {
-    pub(crate) entries: LinkedList<(u64, Entry)>,
+    pub(crate) turn: Room,
     pub(crate) begun: Option<Txn>,
 }
 
@@ -126,8 +126,8 @@ fn make_it(
 }
 
 /// Makes the marked step under the process's lock alone, whatever the others do meanwhile, as the process's data answer
-/// it: a turn of one entry, under the caller's number. A refusal, which is never Device, leaves the process and its data as
-/// they were.
+/// it: a turn of one entry, under the caller's number, in the room that was taken at the mark. A refusal, which is never
+/// Device, leaves the process and its data as they were.
 pub fn make_step(
     alloc: Global,
     node: &mut Node<MemoryStore>,
@@ -137,6 +137,7 @@ pub fn make_step(
     requires { FitsNode (core_of node.old) marked.keep marked.wanted.step.happening }
     ensures ok { IfOk result (MakesStep caller marked.wanted marked.keep (core_of node.old) (core_of node.new)
         (data_of node.old) (data_of node.new)) }
+    ensures more { IfOk result (λ made. made.turn.more + 1 ≡ marked.room.more) }
     ensures err { IfErr result (NotMadeIt (core_of node.old) (core_of node.new) (data_of node.old)
         (data_of node.new) marked.wanted.step.happening) }
 {
@@ -147,14 +148,13 @@ pub fn make_step(
         step: wanted.step,
         reaction,
     };
-    Ok(Made {
-        entries: room.fill(caller, entry),
-        begun,
-    })
+    let mut turn = room;
+    turn.push(caller, entry);
+    Ok(Made { turn, begun })
 }
 
-/// Makes the next of these deliveries, and adds its entry to the turn. Whether it was made: not if there is none, or if it
-/// is refused, which leaves the process as it was. The seat is the process's.
+/// Makes the next of these deliveries, and adds its entry to the turn, which has room for all of them. Whether it was made:
+/// not if there is none, or if it is refused, which leaves the process as it was. The seat is the process's.
 fn make_next<N: Seats, R: Wait, G: Gate>(
     rt: &R,
     alloc: Global,
@@ -163,32 +163,34 @@ fn make_next<N: Seats, R: Wait, G: Gate>(
     seat: &Place,
     caller: u64,
     gate: &G,
-    more: &mut LinkedList<Marked>,
+    more: &mut LinkedList<Entry>,
     made: &mut Made,
 ) -> bool
-    requires { All (IsDeliveryAt seat.now.me.0.process.net me) (wanted_in more.old) }
-    ensures rest { All (IsDeliveryAt seat.now.me.0.process.net me) (wanted_in more.new) }
-    ensures further { GoesFurther N.tree seat.now.me.0.process.net me caller made.old.entries made.new.entries
+    requires deliveries { All (IsDeliveryAt seat.now.me.0.process.net me) more.old }
+    requires room { length more.old ≤ made.old.turn.more }
+    ensures rest { All (IsDeliveryAt seat.now.me.0.process.net me) more.new }
+    ensures room { length more.new ≤ made.new.turn.more }
+    ensures further { GoesFurther N.tree seat.now.me.0.process.net me caller made.old.turn.entries made.new.turn.entries
         (core_of node.old) (core_of node.new) (data_of node.old) (data_of node.new) }
 {
     let _ = seat;
-    let Some(Marked { wanted, keep, room }) = more.pop_front() else {
+    let Some(wanted) = more.pop_front() else {
         return false;
     };
-    let Ok(reaction) = make_it(alloc, node, &wanted.step.happening, keep) else {
+    let Ok(reaction) = make_it(alloc, node, &wanted.step.happening, 0) else {
         return false;
     };
     let entry = Entry {
         step: wanted.step,
         reaction,
     };
-    link(rt, &mut made.entries, &mut room.fill(caller, entry));
+    made.turn.push(caller, entry);
     gate.before(rt, me);
     true
 }
 
-/// Makes these deliveries one after another, until one is refused, and adds their entries to the turn. The seat is the
-/// process's.
+/// Makes these deliveries one after another, until one is refused, and adds their entries to the turn, which has room for
+/// them. The seat is the process's.
 pub(crate) fn make_more<N: Seats, R: Wait, G: Gate>(
     rt: &R,
     alloc: Global,
@@ -197,11 +199,12 @@ pub(crate) fn make_more<N: Seats, R: Wait, G: Gate>(
     seat: &Place,
     caller: u64,
     gate: &G,
-    mut more: LinkedList<Marked>,
+    mut more: LinkedList<Entry>,
     made: &mut Made,
 )
-    requires { All (IsDeliveryAt seat.now.me.0.process.net me) (wanted_in more) }
-    ensures { GoesFurther N.tree seat.now.me.0.process.net me caller made.old.entries made.new.entries
+    requires deliveries { All (IsDeliveryAt seat.now.me.0.process.net me) more }
+    requires room { length more ≤ made.old.turn.more }
+    ensures { GoesFurther N.tree seat.now.me.0.process.net me caller made.old.turn.entries made.new.turn.entries
         (core_of node.old) (core_of node.new) (data_of node.old) (data_of node.new) }
 {
     for _ in 0..more.len() {

@@ -12,15 +12,16 @@ ghost use Rattle.tree_ties.specs.Seats.{IsProcess};
 ghost use Rattle.tree_ties.specs.Views.{entries_in, noted, worker};
 ghost use Rattle.tree_threads.specs.Makes.{IsAt};
 ghost use Rattle.tree_threads.specs.Marks.{ActsHere, Happens, IsMarked, IsNotFor, NotMarked};
-ghost use Rattle.tree_threads.specs.Turns.{AreNext, IsNext, wanted_in};
+ghost use Rattle.tree_threads.specs.Turns.{AreNext, IsNext};
 
 use crate::errors::PostError;
 use crate::ledger::Ledger;
-use cluster_journal::{Room, nothing};
+use crate::marked::Marked;
+use journal_turns::Room;
 use log_store::MemoryStore;
 use std::alloc::{AllocError, Global};
 use std::collections::LinkedList;
-use tree_model::{Entry, Envelope, Event, Happening, Input, ProcessId, Step};
+use tree_model::{Entry, Envelope, Event, Happening, Input, ProcessId, Reaction, Sequence, Step};
 use tree_node::Node;
 use tree_ties::seats::{Place, Seats, Ties};
 use tree_ties::ties::note_net;
@@ -30,15 +31,6 @@ pub const MOST_ENTRIES: usize = 1_000_000;
 
 /// The most steps that a process makes in a turn.
 pub const MOST_STEPS: usize = 32;
-
-/// What a process wants to do, as an entry that shows nothing yet; how many bytes after its forced front it
-/// keeps, where that is a restart; and room for the entry that comes of it.
-#[derive(Drop)]
-pub struct Marked {
-    pub(crate) wanted: Entry,
-    pub(crate) keep: usize,
-    pub(crate) room: Room,
-}
 
 /// Whether these are one process.
 pub fn is_same(a: ProcessId, b: ProcessId) -> bool
@@ -134,6 +126,31 @@ fn asked<N: Seats>(
     }
 }
 
+/// A reaction with nothing in it. It takes no memory.
+fn nothing(alloc: Global) -> Reaction {
+    Reaction {
+        begun: None,
+        written: Sequence::new(alloc),
+        told: None,
+        messages: Sequence::new(alloc),
+        kept: None,
+    }
+}
+
+/// What a process wants to do, as an entry that shows nothing yet. It takes no memory.
+fn wanted(alloc: Global, me: ProcessId, happening: Happening) -> Entry
+    ensures { IsAt me result × (result.step.happening ≡ happening) }
+{
+    Entry {
+        step: Step {
+            process: me,
+            happening,
+            fault: None,
+        },
+        reaction: nothing(alloc),
+    }
+}
+
 /// What a process wants to do, with room for the entry of it. Memory: a growth was refused.
 fn wanted_at(
     alloc: Global,
@@ -143,16 +160,12 @@ fn wanted_at(
 ) -> Result<Marked, AllocError>
     ensures { IfOk result (λ m. IsAt me m.wanted × (m.wanted.step.happening ≡ happening) × (m.keep ≡ keep)) }
 {
-    let room = Room::new(alloc)?;
-    let wanted = Entry {
-        step: Step {
-            process: me,
-            happening,
-            fault: None,
-        },
-        reaction: nothing(alloc),
-    };
-    Ok(Marked { wanted, keep, room })
+    let room = Room::new(alloc, 1)?;
+    Ok(Marked {
+        wanted: wanted(alloc, me, happening),
+        keep,
+        room,
+    })
 }
 
 /// Marks the step that an event asks of a process, under its lock and the journal's, and takes room for the
@@ -198,39 +211,33 @@ fn mark_next<N: Seats>(
     me: ProcessId,
     ledger: &Ledger<N>,
     number: u64,
-) -> Option<Marked>
+) -> Option<Entry>
     requires { ledger.now.late ≡ 0 }
-    ensures { IfSome result (λ m. IsNext (net_of (entries_in ledger.now.entries)) me number m.wanted) }
+    ensures { IfSome result (IsNext (net_of (entries_in ledger.now.entries)) me number) }
 {
     let envelope = message_for(ledger, me, number)?;
     let message = envelope.message.copied(alloc).ok()?;
-    wanted_at(
-        alloc,
-        me,
-        Happening::Input(Input::Message(number, message)),
-        0,
-    )
-    .ok()
+    Some(wanted(alloc, me, Happening::Input(Input::Message(number, message))))
 }
 
 /// Adds a step to these. Whether there was memory for it.
-fn is_added(more: &mut LinkedList<Marked>, marked: Marked) -> bool
-    ensures { more.new ≡ (if result then more.old ++ marked ∷ [] else more.old) }
+fn is_added(more: &mut LinkedList<Entry>, wanted: Entry) -> bool
+    ensures { more.new ≡ (if result then more.old ++ wanted ∷ [] else more.old) }
 {
-    more.push_back(marked).is_ok()
+    more.push_back(wanted).is_ok()
 }
 
 /// The deliveries of the open messages to a process after the one with this number, in order of sending, as steps that it
-/// wants, with room for their entries: at most N, and fewer if memory is refused.
+/// wants: at most N, and fewer if memory is refused.
 pub(crate) fn mark_more<N: Seats>(
     alloc: Global,
     me: ProcessId,
     ledger: &Ledger<N>,
     number: u64,
     most: usize,
-) -> LinkedList<Marked>
+) -> LinkedList<Entry>
     requires { ledger.now.late ≡ 0 }
-    ensures next { AreNext (net_of (entries_in ledger.now.entries)) me ledger.now.marks number (wanted_in result) }
+    ensures next { AreNext (net_of (entries_in ledger.now.entries)) me ledger.now.marks number result }
     ensures few { length result ≤ most }
 {
     let mut more = LinkedList::new(alloc);
@@ -239,10 +246,10 @@ pub(crate) fn mark_more<N: Seats>(
         let Some(next) = ledger.open_after(me, last) else {
             break;
         };
-        let Some(marked) = mark_next(alloc, me, ledger, next) else {
+        let Some(wanted) = mark_next(alloc, me, ledger, next) else {
             break;
         };
-        if !is_added(&mut more, marked) {
+        if !is_added(&mut more, wanted) {
             break;
         }
         last = next;
@@ -252,7 +259,7 @@ pub(crate) fn mark_more<N: Seats>(
 
 /// How many more steps a turn may have whose first is marked: none where a gate holds steps, and no more than the journal
 /// takes.
-pub(crate) fn most_more<N: Seats>(ledger: &Ledger<N>, me: ProcessId, holds: bool) -> usize
+fn most_more<N: Seats>(ledger: &Ledger<N>, me: ProcessId, holds: bool) -> usize
     requires { length ledger.now.entries < 1000000 }
     ensures room { length ledger.now.entries + 1 + result ≤ 1000000 }
     ensures few { result + 1 ≤ 32 }
@@ -262,4 +269,26 @@ pub(crate) fn most_more<N: Seats>(ledger: &Ledger<N>, me: ProcessId, holds: bool
     }
     let room = MOST_ENTRIES - ledger.journal.len() - 1;
     ledger.waiting_for(me).min(MOST_STEPS - 1).min(room)
+}
+
+/// Takes room for the whole turn, whose first step is marked: for how many more steps there is room. Where it is refused, the
+/// turn has the one step.
+pub(crate) fn room_for_more<N: Seats>(
+    ledger: &Ledger<N>,
+    me: ProcessId,
+    holds: bool,
+    marked: &mut Marked,
+) -> usize
+    requires { length ledger.now.entries < 1000000 }
+    ensures same { (marked.new.wanted ≡ marked.old.wanted) × (marked.new.keep ≡ marked.old.keep) }
+    ensures taken { result + 1 ≤ marked.new.room.more }
+    ensures room { length ledger.now.entries + 1 + result ≤ 1000000 }
+    ensures few { result + 1 ≤ 32 }
+{
+    let most = most_more(ledger, me, holds);
+    if most > 0 && marked.room.widen(most + 1) {
+        most
+    } else {
+        0
+    }
 }

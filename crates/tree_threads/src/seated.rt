@@ -17,7 +17,7 @@ use crate::entering::enter;
 use crate::errors::PostError;
 use crate::ledger::{Claim, Ledger};
 use crate::making::{make_more, make_step};
-use crate::marking::{mark, mark_more, most_more};
+use crate::marking::{mark, mark_more, room_for_more};
 use crate::pass::Pass;
 use log_store::MemoryStore;
 use std::alloc::{AllocError, Global};
@@ -219,7 +219,7 @@ impl<N: Seats> Seated<N> {
         let mut journal = ledger.lock(rt);
         journal.is_a_run();
         journal.meets(ties, pass);
-        let marked = mark(
+        let mut marked = mark(
             alloc,
             ties,
             me,
@@ -228,7 +228,7 @@ impl<N: Seats> Seated<N> {
             &mut *journal,
             Event::Deliver(number),
         )?;
-        let most = most_more(&*journal, me, gate.holds());
+        let most = room_for_more(&*journal, me, gate.holds(), &mut marked);
         let more = mark_more(alloc, me, &*journal, number, most);
         drop(journal);
         let caller = pass.caller();

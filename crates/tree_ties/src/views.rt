@@ -1,9 +1,10 @@
 //! What seats know, of which no value is made; and what the table is told.
+use journal_turns::Turn;
 use std::collections::LinkedList;
 use tree_model::{Entry, Envelope, ProcessId};
 
 /// What the table is told at a step: the entries of a turn, each with its caller's number.
-pub type Told = LinkedList<(u64, Entry)>;
+pub type Told = Turn;
 
 /// What the journal's seat knows: the names of all processes, how many of them have a seat, how many passes
 /// were given, and all entries, each with its caller's number.

@@ -1,4 +1,4 @@
-use Rattle.std.proofs.Common.{◌∙◌, ◌++◌, [], Some, ap, subst, sym}
+use Rattle.std.proofs.Common.{◌∙◌, ◌++◌, [], ap, subst, sym}
 use Rattle.tree_ties.specs.Views.{AreBy, AreOf, beside, holder, pairs_from}
 use Rattle.tree_node.specs.Nodes.{core_of}
 use Rattle.tree_threads.proofs.Entered.{entering}

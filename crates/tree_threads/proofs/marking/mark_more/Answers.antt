@@ -17,7 +17,7 @@ loop-init g c =
 
 pub loop-preserved : goal.loop-preserved
 loop-preserved g c =
-    let m = c.in-Some-mark_next.marked in
+    let m = c.in-Some-mark_next.wanted in
     let added = c.is_added.ensures ∙ ap (λ b. if b then c.loop.more ++ m ∷ [] else c.loop.more) c.if-not-is_added.false in
     let long = ap length added ∙ length-append c.loop.more (m ∷ []) in
     let few = c.loop.invariant.few in

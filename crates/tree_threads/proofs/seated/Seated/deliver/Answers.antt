@@ -1,4 +1,4 @@
-use Rattle.std.proofs.Common.{ℕ, All, List, ◌∙◌, ◌++◌, ◌∷◌, [], ap, refl, rules, subst, sym}
+use Rattle.std.proofs.Common.{ℕ, All, List, ◌∙◌, ◌++◌, ap, rules, subst, sym}
 use Rattle.tree_model.specs.declared.events.Entry.{Entry}
 use Rattle.tree_model.specs.declared.events.Event.TheVariants.{Deliver}
 use Rattle.cluster_journal.specs.Journals.{ClusterState}
@@ -13,9 +13,10 @@ use Rattle.tree_threads.specs.Locked.{SeatedState}
 use Rattle.tree_threads.specs.Passes.{PassState}
 use Rattle.tree_threads.specs.Posts.{DeliversTurn, NotPosted}
 use Rattle.tree_threads.specs.Marks.{Delivers}
-use Rattle.tree_threads.specs.Turns.{IsDeliveryAt, MadeTurn, wanted_in}
+use Rattle.tree_threads.specs.Turns.{IsDeliveryAt, MadeTurn}
 use Rattle.tree_threads.proofs.Asked.{finds_it}
 use Rattle.tree_threads.proofs.Refused.{answered_so, not_made, not_marked}
+use Rattle.tree_threads.proofs.Staying.{marked_still, mine_still}
 use Rattle.tree_threads.proofs.Turning.{deliveries_of, of_worker, turn_delivers, turn_made, turn_runs}
 use Rattle.tree_threads.proofs.seated.Seated.deliver.Goals as goal
 
@@ -72,18 +73,21 @@ returns-in-Err-clause-refused g c =
     let first = c.deref.ensures ∙ sym c.deref_mut.ensures.value ∙ sym same in
     let old = c.self.inside.node in
     let new = c.make_step.new.node in
+    let m = c.room_for_more-most.new.marked in
+    let as_was = c.room_for_more-most.ensures.same in
+    let marked = marked_still _ _ _ _ c.in_ok-marked.marked m as_was.0 as_was.1 c.in_ok-marked.ensures.ok in
     let not = not_made tree c.self.inside.me event pass e now.entries c.self.inside.seat.me.0.process.own (core_of old)
-    (core_of new) (data_of old) (data_of new) c.in_ok-marked.marked c.in-Err.error
+    (core_of new) (data_of old) (data_of new) m c.in-Err.error
     (subst (λ (j : ClusterState). CutHolds tree (entries_in j.entries)) first c.is_a_run.ensures)
     (c.meets.ensures.met ∙ ap (λ (j : ClusterState). pairs_by pass.caller 0 j.entries) (sym same))
-    c.in_ok-marked.ensures.tied c.self.invariant.6 c.in_ok-marked.ensures.ok c.in-Err.ensures.err
+    c.in_ok-marked.ensures.tied c.self.invariant.6 marked c.in-Err.ensures.err
     c.from.ensures in
     subst (λ (s : SeatedState). NotPosted tree s.me event pass e) c.self.view_is not
 
-pub make_more-requires : goal.make_more-requires
-make_more-requires g c =
+pub make_more-requires-clause-deliveries : goal.make_more-requires-clause-deliveries
+make_more-requires-clause-deliveries g c =
     let me = c.self.inside.me in
-    let xs = wanted_in c.mark_more-more.result in
+    let xs = c.mark_more-more.result in
     let process = ap (λ w. w.0.process) c.in_ok-marked.ensures.seat in
     let now = ap (λ (j : ClusterState). j.entries) c.deref-3.ensures ∙ c.in_ok-marked.ensures.ledger.0 in
     let next = c.mark_more-more.ensures.next in
@@ -95,21 +99,23 @@ pub enter-place-requires-clause-made : goal.enter-place-requires-clause-made
 enter-place-requires-clause-made g c =
     let tree = g.N.Seats.tree in
     let me = c.self.inside.me in
-    let m = c.in_ok-marked.marked in
-    let marked = c.in_ok-marked.ensures.ok in
+    let m = c.room_for_more-most.new.marked in
+    let as_was = c.room_for_more-most.ensures.same in
+    let marked = marked_still _ _ _ _ c.in_ok-marked.marked m as_was.0 as_was.1 c.in_ok-marked.ensures.ok in
+    let mine = mine_still tree me c.in_ok-marked.marked m as_was.0 c.in_ok-marked.ensures.mine in
     let own = c.self.inside.seat.me.0.process.own in
     let old = c.self.inside.node in
     let mid = c.make_step.new.node in
     let new = c.make_more.new.node in
     let seat = c.in_ok-marked.ensures.seat in
     let net = c.mark.new.seat.me.0.process.net in
-    let zs = c.make_more.new.made.entries in
+    let zs = c.make_more.new.made.turn.entries in
     let h = m.wanted.step.happening in
     let finds = subst (λ l. FindsMessage l me h) (sym (ap (λ w. w.0.process.net) seat))
     (finds_it _ me (core_of old) (Deliver c.args.number) h m.keep marked.happens) in
     let made = turn_made tree net me c.caller-caller.result own m.wanted m.keep (core_of old) (core_of mid) (core_of new)
     (data_of old) (data_of mid) (data_of new) c.in-Ok.first zs c.self.invariant.4 c.self.invariant.5 marked.at
-    c.in_ok-marked.ensures.mine finds c.in-Ok.ensures.ok c.make_more.ensures in
+    mine finds c.in-Ok.ensures.ok c.make_more.ensures in
     subst (λ l. MadeTurn tree net me c.meets.new.pass.caller l zs (core_of new)) (sym (ap (λ w. w.0.process.own) seat))
     (subst (λ n. MadeTurn tree net me n own zs (core_of new)) c.caller-caller.ensures made)
 
@@ -120,8 +126,11 @@ invariant_of-self-in-Ok g c =
     let old = c.self.inside.node in
     let mid = c.make_step.new.node in
     let new = c.make_more.new.node in
-    let m = c.in_ok-marked.marked in
-    let zs = c.make_more.new.made.entries in
+    let m = c.room_for_more-most.new.marked in
+    let as_was = c.room_for_more-most.ensures.same in
+    let marked = marked_still _ _ _ _ c.in_ok-marked.marked m as_was.0 as_was.1 c.in_ok-marked.ensures.ok in
+    let mine = mine_still tree me c.in_ok-marked.marked m as_was.0 c.in_ok-marked.ensures.mine in
+    let zs = c.make_more.new.made.turn.entries in
     let seat = c.in_ok-marked.ensures.seat in
     let entered = c.enter-place.ensures.seat.1 in
     let works = ap (λ w. w.0.process.works) seat ∙ c.self.invariant.2.0.1 in
@@ -137,7 +146,7 @@ invariant_of-self-in-Ok g c =
       subst (λ l. RunsAlone tree me l (core_of new) (data_of new)) (sym own)
           (turn_runs tree c.mark.new.seat.me.0.process.net me c.caller-caller.result
           c.self.inside.seat.me.0.process.own m.wanted m.keep (core_of old) (core_of mid) (core_of new) (data_of old)
-          (data_of mid) (data_of new) c.in-Ok.first zs c.in_ok-marked.ensures.ok.at c.in_ok-marked.ensures.mine
+          (data_of mid) (data_of new) c.in-Ok.first zs marked.at mine
           c.in-Ok.ensures.ok c.make_more.ensures c.self.invariant.6),
     )
 
@@ -148,8 +157,10 @@ returns-in-Ok-clause-ok g c =
     let old = c.self.inside.node in
     let mid = c.make_step.new.node in
     let new = c.make_more.new.node in
-    let m = c.in_ok-marked.marked in
-    let marked = c.in_ok-marked.ensures.ok in
+    let m = c.room_for_more-most.new.marked in
+    let as_was = c.room_for_more-most.ensures.same in
+    let marked = marked_still _ _ _ _ c.in_ok-marked.marked m as_was.0 as_was.1 c.in_ok-marked.ensures.ok in
+    let mine = mine_still tree me c.in_ok-marked.marked m as_was.0 c.in_ok-marked.ensures.mine in
     let place = c.enter-place.result in
     let left = c.enter-place.new.pass in
     let h = m.wanted.step.happening in
@@ -157,8 +168,8 @@ returns-in-Ok-clause-ok g c =
     (sym (ap (λ w. w.0.process.net) c.in_ok-marked.ensures.seat)) marked.happens in
     let turn = turn_delivers tree c.mark.new.seat.me.0.process.net me c.caller-caller.result
     c.self.inside.seat.me.0.process.own c.args.number m.wanted m.keep (core_of old) (core_of mid) (core_of new)
-    (data_of old) (data_of mid) (data_of new) c.in-Ok.first c.make_more.new.made.entries c.meets.new.pass left place
-    marked.at c.in_ok-marked.ensures.mine delivers c.in-Ok.ensures.ok c.make_more.ensures c.self.invariant.6
+    (data_of old) (data_of mid) (data_of new) c.in-Ok.first c.make_more.new.made.turn.entries c.meets.new.pass left place
+    marked.at mine delivers c.in-Ok.ensures.ok c.make_more.ensures c.self.invariant.6
     c.enter-place.ensures.pass in
     subst (λ (s : SeatedState). DeliversTurn tree s.me c.args.number c.args.pass.now left place) c.self.view_is
     (subst (λ (p : PassState). DeliversTurn tree me c.args.number p left place) c.meets.ensures.same.1 turn)

@@ -1,4 +1,4 @@
-use Rattle.std.proofs.Common.{◌∙◌, ◌++◌, ◌∷◌, [], ap, refl, rules, subst, sym}
+use Rattle.std.proofs.Common.{◌∙◌, ◌++◌, ap, rules, subst, sym}
 use Rattle.tree_model.specs.declared.events.Step.{Step}
 use Rattle.tree_model.specs.Trees.{root_of}
 use Rattle.cluster_journal.specs.Journals.{ClusterState}
@@ -41,7 +41,7 @@ enter-place-requires-clause-made g c =
     let old = c.self.inside.node in
     let new = c.make_step.new.node in
     let net = net_of (entries_in c.deref_mut-2.result.now.entries) in
-    let zs = c.in-Ok.made.entries in
+    let zs = c.in-Ok.made.turn.entries in
     let made = turn_made tree net me c.caller.result own m.wanted m.keep (core_of old) (core_of new) (core_of new)
     (data_of old) (data_of new) (data_of new) c.in-Ok.made zs c.self.invariant.4 c.self.invariant.5 marked.at
     c.in_ok-marked.ensures.mine
@@ -112,7 +112,7 @@ invariant_of-self-in-Ok g c =
     let works = ap (λ w. w.0.process.works) seat ∙ c.self.invariant.2.0.1 in
     let name = ap (λ w. w.0.process.name) seat ∙ c.self.invariant.2.1 in
     let after = ap (λ w. w.0.process.own) entered in
-    let own = after ∙ ap (λ w. w.0.process.own ++ entries_in c.in-Ok.made.entries) seat
+    let own = after ∙ ap (λ w. w.0.process.own ++ entries_in c.in-Ok.made.turn.entries) seat
     ∙ ap (λ l. c.self.inside.seat.me.0.process.own ++ entries_in l) made.entries_are in (
       search rules,
       search rules,
