@@ -2,4 +2,3 @@ pub mod Marking
 pub mod Tailing
 pub mod Telling
 pub mod Answering
-pub mod Framing

@@ -15,6 +15,7 @@ use Rattle.picture_parts.specs.declared.part.Part.{Part}
 use Rattle.picture_parts.specs.declared.part.Part.TheVariants.{Case, Events}
 use Rattle.picture_parts.specs.declared.part.Range.{Range}
 use Rattle.picture_parts.specs.Belonging.{marks_of}
+use Rattle.picture_parts.specs.Captions.{Surrounds}
 use Rattle.picture_parts.specs.Cut.{drawn_from}
 use Rattle.run_picture.specs.Pictures.{IsPicture}
 
@@ -75,15 +76,23 @@ abbrev pub part_of : Part → ProcessId → ℕ → List Entry → List ℕ → 
 part_of (Case t) root start es counts = drawn_from (Some (at_root root t)) (marks_of_case root t es)
 part_of (Events r) root start es counts = drawn_from None (marks_of_events start counts r es)
 
+-- The text has a picture of these steps of a tree, of a run of some events. What stands before and after it, as its caption, is not
+-- said.
+pub record HasPicture (tree : List TreeEntry) (entries : List Entry) (text : List ℕ) : Type 0 where
+  -- how many events are drawn, and which of them was refused, if one was
+  pub events : ℕ
+  pub refused : Option Event
+  pub inner : List ℕ
+  pub picture : IsPicture tree events entries refused inner
+  pub captioned : Surrounds inner text
+
 -- the text is the picture of a part of a run of a tree that has this root: it made the first number of steps before its events, these
 -- steps in all, and the numbers of steps after each event
 pub record IsDrawn (part : Part) (tree : List TreeEntry) (root : ProcessId) (start : ℕ) (es : List Entry)
     (counts : List ℕ) (text : List ℕ) : Type 0 where
   pub has : HasPart part root es counts
   pub small : part_size part root es counts ≤ 2000
-  -- the event that was refused, if it is drawn
-  pub refused : Option Event
-  pub picture : IsPicture tree (part_of part root start es counts) refused text
+  pub picture : HasPicture tree (part_of part root start es counts) text
 
 -- why it is not drawn is so
 abbrev pub IsFault : Part → ProcessId → List Entry → List ℕ → PartFault → Type 0

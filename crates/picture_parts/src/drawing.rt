@@ -1,11 +1,11 @@
 //! Draws a part of a run.
 
-ghost use Rattle.std.specs.Prelude.{◌≡◌, IfNone, IfOk, IfSome, Option};
+ghost use Rattle.std.specs.Prelude.{◌≡◌, IfNone, IfOk, IfSome, Option, length};
 ghost use Rattle.tree_model.specs.declared.events.Event.{Event as AnyEvent};
 ghost use Rattle.run_picture.specs.Pictures.{IsPicture};
 ghost use Rattle.tree_world.specs.Worlds.{state};
 ghost use Rattle.tree_engine.specs.Trees.{ending};
-ghost use Rattle.picture_parts.specs.Parts.{Answers, count_at as count_by};
+ghost use Rattle.picture_parts.specs.Parts.{Answers, HasPicture, count_at as count_by};
 ghost use Rattle.picture_parts.specs.Drawn.{AnswersFrom, AnswersScript, HasNoRun, IsNotTooLarge, IsTooLarge};
 
 use crate::belonging::{Choice, Marked, marks_of};
@@ -92,7 +92,7 @@ fn draw_steps(
     notes: &[Vec<u8>],
 ) -> Result<Vec<u8>, Failure>
     ensures { IfOk result (λ text. (refused : Option AnyEvent)
-        × IsPicture (state run.now.world.now).tree entries.now refused text.items) }
+        × IsPicture (state run.now.world.now).tree (length events.now) entries.now refused text.items) }
 {
     let scene = Scene {
         tree: run.world.tree().entries(),
@@ -118,8 +118,7 @@ fn draw_turns(
     entries: &[Entry],
     caption: &[u8],
 ) -> Result<Vec<u8>, Failure>
-    ensures { IfOk result (λ text. (refused : Option AnyEvent)
-        × IsPicture (state run.now.world.now).tree entries.now refused text.items) }
+    ensures { IfOk result (λ text. HasPicture (state run.now.world.now).tree entries.now text.items) }
 {
     let events = events_at(alloc, run.events, &turns.places)?;
     let notes = notes_shown(alloc, run, marks)?;

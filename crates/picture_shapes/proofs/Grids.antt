@@ -1,6 +1,6 @@
 -- Lines are within 2^64 pixels.
 use Rattle.std.proofs.Common.{ℕ, ◌≤◌, ◌<◌, ◌+◌, ◌*◌, ◌-◌, ◌^◌, arith}
-use Rattle.std.proofs.Math.Nat.{mul-le-mul_left, mul-le-mul_right}
+use Rattle.std.proofs.Math.Nat.{mul-le-mul_right}
 
 -- a line that is reached by numbers below 2^32
 pub fits : (root gap place : ℕ) → root < 2 ^ 32 → gap < 2 ^ 32 → place < 2 ^ 32 → root + gap * place ≤ 2 ^ 64 - 2 ^ 32

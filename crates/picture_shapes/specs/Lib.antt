@@ -1,3 +1,4 @@
 pub mod Words
 pub mod Svg
 pub mod Grids
+pub mod Head

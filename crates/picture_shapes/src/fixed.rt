@@ -29,8 +29,11 @@ g:hover>.l{stroke-width:3}\n\
 <path class=\"l op\" d=\"M0 0l8 8M0 8l8 -8\"/></pattern></defs>\n\
 ";
 
-/// The signs of the legend, how each is drawn, and what it means.
-pub(crate) const LEGEND: [(Sign, &str, &str); 20] = [
+/// An entry of the legend: a sign, how it is drawn there, and what it means.
+pub(crate) type Key = (Sign, &'static str, &'static str);
+
+/// The entries that a legend may have, in their order.
+pub(crate) const LEGEND: [Key; 20] = [
     (
         Sign::Forced,
         "<rect class=\"f vote\" x=\"15\" y=\"-5\" width=\"10\" height=\"10\"/>",

@@ -2,6 +2,7 @@
 
 ghost use Rattle.std.specs.Prelude.{◌≡◌, ◌-◌, ◌^◌, ◌<◌, ◌≤◌, min};
 ghost use Rattle.picture_shapes.specs.Grids.{line_at, row_at};
+ghost use Rattle.picture_shapes.specs.Head.{key_x, key_y, keys_in_line, width_of as width_in};
 
 /// The height of a row.
 pub const ROW: u64 = 30;
@@ -88,7 +89,9 @@ fn pixels(number: u64) -> u32
 impl Frame {
     /// A picture of N processes on so many levels, with this room, and so many entries in its legend.
     pub fn new(processes: u32, levels: u32, room: Room, keys: u64) -> Frame
-        ensures { 0 < result.grid.gap }
+        ensures apart { 0 < result.grid.gap }
+        ensures processes { result.processes ≡ processes }
+        ensures keys { result.keys ≡ keys }
     {
         let application = application_in(room);
         let root = application
@@ -122,19 +125,26 @@ impl Frame {
         u64::from(self.grid.root) + u64::from(self.grid.gap) * u64::from(place)
     }
 
-    pub fn width(self) -> u64 {
+    pub fn width(self) -> u64
+        ensures { result ≡ width_in self }
+    {
         self.x_of(self.processes)
     }
 
     /// How many entries of the legend stand in a line.
+    #[tactic(auto, unfolding(crate::specs::Head::keys_in_line))]
     fn keys_in_line(self) -> u64
-        ensures { (0 < result) × (result ≤ KEYS) }
+        ensures within { (0 < result) × (result ≤ KEYS) }
+        ensures exact { result ≡ keys_in_line self }
     {
         (self.width().saturating_sub(20) / KEY).min(KEYS).max(1)
     }
 
     /// Where an entry of the legend stands.
-    pub fn key_at(self, entry: u32) -> (u64, u64) {
+    pub fn key_at(self, entry: u32) -> (u64, u64)
+        ensures left { result.0 ≡ key_x self entry }
+        ensures line { result.1 ≡ key_y self entry }
+    {
         let keys = self.keys_in_line();
         let entry = u64::from(entry);
         (20 + KEY * (entry % keys), 64 + KEY_LINE * (entry / keys))

@@ -1,6 +1,21 @@
 //! What stands before the shapes of a picture: its size, its title, its style and its legend.
 
-use crate::fixed::{LEGEND, STYLE};
+ghost use Rattle.std.specs.Prelude.{◌≡◌, ◌++◌, OnOk, length, map};
+ghost use Rattle.picture_shapes.specs.Head.{
+  ground_text,
+  head_text,
+  key_of,
+  key_text,
+  keys_among,
+  keys_of as keys_in,
+  keys_text,
+  legend_text,
+  size_text,
+  summary_text,
+  title_words,
+};
+
+use crate::fixed::{Key, LEGEND, STYLE};
 use crate::frame::Frame;
 use crate::signs::Signs;
 use crate::words::{push_pair, push_word};
@@ -18,13 +33,20 @@ pub struct Summary {
     pub crashes: u64,
 }
 
-fn push_title(out: &mut Vec<u8>, summary: &Summary) -> Result<(), AllocError> {
+/// Of how many events and processes it is.
+#[tactic(auto, unfolding(crate::specs::Head::title_words))]
+fn push_title(out: &mut Vec<u8>, summary: &Summary) -> Result<(), AllocError>
+    ensures { OnOk result (out.new.items ≡ out.old.items ++ title_words summary.now) }
+{
     push_word(out, "A run of ", summary.events)?;
     push_word(out, " events on ", summary.processes)?;
     push(out, " processes")
 }
 
-fn push_size(out: &mut Vec<u8>, width: u64, height: u64) -> Result<(), AllocError> {
+#[tactic(auto, unfolding(crate::specs::Head::size_text))]
+fn push_size(out: &mut Vec<u8>, width: u64, height: u64) -> Result<(), AllocError>
+    ensures { OnOk result (out.new.items ≡ out.old.items ++ size_text width height) }
+{
     push_word(
         out,
         "<svg xmlns=\"http://www.w3.org/2000/svg\" width=\"",
@@ -38,25 +60,32 @@ fn push_size(out: &mut Vec<u8>, width: u64, height: u64) -> Result<(), AllocErro
     )
 }
 
-fn push_summary(out: &mut Vec<u8>, summary: &Summary) -> Result<(), AllocError> {
+#[tactic(auto, unfolding(crate::specs::Head::summary_text))]
+fn push_summary(out: &mut Vec<u8>, summary: &Summary) -> Result<(), AllocError>
+    ensures { OnOk result (out.new.items ≡ out.old.items ++ summary_text summary.now) }
+{
     push(out, "<title id=\"title\">")?;
     push_title(out, summary)?;
-    push(
+    push_word(
         out,
         "</title>\n<desc id=\"desc\">Time runs downward. Each process is a line, each message an arrow. ",
+        summary.messages,
     )?;
-    push_word(out, "", summary.messages)?;
     push_word(out, " messages, ", summary.open)?;
     push_word(out, " of them never delivered; ", summary.crashes)?;
     push(out, " crashes.</desc>\n")
 }
 
+/// The ground of all of it, with the title on it.
+#[tactic(auto, unfolding(crate::specs::Head::ground_text))]
 fn push_ground(
     out: &mut Vec<u8>,
     width: u64,
     height: u64,
     summary: &Summary,
-) -> Result<(), AllocError> {
+) -> Result<(), AllocError>
+    ensures { OnOk result (out.new.items ≡ out.old.items ++ ground_text width height summary.now) }
+{
     push_word(out, "<rect class=\"bg\" width=\"", width)?;
     push_word(out, "\" height=\"", height)?;
     push(out, "\"/><text x=\"20\" y=\"36\" class=\"big b\">")?;
@@ -65,38 +94,58 @@ fn push_ground(
 }
 
 /// An entry of the legend, with this number.
+#[tactic(auto, unfolding(crate::specs::Head::key_text))]
 fn push_key(
     out: &mut Vec<u8>,
     frame: Frame,
     entry: u32,
-    sign: &str,
+    drawn: &str,
     meaning: &str,
-) -> Result<(), AllocError> {
+) -> Result<(), AllocError>
+    ensures { OnOk result (out.new.items ≡ out.old.items ++ key_text frame entry drawn.now meaning.now) }
+{
     let (x, y) = frame.key_at(entry);
     push_pair(out, "<g transform=\"translate(", x, y)?;
     push(out, ")\">")?;
-    push(out, sign)?;
+    push(out, drawn)?;
     push(out, "<text x=\"50\" y=\"4\" class=\"dim\">")?;
     push(out, meaning)?;
     push(out, "</text></g>\n")
 }
 
-/// How many entries a legend has that explains these signs.
-pub fn keys_of(signs: &Signs) -> u64 {
-    let mut keys: u64 = 0;
-    for (sign, _, _) in LEGEND {
-        if signs.has(sign) {
-            keys = keys.saturating_add(1);
+/// How many of these entries explain these signs.
+fn count_keys(signs: &Signs, keys: &[Key; 20]) -> u64
+    ensures { result ≡ length (keys_among signs.now (map key_of keys.now)) }
+{
+    let mut count: u64 = 0;
+    for (sign, _, _) in keys {
+        if signs.has(*sign) {
+            count = count.saturating_add(1);
         }
     }
-    keys
+    count
 }
 
-/// The legend: of each sign that the picture has, what it means.
-fn push_legend(out: &mut Vec<u8>, frame: Frame, signs: &Signs) -> Result<(), AllocError> {
+/// How many entries a legend has that explains these signs.
+pub fn keys_of(signs: &Signs) -> u64
+    ensures { result ≡ length (keys_in signs.now) }
+{
+    count_keys(signs, &LEGEND)
+}
+
+/// Those of these entries that explain these signs.
+fn push_keys(
+    out: &mut Vec<u8>,
+    frame: Frame,
+    signs: &Signs,
+    keys: &[Key; 20],
+) -> Result<(), AllocError>
+    ensures { OnOk result (out.new.items
+        ≡ out.old.items ++ keys_text frame 0 (keys_among signs.now (map key_of keys.now))) }
+{
     let mut entry: u32 = 0;
-    for (sign, drawn, meaning) in LEGEND {
-        if signs.has(sign) {
+    for (sign, drawn, meaning) in keys {
+        if signs.has(*sign) {
             push_key(out, frame, entry, drawn, meaning)?;
             entry = entry.saturating_add(1);
         }
@@ -104,14 +153,24 @@ fn push_legend(out: &mut Vec<u8>, frame: Frame, signs: &Signs) -> Result<(), All
     Ok(())
 }
 
+/// The legend: of each sign that the picture has, what it means.
+fn push_legend(out: &mut Vec<u8>, frame: Frame, signs: &Signs) -> Result<(), AllocError>
+    ensures { OnOk result (out.new.items ≡ out.old.items ++ legend_text frame signs.now) }
+{
+    push_keys(out, frame, signs, &LEGEND)
+}
+
 /// All that stands before the shapes.
+#[tactic(auto, unfolding(crate::specs::Head::head_text))]
 pub fn push_head(
     out: &mut Vec<u8>,
     frame: Frame,
     height: u64,
     summary: &Summary,
     signs: &Signs,
-) -> Result<(), AllocError> {
+) -> Result<(), AllocError>
+    ensures { OnOk result (out.new.items ≡ out.old.items ++ head_text frame height summary.now signs.now) }
+{
     push_size(out, frame.width(), height)?;
     push_summary(out, summary)?;
     push(out, STYLE)?;

@@ -1,5 +1,8 @@
 //! The signs of a picture that its legend explains.
 
+ghost use Rattle.std.specs.Prelude.{◌≡◌};
+ghost use Rattle.picture_shapes.specs.Head.{has as has_sign};
+
 /// A sign, or a colour.
 #[derive(Clone, Copy, PartialEq, Eq)]
 pub enum Sign {
@@ -76,7 +79,9 @@ impl Signs {
         }
     }
 
-    pub(crate) fn has(&self, sign: Sign) -> bool {
+    pub(crate) fn has(&self, sign: Sign) -> bool
+        ensures { result ≡ has_sign self.now sign }
+    {
         match sign {
             Sign::Forced => self.forced,
             Sign::Unforced => self.unforced,

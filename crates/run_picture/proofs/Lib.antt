@@ -3,3 +3,4 @@ pub mod Ringing
 pub mod Wholes
 pub mod Adding
 pub mod Saying
+pub mod Counting

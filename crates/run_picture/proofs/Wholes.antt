@@ -1,5 +1,5 @@
 -- A picture of its arrows and its marks.
-use Rattle.std.proofs.Common.{◌≡◌, ◌∙◌, ◌<◌, All, ap, sym, subst, ℕ, Option, Some, List, [], ◌∷◌, ◌++◌, length, map, refl}
+use Rattle.std.proofs.Common.{◌≡◌, ◌∙◌, ◌<◌, ◌+◌, All, ap, subst, ℕ, Option, Some, List, [], ◌∷◌, ◌++◌, codes, count_by, fold, if◌then◌else◌, length, map, refl}
 use Rattle.tree_model.specs.declared.messages.Envelope.{Envelope}
 use Rattle.tree_model.specs.declared.events.Entry.{Entry}
 use Rattle.tree_model.specs.declared.events.Event.{Event}
@@ -7,9 +7,8 @@ use Rattle.tree_model.specs.declared.trees.TreeEntry.{TreeEntry}
 use Rattle.picture_rows.specs.declared.drawn.Arrow.{Arrow}
 use Rattle.picture_rows.specs.declared.drawn.Mark.{Mark}
 use Rattle.picture_rows.specs.declared.drawn.Stub.{Stub}
-use Rattle.picture_rows.specs.declared.drawn.Way.{Way}
 use Rattle.picture_rows.specs.declared.seats.Seat.{Seat}
-use Rattle.picture_rows.specs.Fates.{Leaving, leaving_in}
+use Rattle.picture_rows.specs.Fates.{Leaving, leaving_in, leavings}
 use Rattle.picture_rows.specs.Ways.{HasSeat, senders, spot_of, ways_in}
 use Rattle.picture_rows.specs.Whole.{deliveries, sent_in}
 use Rattle.picture_shapes.specs.declared.frame.Frame.{Frame}
@@ -17,14 +16,18 @@ use Rattle.picture_shapes.specs.declared.frame.Grid.{Grid}
 use Rattle.picture_shapes.specs.declared.shapes.Shape.{Shape}
 use Rattle.picture_shapes.specs.declared.shapes.Square.{Square}
 use Rattle.picture_shapes.specs.declared.shapes.Stroke.{Stroke}
+use Rattle.picture_shapes.specs.declared.signs.Signs.{Signs}
+use Rattle.picture_shapes.specs.Grids.{row_at}
+use Rattle.picture_shapes.specs.Head.{head_text, keys_of}
 use Rattle.picture_shapes.specs.Svg.{shapes_text, squares_text, strokes_text}
 use Rattle.picture_words.specs.Labels.{title_in}
 use Rattle.run_picture.specs.declared.plan.Plan.{Plan}
 use Rattle.run_picture.specs.Along.{DepartAll, RunAlong}
-use Rattle.run_picture.specs.Captions.{Caption, caption_along, caption_of, captions_along, said_of, says_of}
+use Rattle.run_picture.specs.Captions.{caption_along, caption_of, captions_along, said_of, says_of}
 use Rattle.run_picture.specs.Lines.{refused_lines, steps_lines}
 use Rattle.run_picture.specs.Pictures.{IsPicture, opening_of, spot_key, square_key, titles_of}
 use Rattle.run_picture.specs.Plans.{IsPlaced}
+use Rattle.run_picture.specs.Sums.{crashes_in, summary_by, summary_of}
 
 map_both : {A B C : Type 0} (f : B → C) (g : A → B) (xs : List A) → map (λ x. f (g x)) xs ≡ map f (map g xs)
 map_both f g [] = refl
@@ -53,34 +56,66 @@ pub record Draws (p : Plan) (f : Frame) (strokes departures : List Stroke) (open
   pub named : map said_of apart_words
       ≡ map (λ (s : Stub). says_of f.room.messages p.messages.items s.number) p.stubs.items
 
--- a text that has the arrows, the marks and the stubs of a plan is a picture of the steps that they are of
-pub pictured : (tree : List TreeEntry) (entries : List Entry) (refused : Option Event) (p : Plan) (f : Frame)
-    (strokes departures lines : List Stroke) (openings squares : List Square)
-    (below boxes signs names captions records apart_words words : List Shape) (head tail text : List ℕ)
+-- of the stubs of a plan those that no step delivers, and N others
+never_from : (ts : List Stub) (n : ℕ) → fold (λ a (t : Stub). a + (if t.crossed then 1 else 0)) n ts
+    ≡ fold (λ a (l : Leaving). a + (if l.never then 1 else 0)) n (map leaving_in ts)
+never_from [] n = refl
+never_from (t ∷ ts) n = never_from ts (n + (if t.crossed then 1 else 0))
+
+never_in : (ts : List Stub) → count_by (λ (t : Stub). t.crossed) ts ≡ count_by (λ (l : Leaving). l.never) (map leaving_in ts)
+never_in ts = never_from ts 0
+
+-- a plan has the numbers of its run
+sums : (events : ℕ) (entries : List Entry) (p : Plan) (apart : List Leaving) → p.messages.items ≡ sent_in entries
+    → map leaving_in p.stubs.items ≡ apart → summary_by events p entries ≡ summary_of events p.seats.items entries apart
+sums events entries p apart sent same =
+    ap (λ (ms : List Envelope). record {
+      events = events;
+      processes = length p.seats.items;
+      messages = length ms;
+      «open» = count_by (λ (t : Stub). t.crossed) p.stubs.items;
+      crashes = crashes_in entries;
+    }) sent
+    ∙ ap (λ (n : ℕ). record {
+      events = events;
+      processes = length p.seats.items;
+      messages = length (sent_in entries);
+      «open» = n;
+      crashes = crashes_in entries;
+    }) (never_in p.stubs.items ∙ ap (λ ls. count_by (λ (l : Leaving). l.never) ls) same)
+
+-- a text that has the head, the arrows, the marks and the stubs of a plan is a picture of the steps that they are of
+pub pictured : (tree : List TreeEntry) (events : ℕ) (entries : List Entry) (refused : Option Event) (p : Plan) (f : Frame)
+    (legend : Signs) (keys : ℕ) (strokes departures lines : List Stroke) (openings squares : List Square)
+    (below boxes signs names captions records apart_words words : List Shape) (head text : List ℕ)
     → map (λ (a : Arrow). a.number) p.arrows.items ≡ deliveries (length (sent_in entries)) entries
     → IsPlaced entries p → All (HasSeat p.seats.items) tree → p.messages.items ≡ sent_in entries
-    → 0 < f.grid.gap → Draws p f strokes departures openings squares captions apart_words
+    → 0 < f.grid.gap → f.processes ≡ length p.seats.items → f.keys ≡ keys → keys ≡ length (keys_of legend)
+    → head ≡ head_text f (row_at f.grid p.rows.end + 30) (summary_by events p entries) legend
+    → Draws p f strokes departures openings squares captions apart_words
     → titles_of lines ≡ steps_lines entries ++ refused_lines refused
     → text ≡ (((((((((head ++ shapes_text below) ++ strokes_text strokes) ++ strokes_text departures)
     ++ strokes_text lines) ++ shapes_text boxes) ++ squares_text openings) ++ shapes_text signs)
-    ++ squares_text squares) ++ shapes_text ((((names ++ captions) ++ records) ++ apart_words) ++ words)) ++ tail
-    → IsPicture tree entries refused text
-pictured tree entries refused p f strokes departures lines openings squares below boxes signs names captions records
-    apart_words words head tail text numbers placed seated sent apart draws others is =
+    ++ squares_text squares) ++ shapes_text ((((names ++ captions) ++ records) ++ apart_words) ++ words)) ++ codes "</svg>\n"
+    → IsPicture tree events entries refused text
+pictured tree events entries refused p f legend keys strokes departures lines openings squares below boxes signs names captions
+    records apart_words words head text numbers placed seated sent apart wide kept counted headed draws others is =
     let g = f.grid in
     let room = f.room.messages in
     let ms = sent_in entries in
     record {
-      grid = g;
+      frame = f;
       apart = apart;
       seats = p.seats.items;
+      wide = wide;
       in_order = placed.in_order;
       seated = seated;
       rows = p.rows.steps.items;
       end = p.rows.end;
       rise = placed.rise;
       each = placed.each;
-      head = head;
+      legend = legend;
+      keys = kept ∙ counted;
       below = below;
       strokes = strokes;
       departures = departures;
@@ -94,14 +129,12 @@ pictured tree entries refused p f strokes departures lines openings squares belo
       records = records;
       apart_words = apart_words;
       words = words;
-      tail = tail;
       arrows = draws.titles
           ∙ map_both (title_in p.messages.items) (λ (a : Arrow). a.number) p.arrows.items
           ∙ ap (λ ns. map (title_in p.messages.items) ns) numbers
           ∙ ap (λ xs. map (title_in xs) (deliveries (length ms) entries)) sent;
       ways = subst (λ ws. RunAlong g ws strokes) placed.ways draws.along;
       marks = draws.keys ∙ map_both (spot_key g) spot_of p.marks.items ∙ ap (λ xs. map (spot_key g) xs) placed.spots;
-      room = room;
       said = draws.said ∙ captions_are g room p.messages.items p.arrows.items
           ∙ ap (λ xs. captions_along g room xs (map (λ (a : Arrow). a.way) p.arrows.items) (map (λ (a : Arrow). a.number) p.arrows.items)) sent
           ∙ ap (λ ws. captions_along g room ms ws (map (λ (a : Arrow). a.number) p.arrows.items)) placed.ways
@@ -119,7 +152,12 @@ pictured tree entries refused p f strokes departures lines openings squares belo
           ∙ ap (λ ls. map (λ (l : Leaving). says_of room ms l.number) ls) placed.apart;
       others = others;
       opened = draws.opened;
-      layers = is;
+      layers = is
+          ∙ ap (λ h. (((((((((h ++ shapes_text below) ++ strokes_text strokes) ++ strokes_text departures)
+          ++ strokes_text lines) ++ shapes_text boxes) ++ squares_text openings) ++ shapes_text signs)
+          ++ squares_text squares) ++ shapes_text ((((names ++ captions) ++ records) ++ apart_words) ++ words)) ++ codes "</svg>\n")
+          (headed ∙ ap (λ s. head_text f (row_at g p.rows.end + 30) s legend)
+          (sums events entries p (leavings p.seats.items p.rows.steps.items entries placed.fates) sent placed.apart));
     }
 
 -- what is drawn of a plan, where each call leaves the frame as it was

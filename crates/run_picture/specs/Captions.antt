@@ -1,5 +1,5 @@
 -- The words beside arrows.
-use Rattle.std.specs.Prelude.{◌≡◌, ⊤, ℕ, ◌+◌, ◌-◌, ◌^◌, Bool, not, if◌then◌else◌, min, nat_lt, Option, None, Some, option_map, List, [], ◌∷◌, ◌++◌, map}
+use Rattle.std.specs.Prelude.{ℕ, ◌+◌, ◌-◌, ◌^◌, Bool, not, if◌then◌else◌, min, nat_lt, Option, None, Some, option_map, List, [], ◌∷◌}
 use Rattle.tree_model.specs.declared.messages.Envelope.{Envelope}
 use Rattle.picture_rows.specs.declared.drawn.Way.{Way}
 use Rattle.picture_shapes.specs.declared.frame.Grid.{Grid}

@@ -1,5 +1,5 @@
 -- What a picture tells of its run.
-use Rattle.std.specs.Prelude.{◌≡◌, ℕ, ◌<◌, ◌-◌, Bool, true, Option, All, List, ◌++◌, length, map}
+use Rattle.std.specs.Prelude.{◌≡◌, ℕ, ◌<◌, ◌+◌, ◌-◌, Bool, true, Option, All, List, ◌++◌, codes, length, map}
 use Rattle.tree_model.specs.declared.events.Entry.{Entry}
 use Rattle.tree_model.specs.declared.events.Event.{Event}
 use Rattle.tree_model.specs.declared.trees.TreeEntry.{TreeEntry}
@@ -12,16 +12,20 @@ use Rattle.picture_rows.specs.Fates.{AreFates, Leaving, leavings}
 use Rattle.picture_rows.specs.Rising.{RiseTo}
 use Rattle.picture_rows.specs.Ways.{HasSeat, SitFrom, Spot, senders, spots_in, ways_in}
 use Rattle.picture_rows.specs.Whole.{deliveries, sent_in}
+use Rattle.picture_shapes.specs.declared.frame.Frame.{Frame}
 use Rattle.picture_shapes.specs.declared.frame.Grid.{Grid}
 use Rattle.picture_shapes.specs.declared.shapes.Shape.{Shape}
 use Rattle.picture_shapes.specs.declared.shapes.Square.{Square}
 use Rattle.picture_shapes.specs.declared.shapes.Stroke.{Stroke}
+use Rattle.picture_shapes.specs.declared.signs.Signs.{Signs}
 use Rattle.picture_shapes.specs.Grids.{line_at, row_at}
+use Rattle.picture_shapes.specs.Head.{head_text, keys_of}
 use Rattle.picture_words.specs.Labels.{record_name, title_in}
 use Rattle.picture_shapes.specs.Svg.{shapes_text, squares_text, strokes_text}
 use Rattle.run_picture.specs.Along.{DepartAll, RunAlong}
 use Rattle.run_picture.specs.Captions.{caption_of, captions_along, said_of, says_of}
 use Rattle.run_picture.specs.Lines.{refused_lines, steps_lines}
+use Rattle.run_picture.specs.Sums.{summary_of}
 
 -- what a mark tells: a record's name, whether it is filled, and where its corner is
 abbrev pub square_key : Square → (List ℕ × Bool) × (ℕ × ℕ)
@@ -43,27 +47,35 @@ opening_of s = record {
   logged = record { subject = Boot 1; kind = Opened; forced = true };
 }
 
--- The text is a picture of these steps of a tree: it has an arrow for each delivery, with all of its message, from the line of its
--- sender and the row of the step that sent it to the line of its receiver and the row of the step that it made; and a mark
--- for each record, filled where it was forced, at the line of its process and the row of its step; both in the order of the
--- steps. Above the end of each arrow stand its message's number and words, within the room of a column. Each process of the tree
--- has a line of its own, and each step has rows of its own, below those of the step before it.
--- The other strokes are those of the messages that no step delivers, or only one more than 24 steps later, where they were sent,
--- with their words; of what each step was asked and told the application, in the order of the steps; and of the event that
--- was refused, if one was. The other marks are those of each process's Opened. What is drawn besides has no stroke and no mark of
--- a record.
-pub record IsPicture (tree : List TreeEntry) (entries : List Entry) (refused : Option Event) (text : List ℕ) : Type 0 where
-  pub grid : Grid
-  pub apart : 0 < grid.gap
+-- The text is a picture of these steps of a tree, of a run of so many events. It has an arrow for each delivery, with
+-- all of its message, from the line of its sender and the row of the step that sent it to the line of its receiver and
+-- the row of the step that it made; of one that left long before, only where it ends is said. It has a mark for each
+-- record, filled where it was forced, at the line of its process and the row of its step. Both are in the order of the
+-- steps. Above the end of each arrow stand its message's number and words, within the room of a column. Each process of
+-- the tree has a line of its own, and each step has rows of its own, below those of the step before it.
+-- The other strokes are those of the messages that no step delivers, or only one more than 24 steps later, where they
+-- were sent, with their words; of what each step was asked and told the application, in the order of the steps; and of
+-- the event that was refused, if one was. Where the strokes of these last two kinds are is not said. The other marks are
+-- those of each process's Opened.
+-- All other shapes are no strokes and no marks of records, and nothing else is said of them.
+-- Before the shapes stands just the head, with the numbers of events, processes, messages, messages that no step
+-- delivers, and crashes. Which signs its legend explains is not said. After the shapes stands just the end of the file.
+pub record IsPicture (tree : List TreeEntry) (events : ℕ) (entries : List Entry) (refused : Option Event)
+    (text : List ℕ) : Type 0 where
+  -- the lines of processes and the rows, and the room beside them
+  pub frame : Frame
+  pub apart : 0 < frame.grid.gap
   pub seats : List Seat
+  pub wide : frame.processes ≡ length seats
   pub in_order : SitFrom 0 seats
   pub seated : All (HasSeat seats) tree
   pub rows : List StepRows
   pub end : ℕ
   pub rise : RiseTo 1 rows end
   pub each : length rows ≡ length entries
-  -- what stands before the shapes, and after them
-  pub head : List ℕ
+  -- the signs that the legend explains
+  pub legend : Signs
+  pub keys : frame.keys ≡ length (keys_of legend)
   pub below : List Shape
   pub strokes : List Stroke
   pub departures : List Stroke
@@ -78,23 +90,24 @@ pub record IsPicture (tree : List TreeEntry) (entries : List Entry) (refused : O
   pub records : List Shape
   pub apart_words : List Shape
   pub words : List Shape
-  pub tail : List ℕ
   pub arrows : titles_of strokes ≡ map (title_in (sent_in entries)) (deliveries (length (sent_in entries)) entries)
-  pub ways : RunAlong grid (ways_in seats rows (senders entries) entries) strokes
-  pub marks : map square_key squares ≡ map (spot_key grid) (spots_in seats rows entries)
-  pub room : ℕ
-  pub said : map caption_of captions ≡ captions_along grid room (sent_in entries) (ways_in seats rows (senders entries) entries)
-      (deliveries (length (sent_in entries)) entries)
+  pub ways : RunAlong frame.grid (ways_in seats rows (senders entries) entries) strokes
+  pub marks : map square_key squares ≡ map (spot_key frame.grid) (spots_in seats rows entries)
+  pub said : map caption_of captions ≡ captions_along frame.grid frame.room.messages (sent_in entries)
+      (ways_in seats rows (senders entries) entries) (deliveries (length (sent_in entries)) entries)
   -- what becomes of each message, and so which are drawn where they were sent
   pub fates : List Fate
   pub fated : AreFates entries fates
   pub leaving : titles_of departures
       ≡ map (λ (l : Leaving). title_in (sent_in entries) l.number) (leavings seats rows entries fates)
-  pub depart : DepartAll grid (leavings seats rows entries fates) departures
+  pub depart : DepartAll frame.grid (leavings seats rows entries fates) departures
   pub named : map said_of apart_words
-      ≡ map (λ (l : Leaving). says_of room (sent_in entries) l.number) (leavings seats rows entries fates)
+      ≡ map (λ (l : Leaving). says_of frame.room.messages (sent_in entries) l.number) (leavings seats rows entries fates)
   pub others : titles_of lines ≡ steps_lines entries ++ refused_lines refused
-  pub opened : map square_key openings ≡ map (λ s. spot_key grid (opening_of s)) seats
-  pub layers : text ≡ (((((((((head ++ shapes_text below) ++ strokes_text strokes) ++ strokes_text departures)
-      ++ strokes_text lines) ++ shapes_text boxes) ++ squares_text openings) ++ shapes_text signs)
-      ++ squares_text squares) ++ shapes_text ((((names ++ captions) ++ records) ++ apart_words) ++ words)) ++ tail
+  pub opened : map square_key openings ≡ map (λ s. spot_key frame.grid (opening_of s)) seats
+  pub layers : text ≡ (((((((((head_text frame (row_at frame.grid end + 30)
+      (summary_of events seats entries (leavings seats rows entries fates)) legend ++ shapes_text below)
+      ++ strokes_text strokes) ++ strokes_text departures) ++ strokes_text lines) ++ shapes_text boxes)
+      ++ squares_text openings) ++ shapes_text signs) ++ squares_text squares)
+      ++ shapes_text ((((names ++ captions) ++ records) ++ apart_words) ++ words))
+      ++ codes "</svg>\n"

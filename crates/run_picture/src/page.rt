@@ -1,12 +1,16 @@
 //! A whole picture.
 
-ghost use Rattle.std.specs.Prelude.{◌≡◌, ◌++◌, ◌^◌, ◌<◌, ◌≤◌, IfErr, IfOk, OnOk, codes, drop, length, map, take};
+ghost use Rattle.std.specs.Prelude.{◌≡◌, ◌++◌, ◌^◌, ◌<◌, ◌≤◌, ◌+◌, IfErr, IfOk, OnOk, codes, count_by, drop, length, map, take};
+ghost use Rattle.picture_rows.specs.declared.drawn.Stub.{Stub as AnyStub};
 ghost use Rattle.picture_rows.specs.Long.{IsLong};
+ghost use Rattle.picture_shapes.specs.Grids.{row_at};
+ghost use Rattle.picture_shapes.specs.Head.{head_text};
 ghost use Rattle.picture_shapes.specs.Svg.{shapes_text, squares_text, strokes_text};
 ghost use Rattle.run_picture.specs.Layers.{all_words, below_shapes};
 ghost use Rattle.run_picture.specs.Lines.{refused_in, refused_lines, steps_lines};
 ghost use Rattle.run_picture.specs.Pictures.{IsPicture, titles_of};
 ghost use Rattle.run_picture.specs.Rings.{HasRings};
+ghost use Rattle.run_picture.specs.Sums.{crashes_in, is_restart as is_a_restart, summary_by};
 
 use crate::drawing::Drawing;
 use crate::endings::draw_refusal;
@@ -16,13 +20,14 @@ use crate::rings::rings_of;
 use crate::room::room_of;
 use crate::sheet::Sheet;
 use crate::tree::draw_tree;
-use picture_rows::{PictureError, Seat, place_of};
+use picture_rows::{PictureError, Seat, Stub, place_of};
 use picture_shapes::{
     Frame, Room, Shape, Signs, Square, Stroke, Summary, keys_of, push_head, push_shapes,
     push_squares, push_strokes,
 };
 use std::alloc::{AllocError, Global};
 use trace_lines::push;
+use tree_model::{Entry, Happening};
 
 /// Draws the lines of the events, and the numbers of the processes beside them.
 fn draw_rulers(drawing: &mut Drawing, scene: &Scene, plan: &Plan) -> Result<(), AllocError>
@@ -71,14 +76,50 @@ fn count_levels(seats: &[Seat]) -> u32 {
     levels
 }
 
-fn summary_of(scene: &Scene, plan: &Plan, open: usize) -> Summary {
+/// How many messages are never delivered.
+fn open_of(stubs: &[Stub]) -> u64
+    ensures { result ≡ count_by (λ (s : AnyStub). s.crossed) stubs.now }
+{
+    stubs.iter().filter(|stub| stub.crossed).count() as u64
+}
+
+fn is_restart(entry: &Entry) -> bool
+    ensures { result ≡ is_a_restart entry.now.step.happening }
+{
+    matches!(entry.step.happening, Happening::Restart(_))
+}
+
+/// How many crashes there are.
+fn crashes_of(entries: &[Entry]) -> u64
+    ensures { result ≡ crashes_in entries.now }
+{
+    let mut crashes: u64 = 0;
+    for entry in entries {
+        if is_restart(entry) {
+            crashes = crashes.saturating_add(1);
+        }
+    }
+    crashes
+}
+
+/// The numbers of a run for its head.
+fn summary_of(scene: &Scene, plan: &Plan) -> Summary
+    ensures { result ≡ summary_by (length scene.now.events.now) plan.now scene.now.entries.now }
+{
     Summary {
         events: scene.events.len() as u64,
         processes: plan.seats.len() as u64,
         messages: plan.messages.len() as u64,
-        open: open as u64,
-        crashes: plan.history.crashes.len() as u64,
+        open: open_of(&plan.stubs),
+        crashes: crashes_of(scene.entries),
     }
+}
+
+/// How high a picture is.
+fn height_of(frame: Frame, end: u32) -> u64
+    ensures { result ≡ row_at frame.grid end + 30 }
+{
+    frame.y_of(end).saturating_add(30)
 }
 
 /// The rows of the crashes of a process.
@@ -116,17 +157,13 @@ fn head_of(
     scene: &Scene,
     plan: &Plan,
     signs: &Signs,
-) -> Result<Vec<u8>, AllocError> {
-    let open = plan.stubs.iter().filter(|stub| stub.crossed).count();
-    let height = frame.y_of(plan.rows.end).saturating_add(30);
+) -> Result<Vec<u8>, AllocError>
+    ensures { IfOk result (λ head. head.items ≡ head_text frame (row_at frame.grid plan.now.rows.end + 30)
+        (summary_by (length scene.now.events.now) plan.now scene.now.entries.now) signs.now) }
+{
+    let height = height_of(frame, plan.rows.end);
     let mut out = Vec::new(alloc);
-    push_head(
-        &mut out,
-        frame,
-        height,
-        &summary_of(scene, plan, open),
-        signs,
-    )?;
+    push_head(&mut out, frame, height, &summary_of(scene, plan), signs)?;
     Ok(out)
 }
 
@@ -198,6 +235,8 @@ fn text_of(head: Vec<u8>, sheet: &Sheet, drawn: &Drawn) -> Result<Vec<u8>, Alloc
 /// A sheet for a plan, with so much room, and N entries in its legend. TooLong: it has 2^32 processes.
 fn drawing_of(alloc: Global, plan: &Plan, room: Room, keys: u64) -> Result<Drawing, PictureError>
     ensures apart { IfOk result (λ drawing. 0 < drawing.frame.grid.gap) }
+    ensures wide { IfOk result (λ drawing. drawing.frame.processes ≡ length plan.now.seats.items) }
+    ensures keys { IfOk result (λ drawing. drawing.frame.keys ≡ keys) }
     ensures err { IfErr result (λ _. 2 ^ 32 ≤ length plan.now.seats.items) }
 {
     let Ok(processes) = u32::try_from(plan.seats.len()) else {
@@ -213,7 +252,7 @@ fn drawing_of(alloc: Global, plan: &Plan, room: Room, keys: u64) -> Result<Drawi
 /// The picture of a run, as one SVG file: time goes downward; each process is a line, each delivery an arrow
 /// and each record a mark. TooLong: it has 2^32 rows or more, or its tree 2^32 processes.
 pub fn picture(alloc: Global, scene: &Scene) -> Result<Vec<u8>, PictureError>
-    ensures text { IfOk result (λ text. IsPicture scene.now.tree.now scene.now.entries.now
+    ensures text { IfOk result (λ text. IsPicture scene.now.tree.now (length scene.now.events.now) scene.now.entries.now
         (refused_in scene.now.events.now scene.now.refusal) text.items) }
     ensures rings { IfOk result (λ text. HasRings scene.now.notes.now text.items) }
     ensures err { IfErr result (λ e. e ≡ PictureError.TooLong
@@ -223,6 +262,7 @@ pub fn picture(alloc: Global, scene: &Scene) -> Result<Vec<u8>, PictureError>
     let room = room_of(alloc, scene, &plan)?;
     let signs = signs_of(scene, &plan);
     let mut drawing = drawing_of(alloc, &plan, room, keys_of(&signs))?;
+    let frame = drawing.frame;
     let openings = drawing.draw_openings(&plan.seats)?;
     let opening_words = drawing.take_words();
     let arrows = drawing.draw_arrows(&plan.messages, &plan.arrows)?;
@@ -234,8 +274,8 @@ pub fn picture(alloc: Global, scene: &Scene) -> Result<Vec<u8>, PictureError>
     let stub_words = drawing.take_words();
     let (lines, below) = draw_run(&mut drawing, scene, &plan)?;
     draw_lines(&mut drawing, scene, &plan)?;
-    let rings = rings_of(alloc, drawing.frame, scene, &plan)?;
-    let head = head_of(alloc, drawing.frame, scene, &plan, &signs)?;
+    let rings = rings_of(alloc, frame, scene, &plan)?;
+    let head = head_of(alloc, frame, scene, &plan, &signs)?;
     let drawn = Drawn {
         arrows,
         stubs,

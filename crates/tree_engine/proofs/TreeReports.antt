@@ -237,7 +237,7 @@ script_tree input tree events (fronts, behind, text, is, few, asks) = is
 pub draws_run : {A E : Type 0} (text_of : A × Status → List ℕ) (events : List Event)
     (first run : Run) (made : Result (A × Status) E)
     → HasCome (state first.world) events run
-    → IfOk made (λ r. r.1 ≡ ending run.refusal) → IfOk made (λ r. IsPicture (state run.world).tree (state run.world).entries (refused_in events run.refusal) (text_of r))
+    → IfOk made (λ r. r.1 ≡ ending run.refusal) → IfOk made (λ r. IsPicture (state run.world).tree (length events) (state run.world).entries (refused_in events run.refusal) (text_of r))
     → IfOk made (λ r. Draws (state first.world) events r.1 (text_of r))
 draws_run text_of events first run (Err e) come is drawn = is
 draws_run text_of events first run (Ok r) come is drawn = record {

@@ -94,4 +94,4 @@ pub record Draws (start : WorldState) (events : List Event) (status : Status) (t
   pub end : WorldState
   pub come : ComesTo start events refusal count end
   pub status_is : status ≡ ending refusal
-  pub picture : IsPicture end.tree end.entries (refused_in events refusal) text
+  pub picture : IsPicture end.tree (length events) end.entries (refused_in events refusal) text

@@ -107,7 +107,7 @@ abbrev pub Tells : Bool → Output → List Event → WorldState → Refusal →
 Tells over Logs events w None text = LeavesLogs w text
 Tells over Logs events w (Some refused) text = text ≡ trace_by over w ++ last_line (Some refused)
 Tells over Trace events w refusal text = text ≡ trace_by over w ++ last_line refusal
-Tells over Picture events w refusal text = IsPicture w.tree w.entries (refused_in events refusal) text
+Tells over Picture events w refusal text = IsPicture w.tree (length events) w.entries (refused_in events refusal) text
 Tells over Counts events w refusal text = text ≡ (trace_by over w ++ last_line refusal) ++ counts_text w
 
 -- The text is that of the run of just these events: they led the tree, opened, to a state that stands for a

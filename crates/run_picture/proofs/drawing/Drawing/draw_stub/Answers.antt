@@ -1,6 +1,4 @@
-use Rattle.std.proofs.Common.{◌∙◌, ap, sym}
 use Rattle.picture_words.specs.Labels.{label_in, number_text}
-use Rattle.run_picture.specs.Captions.{caption_at}
 use Rattle.run_picture.proofs.Saying.{said_more}
 use Rattle.run_picture.proofs.drawing.Drawing.draw_stub.Goals as goal
 
