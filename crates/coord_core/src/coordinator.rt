@@ -136,6 +136,13 @@ impl<L: LogStore> Coordinator<L> {
         }
     }
 
+    /// How many acknowledgements of a case's decision are owed; none, where it is not live.
+    pub fn owing(&self, case: &Case) -> usize
+        ensures { result ≡ length ((state self.now).view_of case.now).owed }
+    {
+        self.owed(case).len()
+    }
+
     /// How many cases are live: those that are not Unknown.
     pub fn live(&self) -> usize
         ensures known { Knows (λ c. ((state self.now).view_of c).standing) result }

@@ -149,7 +149,7 @@ trimmed_count old new remain trims =
     whole : length (trimmed_log old ++ []) ≡ remain
     whole = ap (λ (xs : List LogRecord). length xs) (append-nil (trimmed_log old)) ∙ sym trims.counts
 
--- How many unforced records a restart keeps that names so many bytes.
+-- How many unforced records a restart keeps that names N bytes.
 
 all_within : (s : CoreState) (keep : ℕ) → left_by s.log keep ≡ records_of s.log.kept
     → records_kept s keep ≡ length s.log.kept.unforced
@@ -160,6 +160,6 @@ pub kept_alike : (s : CoreState) (bytes : Option ℕ) (one other : ℕ) → Keep
 kept_alike s (Some n) one other is so = ap (records_kept s) (is ∙ sym so)
 kept_alike s None one other is so = all_within s one is ∙ sym (all_within s other so)
 
--- so many records are left
+-- N records are left
 pub left_count : (s : CoreState) (keep : ℕ) → length (left_by s.log keep) ≡ (count_in s).forced + records_kept s keep
 left_count s keep = length-append s.log.kept.forced (whole_within (s.log.behind + keep) s.log.kept.unforced)

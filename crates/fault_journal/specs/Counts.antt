@@ -28,7 +28,7 @@ after_written c ws =
     let n = c.records + length ws in
     record { records = n; forced = if list_any (λ w. w.forced) ws then n else c.forced }
 
--- so many unforced records does a restart keep that names these bytes
+-- a restart that names these bytes keeps N unforced records
 pub record KeepsCount (s : CoreState) (bytes : Option ℕ) (count : ℕ) : Type 0 where
   pub keep : ℕ
   pub keeps : KeepsBytes s bytes keep

@@ -52,7 +52,7 @@ AreInOrder first (f ∷ fs) last = (first ≤ f.made) × AreInOrder f.made fs la
 
 -- What a fault left.
 
--- the bytes of a log of these records, and no more
+-- the bytes of a log of just these records
 abbrev pub log_bytes : CoreState → List ℕ
 log_bytes s = header Second ++ records_text (form_of s.place) (records_of s.log.kept)
 

@@ -1,6 +1,6 @@
 //! How many records stand in a log.
 
-ghost use Rattle.std.specs.Prelude.{◌≡◌, ◌+◌, IfSome, length};
+ghost use Rattle.std.specs.Prelude.{◌≡◌, ◌+◌, ◌≤◌, ◌^◌, IfNone, IfSome, length};
 ghost use Rattle.std.specs.List.{list_any};
 ghost use Rattle.failed_steps.specs.Faults.{trim_fault};
 ghost use Rattle.fault_journal.specs.Counts.{after_written, all_forced, left_since, trim_left};
@@ -27,7 +27,8 @@ impl Count {
 
     /// That of the log once a step has written these; None where the number is 2^64 or more.
     pub fn after(self, written: &[Logged]) -> Option<Count>
-        ensures { IfSome result (λ count. count ≡ after_written self written.now) }
+        ensures some { IfSome result (λ count. count ≡ after_written self written.now) }
+        ensures none { IfNone result (2 ^ 64 ≤ self.records + length written.now) }
     {
         let records = self.records.checked_add(written.len() as u64)?;
         let forced = if is_any_forced(written) {
@@ -41,7 +42,8 @@ impl Count {
     /// That of the log once a restart has kept N records after the forced ones and written these; None where the number is
     /// 2^64 or more.
     pub fn after_restart(self, kept: u64, written: &[Logged]) -> Option<Count>
-        ensures { IfSome result (λ count. count ≡ all_forced (self.forced + kept + length written.now)) }
+        ensures some { IfSome result (λ count. count ≡ all_forced (self.forced + kept + length written.now)) }
+        ensures none { IfNone result (2 ^ 64 ≤ self.forced + kept + length written.now) }
     {
         let left = self.forced.checked_add(kept)?;
         let records = left.checked_add(written.len() as u64)?;
@@ -62,9 +64,9 @@ impl Count {
     pub fn left_by_restart(self, kept: u64, now: Count) -> Fault
         ensures { result ≡ left_since (self.forced + kept) self now }
     {
-        let behind = now.records.saturating_sub(self.forced);
+        let after_front = now.records.saturating_sub(self.forced);
         Fault {
-            appended: behind.saturating_sub(kept),
+            appended: after_front.saturating_sub(kept),
             forced: now.forced.saturating_sub(self.forced),
         }
     }

@@ -135,7 +135,7 @@ impl Faults {
         self.last.as_ref()
     }
 
-    /// A step failed, before which so many records stood in the process's log. It takes no memory.
+    /// A step failed, before which the process's log had this count. It takes no memory.
     pub fn note(&mut self, process: ProcessId, cause: Cause, before: Count)
         ensures { self.new ≡ record self.old {
           last = Some (record { process = process; cause = cause; before = before });

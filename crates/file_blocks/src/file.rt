@@ -6,6 +6,7 @@ ghost use Rattle.file_blocks.specs.Files.{Holds, IsDamaged, file_head, file_numb
 use crate::block::{first_block, head_of, is_damaged, join, number_in, number_text};
 use sha2::{Digest, Sha256};
 use std::alloc::{AllocError, Global};
+use thiserror::Error;
 
 /// How many bytes stand before a file's blocks.
 pub const FILE_HEAD: usize = 48;
@@ -23,11 +24,13 @@ pub struct FileText {
 }
 
 /// Why the bytes of a file were not read.
-#[derive(Clone, Copy, Debug, PartialEq, Eq)]
+#[derive(Clone, Copy, Debug, PartialEq, Eq, Error)]
 pub enum ReadFault {
     /// There was no memory.
+    #[error("no memory")]
     Memory,
     /// They are no file of a log, or a block that was safe is broken: the first one, or one before another.
+    #[error("the file is damaged")]
     Damaged,
 }
 

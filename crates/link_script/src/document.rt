@@ -22,13 +22,18 @@ ghost use Rattle.link_script.specs.Documents.{
 };
 
 use std::alloc::{AllocError, AllocFailed, Global};
+use thiserror::Error;
 use toml::{Table, Value};
 use tree_model::{Bytes, Kind, ProcessId, Tree, TreeEntry};
 
 /// Why a text is no tree.
-#[derive(Clone, Copy)]
+#[derive(Clone, Copy, Debug, PartialEq, Eq, Error)]
 pub enum DocumentError {
+    /// There was no memory.
+    #[error("no memory")]
     Memory,
+    /// The text is no tree.
+    #[error("no tree")]
     TreeText,
 }
 

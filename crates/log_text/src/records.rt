@@ -9,14 +9,17 @@ use crate::names::name_at;
 use crate::parts::{LIMIT, bytes_of, key_at, reports_of, tickets_of, value_at, writes_of};
 use byteorder::{BigEndian, ByteOrder};
 use std::alloc::{AllocError, AllocFailed, Global};
+use thiserror::Error;
 use tree_model::{Branch, Case, Kind, LogRecord, Outcome, ProcessId, Record};
 
 /// Why no record is read.
-#[derive(Clone, Copy, PartialEq, Eq)]
+#[derive(Clone, Copy, Debug, PartialEq, Eq, Error)]
 pub enum ReadFault {
     /// There was no memory for the record.
+    #[error("no memory")]
     Memory,
     /// The bytes are no record.
+    #[error("no record")]
     Malformed,
 }
 

@@ -5,6 +5,7 @@ ghost use Rattle.tree_audit.specs.Reports.{audit_error_number};
 
 use audit_cases::Own;
 use std::alloc::AllocError;
+use thiserror::Error;
 use tree_model::{Case, Outcome, ProcessId, Reports};
 
 /// What an audit says of a case.
@@ -33,12 +34,14 @@ pub struct Report {
 }
 
 /// Why there is no report.
-#[derive(Clone, Copy, PartialEq, Eq)]
+#[derive(Clone, Copy, Debug, PartialEq, Eq, Error)]
 pub enum AuditError {
     /// There was no memory.
+    #[error("no memory")]
     Memory,
     /// The first damaged log in the order of the tree: its process, and the first byte of the frame that is
     /// wrong, 0 for the header.
+    #[error("the log of process {0} is damaged at byte {1}")]
     Damaged(ProcessId, usize),
 }
 

@@ -12,12 +12,24 @@ ghost use Rattle.tree_model.specs.declared.names.Ticket.{Ticket as AnyTicket};
 ghost use Rattle.tree_model.specs.declared.names.Txn.{Txn as AnyTxn};
 
 use crate::lists::Sequence;
+use std::fmt;
 use std::hash::{Hash, Hasher};
 use xa_xid::digest::mixed;
 
 /// A process of the tree, by its number.
-#[derive(Clone, Copy, PartialEq, Eq, PartialOrd, Ord, Hash)]
+#[derive(Clone, Copy, Debug, PartialEq, Eq, PartialOrd, Ord, Hash)]
 pub struct ProcessId(pub u32);
+
+impl fmt::Display for ProcessId {
+    ghost use Rattle.std.specs.Prelude.{Some};
+    ghost use Rattle.std.specs.Fmt.{decimal};
+
+    ghost output = { λ process. Some (decimal process.0) };
+
+    fn fmt<W: fmt::Write>(&self, f: &mut fmt::Formatter<W>) -> fmt::Result {
+        write!(f, "{}", self.0)
+    }
+}
 
 /// What a process is: a coordinator (the root or below it), or a resource manager at a leaf.
 #[derive(Clone, Copy, PartialEq, Eq)]

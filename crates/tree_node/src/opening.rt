@@ -25,16 +25,20 @@ use log_store::LogStore;
 use rec_log::{OpenError as LogOpenError, RecLog};
 use std::alloc::{AllocError, Global};
 use sub_core::Subordinate;
+use thiserror::Error;
 use tree_model::{Kind, ProcessId, StepError, Tree, TreeEntry};
 
 /// Why a tree was not opened.
-#[derive(Clone, Copy, PartialEq, Eq)]
+#[derive(Clone, Copy, Debug, PartialEq, Eq, Error)]
 pub enum OpenError {
     /// A growth was refused.
+    #[error("no memory")]
     Memory,
     /// The device of this process's store failed.
+    #[error("the device of process {0} failed")]
     Device(ProcessId),
     /// There is no store for this process, or one in which bytes stand.
+    #[error("process {0} has no empty store")]
     Store(ProcessId),
 }
 

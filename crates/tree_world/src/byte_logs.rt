@@ -1,6 +1,7 @@
 //! The logs that the processes keep, as bytes.
 
 ghost use Rattle.std.specs.Prelude.{◌≡◌, ◌<◌, All, IfOk};
+ghost use Rattle.log_rules.specs.sound.Written.{AreBytes};
 ghost use Rattle.tree_world.specs.LogsLeft.{AreByteLogs, AreLogs, LogsStand};
 ghost use Rattle.tree_world.specs.Worlds.{state};
 
@@ -11,8 +12,9 @@ use std::alloc::{AllocError, Global};
 use tree_model::Sequence;
 
 /// What the type says of bytes: each is below 256. It does nothing.
-fn are_bytes(bytes: &[u8])
-    ensures { All (λ b. b < 256) bytes.now }
+pub(crate) fn are_bytes(bytes: &[u8])
+    ensures all { All (λ b. b < 256) bytes.now }
+    ensures each { AreBytes bytes.now }
 {}
 
 /// Each record of each log can stand there, and those of a manager may follow one another. It does nothing.

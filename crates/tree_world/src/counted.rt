@@ -101,7 +101,7 @@ fn push_records(
     Ok(())
 }
 
-/// The bytes of a log of the records that a process has, and no more.
+/// The bytes of a log of just the records that a process has.
 fn whole_bytes<L: LogStore>(alloc: Global, node: &Node<L>) -> Result<Vec<u8>, AllocError>
     ensures { IfOk result (λ bytes. bytes.items ≡ log_bytes (core_of node.now)) }
 {

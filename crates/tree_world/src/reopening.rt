@@ -46,19 +46,23 @@ use indexmap::IndexMap;
 use log_store::LogStore;
 use rec_log::{MigrateError, RecLog};
 use std::alloc::Global;
+use thiserror::Error;
 use tree_model::{Happening, ProcessId, Tree, TreeEntry};
 use tree_node::{Node, ReopenError as NodeError, copied_tree, reopen_over};
 use world_journal::Journal;
 
 /// Why a tree was not opened over the logs that an earlier run left.
-#[derive(Clone, Copy, PartialEq, Eq)]
+#[derive(Clone, Copy, Debug, PartialEq, Eq, Error)]
 pub enum ReopenError {
     /// A growth was refused.
+    #[error("no memory")]
     Memory,
     /// The device of this process's store failed.
+    #[error("the device of process {0} failed")]
     Device(ProcessId),
     /// The log of this process is damaged, or is none of this process in this tree: the first byte of the first
     /// frame that is wrong, 0 for the header.
+    #[error("the log of process {0} is damaged at byte {1}")]
     Damaged(ProcessId, usize),
 }
 

@@ -3,7 +3,6 @@
 ghost use Rattle.std.specs.Prelude.{◌≡◌, ◌≢◌, ◌<◌, [], Err, IfErr, IfOk, IsFalse, IsTrue, None, OnOk, length, map};
 ghost use Rattle.tree_model.specs.declared.events.StepError.TheVariants.{Device};
 ghost use Rattle.tree_model.specs.Plays.{process_of_act};
-ghost use Rattle.log_rules.specs.sound.Written.{AreBytes};
 ghost use Rattle.core_law.specs.Steps.{trim_reaction};
 ghost use Rattle.core_law.specs.worlds.Worlds.{Applies, Stops};
 ghost use Rattle.core_law.specs.worlds.Runs.{Leads, LeadsUntil};
@@ -11,6 +10,7 @@ ghost use Rattle.world_journal.specs.Journals.{IsReady};
 ghost use Rattle.fault_journal.specs.Traces.{AddsAfter, AddsToTrace, AddsUntil, AreInPlace, NotedUntil};
 ghost use Rattle.tree_world.specs.Worlds.{logs_at, running_state};
 
+use crate::byte_logs::are_bytes;
 use crate::nodes::Nodes;
 use core_model::InputRef;
 use fault_journal::{Cause, Faults};
@@ -73,11 +73,6 @@ fn is_fault(made: &Result<Reaction, StepError>) -> bool
 {
     matches!(made, Err(StepError::Device))
 }
-
-/// What the type says of bytes: each is below 256. It does nothing.
-fn are_bytes(bytes: &[u8])
-    ensures { AreBytes bytes.now }
-{}
 
 /// Lets go of logs.
 fn discard(_logs: Vec<Vec<LogRecord>>) {}

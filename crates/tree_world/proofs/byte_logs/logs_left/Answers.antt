@@ -18,6 +18,6 @@ loop-entry-preserved g c = (
   bytes_more c.loop-entry.logs.items c.push.new.self.items
       (record { process = c.entry-item.result.id; bytes = c.from_vec.result }) c.in_ok-push.ensures.items
       (subst (λ bs. All (λ b. b < 256) bs) (c.deref.ensures.value
-      ∙ sym c.from_vec.ensures) c.are_bytes.ensures)
+      ∙ sym c.from_vec.ensures) c.are_bytes.ensures.all)
       c.loop-entry.invariant.1,
 )

@@ -24,4 +24,4 @@ returns-in-Err-Device-clause-noted g c =
     c.in_ok-make_room.ensures.keeps
     (with_device c.trim-made.result.1 (NoTrimAt nodes after c.args.process) (search rules) c.trim-made.ensures.err)
     (where_failed c.trim-made.result.1 _ (search rules) c.trim-made.ensures.before) c.in_ok-text.ensures
-    (subst AreBytes c.deref.ensures.value c.are_bytes.ensures) c.log_stands.ensures refl (λ b s. refl) c.note.ensures
+    (subst AreBytes c.deref.ensures.value c.are_bytes.ensures.each) c.log_stands.ensures refl (λ b s. refl) c.note.ensures
