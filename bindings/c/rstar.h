@@ -39,7 +39,7 @@ typedef struct rstar_node {
 #define RSTAR_IO 9           /* the system refused a call; errno says why */
 #define RSTAR_STRANGER 10    /* it is the log of another process, or of another tree */
 #define RSTAR_DAMAGED_LOG 11 /* the log in the file is broken */
-#define RSTAR_UNFIT 12       /* its records are those of no process of this kind */
+#define RSTAR_UNFIT 12       /* its records are not those of a process of this kind */
 #define RSTAR_OLD_FORMAT 13  /* it is of the first format: `rstar migrate --file` */
 #define RSTAR_NO_FILE 14     /* what has the name is a folder, a pipe or the like */
 #define RSTAR_LINKED 15      /* the file has a second name, by which another process could open it */
@@ -64,7 +64,7 @@ typedef struct rstar_node {
 #define RSTAR_XID_BQUAL 33     /* a name of the branch of more than 64 bytes */
 #define RSTAR_XID_SHORT 34     /* too few bytes */
 #define RSTAR_XID_LONG 35      /* bytes after it */
-#define RSTAR_XID_TEXT 36      /* a text that is not spelled as one */
+#define RSTAR_XID_TEXT 36      /* a text that does not spell an XID */
 #define RSTAR_NO_CASE 37       /* a text that spells no case, or a parent that does not fit it */
 #define RSTAR_FOREIGN 38       /* an XID that names no case of a tree */
 

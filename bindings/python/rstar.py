@@ -51,13 +51,13 @@ REASONS = {
     1: "the tree's text cannot be read", 2: "its processes are no tree", 3: "the tree has no such process",
     4: "the name has no bytes, or a zero byte", 5: "the log is in use", 6: "there is no log", 7: "there is a log",
     8: "the log's file is damaged", 9: "the system refused a call", 10: "it is the log of another process",
-    11: "the log is damaged", 12: "its records are those of no process of this kind", 13: "it is a log of the first format",
-    14: "it is no file", 15: "the file has a second name", 16: "so no node is opened", 17: "the tree's text is not UTF-8",
+    11: "the log is damaged", 12: "its records are not those of a process of this kind", 13: "it is a log of the first format",
+    14: "it is not a file", 15: "the file has a second name", 16: "so no node is opened", 17: "the tree's text is not UTF-8",
     18: "the handle is of an open node", 19: "a place is null", 21: "out of memory", 23: "the log's file failed",
     24: "numbers are used up", 25: "a line `end` was answered before", 26: "the node is closed",
     28: "an earlier answer waits", 31: "the format of an XID is negative", 32: "the gtrid of an XID is not 1 to 64 bytes long",
     33: "the bqual of an XID is longer than 64 bytes", 34: "the bytes of an XID are cut short",
-    35: "there are bytes after an XID", 36: "the text of an XID is not spelled as one", 37: "it is no case",
+    35: "there are bytes after an XID", 36: "the text does not spell an XID", 37: "it is no case",
     38: "the XID names no case of a tree",
 }
 

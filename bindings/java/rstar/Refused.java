@@ -7,13 +7,13 @@ public final class Refused extends Exception {
         "", "the tree's text cannot be read", "its processes are no tree", "the tree has no such process",
         "the name has no bytes, or a zero byte", "the log is in use", "there is no log", "there is a log",
         "the log's file is damaged", "the system refused a call", "it is the log of another process", "the log is damaged",
-        "its records are those of no process of this kind", "it is a log of the first format", "it is no file",
+        "its records are not those of a process of this kind", "it is a log of the first format", "it is not a file",
         "the file has a second name", "so no node is opened", "the tree's text is not UTF-8",
         "the handle is of an open node", "a place is null", "", "out of memory", "", "the log's file failed",
         "numbers are used up", "a line `end` was answered before", "the node is closed", "", "an earlier answer waits", "", "",
         "the format of an XID is negative", "the gtrid of an XID is not 1 to 64 bytes long",
         "the bqual of an XID is longer than 64 bytes", "the bytes of an XID are cut short", "there are bytes after an XID",
-        "the text of an XID is not spelled as one", "it is no case", "the XID names no case of a tree",
+        "the text does not spell an XID", "it is no case", "the XID names no case of a tree",
     };
 
     public final int number;

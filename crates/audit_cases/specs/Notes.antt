@@ -36,7 +36,7 @@ is_coordinators (End c rep) = true
 is_coordinators (Cleared c) = true
 is_coordinators _ = false
 
--- a record that may stand in the log of a process of this kind
+-- a record that may be in the log of a process of this kind
 abbrev pub IsRecordAt : Kind → Record → Type 0
 IsRecordAt Coordinator r = ⊤
 IsRecordAt Manager r = is_coordinators r ≡ false

@@ -18,7 +18,7 @@ own_word own.InDoubt = codes "in-doubt"
 own_word own.HeurCommit = codes "heur-commit"
 own_word own.HeurRollback = codes "heur-rollback"
 
--- ` mismatch`, where there is one
+-- ` mismatch`, if there is one
 abbrev pub mismatch_part : Bool → List ℕ
 mismatch_part true = codes " mismatch"
 mismatch_part false = []

@@ -35,7 +35,7 @@ fn own_word(own: Own) -> &'static str
     }
 }
 
-/// What stands after the outcome of a line.
+/// What is after the outcome of a line.
 fn mismatch_word(mismatch: bool) -> &'static str
     ensures { result.now ≡ mismatch_part mismatch }
 {

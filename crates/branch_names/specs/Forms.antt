@@ -39,7 +39,7 @@ parts_by None f g b = Some (record { format = f; gtrid = g; bqual = b })
 abbrev pub named_parts : ℤ → List ℕ → List ℕ → Option XidParts
 named_parts f g b = parts_by (branch_fault f (length g) (length b)) f g b
 
--- what stands between `X'` and `'`, and the rest after it
+-- what is between `X'` and `'`, and the rest after it
 abbrev pub quoted_at : List ℕ → Option (List ℕ × List ℕ)
 quoted_at w = do
   rest ← after_at 88 w

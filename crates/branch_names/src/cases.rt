@@ -22,7 +22,7 @@ const WORDS: i32 = 4003;
 pub enum Naming {
     /// A case of the tree.
     Case(Case),
-    /// A case by its form, of a tree of another name, or of one that has a name, where none was given.
+    /// A case by its form, of a tree of another name, or of one that has a name, if none was given.
     OtherTree,
     /// None that this product gives, or of no process of the tree.
     Foreign,

@@ -51,7 +51,7 @@ fn format_of(word: &str) -> Option<i32>
     }
 }
 
-/// What stands between `X'` and `'`, and the rest after it.
+/// What is between `X'` and `'`, and the rest after it.
 fn quoted(text: &str) -> Option<(&str, &str)>
     ensures { option_map (λ p. (p.0.now, p.1.now)) result ≡ quoted_at text.now }
 {

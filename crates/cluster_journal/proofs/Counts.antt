@@ -99,7 +99,7 @@ zero_is_false : (b : Bool) (n : ℕ) → one_if b ≤ n → n ≡ 0 → b ≡ fa
 zero_is_false true n le z = absurd (omega (arith, le, z))
 zero_is_false false n le z = refl
 
--- where none is counted none passes
+-- if none is counted none passes
 pub none_at : {A : Type 0} (f : A → Bool) (ms : List A) (p : ℕ) (m d : A) → p < length ms → m ≡ get_or ms p d
     → count_by f ms ≡ 0 → f m ≡ false
 none_at f ms p m d lt at z = zero_is_false (f m) (count_by f ms) (count_at f ms p m d lt at) z

@@ -17,7 +17,7 @@ use Rattle.cluster_journal.specs.declared.marks.Marked.{Marked}
 use Rattle.cluster_journal.specs.Journals.{AllDelivered, AreDelivered, IsDelivered, entries_of, marked_by, marked_by_all}
 use Rattle.cluster_journal.specs.Marks.{AreAllDelivered, given_back, marked, marked_at, reopened, reopened_from, sent_to}
 
--- what stands in a list of which one place was changed
+-- what is in a list of which one place was changed
 set_get : {A : Type 0} (xs : List A) (p k : ℕ) (a o : A) → slice_get (slice_set xs p a) k ≡ Some o
     → (slice_get xs k ≡ Some o) ⊎ ((k ≡ p) × (o ≡ a))
 set_get [] p k a o h = inl h

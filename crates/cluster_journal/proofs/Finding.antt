@@ -300,7 +300,7 @@ drop_none [] zero h = refl
 drop_none [] (suc n) h = refl
 drop_none (x ∷ xs) n h = absurd (cc)
 
--- where no turn is late all are found
+-- if no turn is late all are found
 none_late : (placed late : List (Vec (ℕ × Entry))) (n : ℕ) (spots : List Spot) → AreFound placed late n spots
     → first_of late ≡ [] → take 1 late ≡ [] → spots ≡ spots_of 0 placed
 none_late placed late n spots h none front =

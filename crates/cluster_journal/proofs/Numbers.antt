@@ -15,7 +15,7 @@ closed_to q m closed = ap (λ b. b && same_process q m.to) closed
 number_of : (number place : ℕ) → number ≡ place + 1 → number ≡ suc place
 number_of number place is = omega arith
 
--- the message with a number, where there is one
+-- the message with a number, if there is one
 pub marks_it : (ms : List Marked) (number place : ℕ) (m d : Marked) (to : ProcessId) (mark : Mark)
     → number ≡ place + 1 → place < length ms → m ≡ get_or ms place d → to ≡ m.to
     → slice_set ms place (record { to = to; mark = mark }) ≡ marked ms number mark

@@ -69,7 +69,7 @@ linked_at ms q p m l lt at there h =
 
 -- A mark that is set.
 
--- what stands at each place is sent to whom it was
+-- what is at each place is sent to whom it was
 to_at : (ms : List Marked) (p k : ℕ) (m y d : Marked) → slice_get ms p ≡ Some m → y.to ≡ m.to
     → (get_or (slice_set ms p y) k d).to ≡ (get_or ms k d).to
 to_at [] p k m y d at same = refl
@@ -186,7 +186,7 @@ has_open ms r h some none =
 pub not_free : (r : Receiver) → is_free r ≡ false → IsNotFree r
 not_free r h = grind (arith, nat_tests)
 
--- nothing is to be claimed where no receiver is free
+-- nothing is to be claimed if no receiver is free
 pub none_free : (ms : List Marked) (q : Queues) → AreQueued ms q → All IsNotFree q.receivers.items → NoneToClaim ms
 none_free ms q h busy p = elim (count_some (is_open_to p) ms) [
   | inl none ↦ inl (first_is_none p 1 ms (none_open ms none))

@@ -15,7 +15,7 @@ abbrev pub spots_in : ℕ → ℕ → List (ℕ × Entry) → List Spot
 spots_in t n [] = []
 spots_in t n (x ∷ xs) = spots_at t n (length x.1.reaction.messages) ++ spots_in t (suc n) xs
 
--- the places of all messages of these turns, of which the first stands at this place
+-- the places of all messages of these turns, of which the first is at this place
 abbrev pub spots_of : ℕ → List (Vec (ℕ × Entry)) → List Spot
 spots_of t [] = []
 spots_of t (e ∷ es) = spots_in t 0 e.items ++ spots_of (suc t) es

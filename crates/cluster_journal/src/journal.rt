@@ -137,7 +137,7 @@ impl ClusterJournal {
         Ok(())
     }
 
-    /// The message with this number, from 1, where all entries are placed; None where no message has it.
+    /// The message with this number, from 1, where all entries are placed; None if no message has it.
     pub fn message(&self, number: u64) -> Option<&Envelope>
         requires { self.now.late ≡ 0 }
         ensures { option_copied result ≡ sent_as (net_of (entries_of self.now.entries)) number }

@@ -31,7 +31,7 @@ use crate::marks::{Claim, Mark, Marked};
 use std::alloc::{AllocError, Global};
 use tree_model::ProcessId;
 
-/// Where a message stands among those to its receiver.
+/// Where a message is among those to its receiver.
 #[derive(Clone, Copy)]
 pub(crate) struct Link {
     /// The place of its receiver.
@@ -131,7 +131,7 @@ pub(crate) fn claim_for(marks: &mut Vec<Marked>, queues: &mut Queues, place: usi
     }
 }
 
-/// The place of the first open message to this process that does not stand before the lowest place, where its chain is
+/// The place of the first open message to this process that is not before the lowest place, where its chain is
 /// gone along from a message to it, and none between the two places is open.
 pub(crate) fn open_from(
     marks: &[Marked],

@@ -114,7 +114,7 @@ fn begin_at_once<N: Seats + Send + Sync, R: Threads + Wait + Sync>(
     are_answered(alloc, &journal, &answers)
 }
 
-/// Whether each answered call stands in the journal.
+/// Whether each answered call is in the journal.
 pub fn ok_is_in_the_journal<R: Threads + Wait + Sync>(rt: &R, alloc: Global) -> Option<bool> {
     let tree = tree(alloc, 2)?;
     let opened = seats(alloc, &tree).ok()?;

@@ -46,7 +46,7 @@ pub fn tree(alloc: Global, managers: u32) -> Option<Tree>
     }
 }
 
-/// Delivers all messages, by as many workers as there are passes. None where a delivery was refused, or
+/// Delivers all messages, by as many workers as there are passes. None if a delivery was refused, or
 /// there are no passes, or more than 16.
 pub fn deliver_by<N: Seats + Send + Sync, R: Threads + Wait + Sync, G: Gate + Sync>(
     rt: &R,
@@ -63,7 +63,7 @@ pub fn deliver_by<N: Seats + Send + Sync, R: Threads + Wait + Sync, G: Gate + Sy
 /// What a cluster leaves that is closed: its journal, and the log of each process.
 pub type Left = (Journal, Vec<Vec<LogRecord>>);
 
-/// Closes a cluster. None where memory is refused.
+/// Closes a cluster. None if memory is refused.
 pub fn close<N: Seats>(cluster: Cluster<N>, passes: &mut [Pass<N>]) -> Option<Left> {
     match cluster.close(passes) {
         Ok(left) => Some(left),

@@ -135,7 +135,7 @@ few_yes cs = count_by-le-length (λ c. is_vote Yes c.vote) cs
 no_more : (n : ℕ) → 0 + n ≡ n
 no_more n = omega arith
 
--- each child has voted just where none is missing
+-- each child has voted just if none is missing
 pub none_missing : (cs : List Child) → (missing_in cs == 0) ≡ list_all (λ c. is_cast c.vote) cs
 none_missing [] = refl
 none_missing (c ∷ cs) =
@@ -145,7 +145,7 @@ none_missing (c ∷ cs) =
     by_vote None n b h = grind (arith, common_steps)
     by_vote (Some w) n b h = ap (λ m. m == 0) (no_more n) ∙ h
 
--- nobody voted YES just where none is counted
+-- nobody voted YES just if none is counted
 pub none_yes : (cs : List Child)
     → (yes_in cs == 0) ≡ none_of (accepted_in (filter (λ c. is_vote Yes c.vote) cs))
 unfolding none_of

@@ -382,7 +382,7 @@ impl Live {
         Ok(found)
     }
 
-    /// The decided case waits for these acknowledgements; where there are none it is forgotten. Memory:
+    /// The decided case waits for these acknowledgements; if there are none it is forgotten. Memory:
     /// nothing changed.
     pub fn awaits(&mut self, standing: Standing, tickets: Vec<Ticket>) -> Result<(), AllocError>
         ensures ok { OnOk result (self.new ≡ awaits_view standing tickets.items self.old) }

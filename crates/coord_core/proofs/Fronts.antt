@@ -18,7 +18,7 @@ use Rattle.coord_core.proofs.Restarted.{rebuilt_as}
 
 -- Fronts of a log.
 
--- the first records of what is forced, where more is forced behind it
+-- the first records of what is forced, where more is forced after it
 front_more : (old new : LogSight) (size : ℕ) (first more : List LogRecord) → IsFront old size first
     → new.kept.forced ≡ old.kept.forced ++ more → IsFront new size first
 front_more old new size first more f e =
@@ -114,7 +114,7 @@ remembered_restarted v keep r log size rebuilds restarted long =
 
 -- It is read on.
 
--- what is remembered of the front, and of the records behind it, is remembered of what a crash leaves
+-- what is remembered of the front, and of the records after it, is remembered of what a crash leaves
 pub read_on : (v : CoordinatorValue) (f : Front) (records left : List LogRecord) (now : LogMemory) → IsFrontOf v f
     → ((first : List LogRecord) → IsFront v.log.sight f.size first → first ++ records ≡ left)
     → ((front : List LogRecord) → own_records (place_of v) (front ++ records)

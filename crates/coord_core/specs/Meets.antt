@@ -107,7 +107,7 @@ is_of_child (Ack t o fs) = true
 is_of_child (Inquire t) = true
 is_of_child _ = false
 
--- what is met by what a child asks of the case that was found for it; where there is none, the other turn
+-- what is met by what a child asks of the case that was found for it; if there is none, the other turn
 abbrev pub met_by_child : CoordinatorValue → Asked → Turn → Option Case → CoreTurn
 met_by_child v asked otherwise None = meant v otherwise
 met_by_child v asked otherwise (Some c) = TakesTurn c (met v c asked)

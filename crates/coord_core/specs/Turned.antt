@@ -51,6 +51,6 @@ abbrev pub framed_of : Option Framed → List LogRecord
 framed_of None = []
 framed_of (Some w) = frame_record w.frame ∷ []
 
--- a row's record stands in the log, if it has one
+-- a row's record is in the log, if it has one
 pub record WritesDown (old new : LogState) (written : Option Framed) : Type 0 where
   pub sight : new.sight ≡ wrote old.sight (written_of written) (framed_of written)

@@ -113,7 +113,7 @@ impl<L: LogStore> Coordinator<L> {
         self.begun < LAST_NUMBER && self.given < LAST_NUMBER
     }
 
-    /// Where a case stands; Unknown, where it is not live.
+    /// Where a case stands; Unknown, if it is not live.
     pub fn standing(&self, case: &Case) -> Standing
         ensures { result ≡ ((state self.now).view_of case.now).standing }
     {
@@ -166,7 +166,7 @@ impl<L: LogStore> Coordinator<L> {
         self.log.store()
     }
 
-    /// The bytes of its log, as a list made again. After a failure of the device a torn frame may stand at
+    /// The bytes of its log, as a list made again. After a failure of the device a torn frame may be at
     /// the end.
     pub fn log_text(&self) -> Result<Vec<u8>, AllocError>
         ensures { IfOk result (λ text. ReadsAs (log_form self.now.me kind.Coordinator) text.items
@@ -191,7 +191,7 @@ impl<L: LogStore> Coordinator<L> {
         self.log.left_behind(keep, self.alloc)
     }
 
-    /// Each record of its log can stand in a coordinator's log.
+    /// Each record of its log can be in a coordinator's log.
     pub fn records_are_sound(&self)
         ensures { AllByRecursion (IsSound kind.Coordinator) (records_of (state self.now).log.kept) }
     {

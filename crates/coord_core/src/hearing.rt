@@ -132,7 +132,7 @@ impl<L: LogStore> Coordinator<L> {
         }
     }
 
-    /// What is asked of the live case that has the child's ticket; where there is none, the other turn.
+    /// What is asked of the live case that has the child's ticket; if there is none, the other turn.
     fn hear_of<'a>(
         &self,
         txn: Txn,

@@ -27,7 +27,7 @@ use tree_model::{Case, Presumption, ProcessId, Reaction, StepError, Ticket, Txn}
 
 impl<L: LogStore> Coordinator<L> {
     /// Handles an input. The refusals of the reaction table, as `StepError` says them, change nothing, nor
-    /// does Memory, nor Exhausted: a record of the input can stand in no log, or a work of it has a number of
+    /// does Memory, nor Exhausted: a record of the input can be in no log, or a work of it has a number of
     /// 2^64. Device: the device failed under the record of the input, which stands or not, and the
     /// coordinator answers Failed until its restart.
     pub fn step(&mut self, input: InputRef<'_>) -> Result<Reaction, StepError>
@@ -92,7 +92,7 @@ impl<L: LogStore> Coordinator<L> {
     }
 
     /// The case under the key takes the row that it meets. Room for the row's record is made first. Memory;
-    /// Exhausted, where the row is beyond the bounds of numbers: nothing changed. Device: the device failed under the record.
+    /// Exhausted, if the row is beyond the bounds of numbers: nothing changed. Device: the device failed under the record.
     fn takes(&mut self, key: usize, case: Case, asked: Asked) -> Result<Reaction, StepError>
         requires at { IsAt self.old.slots key case }
         requires accepted { Accepts asked (view_in self.old.slots case) }

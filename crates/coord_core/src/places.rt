@@ -1,4 +1,4 @@
-//! Where processes stand in a tree.
+//! Where processes are in a tree.
 
 ghost use Rattle.std.specs.Prelude.{◌≡◌};
 ghost use Rattle.tree_model.specs.Nodes.{is_child as is_child_in, is_leaf, is_parent as is_parent_of, role_by, role_of};

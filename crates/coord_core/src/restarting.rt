@@ -159,7 +159,7 @@ impl<L: LogStore> Coordinator<L> {
 
 impl<L: LogStore + Drop> Coordinator<L> {
     /// The coordinator `me` of this tree below this parent, as it restarts over the log that an earlier one
-    /// left: the records that stand in it are what a crash left. A case of a boot that the log had not reached,
+    /// left: the records that are in it are what a crash left. A case of a boot that the log had not reached,
     /// which no coordinator writes, restarts as the others do. A refusal hands the log back. Memory,
     /// Exhausted, Device: as of `restart`.
     pub fn reopen(
@@ -196,7 +196,7 @@ impl<L: LogStore + Drop> Coordinator<L> {
         }
     }
 
-    /// The store under its log, as it stands.
+    /// The store under its log, as it is.
     pub fn into_store(self) -> L
         ensures { (log_state (log_form self.me kind.Coordinator) (L.bytes result) (L.forced result) (L.failures result)
             (L.room result) (state self).log.failed).sight ≡ (state self).log }
@@ -204,7 +204,7 @@ impl<L: LogStore + Drop> Coordinator<L> {
         self.into_log().into_store()
     }
 
-    /// The log, as it stands.
+    /// The log, as it is.
     fn into_log(self) -> RecLog<L>
         ensures { result ≡ self.log }
     {

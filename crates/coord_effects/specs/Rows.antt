@@ -75,7 +75,7 @@ abbrev pub written_of : Option Framed → List WrittenRecord
 written_of None = []
 written_of (Some w) = written_by w ∷ []
 
--- the frame can stand in the log of a coordinator below this parent, and names its record whole
+-- the frame can be in the log of a coordinator below this parent, and names its record whole
 pub record IsFramed (parent : Option ProcessId) (w : Framed) : Type 0 where
   pub named : frame_record w.frame ≡ in_log parent (frame_record w.frame).entry
   pub sound : IsRecord Coordinator (frame_record w.frame)
@@ -110,7 +110,7 @@ pub record Shows (effect : RowEffect) (told : Option Told) (messages : List Enve
   pub reaction : reaction_by effect
       ≡ record { begun = None; written = []; told = told; messages = messages; kept = None }
 
--- an effect writes this record, as it stands in the log of a coordinator below this parent, and tells and
+-- an effect writes this record, as it is in the log of a coordinator below this parent, and tells and
 -- sends this
 pub record ShowsRecord (parent : Option ProcessId) (effect : RowEffect) (w : Written) (told : Option Told)
     (messages : List Envelope) : Type 0 where

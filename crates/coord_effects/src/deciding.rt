@@ -56,7 +56,7 @@ fn waits(outcome: Outcome) -> Standing
 }
 
 /// A decision that each of these owes an acknowledgement of: its record is forced and names them, and the
-/// case waits for them, or is forgotten where there are none. Memory; Exhausted, where no log holds the record:
+/// case waits for them, or is forgotten if there are none. Memory; Exhausted, if no log holds the record:
 /// nothing changed.
 #[tactic(auto, using(crate::proofs::Decisions::names_decided))]
 pub fn decides_owed(

@@ -10,7 +10,7 @@ use log_text::Frame;
 use std::alloc::Global;
 use tree_model::{Envelopes, Logged, Reaction, Record, Sequence, StepError, Told};
 
-/// A record that a row writes, as it stands in the log, and whether it is forced.
+/// A record that a row writes, as it is in the log, and whether it is forced.
 #[derive(Drop)]
 pub struct Framed {
     pub frame: Frame,
@@ -45,7 +45,7 @@ impl Written {
         }
     }
 
-    /// The record as it stands in the log of this coordinator. Exhausted: no log holds it.
+    /// The record as it is in the log of this coordinator. Exhausted: no log holds it.
     fn framed(&self, alloc: Global, seat: &Seat) -> Result<Framed, StepError>
         ensures ok { IfOk result (λ framed. Frames seat.now.parent framed self.now) }
         ensures unwritten { IfErr result (NotWritten seat.now.parent (meant self.now ∷ [])) }

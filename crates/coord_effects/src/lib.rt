@@ -10,7 +10,7 @@
 //! resuming  what a case sends again as its coordinator restarts
 //! ```
 //!
-//! The other rows stand above it (`coord_rows`).
+//! The other rows are above it (`coord_rows`).
 #![tactic(auto)]
 
 mod deciding;

@@ -10,7 +10,7 @@ use coord_case::Live;
 use std::alloc::AllocError;
 use tree_model::{Envelope, Envelopes, Message, Outcome, Standing};
 
-/// After these messages an inquiry to the parent, where there is one.
+/// After these messages an inquiry to the parent, if there is one.
 fn inquire(messages: &mut Envelopes, seat: Seat) -> Result<(), AllocError>
     ensures { OnOk result (messages.new ≡ messages.old
         ++ up_of (seat_meant seat) (Message.Inquire seat.case)) }

@@ -56,7 +56,7 @@ impl Seat {
     }
 }
 
-/// The message to the parent, where there is one.
+/// The message to the parent, if there is one.
 pub fn up(alloc: Global, seat: Seat, message: Message) -> Result<Envelopes, AllocError>
     ensures { IfOk result (λ messages. messages ≡ up_of (seat_meant seat) message) }
 {

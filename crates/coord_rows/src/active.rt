@@ -55,7 +55,7 @@ pub fn active_joined(
     Ok(RowEffect::quiet(alloc))
 }
 
-/// Active, the work act: the accepted child's next work is sent. Memory; Exhausted, where 2^64 - 1 works were
+/// Active, the work act: the accepted child's next work is sent. Memory; Exhausted, if 2^64 - 1 works were
 /// sent to the child: nothing changed.
 pub fn active_work(
     alloc: Global,

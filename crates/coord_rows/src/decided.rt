@@ -31,7 +31,7 @@ use inquire_core::presumed;
 use std::alloc::{AllocError, Global};
 use tree_model::{Case, Finding, Message, Outcome, Record, Sequence, StepError, Ticket};
 
-/// The root's End: plain where nothing was found; else with what was found, forced.
+/// The root's End: plain if nothing was found; else with what was found, forced.
 fn root_end(alloc: Global, case: Case, found: &[Finding]) -> Result<Written, AllocError>
     ensures { IfOk result (λ written. written ≡ end_written case (end_reports this_version None found.now)) }
 {

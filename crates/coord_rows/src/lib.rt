@@ -35,7 +35,7 @@
 //!
 //! A case that aborted without anybody left to acknowledge, or that ended, is gone: it is Unknown.
 //!
-//! What a row makes, and the rows of a case in doubt (Prepared), stand in `coord_effects`; what the crates above
+//! What a row makes, and the rows of a case in doubt (Prepared), are in `coord_effects`; what the crates above
 //! take of it is passed on from here.
 #![tactic(auto)]
 

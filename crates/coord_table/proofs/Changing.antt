@@ -146,7 +146,7 @@ fits_begun old new c h fits ungiven puts = fits_with old new puts.key (Some (c, 
         let no : false ≡ true =
         sym (ap (is_for d) ungiven) ∙ ap (λ (q : Case × Held). is_for d q.1.given_for) entry ∙ is in absurd (cc)
 
--- an entry that was given for nobody, and whose case stands in some way
+-- an entry that was given for nobody, and whose case is in some way
 pub restores : (old new : Slots) (c : Case) (v : CoordinatorView) (key : ℕ) → FitsGiven old
     → Inserts old new c (record { given_for = None; live = v }) key → Restores old new c v
 restores old new c v key fits inserts =
@@ -162,7 +162,7 @@ restores old new c v key fits inserts =
       updates = inserts.updates;
     }
 
--- where there is no active ticket no key was given for it
+-- if there is no active ticket no key was given for it
 pub ungiven_of : (slots : Slots) (d : Case) → FitsGiven slots → ticket_in slots d ≡ None → (k : ℕ)
     → is_given d (entry_at slots k) ≡ false
 ungiven_of slots d fits none k = by_entry (entry_at slots k) refl

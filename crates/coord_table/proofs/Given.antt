@@ -37,7 +37,7 @@ module _ (slots : Slots) (fits : FitsGiven slots) (d : Case) (t : Ticket) where
         owner = named_so p.0 d.txn t ((txn_tells p.0.txn d.txn).0 (fits.txns k d p at is)) has;
       }
 
-  -- an active ticket stands at some key, whose case is the child's
+  -- an active ticket is at some key, whose case is the child's
   pub active_at : ticket_in slots d ≡ Some t → GivenAt slots d t
   active_at active =
       elim (given_or_none slots d) [

@@ -38,7 +38,7 @@ ticket_is (slot ∷ slots) d (suc k) one given =
         by_test true here = let clash : 0 ≡ suc k = one 0 (suc k) here given in absurd (omega (arith, clash))
         by_test false here = later
 
--- where no key was given for it there is no active ticket
+-- if no key was given for it there is no active ticket
 pub ticket_none : (slots : Slots) (d : Case) → ((k : ℕ)
     → is_given d (entry_at slots k) ≡ false) → ticket_in slots d ≡ None
 unfolding ticket_in

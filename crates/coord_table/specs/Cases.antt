@@ -17,7 +17,7 @@ Slots = List (Option (Case × Held))
 
 -- How a case stands.
 
--- the view of what is held of a case; where nothing is, it is Unknown
+-- the view of what is held of a case; if nothing is, it is Unknown
 abbrev pub held_view : Option Held → CoordinatorView
 held_view None = unknown_view
 held_view (Some h) = h.live
@@ -133,7 +133,7 @@ pub record Begins (old new : Slots) (c : Case) : Type 0 where
   pub updates : Updates old new key (Some (c, record { given_for = None; live = open_view }))
   pub counts : Counts old new c
 
--- a case is live again as it stands, and no active ticket moves
+-- a case is live again as it is, and no active ticket moves
 pub record Restores (old new : Slots) (c : Case) (view : CoordinatorView) : Type 0 where
   pub moves : Moves old new c view
   pub only : (d : Case) → same_case c d ≡ false → live_value old d ≡ None → live_value new d ≡ None

@@ -41,7 +41,7 @@ resumed_by s summary = resumes_by s (view_of summary) (view_of summary).standing
 abbrev pub resumed_of : ProcessId → Option ProcessId → Case × Summary → List Envelope
 resumed_of me parent e = resumed_by (record { me = me; parent = parent; own = e.0 }) e.1
 
--- the view of what was found of a case; where nothing was, it is Unknown
+-- the view of what was found of a case; if nothing was, it is Unknown
 abbrev pub view_found : Option Summary → CoordinatorView
 view_found None = unknown_view
 view_found (Some s) = view_of s
@@ -91,7 +91,7 @@ pub record Rebuilds (place : Place) (ls : List LogRecord) (r : Rebuilt) : Type 0
   pub shown : r.reaction ≡ reaction_of (reopening place.role place.me (own_records place ls))
   pub remembers : Remembers (read_again place ls) r.remembered
 
--- why nothing is made of them: memory was refused, or a record that a restart appends can stand in no log
+-- why nothing is made of them: memory was refused, or a record that a restart appends can be in no log
 abbrev pub NotRebuilt : Place → List LogRecord → StepError → Type 0
 NotRebuilt place ls Memory = ⊤
 NotRebuilt place ls Exhausted = AllByRecursion (IsSound Coordinator) (appended_to place ls) → ⊥

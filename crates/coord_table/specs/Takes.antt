@@ -73,7 +73,7 @@ LetsGo old new key =
     (Ends old new key × (live_at old key ≡ Some unknown_view))
     ⊎ ((new ≡ old) × (live_at old key ≡ Some unknown_view → ⊥))
 
--- The case does what the row says, and its ticket is retired if it is to be; where nothing is left of it, it
+-- The case does what the row says, and its ticket is retired if it is to be; if nothing is left of it, it
 -- leaves the table. No other case and no other ticket moves.
 pub record TakesRowOf (old new : Slots) (s : Seat) (asked : Asked) (effect : RowEffect) : Type 0 where
   pub does : Does s (asked_row (seat s) asked (view_in old s.case)) effect (view_in new s.case)

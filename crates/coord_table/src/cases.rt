@@ -193,7 +193,7 @@ impl Cases {
         Ok(())
     }
 
-    /// A case that was not live is live again as it stands. Memory: nothing changed.
+    /// A case that was not live is live again as it is. Memory: nothing changed.
     pub fn restore(&mut self, case: Case, live: Live) -> Result<(), AllocError>
         requires { live_value self.old case ≡ None }
         ensures ok { OnOk result (Restores self.old self.new case live) }

@@ -122,7 +122,7 @@ fn on_prepare(alloc: Global, seat: Seat, live: &mut Live) -> Result<RowEffect, S
     }
 }
 
-/// The live case takes the row that it meets. Memory; Exhausted, where the row is beyond the bounds of numbers: it
+/// The live case takes the row that it meets. Memory; Exhausted, if the row is beyond the bounds of numbers: it
 /// says the same as before.
 pub fn take_row(
     alloc: Global,

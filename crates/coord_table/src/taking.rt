@@ -64,7 +64,7 @@ fn is_forgotten(cases: &Cases, key: usize) -> bool
 }
 
 /// The case under the key takes the row that it meets: PREPARE and ABORT retire its ticket, and it leaves
-/// the table where it is forgotten. Memory; Exhausted, where the row is beyond the bounds of numbers: nothing is
+/// the table where it is forgotten. Memory; Exhausted, if the row is beyond the bounds of numbers: nothing is
 /// otherwise.
 pub fn take(
     alloc: Global,

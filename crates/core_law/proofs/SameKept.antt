@@ -17,7 +17,7 @@ pub record SameKept (old new : CoreState) : Type 0 where
   pub branches : (c : Case) → new.branch_of c ≡ old.branch_of c
   pub decided : (c : Case) → (new.branch_of c).standing ≡ Heuristic → new.decided_of c ≡ old.decided_of c
 
--- so where nothing is otherwise
+-- so if nothing is otherwise
 pub same_kept : (old new : CoreState) → SameCore old new → SameKept old new
 same_kept old new same = record {
   log = same.log;

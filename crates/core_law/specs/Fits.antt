@@ -54,7 +54,7 @@ NodeFits (AtLeaf p) place n = LeafFits place n
 abbrev pub KeepsOwn : Place → Node → Type 0
 KeepsOwn place n = list_all (is_own_record place) (kept n) ≡ true
 
--- an Opened stands in the log
+-- an Opened is in the log
 abbrev pub HasOpened : Node → Type 0
 HasOpened n = has is_opened (kept n) ≡ true
 

@@ -62,7 +62,7 @@ pub record FaultsAs (n : Node) (old new : CoreState) (q : ProcessId) (i : Input)
   pub stands : Stands left new
 
 -- A device's failure in an input is a move of the model's process with a fault in it. Of an input that is
--- passed over the model writes nothing, not even a front of the records that stand after the forced ones.
+-- passed over the model writes nothing, not even a front of the records that are after the forced ones.
 abbrev pub FaultsAreMoves : Type 0
 FaultsAreMoves = (n : Node) (old new : CoreState) (a : DataAnswer) (i : Input)
     → Stands n old → (n.failed ≡ false → NodeFits old.place.role old.place n)
@@ -94,7 +94,7 @@ abbrev pub trim_reaction : ℕ → Reaction
 trim_reaction remain =
     record { begun = None; written = []; told = None; messages = []; kept = Some remain }
 
--- the records of the process's log can stand in a log of its sort
+-- the records of the process's log can be in a log of its sort
 abbrev pub IsSoundLog : CoreState → Type 0
 IsSoundLog s = AllByRecursion (IsSound (kind_of_role s.place.role)) (records_of s.log.kept)
 
@@ -118,7 +118,7 @@ RestartFaultsAreMoves = (n : Node) (old new : CoreState) (keep : ℕ)
     → Stands n old → KeepsOwn old.place n → NotRestarted old keep new Device
     → BreaksAs n old new (restart_of old keep)
 
--- A trim of a process that is up is a move of the model's process, where the records of its log can stand in
+-- A trim of a process that is up is a move of the model's process, where the records of its log can be in
 -- one, and the model's process keeps what every run keeps.
 abbrev pub TrimsAreMoves : Type 0
 TrimsAreMoves = (n : Node) (old new : CoreState) (remain : ℕ)

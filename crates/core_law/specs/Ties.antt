@@ -13,12 +13,12 @@ use Rattle.tree_model.specs.Restarts.{is_known}
 use Rattle.tree_model.specs.SameViews.{SameView}
 use Rattle.core_model.specs.States.{CoreState, logged}
 
--- how a case stands at a coordinator, read off its lists; a manager has no such views
+-- how a case is at a coordinator, read off its lists; a manager has no such views
 abbrev pub view_at : Role → Place → Node → Case → CoordinatorView
 view_at (AtLeaf p) place n c = unknown_view
 view_at _ place n c = coordinator_view place n c
 
--- how a case stands at a manager, read off its lists; a coordinator has no branches
+-- how a case is at a manager, read off its lists; a coordinator has no branches
 abbrev pub branch_at : Role → Place → Node → Case → ManagerView
 branch_at (AtLeaf p) place n c = manager_view place n c
 branch_at _ place n c = unknown_branch

@@ -83,7 +83,7 @@ pub fn restart_faults_are_moves()
 {}
 
 /// Where a process of any role that is up stands for a process of the model that keeps what every run keeps,
-/// and the records of its log can stand in one, its trim is a move of that: N records remain in both,
+/// and the records of its log can be in one, its trim is a move of that: N records remain in both,
 /// and it stands for what is left.
 pub fn trims_are_moves()
     ensures { TrimsAreMoves }

@@ -16,15 +16,15 @@ use Rattle.core_model.specs.States.{wrote}
 abbrev pub HasRoom : LogState → Type 0
 HasRoom l = 65540 ≤ l.room
 
--- the record stands after the others; where it is forced, all records are
+-- the record is after the others; where it is forced, all records are
 pub record Writes (old new : LogState) (l : LogRecord) (forced : Bool) : Type 0 where
   pub sight : new.sight ≡ wrote old.sight (record { entry = l.entry; is_forced = forced } ∷ []) (l ∷ [])
 
--- each of these records can stand in the log of a coordinator below this parent
+-- each of these records can be in the log of a coordinator below this parent
 abbrev pub AreHeld : Option ProcessId → List Record → Type 0
 AreHeld parent rs = AllByRecursion (IsSound Coordinator) (map (in_log parent) rs)
 
--- why a coordinator below this parent has no frames of these records: memory was refused, or one of them can stand in
+-- why a coordinator below this parent has no frames of these records: memory was refused, or one of them can be in
 -- no log of a coordinator
 abbrev pub NotFramed : Option ProcessId → List Record → StepError → Type 0
 NotFramed parent rs Memory = ⊤

@@ -24,12 +24,12 @@ use Rattle.core_model.specs.Makes.{seen}
 
 -- What records alone say.
 
--- how a case stands at a coordinator by these records; a manager has no such views
+-- how a case is at a coordinator by these records; a manager has no such views
 abbrev pub recorded_view_at : Role → List Record → Case → CoordinatorView
 recorded_view_at (AtLeaf p) rs c = unknown_view
 recorded_view_at _ rs c = recorded_view rs c
 
--- how a case stands at a manager by these records; a coordinator has no branches
+-- how a case is at a manager by these records; a coordinator has no branches
 abbrev pub recorded_branch_at : Role → List Record → Case → ManagerView
 recorded_branch_at (AtLeaf p) rs c = recorded_branch rs c
 recorded_branch_at _ rs c = unknown_branch
@@ -80,7 +80,7 @@ pub record Restarts (old : CoreState) (keep : ℕ) (new : CoreState) (reaction :
   pub shown : reaction ≡ reaction_of
       (reopening old.place.role old.place.me (read_of old (left_by old.log keep)))
 
--- a record that a restart appends can stand in no log of this sort of process: no boot below 2^63 comes after the
+-- a record that a restart appends can be in no log of this sort of process: no boot below 2^63 comes after the
 -- last one, or an Abort names more than 255 tickets
 abbrev pub CannotReopen : CoreState → ℕ → Type 0
 CannotReopen s keep = AllByRecursion (IsSound (kind_of_role s.place.role)) (logged s (reopened s keep)) → ⊥

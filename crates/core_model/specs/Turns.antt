@@ -212,7 +212,7 @@ ack_turn s o fs t None = Says []
 ack_turn s o fs t (Some c) =
     let v = s.view_of c in Takes c (on_ack this_version (seat_in s c) t o (v.found ++ fs) v v.standing)
 
--- an inquiry, in the case that was found for the child; where there is none, the child gets what is presumed
+-- an inquiry, in the case that was found for the child; if there is none, the child gets what is presumed
 abbrev pub inquiry_turn : CoreState → Txn → Ticket → Option Case → Turn
 inquiry_turn s x t None =
     Says (post s.place.me t.child (tells_outcome (presumed x.presumption) (child_case x t)) ∷ [])

@@ -43,7 +43,7 @@ answered Cause Why (Ok x) is stands = tt
 answered Cause Why (Err e) (inl memory) stands = inl memory
 answered Cause Why (Err e) (inr cause) stands = inr (stands e cause)
 
--- where no event was refused
+-- if no event was refused
 none_by : (refusal : Refusal) → is_some refusal ≡ false → refusal ≡ None
 none_by None is = refl
 none_by (Some refused) is = absurd (cc)

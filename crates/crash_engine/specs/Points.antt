@@ -34,7 +34,7 @@ pub record AreTooLong (w : WorldState) : Type 0 where
   pub listed : Contains w.tree entry
   pub long : 2 ^ 64 ≤ sum (sizes_at w entry.id)
 
--- the points of a tree as it stands, process by process in the order of the tree
+-- the points of a tree as it is, process by process in the order of the tree
 unfoldable pub points_in : WorldState → List Point
 points_in w = flat_map (λ e. points_at e.id (sizes_at w e.id)) w.tree
 

@@ -50,7 +50,7 @@ mismatch_count ts = count_by (λ t. has_mismatch t.found) ts
 
 -- Lines.
 
--- a word and cases after it, where there are any
+-- a word and cases after it, if there are any
 unfoldable pub cases_text : List ℕ → List Case → List ℕ
 cases_text word cs = if is_none cs then [] else word ++ flat_map case_word cs
 

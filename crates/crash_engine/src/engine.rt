@@ -145,7 +145,7 @@ fn answer<P: Write>(
 /// After a failed read, or where memory is refused, a device fails or numbers are used up, nothing was
 /// written; after a failed write, a beginning of the text. Device and Exhausted come only of a script, one of
 /// whose runs cannot go on for that; Exhausted also where a process's records that a crash may take come to
-/// 2^64 bytes or more, and Device where the tree does not open once more over its logs.
+/// 2^64 bytes or more, and Device if the tree does not open once more over its logs.
 pub fn run_crash<R: Read, W: Write, P: Write>(
     alloc: Global,
     reader: &mut R,

@@ -43,7 +43,7 @@ fn push_each(out: &mut Vec<u8>, cases: &[Case]) -> Result<(), AllocError>
     Ok(())
 }
 
-/// A word and cases after it, where there are any.
+/// A word and cases after it, if there are any.
 #[tactic(auto, unfolding(crate::specs::Texts::cases_text))]
 fn push_cases(out: &mut Vec<u8>, word: &str, cases: &[Case]) -> Result<(), AllocError>
     ensures { OnOk result (out.new.items ≡ out.old.items ++ cases_text word.now cases.now) }

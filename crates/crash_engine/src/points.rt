@@ -45,7 +45,7 @@ fn push_points(points: &mut Vec<Point>, process: ProcessId, sizes: &[u64]) -> Re
     Ok(())
 }
 
-/// The points of a tree as it stands: for each process, in the order of the tree, each number of its
+/// The points of a tree as it is: for each process, in the order of the tree, each number of its
 /// unforced records that a crash may leave. Exhausted: those of one take 2^64 bytes or more.
 #[tactic(auto, unfolding(crate::specs::Points::points_in))]
 pub fn points_of(alloc: Global, world: &World<MemoryStore>) -> Result<Vec<Point>, Failure>

@@ -54,7 +54,7 @@ abbrev pub Ends : Ended → Ways → Stand → Reaction → Stand → Type 0
 Ends Input w start opening now = Woven w start opening now × ReadsAll start.left now.left
 Ends Asked w start opening now = AsksEnd w start opening now
 
--- how a node stands after a turn, if there was one and it did not end
+-- how a node is after a turn, if there was one and it did not end
 abbrev pub LeadsTo : Option Ended → Ways → Stand → Reaction → Stand → Type 0
 LeadsTo None w start opening now = Woven w start opening now
 LeadsTo (Some by) w start opening now = Ends by w start opening now

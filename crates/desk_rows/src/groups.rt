@@ -58,7 +58,7 @@ pub(crate) struct Run {
     pub(crate) calls: Calls,
 }
 
-/// A run of these lines over a new log, if they are read so many bytes at once: with one byte no line is at hand but the
+/// A run of these lines over a new log, if they are read N bytes at once: with one byte no line is at hand but the
 /// one that is read.
 pub(crate) fn run_lines(
     rt: &HostRuntime,

@@ -8,7 +8,7 @@ use logs_script::read_logs;
 use std::alloc::{AllocError, Global};
 use tree_audit::{AuditError, Line, Own, audit};
 
-/// Whether a case stands in doubt: its process promised, and knows no outcome.
+/// Whether a case is in doubt: its process promised, and knows no outcome.
 fn is_doubt(own: Own) -> bool
     ensures { result ≡ stands_in_doubt own }
 {

@@ -5,7 +5,7 @@ use Rattle.tree_model.specs.declared.events.Entry.{Entry}
 use Rattle.trace_lines.specs.Trace.{entries_text}
 use Rattle.core_law.specs.worlds.Worlds.{WorldState}
 
--- what stands before a line with this number
+-- what is before a line with this number
 abbrev pub number_text : ℕ → List ℕ
 number_text n = decimal n ++ codes " "
 

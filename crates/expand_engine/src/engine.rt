@@ -23,7 +23,7 @@ pub enum ExpandFault {
     #[error("{0}")]
     Script(ScriptFault),
     /// The line of this number, from the input's first on, asks for a message that does not wait then.
-    #[error("line {0} asks for a message that does not wait")]
+    #[error("line {0} asks for a message that is not waiting")]
     NoMessage(u64),
     /// The log of this process, with which it begins, is damaged from this byte on.
     #[error("the log of process {0} is damaged from byte {1} on")]

@@ -11,14 +11,14 @@ pub(crate) fn said(line: &str) -> &str {
     line.trim()
 }
 
-/// The words of a line, however many blanks stand between them.
+/// The words of a line, however many blanks are between them.
 pub(crate) fn words_of<'a>(alloc: Global, line: &'a str) -> Result<Vec<&'a str>, AllocError> {
     line.split(' ')
         .filter(|word: &&str| !word.is_empty())
         .collect(alloc)
 }
 
-/// The same words with one blank between two.
+/// These words, with one blank between two.
 pub(crate) fn joined(alloc: Global, words: &[&str]) -> Result<String, AllocError> {
     let mut line = String::new(alloc);
     for word in words {

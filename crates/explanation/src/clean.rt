@@ -11,7 +11,7 @@ fn shown(character: char) -> char {
     }
 }
 
-/// The same text, with a question mark in place of each control character but the ends of its lines.
+/// The text, with a question mark in place of each control character but the ends of its lines.
 pub(crate) fn cleaned(alloc: Global, text: &str) -> Result<String, AllocError> {
     text.chars().map(shown).collect(alloc)
 }

@@ -7,11 +7,11 @@ use tree_model::StepError;
 /// Why an event was refused, with the names in it. Events are named by their numbers, the first having 1.
 #[derive(Clone, Copy, Debug, Error)]
 pub(crate) enum EventFault {
-    #[error("no process {process} is listed")]
+    #[error("process {process} is not listed")]
     NoProcess {
         process: u32,
     },
-    #[error("no message {number} was sent: there are {sent} so far")]
+    #[error("there is no message {number}: messages sent so far: {sent}")]
     NoMessage {
         number: u64,
         sent: u64,
@@ -32,7 +32,7 @@ pub(crate) enum EventFault {
         begun: u64,
         told: u64,
     },
-    #[error("{case} is no longer known: event {begun} began it, and a restart lost it or it has ended")]
+    #[error("{case} is no longer known: event {begun} began it, and it was lost in a restart or has ended")]
     Forgotten {
         case: CaseName,
         begun: u64,
@@ -47,22 +47,22 @@ pub(crate) enum EventFault {
         other: CaseName,
         process: u32,
     },
-    #[error("{case} was forgotten before (event {event})")]
+    #[error("{case} was already forgotten (event {event})")]
     ForgottenBefore {
         case: CaseName,
         event: u64,
     },
-    #[error("{case} has ended: its process wrote so in event {event}")]
+    #[error("{case} has ended: its process recorded the end in event {event}")]
     CaseEnded {
         case: CaseName,
         event: u64,
     },
-    #[error("{case} is no longer known: its ticket is of event {joined}, and it has ended, or a crash took it")]
+    #[error("{case} is no longer known: event {joined} gave out its ticket, and it has ended or was lost in a crash")]
     CaseForgotten {
         case: CaseName,
         joined: u64,
     },
-    #[error("process {process} is a manager, and has no children")]
+    #[error("process {process} is a manager, so it has no children")]
     ManagerInvites {
         process: u32,
     },
@@ -75,23 +75,23 @@ pub(crate) enum EventFault {
     WorkForCoordinator {
         child: u32,
     },
-    #[error("process {child} has not joined {case}: its JOINED must have come")]
+    #[error("process {child} has not joined {case}: its JOINED must be delivered first")]
     NotJoined {
         child: u32,
         case: CaseName,
     },
-    #[error("{txn} was asked to {asked} before (event {event})")]
+    #[error("{txn} was already asked to {asked} (event {event})")]
     AskedBefore {
         txn: TxnName,
         asked: &'static str,
         event: u64,
     },
-    #[error("{case} was asked for its vote before (event {event})")]
+    #[error("{case} was already asked for its vote (event {event})")]
     Voted {
         case: CaseName,
         event: u64,
     },
-    #[error("{case} is the root's, which decides and is never in doubt")]
+    #[error("{case} belongs to the root, which decides and is never in doubt")]
     RootDecides {
         case: CaseName,
     },
@@ -99,12 +99,12 @@ pub(crate) enum EventFault {
     DecideAtCoordinator {
         process: u32,
     },
-    #[error("{case} was decided by an operator before (event {event})")]
+    #[error("an operator already decided {case} (event {event})")]
     DecidedBefore {
         case: CaseName,
         event: u64,
     },
-    #[error("{case} has not promised: it is in doubt from its YES on until its outcome comes")]
+    #[error("{case} has not promised; a case is in doubt from its YES until its outcome comes")]
     NotPromised {
         case: CaseName,
     },
@@ -121,7 +121,7 @@ pub(crate) enum EventFault {
     NotEnded {
         case: CaseName,
     },
-    #[error("the root's log reports nothing of {case} that was not cleared")]
+    #[error("the root's log has no report of {case} that is not cleared")]
     NothingReported {
         case: CaseName,
     },

@@ -168,11 +168,11 @@ pub fn plain_refusal_text(alloc: Global, input: &[u8]) -> Result<String, Failure
 /// Which of reading, writing, memory, devices and numbers failed, and what may be done.
 pub fn failure_text(alloc: Global, failure: Failure) -> Result<String, AllocError> {
     let advice = match failure {
-        Failure::Read => "standard input cannot be read; is it a file, and no directory?",
-        Failure::Write => "standard output takes no more; is its disk full?",
-        Failure::Memory => "there is too little memory for this input",
+        Failure::Read => "standard input cannot be read; is it a directory?",
+        Failure::Write => "standard output cannot be written; is the disk full?",
+        Failure::Memory => "there is not enough memory for this input",
         Failure::Device => "nothing was kept of the run; run it again",
-        Failure::Exhausted => "this input wants more numbers than there are; split it",
+        Failure::Exhausted => "this input needs more numbers than there are; split it",
     };
     format!(in alloc; "rstar: {failure}\n{advice}\n")
 }

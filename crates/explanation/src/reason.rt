@@ -31,7 +31,7 @@ fn child_of(act: &Act) -> Option<ProcessId> {
     }
 }
 
-/// The same name under the other presumption.
+/// The name of the transaction under the other presumption.
 fn other_presumption(txn: Txn) -> Txn {
     let presumption = match txn.presumption {
         Presumption::PresumeAbort => Presumption::PresumeCommit,

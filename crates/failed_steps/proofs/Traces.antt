@@ -77,7 +77,7 @@ then_goes es w s mid t trace more first next =
       tree_stays = two.tree_stays ∙ first.tree_stays;
     }
 
--- where nothing is entered, and the state stands for the same run
+-- if nothing is entered, and the state stands for the same run
 waits : (es : List Made) (w : World) (s t : WorldState) (trace : List Entry) → t.entries ≡ s.entries
     → Follows es w (with_trace t trace) → TraceGoesOn es w s trace t []
 waits es w s t trace same f =
@@ -126,7 +126,7 @@ settled_goes n s t es w trace is_tree f made =
       tree_stays = g.tree_stays;
     }
 
--- Events that were refused, where no device failed.
+-- Events that were refused, if no device failed.
 
 same_goes : (s t : WorldState) (es : List Made) (w : World) (trace : List Entry)
     → Follows es w (with_trace s trace) → Same s t → Goes es w s trace t []

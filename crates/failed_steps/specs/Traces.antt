@@ -34,13 +34,13 @@ abbrev pub TracesGoOn : Type 0
 TracesGoOn = (s t : WorldState) (event : Event) (es : List Made) (w : World) (trace : List Entry) → IsTree s.tree
     → Follows es w (with_trace s trace) → Applies s event t → TraceGoesOn es w s trace t []
 
--- so does one that was refused, of what it had delivered, where no device failed
+-- so does one that was refused, of what it had delivered, if no device failed
 abbrev pub TracesStop : Type 0
 TracesStop = (s t : WorldState) (event : Event) (e : StepError) (es : List Made) (w : World) (trace : List Entry)
     → IsTree s.tree → e ≢ Device → Follows es w (with_trace s trace) → Stops s event e t
     → TraceGoesOn es w s trace t []
 
--- where a device failed, the entry of that step stands in the trace after it
+-- where a device failed, the entry of that step is in the trace after it
 abbrev pub TracesShowFaults : Type 0
 TracesShowFaults = (s t : WorldState) (event : Event) (x : Entry) (es : List Made) (w : World) (trace : List Entry)
     → IsTree s.tree → Follows es w (with_trace s trace) → FailsAt s event t x → TraceGoesOn es w s trace t (x ∷ [])
@@ -50,13 +50,13 @@ abbrev pub TracesLead : Type 0
 TracesLead = (s t : WorldState) (events : List Event) (es : List Made) (w : World) (trace : List Entry)
     → IsTree s.tree → Follows es w (with_trace s trace) → Leads s events t → TraceGoesOn es w s trace t []
 
--- so does one of which an event was refused, where no device failed
+-- so does one of which an event was refused, if no device failed
 abbrev pub TracesLeadUntil : Type 0
 TracesLeadUntil = (s t : WorldState) (events : List Event) (n : ℕ) (e : StepError) (es : List Made) (w : World)
     (trace : List Entry) → IsTree s.tree → e ≢ Device → Follows es w (with_trace s trace) → LeadsUntil s events n e t
     → TraceGoesOn es w s trace t []
 
--- where a device failed in the event that was refused, the entry of that step stands after the others
+-- where a device failed in the event that was refused, the entry of that step is after the others
 abbrev pub TracesFailAfter : Type 0
 TracesFailAfter = (s t : WorldState) (events : List Event) (n : ℕ) (x : Entry) (es : List Made) (w : World)
     (trace : List Entry) → IsTree s.tree → Follows es w (with_trace s trace) → FailsAfter s events n t x

@@ -1,4 +1,4 @@
-//! What stands in a trace where devices failed. The function does nothing: its contract is the law.
+//! What is in a trace where devices failed. The function does nothing: its contract is the law.
 
 ghost use Rattle.failed_steps.specs.Traces.{
   FaultsStop,

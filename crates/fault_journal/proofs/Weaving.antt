@@ -94,7 +94,7 @@ told_to k es f fs told whole le is =
     behind : drop (f.made - k) (drop k es) ≡ drop f.made es
     behind = drop-drop (f.made - k) k es ∙ ap (λ n. drop n es) (omega (arith, le))
 
--- where no fault is left, the other steps are told
+-- if no fault is left, the other steps are told
 pub told_all : (k : ℕ) (es told whole : List Entry) → told ++ woven k (drop k es) [] ≡ whole
     → told ++ take (length es - k) (drop k es) ≡ whole
 unfolding woven

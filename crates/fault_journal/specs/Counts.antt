@@ -1,4 +1,4 @@
--- How many records stand in the log of a process.
+-- How many records are in the log of a process.
 use Rattle.std.specs.Prelude.{◌≡◌, ◌+◌, ◌-◌, ◌&&◌, ⊤, ℕ, if◌then◌else◌, nat_eq, bytes_eq, Option, Some, None, List, length}
 use Rattle.std.specs.List.{list_any}
 use Rattle.tree_model.specs.declared.events.Fault.{Fault}
@@ -9,7 +9,7 @@ use Rattle.core_law.specs.Steps.{records_kept}
 use Rattle.core_law.specs.worlds.Worlds.{KeepsBytes}
 use Rattle.fault_journal.specs.declared.count.Count.{Count}
 
--- how many records stand in its log, and how many of them are forced
+-- how many records are in its log, and how many of them are forced
 abbrev pub count_in : CoreState → Count
 count_in s = record { records = length (records_of s.log.kept); forced = length s.log.kept.forced }
 

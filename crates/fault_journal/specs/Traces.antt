@@ -19,7 +19,7 @@ last_in s f = failed_entries (last_step s.net s.node_at f.last)
 abbrev pub trace_by : WorldState → FaultsSight → List Entry
 trace_by s f = woven 0 s.entries f.counted ++ last_in s f
 
--- the faults stand in the order of the steps that were made before them
+-- the faults are in the order of the steps that were made before them
 abbrev pub AreInPlace : WorldState → FaultsSight → Type 0
 AreInPlace s f = AreInOrder 0 f.counted (length s.entries)
 
@@ -30,7 +30,7 @@ pub record AddsToTrace (old : WorldState) (f : FaultsSight) (new : WorldState) (
   pub grown : new.entries ≡ old.entries ++ entered
   pub trace : trace_by new g ≡ (trace_by old f ++ entered) ++ more
 
--- where the device failed in an event, the entry of that step stands in the trace after what was entered
+-- where the device failed in an event, the entry of that step is in the trace after what was entered
 pub record ShowsFault (old : WorldState) (f : FaultsSight) (event : Event) (new : WorldState) (g : FaultsSight)
     : Type 0 where
   pub entry : Entry

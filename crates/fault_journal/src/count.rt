@@ -1,4 +1,4 @@
-//! How many records stand in a log.
+//! How many records are in a log.
 
 ghost use Rattle.std.specs.Prelude.{◌≡◌, ◌+◌, ◌≤◌, ◌^◌, IfNone, IfSome, length};
 ghost use Rattle.std.specs.List.{list_any};
@@ -7,7 +7,7 @@ ghost use Rattle.fault_journal.specs.Counts.{after_written, all_forced, left_sin
 
 use tree_model::{Fault, Logged};
 
-/// How many records stand in a log, and how many of them are forced.
+/// How many records are in a log, and how many of them are forced.
 #[derive(Clone, Copy, PartialEq, Eq)]
 pub struct Count {
     pub records: u64,
@@ -25,7 +25,7 @@ impl Count {
         }
     }
 
-    /// That of the log once a step has written these; None where the number is 2^64 or more.
+    /// That of the log once a step has written these; None if the number is 2^64 or more.
     pub fn after(self, written: &[Logged]) -> Option<Count>
         ensures some { IfSome result (λ count. count ≡ after_written self written.now) }
         ensures none { IfNone result (2 ^ 64 ≤ self.records + length written.now) }
@@ -39,7 +39,7 @@ impl Count {
         Some(Count { records, forced })
     }
 
-    /// That of the log once a restart has kept N records after the forced ones and written these; None where the number is
+    /// That of the log once a restart has kept N records after the forced ones and written these; None if the number is
     /// 2^64 or more.
     pub fn after_restart(self, kept: u64, written: &[Logged]) -> Option<Count>
         ensures some { IfSome result (λ count. count ≡ all_forced (self.forced + kept + length written.now)) }

@@ -84,7 +84,7 @@ pub fn failed_entry(alloc: Global, step: Step) -> Entry
     }
 }
 
-/// The same of a step that stays where it is.
+/// As `failed_entry`, of a step that stays where it is.
 fn copied_entry(alloc: Global, step: &Step) -> Result<Entry, AllocError>
     ensures { IfOk result (λ entry. entry ≡ failed_entry step.now) }
 {

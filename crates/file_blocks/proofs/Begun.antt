@@ -70,7 +70,7 @@ begun_first bytes number payload more e found =
       held_are = sym (append-nil payload);
     }
 
--- no first block stands there
+-- no first block is there
 pub begun_none : (bytes : List ℕ) (number : ℕ) → take 48 bytes ≡ file_head number
     → first_block number 48 (drop 48 bytes) ≡ None
     → (tail : List ℕ) × IsFile number [] tail bytes

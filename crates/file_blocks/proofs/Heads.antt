@@ -3,7 +3,7 @@ use Rattle.std.proofs.Common.{◌≡◌, ◌<◌, ◌+◌, ◌||◌, ℕ, suc, B
 use Rattle.std.proofs.Math.Seq.{drop-cons}
 use Rattle.file_blocks.specs.Blocks.{has_head, is_head}
 
--- where no head stands at this place, one stands after it or nowhere
+-- if no head is at this place, one is after it or nowhere
 pub one_further : (number place i : ℕ) (xs : List ℕ) → i < length xs
     → is_head number (place + i) (drop i xs) ≡ false
     → has_head number (place + i) (drop i xs) ≡ has_head number (place + (i + 1)) (drop (i + 1) xs)

@@ -22,7 +22,7 @@ file_head_size n = omega (
   length-sha256 (title n),
 )
 
--- the number of a file stands in its head
+-- the number of a file is in its head
 pub head_number : (n : ℕ) (rest : List ℕ) → n < 2 ^ 64 → number_in (drop 8 (file_head n ++ rest)) ≡ n
 unfolding file_head title
 head_number n rest h =

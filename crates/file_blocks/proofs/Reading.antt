@@ -84,7 +84,7 @@ told_size number place p h =
 
 -- Reading back.
 
--- a block stands there
+-- a block is there
 pub whole_back : (number place : ℕ) (p rest : List ℕ)
     → whole_block number place (head_text number place p) (length p) (p ++ rest) ≡ Some (p, rest)
 whole_back number place p rest =

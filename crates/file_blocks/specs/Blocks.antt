@@ -1,4 +1,4 @@
--- Blocks: how what one force covers stands in a file.
+-- Blocks: how what one force covers is in a file.
 use Rattle.std.specs.Prelude.{◌+◌, ℕ, Bool, false, nat_lt, ◌||◌, if◌then◌else◌, List, [], ◌∷◌, ◌++◌, length, take, drop, Option, Some, None}
 use Rattle.std.specs.Str.{bytes_eq}
 use Rattle.byteorder.specs.Endian.{big_bytes, big_number}
@@ -22,7 +22,7 @@ label payload = number_text (length payload) ++ sha256 payload
 unfoldable pub seal : ℕ → ℕ → List ℕ → List ℕ
 seal number place text = sha256 ((number_text number ++ number_text place) ++ text)
 
--- what stands before a block's bytes
+-- what is before a block's bytes
 abbrev pub head_text : ℕ → ℕ → List ℕ → List ℕ
 head_text number place payload = label payload ++ seal number place (label payload)
 

@@ -37,7 +37,7 @@ pub record Begun (bytes : List ℕ) (number : ℕ) (rest held : List ℕ) : Type
   pub place : behind_all 48 (first ∷ others) + length rest ≡ length bytes
   pub held_are : held ≡ concat (first ∷ others)
 
--- What stands in a file: the bytes of its blocks. It has a first one: that was on the disk before the file had its name.
+-- What is in a file: the bytes of its blocks. It has a first one: that was on the disk before the file had its name.
 pub record Holds (bytes : List ℕ) (number : ℕ) (held : List ℕ) : Type 0 where
   pub first : List ℕ
   pub others : List (List ℕ)

@@ -8,7 +8,7 @@ use Rattle.file_blocks.specs.Files.{Holds, IsDamaged, IsFile, file_number, file_
 abbrev pub AreTold : List (List ℕ) → Type 0
 AreTold ps = AllByRecursion (λ p. length p < 2 ^ 64) ps
 
--- A block reads as its bytes, whatever stands after it; and what reads as a block is one.
+-- A block reads as its bytes, whatever is after it; and what reads as a block is one.
 abbrev pub BlocksReadBack : Type 0
 BlocksReadBack = (number place : ℕ) (p rest : List ℕ) → length p < 2 ^ 64
     → first_block number place (block_text number place p ++ rest) ≡ Some (p, rest)
@@ -30,7 +30,7 @@ CutBlocksAreTails = (number place k : ℕ) (p : List ℕ) → length p < 2 ^ 64
     → (first_block number place (take k (block_text number place p)) ≡ None)
     × (is_damaged number place (take k (block_text number place p)) ≡ false)
 
--- A block that is broken is damage where the head of another stands after it: its own head is as it was written, or is
+-- A block that is broken is damage where the head of another is after it: its own head is as it was written, or is
 -- none any more. (A head that is another one and sound has the digest of another text.)
 abbrev pub BrokenBlocksAreTold : Type 0
 BrokenBlocksAreTold = (number place : ℕ) (p t q more : List ℕ) → length p < 2 ^ 64 → length t ≡ 72 + length p

@@ -17,7 +17,7 @@ ghost use Rattle.file_blocks.specs.Blocks.{
 use byteorder::{BigEndian, ByteOrder};
 use sha2::{Digest, Sha256};
 
-/// How many bytes stand before a block's own.
+/// How many bytes are before a block's own.
 pub const HEAD: usize = 72;
 
 /// One after the other, these bytes fill what is to be written.
@@ -74,7 +74,7 @@ fn seal_of(number: u64, place: u64, label: &[u8]) -> [u8; 32]
     Sha256::digest(&text)
 }
 
-/// What stands before a block of these bytes, at this place of the file with this number.
+/// What is before a block of these bytes, at this place of the file with this number.
 pub fn head_of(number: u64, place: u64, payload: &[u8]) -> [u8; 72]
     ensures { result ≡ head_text number place payload.now }
 {
@@ -108,7 +108,7 @@ fn whole_block<'a>(
 }
 
 /// The block with which these bytes begin at this place of the file with this number: its bytes, and those
-/// after it. None where it is not whole. It takes no memory.
+/// after it. None if it is not whole. It takes no memory.
 pub fn first_block(number: u64, place: u64, bytes: &[u8]) -> Option<(&[u8], &[u8])>
     ensures { option_map (λ p. (p.0.now, p.1.now)) result ≡ first_block number place bytes.now }
 {
@@ -146,8 +146,8 @@ pub fn has_head(number: u64, place: u64, bytes: &[u8]) -> bool
     false
 }
 
-/// Whether what stands after the last whole block, at this place, is more than what a cut of power leaves of
-/// a write: a head of this file stands after a block that is broken.
+/// Whether what is after the last whole block, at this place, is more than what a cut of power leaves of
+/// a write: a head of this file is after a block that is broken.
 pub fn is_damaged(number: u64, place: u64, tail: &[u8]) -> bool
     requires { place + length tail.now < 2 ^ 64 }
     ensures { result ≡ is_damaged number place tail.now }

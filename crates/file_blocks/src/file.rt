@@ -8,13 +8,13 @@ use sha2::{Digest, Sha256};
 use std::alloc::{AllocError, Global};
 use thiserror::Error;
 
-/// How many bytes stand before a file's blocks.
+/// How many bytes are before a file's blocks.
 pub const FILE_HEAD: usize = 48;
 
 /// What a file begins with.
 const TITLE: [u8; 8] = *b"RSTARLOG";
 
-/// What stands in a log's file.
+/// What is in a log's file.
 #[derive(Drop)]
 pub struct FileText {
     /// The file's number.
@@ -59,7 +59,7 @@ pub fn file_head(number: u64) -> [u8; 48]
     head
 }
 
-/// What stands before the bytes of a file's only block, in the file with this number.
+/// What is before the bytes of a file's only block, in the file with this number.
 pub fn file_start(number: u64, payload: &[u8]) -> [u8; 120]
     ensures { result ++ payload.now ≡ file_text number (payload.now ∷ []) }
 {
@@ -70,7 +70,7 @@ pub fn file_start(number: u64, payload: &[u8]) -> [u8; 120]
     start
 }
 
-/// The number of the file that begins with these bytes. None where they are no file's.
+/// The number of the file that begins with these bytes. None if they are no file's.
 pub fn file_number(bytes: &[u8]) -> Option<u64>
     ensures { result ≡ file_number bytes.now }
 {
@@ -85,7 +85,7 @@ pub fn file_number(bytes: &[u8]) -> Option<u64>
     }
 }
 
-/// What stands in a file of these bytes: up to the first block that is not whole, which a cut of power may
+/// What is in a file of these bytes: up to the first block that is not whole, which a cut of power may
 /// have left. Damaged: it is no file of a log; or its first block is not whole, which was on the disk before the
 /// file had its name; or another block was begun after one that is not whole.
 pub fn read_file(alloc: Global, bytes: &[u8]) -> Result<FileText, ReadFault>

@@ -10,7 +10,7 @@ ghost use Rattle.file_blocks.specs.Laws.{
   ReadBlocksAreWritten,
 };
 
-/// A block that was written reads as its bytes, whatever stands after it, and what reads as a block was
+/// A block that was written reads as its bytes, whatever is after it, and what reads as a block was
 /// written as one.
 pub fn blocks_read_back()
     ensures back { BlocksReadBack }
@@ -27,7 +27,7 @@ pub fn cut_blocks_are_tails()
     ensures { CutBlocksAreTails }
 {}
 
-/// A block that is broken is damage where the head of another stands after it: so an empty block at the end tells
+/// A block that is broken is damage where the head of another is after it: so an empty block at the end tells
 /// of each block before it.
 pub fn broken_blocks_are_told()
     ensures { BrokenBlocksAreTold }

@@ -1,9 +1,9 @@
 //! Floor: the log.
 //!
-//! Blocks: how a log's bytes stand in a file, so that what a cut of power leaves of the last write is told
+//! Blocks: how a log's bytes are in a file, so that what a cut of power leaves of the last write is told
 //! from what was safe.
 //!
-//! | Bytes | What stands there |
+//! | Bytes | What is there |
 //! |---|---|
 //! | 0 to 7 | `RSTARLOG` |
 //! | 8 to 15 | the file's number, the highest byte first |
@@ -12,7 +12,7 @@
 //!
 //! A block at a place of the file:
 //!
-//! | Bytes | What stands there |
+//! | Bytes | What is there |
 //! |---|---|
 //! | 0 to 7 | how many bytes it has, the highest byte first |
 //! | 8 to 39 | their digest |

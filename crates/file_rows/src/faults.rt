@@ -78,7 +78,7 @@ fn reads(alloc: Global, text: &[u8], safe: &Safe) -> bool {
     }
 }
 
-/// What stands after a front that is left, where anything does.
+/// What is after a front that is left, where anything does.
 const BEHIND: [u8; 2] = [0, 165];
 
 /// Whether a front of the file reads so, with nothing after it, with zeros, and with other bytes.
@@ -165,7 +165,7 @@ fn goes_on(alloc: Global, calls: u64, part: usize) -> Result<bool, AllocError> {
     Ok(taken && reads && file.safe == file.held.len())
 }
 
-/// How many ends of files read as they must; None, where one does not.
+/// How many ends of files read as they must; None, if one does not.
 pub fn run(alloc: Global) -> Option<u64> {
     let mut count = 0u64;
     for calls in 0..11 {

@@ -17,7 +17,7 @@ fn fill(rt: &HostRuntime) -> Result<bool, OpenError> {
     Ok(filled && busy)
 }
 
-/// Fills the log once more, and ends in order: an empty block stands after the others.
+/// Fills the log once more, and ends in order: an empty block is after the others.
 fn fill_and_close(rt: &HostRuntime) -> Result<bool, OpenError> {
     let mut store = open(rt, rt.alloc(), LOG)?;
     Ok(store.append(b", three").is_ok() && store.close().is_ok())

@@ -19,7 +19,7 @@ module _ {F : Type 0} where
     pub end : s.end ≡ behind_all 48 (first ∷ others)
     pub safe : concat (first ∷ others) ≡ take s.forced s.bytes.items
 
-  -- A file that took another's place with all that stands in this store is on the disk.
+  -- A file that took another's place with all that is in this store is on the disk.
   abbrev pub PutsAreOnDisk : (F → F → List ℕ → Type 0) → FileStore F → Type 0
   PutsAreOnDisk replaces new = (old : F) (text : List ℕ) → PutsFile replaces old new text → new.bytes.items ≡ text
       → new.forced ≡ length text → OnDisk new text []
@@ -31,7 +31,7 @@ module _ {F : Type 0} where
       → Forces file_bytes file_forced file_failures old new
       → (more : List (List ℕ)) × OnDisk new first (others ++ more)
 
-  -- A block that is written where the next one begins stands in the file after those that are on the disk.
+  -- A block that is written where the next one begins is in the file after those that are on the disk.
   abbrev pub BlocksStandAfterThem : FileStore F → Type 0
   BlocksStandAfterThem s = (first : List ℕ) (others : List (List ℕ)) → OnDisk s first others
       → (s.end ≡ length (file_text s.number (first ∷ others)))

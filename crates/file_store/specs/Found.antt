@@ -1,4 +1,4 @@
--- What an opening makes of what stands under a log's name.
+-- What an opening makes of what is under a log's name.
 use Rattle.std.specs.Prelude.{ℕ, List, Option, Some, None, ⊤, option_map}
 use Rattle.std.specs.Borrow.{Bor}
 use Rattle.file_blocks.specs.declared.file.FileText.{FileText}

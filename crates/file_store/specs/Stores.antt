@@ -1,4 +1,4 @@
--- A store over a file: what stands in it, and what its calls ask of the file.
+-- A store over a file: what is in it, and what its calls ask of the file.
 use Rattle.std.specs.Prelude.{◌≡◌, ◌⊎◌, ℕ, List, [], ◌∷◌, length, drop, false, true}
 use Rattle.log_store.specs.Stores.{MoreFailures}
 use Rattle.file_blocks.specs.Blocks.{behind, block_text}
@@ -10,7 +10,7 @@ module _ {F : Type 0} where
   abbrev pub file_of : FileStore F → F
   file_of s = s.file
 
-  -- the bytes that stand in it
+  -- the bytes that are in it
   abbrev pub file_bytes : FileStore F → List ℕ
   file_bytes s = s.bytes.items
 
@@ -56,7 +56,7 @@ module _ {F : Type 0} where
     pub end : new.end ≡ behind 48 text
     pub fresh : new.stale ≡ false
 
-  -- what a force did: what was not forced stands in one block more; or, where the file may have held other bytes than
+  -- what a force did: what was not forced is in one block more; or, where the file may have held other bytes than
   -- the store, a new file of all that stands took its place
   abbrev pub ForcesFile : (F → F → ℕ → List ℕ → Type 0) → (F → F → Type 0) → (F → F → List ℕ → Type 0)
       → FileStore F → FileStore F → Type 0

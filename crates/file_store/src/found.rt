@@ -22,11 +22,11 @@ pub enum OpenError {
     /// There is one, and a new one was to be made.
     #[error("there is a log")]
     Exists,
-    /// What stands there is no file of a log, or what was safe in it is broken.
+    /// What is there is no file of a log, or what was safe in it is broken.
     #[error("the log is damaged")]
     Damaged,
     /// What has the name is a folder, a pipe or the like.
-    #[error("it is no file")]
+    #[error("it is not a file")]
     NoFile,
     /// The file has a second name (a hard link), by which another process could open it.
     #[error("the file has a second name")]
@@ -52,7 +52,7 @@ impl From<io::Error> for OpenError {
     }
 }
 
-/// What stands in the file with a log's name: its number, and the bytes of the log, which are none if no record
+/// What is in the file with a log's name: its number, and the bytes of the log, which are none if no record
 /// came to be forced. None: there is no such file. Missing, Damaged: these bytes are no log's. It reads them alone:
 /// whose log it is, and of which format, is for the log to tell.
 pub fn found_in(alloc: Global, held: Option<&[u8]>) -> Result<FileText, OpenError>

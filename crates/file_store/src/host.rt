@@ -103,7 +103,7 @@ fn write_both(mut file: &File, head: &[u8], more: &[u8]) -> io::Result<()> {
 fn clear(rt: &HostRuntime, path: &str) -> io::Result<()> {
     match fs::symlink_metadata(rt, path) {
         Ok(found) if found.is_file() => {}
-        Ok(_) => return Err(io::Error::new(ErrorKind::AlreadyExists, "NAME.new is no file")),
+        Ok(_) => return Err(io::Error::new(ErrorKind::AlreadyExists, "NAME.new is not a file")),
         Err(error) if error.kind() == ErrorKind::NotFound => return Ok(()),
         Err(error) => return Err(error),
     }

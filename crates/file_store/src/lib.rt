@@ -1,9 +1,9 @@
 //! Floor: the log.
 //!
-//! A store whose bytes stand in a file: a log over it outlives the program.
+//! A store whose bytes are in a file: a log over it outlives the program.
 //!
 //! What a contract sees is the store's image in memory, which is what the file is to hold. What the store
-//! asks of its file stands in the clauses of `force`, `replace` and `settle`, by the members of `LogFile`;
+//! asks of its file is in the clauses of `force`, `replace` and `settle`, by the members of `LogFile`;
 //! that `HostFile` makes the calls of the system that its methods name is for a reader to see (README.md).
 #![tactic(auto)]
 

@@ -18,7 +18,7 @@ pub trait LogFile: Drop {
     ghost replaces: { Self → Self → List ℕ → Type 0 } = { λ _ _ _. ⊤ };
 
     /// Writes these bytes, one after the other, after N of the file. Ok: a read returns them. Err:
-    /// any of them may stand there.
+    /// any of them may be there.
     fn write(&mut self, place: u64, head: &[u8], more: &[u8]) -> io::Result<()>
         ensures { OnOk result (writes self.old self.new place (head.now ++ more.now)) };
 

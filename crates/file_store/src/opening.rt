@@ -65,7 +65,7 @@ fn locked(rt: &HostRuntime, path: &str) -> Result<File, OpenError> {
     }
 }
 
-/// All that stands in an open file.
+/// All that is in an open file.
 fn read_all(alloc: Global, mut file: &File) -> Result<Vec<u8>, OpenError> {
     let size = usize::try_from(file.metadata()?.len()).unwrap_or(0);
     let mut bytes = Vec::with_capacity(alloc, size.saturating_add(1))?;
@@ -86,7 +86,7 @@ impl SeenLog {
         &self.file
     }
 
-    /// A store over the file, in which these bytes stand in place of those that were found. They are written again
+    /// A store over the file, in which these bytes are in place of those that were found. They are written again
     /// first, under the name: what an earlier process could not sync reads as if it were there. Err: they were not.
     pub fn settle_as(self, bytes: Vec<u8>) -> Result<FileStore<HostFile>, OpenError>
         ensures text { IfOk result (λ store. file_bytes store ≡ bytes.items) }
@@ -161,7 +161,7 @@ pub fn open(rt: &HostRuntime, alloc: Global, path: &str) -> Result<FileStore<Hos
     look(rt, alloc, path)?.settle()
 }
 
-/// Makes a log without bytes under this name, and opens it. Err: what stands under the name is as it was.
+/// Makes a log without bytes under this name, and opens it. Err: what is under the name is as it was.
 pub fn create(rt: &HostRuntime, alloc: Global, path: &str) -> Result<FileStore<HostFile>, OpenError>
     ensures empty { IfOk result (λ store. file_bytes store ≡ []) }
     ensures works { IfOk result (λ store. file_failures store ≡ 0) }
@@ -169,7 +169,7 @@ pub fn create(rt: &HostRuntime, alloc: Global, path: &str) -> Result<FileStore<H
     look_new(rt, alloc, path)?.settle()
 }
 
-/// The bytes of the log with this name, as they stand: no lock is asked for and nothing is written, so its process may
+/// The bytes of the log with this name, as they are: no lock is asked for and nothing is written, so its process may
 /// be running. A block that is being written is passed over.
 pub fn read(rt: &HostRuntime, alloc: Global, path: &str) -> Result<Vec<u8>, OpenError> {
     if let Err(error) = fs::metadata(rt, path) {

@@ -44,7 +44,7 @@ impl<F: Drop> Drop for FileStore<F> {
     }
 }
 
-/// Where the block that begins after a block at this place with N bytes; None, where no file is so
+/// Where the block that begins after a block at this place with N bytes; None, if no file is so
 /// long.
 fn end_of(place: u64, size: usize) -> Option<u64>
     ensures { IfSome result (λ end. end ≡ place + (72 + size)) }
@@ -168,7 +168,7 @@ impl<F: LogFile> FileStore<F> {
 }
 
 /// A file of these bytes takes the place of the file of this number. Gives its number, and where its next block
-/// begins; None, where the device failed.
+/// begins; None, if the device failed.
 fn put<F: LogFile>(file: &mut F, number: u64, new: &[u8]) -> Option<(u64, u64)>
     ensures put { IfSome result (λ at. F.replaces file.old file.new (file_text at.0 (new.now ∷ []))) }
     ensures end { IfSome result (λ at. at.1 ≡ behind 48 new.now) }

@@ -175,7 +175,7 @@ fn process_fault(entry: usize, value: &Value) -> Option<DocumentFault<'_>> {
     info_fault(entry, table)
 }
 
-/// What is wrong with the table of a tree text; None, where nothing is.
+/// What is wrong with the table of a tree text; None, if nothing is.
 pub(crate) fn table_fault(table: &Table) -> Option<DocumentFault<'_>> {
     if let Some(key) = strange_key(table, &["process"]) {
         return Some(DocumentFault::TextKey {

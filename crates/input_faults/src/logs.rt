@@ -12,9 +12,9 @@ use tree_model::{ProcessId, Tree, TreeEntry};
 /// Which log is at fault.
 #[derive(Clone, Copy, Debug, PartialEq, Eq, Error)]
 pub enum LogFault {
-    #[error("no process {process} is listed")]
+    #[error("process {process} is not listed")]
     Strange { process: u32 },
-    #[error("a line before this one is the log of process {process}")]
+    #[error("an earlier line is already the log of process {process}")]
     Twice { process: u32 },
     #[error("process {process} has no line `log {process}`")]
     Missing { process: u32 },

@@ -11,7 +11,7 @@ use tree_model::{MOST_LEVELS, TreeError};
 /// Which process is at fault.
 #[derive(Clone, Copy, Debug, PartialEq, Eq, Error)]
 pub(crate) enum ProcessFault {
-    #[error("no [[process]] stands before the line of three dashes")]
+    #[error("there is no [[process]] before the line of three dashes")]
     NoProcess,
     #[error("{count} processes are listed")]
     TooMany { count: usize },
@@ -19,15 +19,15 @@ pub(crate) enum ProcessFault {
     TooDeep { id: i64, level: usize },
     #[error("process {id} is listed twice")]
     Twice { id: i64 },
-    #[error("process {id} is above itself")]
+    #[error("the parents of process {id} form a cycle")]
     Cycle { id: i64 },
-    #[error("process {id} is a manager, and is the parent of process {child}")]
+    #[error("process {id} is a manager, but is the parent of process {child}")]
     ManagerWithChild { id: i64, child: i64 },
-    #[error("process {id} names the parent {parent}, which is not listed")]
+    #[error("the parent of process {id} is {parent}, which is not listed")]
     NoParent { id: i64, parent: i64 },
-    #[error("processes {id} and {other} have no parent; the root alone has none")]
+    #[error("processes {id} and {other} have no parent; only the root has none")]
     TwoRoots { id: i64, other: i64 },
-    #[error("process {id} has no parent, and is a manager; the root is a coordinator")]
+    #[error("process {id} is a manager and has no parent; the root must be a coordinator")]
     ManagerOnTop { id: i64 },
 }
 

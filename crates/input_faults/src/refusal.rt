@@ -140,7 +140,7 @@ pub fn push_bytes(out: &mut String, input: &[u8]) -> Result<(), AllocError> {
     let line = line_of_byte(input, place);
     writeln!(
         out,
-        "line {line}: byte {place} of the input, counted from 0, begins no character"
+        "line {line}: no character begins at byte {place} of the input, counted from 0"
     )
 }
 
@@ -207,7 +207,7 @@ struct Reading {
     fault: Option<LogFault>,
 }
 
-/// How the line of this number is read, where what stands before the lines of the input is sound.
+/// How the line of this number is read, where what is before the lines of the input is sound.
 fn reading_of(alloc: Global, front: &Front, number: u64) -> Result<Reading, AllocError> {
     let count = leading(&front.lines);
     let (ahead, _) = front.lines.split_at(count);

@@ -25,7 +25,7 @@ is_reached b (Some c) = nat_le (numbered_in c) b
 abbrev pub may_stand : ℕ → Record → Bool
 may_stand b r = is_reached b (record_case r) && nat_le b (boot_after b r)
 
--- each of these records may stand after those before it, where the log has reached this boot
+-- each of these records may be after those before it, where the log has reached this boot
 unfoldable pub are_numbered : ℕ → List Record → Bool
 are_numbered b [] = true
 are_numbered b (r ∷ rs) = may_stand b r && are_numbered (boot_after b r) rs

@@ -6,7 +6,7 @@ ghost use Rattle.inquire_core.specs.Answers.{answer_of};
 
 use tree_model::{Outcome, Presumption, Standing};
 
-/// The outcome that an inquiry gets where nothing is known of its case.
+/// The outcome that an inquiry gets if nothing is known of its case.
 pub fn presumed(presumption: Presumption) -> Outcome
     ensures { result ≡ presumed_of presumption }
 {

@@ -88,7 +88,7 @@ impl Stage {
     }
 }
 
-/// The standing of a decided case, but Unknown where its decision names nobody.
+/// The standing of a decided case, but Unknown if its decision names nobody.
 fn unless_none(nobody: bool, standing: Standing) -> Standing
     ensures { result ≡ unless_none nobody standing }
 {

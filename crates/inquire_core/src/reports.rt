@@ -5,7 +5,7 @@ ghost use Rattle.tree_model.specs.Records.{is_reported, reported_after};
 
 use tree_model::{Case, LogRecord, Record};
 
-/// Whether the report stands after one more record: an End with reports sets it up, and Cleared undoes it.
+/// Whether the report is after one more record: an End with reports sets it up, and Cleared undoes it.
 fn reported_behind(reported: bool, record: &Record, case: &Case) -> bool
     ensures { result ≡ reported_after case.now reported record.now }
 {

@@ -13,7 +13,7 @@ pub record RoomState : Type 0 where
 abbrev pub all_of : List (Vec (ℕ × Entry)) → List (ℕ × Entry)
 all_of turns = flat_map (λ t. t.items) turns
 
--- one turn more stands after these, of just these entries
+-- one turn more is after these, of just these entries
 pub record LinksTurn (old new : List (Vec (ℕ × Entry))) (made : List (ℕ × Entry)) : Type 0 where
   pub turn : Vec (ℕ × Entry)
   pub new_are : new ≡ old ++ turn ∷ []

@@ -115,7 +115,7 @@ abbrev pub OpensFirst : List Call → Type 0
 OpensFirst [] = Unit {0}
 OpensFirst (c ∷ cs) = c ≡ call.Function (function.Open (record { 0 = 0 }))
 
--- a text is a plan of this seed and so many calls: the lines of as many calls, of which the first opens the manager
+-- a text is a plan of this seed and N calls: the lines of as many calls, of which the first opens the manager
 pub record IsPlan (seed count : ℕ) (text : List ℕ) : Type 0 where
   pub calls : List Call
   pub long : length calls ≡ count

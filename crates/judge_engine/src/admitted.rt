@@ -259,7 +259,7 @@ fn push_codes_of(
     }
 }
 
-/// How thread and branch stand in these states, and what they admit.
+/// How thread and branch are in these states, and what they admit.
 pub(crate) fn explain(
     alloc: Global,
     rules: Rules,

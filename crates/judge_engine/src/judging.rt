@@ -26,7 +26,7 @@ pub enum Extent {
 pub struct Fault {
     /// The index of its event.
     pub index: usize,
-    /// How thread and branch stand there.
+    /// How thread and branch are there.
     pub standing: Vec<u8>,
     /// What is admitted there.
     pub admitted: Vec<u8>,

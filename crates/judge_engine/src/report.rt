@@ -12,7 +12,7 @@ use judge_script::Transcript;
 use std::alloc::{AllocError, Global};
 use trace_lines::push_number;
 
-/// The line of a number, counted from 1: empty, where there is none.
+/// The line of a number, counted from 1: empty, if there is none.
 fn line_of<'a>(lines: &[&'a str], number: usize) -> &'a str
     ensures { result.now ≡ slice_index_or (map (λ s. s.now) lines.now) (number - 1) [] }
 {
@@ -22,7 +22,7 @@ fn line_of<'a>(lines: &[&'a str], number: usize) -> &'a str
     }
 }
 
-/// The number of the line of an event: 0, where there is none.
+/// The number of the line of an event: 0, if there is none.
 fn number_of(transcript: &Transcript, index: usize) -> usize
     ensures { result ≡ line_of transcript.now index }
 {

@@ -1,4 +1,4 @@
-//! How thread and branch stand in a state, in the words of XA's tables.
+//! How thread and branch are in a state, in the words of XA's tables.
 
 use crate::admitted::push;
 use judge_rules::{Call, Function, On};

@@ -42,7 +42,7 @@ abbrev pub since_of : Option Branch → Sight → ℕ
 since_of None s = length s.values
 since_of (Some b) s = b.since
 
--- what others have committed since, and, where nothing is isolated, what they have not
+-- what others have committed since, and, if nothing is isolated, what they have not
 abbrev pub may_see : Rules → ℕ → ℕ → ℕ → Sight → Bool
 may_see r since k v s = may_read since k v s || (r.lacks.isolation && is_worked k v s)
 

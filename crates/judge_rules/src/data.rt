@@ -18,7 +18,7 @@ fn since_of(branch: Option<Branch>, state: &State) -> usize
     }
 }
 
-/// Whether others have committed a value since, or, where nothing is isolated, written it.
+/// Whether others have committed a value since, or, if nothing is isolated, written it.
 fn may_see(rules: Rules, since: usize, key: u32, value: u32, state: &State) -> bool
     ensures { result ≡ may_see rules since key value state.now }
 {

@@ -67,7 +67,7 @@ parted_words ws i a s is asks says = record {
   says = subst (λ (q : List (List ℕ)). Says q s) (sym (rest_texts ws (i + 1))) says;
 }
 
--- nothing is parted where no call is spelled, or no answer
+-- nothing is parted if no call is spelled, or no answer
 pub no_call : (ws : List (Bor (List ℕ))) (i : ℕ) → ((a : Asked) → Asks (texts (take i ws)) a → ⊥)
     → (a : Asked) (s : Said) → AreParted (texts ws) i a s → ⊥
 no_call ws i lacks a s h = lacks a (subst (λ (q : List (List ℕ)). Asks q a) (front_texts ws i) h.asks)
@@ -113,7 +113,7 @@ event_parted n ws e h =
 event_place : (n : NameTable) (ws : List (List ℕ)) (e : Event) → (h : IsEvent n ws e) → length h.call < length ws
 event_place n ws e h = omega (arith, ap length h.parts, length-append h.call (codes "->" ∷ h.answer))
 
--- so where nothing is parted there is no event
+-- so if nothing is parted there is no event
 pub no_event : (ws : List (List ℕ))
     → ((i : ℕ) (a : Asked) (s : Said) → i < length ws → AreParted ws i a s → ⊥)
     → (n : NameTable) (e : Event) → IsEvent n ws e → ⊥

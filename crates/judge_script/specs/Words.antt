@@ -8,7 +8,7 @@ use Rattle.xa_xid.specs.Text.{xid_text}
 use Rattle.xa_xid.specs.Xids.{IsXid}
 use Rattle.xa_xid.specs.declared.xid.Xid.{Xid}
 
--- what stands between the spaces of a line
+-- what is between the spaces of a line
 abbrev pub words_in : List ℕ → List (List ℕ)
 words_in line = slice_split (λ b. b == 32) line
 

@@ -116,7 +116,7 @@ fn excuses(lacks: Lacks, words: &[&str]) -> Option<Lacks>
     }
 }
 
-/// By what a manager is judged after one more of the first lines: None, where the words make none.
+/// By what a manager is judged after one more of the first lines: None, if the words make none.
 pub(crate) fn ruled(rules: Rules, words: &[&str]) -> Option<Rules>
     ensures { result ≡ ruled rules (map (λ s. s.now) words.now) }
 {

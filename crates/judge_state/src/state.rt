@@ -67,7 +67,7 @@ impl State {
         }
     }
 
-    /// The same state once more.
+    /// A copy of the state.
     pub fn copied(&self, alloc: Global) -> Result<State, AllocError>
         ensures { IfOk result (λ state. state ≡ self.now) }
     {

@@ -1,4 +1,4 @@
--- What becomes of the judge's branches where one of the manager's comes to a state.
+-- What becomes of the judge's branches where one of the manager's reaches a state.
 use Rattle.std.proofs.Common.{◌≡◌, ℕ, Bool, true, false, not, Some, List, [], ◌∷◌, ◌++◌, ◌||◌, refl, ap, sym, subst, ◌∙◌}
 use Rattle.std.specs.Prelude.{◌==◌, if◌then◌else◌}
 use Rattle.std.specs.List.{list_any}
@@ -17,7 +17,7 @@ use Rattle.judged_deeds.specs.Names.{Numbers}
 use Rattle.judged_deeds.proofs.Lists.{all_append, all_map, all_weaker, all_where, any_agree, any_gone, any_kept, any_map, any_pushed, or_false}
 use Rattle.judged_deeds.proofs.Mirrors.{AreBranches, IsBranch, is_begun, stand_as}
 
--- one branch comes to a state, with a decision, and the others stay
+-- one branch reaches a state, with a decision, and the others stay
 pub record Comes (st st' : Xid → BranchState) (d d' : Xid → Decision) (x : Xid) (to : BranchState) : Type 0 where
   pub own : st' x ≡ to
   pub others : (y : Xid) → same x y ≡ false → st' y ≡ st y
@@ -126,7 +126,7 @@ begun_branches n st st' d d' x to b bs comes name stands was begun are = record 
       let one : is.xid ≡ x = n.xids_apart is.xid x (sym is.is ∙ e) in
       none_stands (st x) (d x) c.stand was (subst (λ (z : Xid). stand_as (st z) (d z) ≡ Some c.stand) one is.stands)) is
 
--- a branch comes to a state in which it stands as before
+-- a branch reaches a state in which it stands as before
 pub kept_branches : (n : Numbers) (st st' : Xid → BranchState) (d d' : Xid → Decision) (x : Xid) (to : BranchState)
     (bs : List Branch) → Comes st st' d d' x to → stand_as to (d' x) ≡ stand_as (st x) (d x)
     → is_begun to ≡ is_begun (st x) → AreBranches n st d bs → AreBranches n st' d' bs

@@ -51,13 +51,13 @@ use Rattle.judged_deeds.proofs.Scanning.{scans_more}
 use Rattle.judged_deeds.proofs.Rows.{first_in}
 use Rattle.judged_deeds.proofs.Steps.{Goes, by_test}
 
--- a known branch does not stand in S0
+-- a known branch is not in S0
 not_unknown : (n : Numbers) (m : States) (d : Xid → Decision) (s : Sight) (x : Xid) → Mirrors n m d s
     → is_known m.branches.branches x ≡ true → state_in m.branches.branches x ≡ S0 → ⊥
 not_unknown n m d s x mirrors e q = false≢true
     (sym (ap is_begun q) ∙ sym (known_here m.branches.branches m.associations x mirrors.orderly) ∙ e)
 
--- one that is not held does not stand in S1
+-- one that is not held is not in S1
 not_busy : (n : Numbers) (m : States) (d : Xid → Decision) (s : Sight) (x : Xid) → Mirrors n m d s
     → is_held m.associations x ≡ false → state_in m.branches.branches x ≡ S1 → ⊥
 not_busy n m d s x mirrors p q = false≢true (sym p ∙ busy_held n m d s x mirrors q)

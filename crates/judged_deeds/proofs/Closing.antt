@@ -56,7 +56,7 @@ own_t0 s p q = false≢true (sym (ap is_one p) ∙ q)
 own_not_two : (s : AssocState) → s ≡ T0 → is_two s ≡ true → ⊥
 own_not_two s p q = false≢true (sym (ap is_two p) ∙ q)
 
--- where no thread has an association the judge has none
+-- if no thread has an association the judge has none
 no_links : (n : Numbers) (a : AssocList) (ls : List Link) (ms : List ℕ) → ((t : ℕ) (x : Xid) → own_state a t x ≡ T0)
     → Tied n a ls ms → ls ≡ []
 no_links n a [] ms none tied = refl

@@ -43,7 +43,7 @@ none_all : (ys : List ℕ) → AllByRecursion (λ y. has [] y ≡ false) ys
 none_all [] = tt
 none_all (y ∷ ys) = (refl, none_all ys)
 
--- what stands after is not in front
+-- what is after is not in front
 apart_both : (xs ys : List ℕ) → are_distinct (xs ++ ys) ≡ true → AllByRecursion (λ y. has xs y ≡ false) ys
 apart_both [] ys h = none_all ys
 apart_both (x ∷ xs) ys h =

@@ -24,7 +24,7 @@ use Rattle.judged_deeds.proofs.Lists.{all_append, all_filter, any_gone, any_kept
 both_off : (a b : Bool) → a ≡ false → b ≡ false → (a || b) ≡ false
 both_off a b h k = rw (h, k) refl
 
--- where nothing is found, all that is found is so
+-- if nothing is found, all that is found is so
 pub vacuous : {X : Type 0} (P : X → Type 0) (p : X → Bool) (xs : List X) → list_any p xs ≡ false
     → AllByRecursion (λ x. p x ≡ true → P x) xs
 vacuous P p [] h = tt

@@ -146,7 +146,7 @@ two_stays t x u y ls apart = any_kept (λ l. l.thread == u && l.branch == y && l
 
 -- Associations that turn.
 
--- what becomes of the judge's associations where that of a thread with a branch comes to a state
+-- what becomes of the judge's associations where that of a thread with a branch reaches a state
 pub record Become (n : Numbers) (t : ℕ) (x : Xid) (ls ls' : List Link) (s : AssocState) : Type 0 where
   pub one : one_at t (n.xid x) ls' ≡ is_one s
   pub two : two_at t (n.xid x) ls' ≡ is_two s

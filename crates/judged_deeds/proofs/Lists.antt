@@ -105,7 +105,7 @@ pub all_weaker : {X : Type 0} (P Q : X → Type 0) → ((x : X) → P x → Q x)
 all_weaker P Q h [] a = tt
 all_weaker P Q h (x ∷ xs) a = (h x a.0, all_weaker P Q h xs a.1)
 
--- where nothing is found of whatever has this, the list is empty
+-- if nothing is found of whatever has this, the list is empty
 pub none_found : {X : Type 0} (P : X → Type 0) (xs : List X) → ((x : X) → P x → ⊥) → AllByRecursion P xs → xs ≡ []
 none_found P [] h a = refl
 none_found P (x ∷ xs) h a = absurd (h x a.0)

@@ -70,7 +70,7 @@ pub record AreBranches (n : Numbers) (st : Xid → BranchState) (d : Xid → Dec
 abbrev pub IsBegun : BranchState → Type 0
 IsBegun s = is_begun s ≡ true
 
--- what the tables keep: no branch stands in S0; in one in S1 some thread is active; in one that is not at work none is,
+-- what the tables keep: no branch is in S0; in one in S1 some thread is active; in one that is not at work none is,
 -- and none has suspended it; a thread that has an association is listed, and one that is listed has one
 pub record IsOrderly (bs : List (Xid × BranchState)) (a : AssocList) : Type 0 where
   pub once : AreListedOnce a.holders

@@ -70,7 +70,7 @@ pub record IsWorded (l : List ℕ) (r : Request) : Type 0 where
   pub place : (other later answer : List (List ℕ)) (a : Asked) → AsksBy word other a → NoArrow answer
       → rest ++ codes "->" ∷ answer ≡ other ++ codes "->" ∷ later → rest ≡ other
 
--- how many words stand after the first
+-- how many words are after the first
 
 abbrev is_fixed : Word → Bool
 is_fixed word.Open = false

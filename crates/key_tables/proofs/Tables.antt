@@ -25,7 +25,7 @@ apart_keys k l differs q e = by_test (key_test l q) refl
         absurd (cc)
 
 module _ {X : Type 0} where
-  -- the items of a list, where there is one
+  -- the items of a list, if there is one
   abbrev pub items_in : Option (Vec X) → List X
   items_in None = []
   items_in (Some v) = v.items

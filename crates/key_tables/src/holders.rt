@@ -47,7 +47,7 @@ fn find_in_way<'a>(holders: &'a [Holder], xid: &Xid, mode: Mode) -> Option<&'a H
     holders.iter().find(|holder| holder.is_in_way(xid, mode))
 }
 
-/// The first branch in the way of a branch's lock; None where nobody is.
+/// The first branch in the way of a branch's lock; None if nobody is.
 pub fn blocked_by(holders: &[Holder], xid: &Xid, mode: Mode) -> Option<Xid>
     ensures { result ≡ blocked_by holders.now xid.now mode }
 {

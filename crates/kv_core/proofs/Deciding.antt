@@ -100,7 +100,7 @@ module _ (x : Xid) where
       (λ c d. refl) (λ h d e. refl)
 
   module _ (ls : List LogRecord) (stands : is_live (said_of x ls) ≡ true) where
-    -- a record of the branch stays that no promise of it stands after
+    -- a record of the branch stays that no promise of it is after
     last_stays : (l : LogRecord) (behind : List LogRecord) → is_of x l ≡ true
         → list_any (prepares x) behind ≡ false → stays ls behind l ≡ true
     last_stays l behind of last = by_name (log_name l) of

@@ -147,7 +147,7 @@ noting_starts ls t none = record {
   known = λ x says. true_is_false (sym says);
 }
 
--- those behind some records by which operators decided this
+-- those after some records by which operators decided this
 pub noting_on : (ls rs : List LogRecord) (t : DecisionTable) → KnowDecided ls t → IsNoting (ls ++ rs) rs t
 unfolding decision_of mark_of
 noting_on ls rs t know = record {

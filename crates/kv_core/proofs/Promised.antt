@@ -309,7 +309,7 @@ module _ (x : Xid) where
             ap (λ z. is_live (said_of z ls) && not (list_any (prepares z) behind)) (sym (same_is x y f))
             ∙ ap (λ b. b && not (list_any (prepares x) behind)) stands ∙ ap not (none_prepared behind last)
 
-    -- the marks after one record of two, which are one where no record is of the branch
+    -- the marks after one record of two, which are one if no record is of the branch
     both_marked : (l : LogRecord) (m n : Mark) → is_managers l.entry ≡ true → (is_of x l ≡ false → m ≡ n)
         → mark_after (Foreign x) m (by_xid l) ≡ mark_after (Foreign x) n (by_xid l)
     both_marked l m n h same = (one l.entry l.parent h).marks m ∙ by_test (is_of x l) refl

@@ -26,11 +26,11 @@ each_at P [] i x all within at = absurd (omega (arith, within))
 each_at P (y ∷ xs) zero x all within at = subst P (sym at) all.0
 each_at P (y ∷ xs) (suc i) x all within at = each_at P xs i x all.1 (omega (arith, within)) at
 
--- a sound record can stand in a log
+-- a sound record can be in a log
 pub is_record : (l : LogRecord) → IsSound Manager l → IsRecord Manager l
 is_record l h = sound_is_record Manager l h
 
--- one more record that can stand in a log
+-- one more record that can be in a log
 pub one_more : (ls : List LogRecord) (l : LogRecord) → AreRecords Manager ls → IsSound Manager l
     → AreRecords Manager (ls ++ l ∷ [])
 one_more [] l h sound = (is_record l sound, tt)

@@ -39,7 +39,7 @@ works_apart q s t x one four works = by_active (active_of s.tables.associations 
     by_active None h = absurd (cc)
     by_active (Some y) h = by_state y (state_of s y) refl h
 
--- a refusal that comes where no other branch's lock is in the way, or Locked where one is
+-- a refusal that comes where no other branch's lock is in the way, or Locked if one is
 pub refused_at : (old new : KeySight) (x : Xid) (k : List ℕ) (v : Option (List ℕ)) (m : Mode)
     (e f : WorkError) → is_spoiled (state_of old x) ≡ false
     → is_too_long k v ≡ false → IsRefusedIfFree old new x k m e

@@ -31,7 +31,7 @@ abbrev pub wrote_some : List Write → Bool
 wrote_some [] = false
 wrote_some (w ∷ ws) = true
 
--- what an operator decided of a branch; where none did, this says nothing
+-- what an operator decided of a branch; if none did, this says nothing
 abbrev pub known_of : KeySight → Xid → Decision
 known_of s x = decision_or (decision_in s.decisions x)
 

@@ -13,7 +13,7 @@ abbrev pub base_after : ℕ → Record → ℕ
 base_after n (Base m) = m
 base_after n _ = n
 
--- the count of the last Base: 0 where there is none
+-- the count of the last Base: 0 if there is none
 abbrev pub base_of : List LogRecord → ℕ
 base_of ls = fold base_after 0 (map (λ l. l.entry) ls)
 

@@ -13,7 +13,7 @@ use Rattle.log_rules.specs.trim.Trims.{trim_of}
 use Rattle.kv_store.specs.Pairs.{keys_rise}
 use Rattle.xa_heur.specs.Decisions.{decided_in}
 
--- a record that can stand in a manager's log: it is of no coordinator's case
+-- a record that can be in a manager's log: it is of no coordinator's case
 abbrev pub is_managers : Record → Bool
 is_managers (Collecting c ts) = false
 is_managers (Prepare c ts) = false

@@ -1,4 +1,4 @@
--- A key store behind XA, without its log.
+-- A key store that is called by XA, without its log.
 use Rattle.std.specs.Prelude.{◌≡◌, ◌-◌, ◌^◌, nat_lt, ℕ, Bool, true, false, is_some, List, [], ◌∷◌}
 use Rattle.xa_tables.specs.declared.states.BranchState.{BranchState}
 use Rattle.xa_tables.specs.declared.states.BranchState.TheVariants.{S0, S5}

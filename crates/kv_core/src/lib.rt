@@ -1,6 +1,6 @@
 //! Floor: XA and the key store.
 //!
-//! A key store behind XA, without its log: the tables of calls, what each branch has written, the locks and
+//! A key store that is called by XA, without its log: the tables of calls, what each branch has written, the locks and
 //! the data. And what the records of a log leave of one, and the data as a trim writes them.
 //!
 //! ```text

@@ -23,7 +23,7 @@ use xa_xid::Xid;
 /// What the records of a log leave of a key store.
 #[derive(Drop)]
 pub struct Replayed {
-    /// The last boot; none where there are no records.
+    /// The last boot; none if there are no records.
     pub boot: Option<u64>,
     /// The branches in doubt, in the order of their promises, and whether an operator decided them.
     pub left: Vec<(Xid, bool)>,

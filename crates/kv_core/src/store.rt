@@ -1,4 +1,4 @@
-//! A key store behind XA, without its log.
+//! A key store that is called by XA, without its log.
 
 ghost use Rattle.std.specs.Prelude.{◌≡◌, ◌≤◌, ◌<◌, ◌+◌, ◌^◌, ℕ, List, Option, length, not, MatchResult, IfOk, IfErr, OnOk, OnErr, Some, None, option_map, true, false};
 ghost use Rattle.key_tables.specs.declared.holders.Mode.{Mode as WorkMode};
@@ -120,7 +120,7 @@ fn note(heuristics: &mut Heuristics, xid: &Xid, entry: Option<Entry>)
     }
 }
 
-/// A copy of these bytes, where there are any.
+/// A copy of these bytes, if there are any.
 fn copied(bytes: Option<&[u8]>, alloc: Global) -> Result<Option<Bytes>, AllocError>
     ensures { IfOk result (λ copy. copy ≡ option_map (λ v. v.now) bytes.entry) }
 {
@@ -133,7 +133,7 @@ fn copied(bytes: Option<&[u8]>, alloc: Global) -> Result<Option<Bytes>, AllocErr
 impl KeyStore {
     /// The store after a restart: a manager that is not open, with these branches in doubt, in this order:
     /// prepared (in S3), or where the second is true decided by an operator (in S5). RmErr: they are more
-    /// than 1,024. DupId: one of them stands there twice.
+    /// than 1,024. DupId: one of them is there twice.
     pub fn restored(
         alloc: Global,
         left: &[(Xid, bool)],
@@ -227,7 +227,7 @@ impl KeyStore {
         self.states.is_open()
     }
 
-    /// Where a branch stands among the known ones, and its state.
+    /// Where a branch is among the known ones, and its state.
     pub fn find(&self, xid: &Xid) -> Option<(usize, BranchState)>
         ensures { Finds self.now.tables.branches.branches xid.now result }
     {
@@ -312,7 +312,7 @@ impl KeyStore {
     }
 
     /// Reads a key for a branch at work, where no other branch's lock is in the way. Memory: nothing changed; it
-    /// comes where one is in the way too.
+    /// comes if one is in the way too.
     fn try_read(&mut self, xid: &Xid, key: &[u8]) -> Result<Option<Bytes>, WorkError>
         requires works { (is_let_go (state_of self.old xid.now) ≡ false)
             × (is_spoiled (state_of self.old xid.now) ≡ false) }
@@ -357,7 +357,7 @@ impl KeyStore {
     }
 
     /// Writes a key for a branch at work, or deletes it, where no other branch's lock is in the way.
-    /// TooManyWrites, Memory: nothing changed; they come where one is in the way too.
+    /// TooManyWrites, Memory: nothing changed; they come if one is in the way too.
     fn try_write(&mut self, xid: &Xid, key: &[u8], value: Option<&[u8]>) -> Result<(), WorkError>
         requires works { (is_let_go (state_of self.old xid.now) ≡ false)
             × (is_spoiled (state_of self.old xid.now) ≡ false) }
@@ -504,7 +504,7 @@ impl KeyStore {
         self.heuristics.reserve()
     }
 
-    /// The branch that stands at this place takes its turn: that of a call, or of an operator's decision,
+    /// The branch that is at this place takes its turn: that of a call, or of an operator's decision,
     /// which leads from S3 to S5. In S0 and S5 it lets its writes, whose place is given, and its locks go. It takes
     /// no memory.
     pub fn finish(&mut self, xid: &Xid, place: usize, written: Option<usize>, turn: Turn)

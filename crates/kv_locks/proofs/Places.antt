@@ -1,4 +1,4 @@
--- A key's holders change where they stand in the map.
+-- A key's holders change where they are in the map.
 use Rattle.std.proofs.Common.{◌≡◌, ◌<◌, ℕ, Bool, true, Option, Some, None, List, [], ◌∷◌, refl, sym, ap, subst, ◌∙◌, arith, rules, get_or, length, position, slice_get}
 use Rattle.std.specs.Prelude.{IfSome}
 use Rattle.std.specs.Cmp.{IsEquivalence}
@@ -50,7 +50,7 @@ module _ {H : Type 0} (m : IndexMap (Vec ℕ) (Vec Holder) H) (k : List ℕ) (i 
   held_here = list_at_key m.entries k
       ∙ ap items_in ((Found-position (key_test k) m.entries i at).value ∙ had)
 
-  -- another list stands there
+  -- another list is there
   becomes_here : (xs : List Holder) → v.items ≡ xs
       → Becomes (table_of m.entries) (table_of (set_value_at m.entries i v)) k xs
   becomes_here xs is =

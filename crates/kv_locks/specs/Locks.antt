@@ -48,7 +48,7 @@ lock_number (Held y) = 2
 
 -- What the code keeps.
 
--- where a key stands in the map
+-- where a key is in the map
 abbrev pub place_of : List (Vec ℕ × Vec Holder) → List ℕ → Option ℕ
 place_of es k = position (λ held. same_key k held.items) (map_keys es)
 
@@ -56,7 +56,7 @@ place_of es k = position (λ held. same_key k held.items) (map_keys es)
 abbrev pub names_key : List (Vec ℕ) → List ℕ → Bool
 names_key ks k = list_any (λ l. same_key l.items k) ks
 
--- the keys in a list, where there is one
+-- the keys in a list, if there is one
 abbrev pub keys_in : Option (Vec (Vec ℕ)) → List (Vec ℕ)
 keys_in None = []
 keys_in (Some v) = v.items

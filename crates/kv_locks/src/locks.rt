@@ -96,7 +96,7 @@ impl Locks {
         }
     }
 
-    /// The first branch in the way of a branch's lock, if there is one: where there is none, a lock is
+    /// The first branch in the way of a branch's lock, if there is one: if there is none, a lock is
     /// refused for memory alone.
     pub fn blocker(&self, xid: &Xid, key: &[u8], mode: Mode) -> Option<Xid>
         ensures { result ≡ blocked_by (holders_of self.now key.now) xid.now mode }

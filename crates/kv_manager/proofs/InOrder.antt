@@ -1,4 +1,4 @@
--- Records that may follow one another stand in order by the marks that they leave.
+-- Records that may follow one another are in order by the marks that they leave.
 use Rattle.std.proofs.Common.{◌≡◌, ◌≤◌, ◌∙◌, ℕ, Bool, true, false, not, ◌&&◌, ◌||◌, cond, List, [], ◌∷◌, ◌++◌, append_assoc, Option, Some, None, map, refl, sym, ap, subst, is_some, nat_lt, length, arith}
 use Rattle.std.proofs.lemmas.Bool.Decides.{nat_tests}
 use Rattle.xa_tables.specs.declared.states.BranchState.TheVariants.{S0, S5}
@@ -88,7 +88,7 @@ may_follow ls s l read h = by_test (is_some s.boot) (is_opened l.entry) h
     by_test false true h = by_record ls s l.parent (agrees_of ls s read) l.entry h
     by_test false false h = absurd (cc)
 
--- records that may follow one another stand in order
+-- records that may follow one another are in order
 pub in_order : (ls : List LogRecord) → are_ordered ls ≡ true → AreInOrder ls
 in_order ls h front l rest is =
     let one : are_ordered (front ++ l ∷ []) ≡ true = ordered_front (front ++ l ∷ []) rest

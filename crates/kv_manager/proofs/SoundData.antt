@@ -1,4 +1,4 @@
--- The pairs of the data that sound records make can stand in a log.
+-- The pairs of the data that sound records make can be in a log.
 use Rattle.std.proofs.Common.{ℕ, Bool, true, false, cond, List, [], ◌∷◌, Option, Some, None, map, fold, refl}
 use Rattle.std.specs.List.{AllByRecursion}
 use Rattle.tree_model.specs.declared.names.Kind.TheVariants.{Manager}
@@ -16,7 +16,7 @@ use Rattle.log_rules.specs.sound.Sound.{IsSound, IsSoundEntry, IsSoundKey, IsSou
 abbrev Pairs : Type 0
 Pairs = List (List ℕ × List ℕ)
 
--- a pair can stand in a log
+-- a pair can be in a log
 abbrev pub IsSoundPair : List ℕ × List ℕ → Type 0
 IsSoundPair p = IsSound Manager (unnamed (pair_record p))
 

@@ -34,7 +34,7 @@ use Rattle.kv_manager.proofs.Steps.{Steps, Stays, Puts, Marks, Leaves, followed_
 use Rattle.kv_manager.specs.Sights.{has_records}
 use Rattle.kv_manager.proofs.TrimOrder.{Booted, boot_in_front, booted, named_as, trails_from}
 
--- A branch that is gone, and promises no more, is not live at the end.
+-- A branch that is gone, and no longer promises, is not live at the end.
 
 both : (a b : Bool) → (a && b) ≡ true → (a ≡ true) × (b ≡ true)
 both true true h = (refl, refl)

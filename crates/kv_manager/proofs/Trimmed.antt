@@ -131,7 +131,7 @@ some_trimmed ls = some_behind (front_of_trim ls)
     some_behind [] = refl
     some_behind (k ∷ ks) = refl
 
--- the data of the log stand after a trim, and so do the branches that are prepared or that operators decided
+-- the data of the log are after a trim, and so do the branches that are prepared or that operators decided
 pub kept_trimmed : (s : KvSight) (log : LogState) (rs : List LogRecord) (n : ℕ) → IsKept s
     → s.log.sight.failed ≡ false
     → AllByRecursion (IsSound Manager) (records_of s.log.sight.kept) → AreOfData s rs → Trimmed s.log log rs n

@@ -90,7 +90,7 @@ impl<L: LogStore> KvManager<L> {
         self.boot
     }
 
-    /// The bytes of its log, as a list made again. After a failure of the device a torn frame may stand at
+    /// The bytes of its log, as a list made again. After a failure of the device a torn frame may be at
     /// the end.
     pub fn log_text(&self) -> Result<Vec<u8>, AllocError>
         ensures { IfOk result (λ text. ReadsAs self.now.log.sight.form text.items
@@ -115,7 +115,7 @@ impl<L: LogStore> KvManager<L> {
         self.log.log().left_behind(keep, self.alloc)
     }
 
-    /// Each record of its log can stand in a manager's log.
+    /// Each record of its log can be in a manager's log.
     pub fn records_are_sound(&self)
         ensures { AllByRecursion (IsSound kind.Manager) (records_of self.now.log.sight.kept) }
     {
@@ -189,7 +189,7 @@ impl<L: LogStore> KvManager<L> {
         self.store.state(xid)
     }
 
-    /// What an operator decided of a branch, and what it was told since; None where no operator decided it,
+    /// What an operator decided of a branch, and what it was told since; None if no operator decided it,
     /// and after forget.
     pub fn decision(&self, xid: &Xid) -> Option<Decision>
         ensures { result ≡ decision_at (state_of self.now.store xid.now) (known_of self.now.store xid.now) }
@@ -443,7 +443,7 @@ impl<L: LogStore + Drop> KvManager<L> {
         KvManager::restore(store, process, alloc)
     }
 
-    /// The store under its log, as it stands.
+    /// The store under its log, as it is.
     pub fn into_store(self) -> L
         ensures { (log_state self.log.sight.form (L.bytes result) (L.forced result) (L.failures result)
             (L.room result) self.log.sight.failed).sight ≡ self.log.sight }

@@ -132,7 +132,7 @@ impl<L: LogStore> FrontedLog<L> {
         self.log.trimmed()
     }
 
-    /// Puts all that stands in its own place, by one `replace`, and reads nothing. It stays remembered.
+    /// Puts all that is in its own place, by one `replace`, and reads nothing. It stays remembered.
     pub(crate) fn put_again(&mut self, alloc: Global) -> Result<(), LogError>
         requires works { self.old.sight.failed ≡ false }
         ensures form { self.new.sight.form ≡ self.old.sight.form }

@@ -113,7 +113,7 @@ impl<L: LogStore> ResourceManager for KvManager<L> {
     }
 
     fn records_are_in_order(&self) {
-        self.records_are_ordered();
+        KvManager::records_are_ordered(self);
     }
 
     fn branches_are_listed_once(&self) {

@@ -35,7 +35,7 @@ pub enum RecordsError {
     Device,
     /// The records of the log are those of no key store: a record may not follow those before it, a branch
     /// promised more than can be written, or more than 1,024 branches are in doubt; nothing changed.
-    #[error("the records are those of no key store")]
+    #[error("the records are not those of a key store")]
     Unfit,
     /// The boots, or the commits, count 2^63; nothing changed.
     #[error("the numbers are used up")]

@@ -45,7 +45,7 @@ tests_next b key x (y ∷ ys) is some at = is ∙ bytes_are_same x.now key
 abbrev pub key_at : List Held → ℕ → List ℕ
 key_at xs i = (get_or xs i (record { ref_ptr = (0, 0); now = [] })).now
 
--- the pairs of one key more, where these stand after it
+-- the pairs of one key more, where these are after it
 pub pairs_walk : (s : VersionTable) (xs : List Held) (i : ℕ) (b : Bool)
     (done now : List (List ℕ × List ℕ)) → i < length xs
     → b ≡ is_next (key_at xs i) (keys (take (length xs - (i + 1)) (drop (i + 1) xs)))

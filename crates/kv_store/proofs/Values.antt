@@ -1,4 +1,4 @@
--- What the versions of one key say, when some more stand after them.
+-- What the versions of one key say, when some more are after them.
 use Rattle.std.proofs.Common.{◌≡◌, ℕ, zero, suc, ◌+◌, ◌-◌, ◌≤◌, ◌<◌, true, false, Option, List, [], ◌∷◌, ◌++◌, length, slice_index_or, refl, sym, ap, ◌∙◌, arith}
 use Rattle.std.proofs.lemmas.Grind.{common_steps}
 use Rattle.std.proofs.lemmas.Bool.Decides.{nat_tests}
@@ -20,7 +20,7 @@ made_go n [] [] k h = refl
 made_go n [] (w ∷ ws) k h = grind (arith, common_steps, nat_tests, made_go n [] ws k)
 made_go n (v ∷ vs) ws k h = grind (arith, common_steps, nat_tests, made_go n vs ws k)
 
--- where none is above, the last version counts, also with others after it that are above
+-- if none is above, the last version counts, also with others after it that are above
 pub value_front : (n : ℕ) (b : Option (List ℕ)) (vs : List Version) (ws : List Write) (k : List ℕ) (m : ℕ)
     → m < n
     → value_by m b (vs ++ made n ws k) ≡ value_by m b vs

@@ -52,12 +52,12 @@ abbrev pub is_next : List ℕ → List (List ℕ) → Bool
 is_next k [] = false
 is_next k (l ∷ ls) = same_bytes l k
 
--- the pair of a key with its value, where it has one
+-- the pair of a key with its value, if it has one
 abbrev pub pair_if : List ℕ → Option (List ℕ) → List (List ℕ × List ℕ)
 pair_if k None = []
 pair_if k (Some v) = (k, v) ∷ []
 
--- the pairs of these keys that have a value; of a key that stands beside itself one
+-- the pairs of these keys that have a value; of a key that is beside itself one
 unfoldable pub pairs_at : VersionTable → List (List ℕ) → List (List ℕ × List ℕ)
 pairs_at s [] = []
 pairs_at s (k ∷ ks) = (if is_next k ks then [] else pair_if k (value_at s s.count k)) ++ pairs_at s ks

@@ -16,7 +16,7 @@ pub record VersionTable : Type 0 where
   pub is_staged : Bool
   pub versions : List (List ℕ × List Version)
 
--- the value of the last of the versions that is not above a count: none where there is no such version
+-- the value of the last of the versions that is not above a count: none if there is no such version
 unfoldable pub value_by : ℕ → Option (List ℕ) → List Version → Option (List ℕ)
 value_by n before [] = before
 value_by n before (v ∷ vs) = if nat_lt n v.count then before else value_by n v.value vs

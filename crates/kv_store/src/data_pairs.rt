@@ -54,7 +54,7 @@ fn add_pair(
     Ok(())
 }
 
-/// The pairs of these keys that have a value; of a key that stands beside itself, one.
+/// The pairs of these keys that have a value; of a key that is beside itself, one.
 fn pairs_at(
     keys: &[&[u8]],
     versions: &Versions,

@@ -1,4 +1,4 @@
--- The records that a key store writes can stand in a manager's log.
+-- The records that a key store writes can be in a manager's log.
 use Rattle.xa_xid.specs.Xids.{XidParts}
 use Rattle.tree_model.specs.declared.names.Kind.TheVariants.{Manager}
 use Rattle.tree_model.specs.declared.records.Write.{Write}

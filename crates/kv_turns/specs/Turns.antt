@@ -25,11 +25,11 @@ use Rattle.kv_turns.specs.declared.turns.Turn.{Turn}
 
 -- Turns.
 
--- the branch comes to a state, and nothing is written
+-- the branch reaches a state, and nothing is written
 abbrev pub silent : Code → BranchState → Turn
 silent a s = record { code = a; to = s; entry = None; is_forced = false }
 
--- the answer is XA_OK, a record is written, and the branch comes to a state
+-- the answer is XA_OK, a record is written, and the branch reaches a state
 abbrev pub writes : Entry → Bool → BranchState → Turn
 writes e is_forced s = record { code = code.Ok; to = s; entry = Some e; is_forced = is_forced }
 

@@ -110,7 +110,7 @@ impl Entry {
         }
     }
 
-    /// The record of a branch that has written this, as it stands in a log.
+    /// The record of a branch that has written this, as it is in a log.
     pub fn frame(self, xid: &Xid, writes: &[Write], alloc: Global) -> Result<Frame, AllocError>
         requires { IsEntry self writes.now }
         ensures frame { IfOk result (λ frame. frame_record frame ≡ entry_record self xid.now writes.now) }

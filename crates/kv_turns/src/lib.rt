@@ -13,11 +13,11 @@
 //! | S3 | rollback | XA_OK | S0 | RolledBack, forced under Presumed Commit alone |
 //! | S3 | an operator's commit | | S5 | HeurCommit, forced |
 //! | S3 | an operator's rollback | | S5 | HeurRollback, forced |
-//! | S5 | commit, rollback | XA_HEURCOM, XA_HEURRB | S5 | Told, forced as the outcome would be, where nothing was told yet |
+//! | S5 | commit, rollback | XA_HEURCOM, XA_HEURRB | S5 | Told, forced as the outcome would be, if nothing was told yet |
 //! | S5 | forget | XA_OK | S0 | Forgot, forced |
 //!
 //! A branch whose XID is of no case is under Presumed Abort, and what it is told is forced. Committed,
-//! Direct and HeurCommit make the branch's writes data; a branch that comes to S0 or S5 lets its writes and
+//! Direct and HeurCommit make the branch's writes data; a branch that reaches S0 or S5 lets its writes and
 //! its locks go.
 #![tactic(auto)]
 

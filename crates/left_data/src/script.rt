@@ -22,7 +22,7 @@ fn data_after(alloc: Global, run: &mut Run, events: &[Event]) -> Result<Vec<u8>,
     data_left(alloc, run.world())
 }
 
-/// The same, and lets the run go.
+/// As `data_after`, and lets the run go.
 fn data_of(alloc: Global, run: Run, events: &[Event]) -> Result<Vec<u8>, Failure>
     requires { HasCome (state run.world) [] run }
     ensures { IfOk result (λ text. LeavesFrom run events.now text.items) }

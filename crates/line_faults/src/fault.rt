@@ -21,7 +21,7 @@ impl fmt::Display for Near {
 #[derive(Clone, Copy, Debug, Error)]
 pub enum LineFault<'a> {
     /// It begins with a word that begins no line of the script.
-    #[error("`{word:.40}` begins no {line}{near}")]
+    #[error("no {line} begins with `{word:.40}`{near}")]
     Unknown {
         word: &'a str,
         line: &'static str,
@@ -53,8 +53,8 @@ pub enum LineFault<'a> {
         word: &'a str,
         cause: XidError,
     },
-    /// More stands there than the line takes.
-    #[error("`{word:.40}` is more than the line takes")]
+    /// More is there than the line takes.
+    #[error("`{word:.40}` is one word too many")]
     More {
         word: &'a str,
     },

@@ -55,7 +55,7 @@ fn fault_by<'a>(form: Form, words: &[&'a str]) -> Option<(LineFault<'a>, Option<
     }
 }
 
-/// The word of such a script that was meant by one that begins none of its lines; these words stand after it. A line
+/// The word of such a script that was meant by one that begins none of its lines; these words are after it. A line
 /// with as many words as one of another script has is of that one.
 fn word_meant(script: Script, word: &str, rest: &[&str]) -> Option<&'static str> {
     if let Some(other) = script_by(word) {
@@ -88,7 +88,7 @@ fn unknown<'a>(script: Script, word: &'a str, near: Option<&'static str>) -> Fin
     }
 }
 
-/// The first thing that is wrong with a line of such a script by its form alone; None, where its form is
+/// The first thing that is wrong with a line of such a script by its form alone; None, if its form is
 /// right.
 pub fn finding_of<'a>(
     alloc: Global,

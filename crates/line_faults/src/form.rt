@@ -18,7 +18,7 @@ pub enum Script {
 pub struct Form {
     /// The line in the words of the help.
     pub shown: &'static str,
-    /// What stands after its first word.
+    /// What is after its first word.
     pub parts: &'static [Part],
     /// How many of them, the last ones, may be left out.
     pub optional: usize,

@@ -4,7 +4,7 @@ ghost use Rattle.std.specs.Prelude.{Contains, IfSome, map};
 
 use crate::near::{first_near, nearest};
 
-/// Words that stand in other systems for a word of a grammar, each with that word.
+/// Words that are in other systems for a word of a grammar, each with that word.
 const FRIENDS: &[(&str, &str)] = &[
     ("crash", "restart"),
     ("kill", "restart"),

@@ -1,4 +1,4 @@
-//! What stands at a place of a line.
+//! What is at a place of a line.
 
 use spellings::hexadecimal::is_hexadecimal;
 use spellings::numeral::number_of;
@@ -6,7 +6,7 @@ use spellings::word::cut;
 use xa_codes::Flags;
 use xa_xid::Xid;
 
-/// What stands at a place of a line after its first word.
+/// What is at a place of a line after its first word.
 #[derive(Clone, Copy, Debug, PartialEq, Eq)]
 pub enum Part {
     Txn,
@@ -41,7 +41,7 @@ fn is_small(word: &str) -> bool {
     }
 }
 
-/// Whether two numbers stand in a word, with a point between them.
+/// Whether two numbers are in a word, with a point between them.
 fn are_two_numbers(word: &str) -> bool {
     match cut(word, '.') {
         Some((one, other)) => is_number(one) && is_number(other),
@@ -136,7 +136,7 @@ impl Part {
         }
     }
 
-    /// The words that may stand there, where it is one of a few.
+    /// The words that may be there, where it is one of a few.
     pub fn words(self) -> &'static [&'static str] {
         match self {
             Part::Presumption => &["pa", "pc"],
@@ -161,7 +161,7 @@ impl Part {
         }
     }
 
-    /// Whether a word may stand there.
+    /// Whether a word may be there.
     pub fn fits(self, word: &str) -> bool {
         match self {
             Part::Txn => is_txn(word),

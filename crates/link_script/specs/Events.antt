@@ -95,7 +95,7 @@ plain_at root word rest =
     else if same word (codes "forget") then forget_at root rest
     else None
 
--- the event of a line: `settle` alone, `work` or another first word, by what stands after it
+-- the event of a line: `settle` alone, `work` or another first word, by what is after it
 abbrev pub event_parts : ProcessId → List ℕ → Option (List ℕ × List ℕ) → Option Event
 event_parts root line None = if same line (codes "settle") then Some Settle else None
 event_parts root line (Some p) = if same p.0 (codes "work") then work_at root p.1 else plain_at root p.0 p.1

@@ -39,7 +39,7 @@ abbrev pub script_events : List (List ℕ) → List (List ℕ) → List TreeEntr
 script_events fronts behind tree =
     events_at (event_at (root_of tree)) (length fronts + 1 + 1) (lines_of_parts behind)
 
--- the lines of a script after the line of three dashes: the root of its tree, how many lines stand before
+-- the lines of a script after the line of three dashes: the root of its tree, how many lines are before
 -- them, and what they are
 pub record LinesState : Type 0 where
   pub root : ProcessId

@@ -50,7 +50,7 @@ ticket_at w = do
   number ← number_at q.1
   Some (record { child = child; boot = boot; number = number })
 
--- a case, by its transaction, and by its ticket where there is one
+-- a case, by its transaction, and by its ticket if there is one
 abbrev pub case_parts : ProcessId → List ℕ → Option (List ℕ × List ℕ) → Option Case
 case_parts root w None = txn_at root w >>= λ t. Some (record { txn = t; ticket = None })
 case_parts root w (Some p) =

@@ -73,7 +73,7 @@ pub record FitsTicket (t : Ticket) : Type 0 where
   pub boot_fits : t.boot < 2 ^ 64
   pub number_fits : t.number < 2 ^ 64
 
--- a ticket fits where there is one
+-- a ticket fits if there is one
 abbrev pub FitsOwner : Option Ticket → Type 0
 FitsOwner None = Unit {0}
 FitsOwner (Some t) = FitsTicket t

@@ -119,7 +119,7 @@ fn has_known_keys(value: &Value) -> bool
     }
 }
 
-/// The parent that a value names, where there is one.
+/// The parent that a value names, if there is one.
 fn parent_of(value: Option<&Value>) -> Option<Option<ProcessId>>
     ensures found { IfSome result (λ parent. May IsId (option_map (λ v. view v.now) value.entry) parent) }
     ensures none { IfNone result ((parent : Option AnyProcess)
@@ -141,7 +141,7 @@ fn is_info(text: &str) -> bool
     text.len() <= 32 && text.bytes().all(|b| b.is_ascii_alphabetic())
 }
 
-/// The info that a value is, where there is one.
+/// The info that a value is, if there is one.
 fn info_of(alloc: Global, value: Option<&Value>) -> Result<Option<Bytes>, DocumentError>
     ensures found { IfOk result (λ info. May IsInfo (option_map (λ v. view v.now) value.entry) info) }
     ensures none { IfErr result (λ e. e ≡ DocumentError.TreeText →

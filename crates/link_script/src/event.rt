@@ -19,7 +19,7 @@ use spellings::word::cut;
 use std::alloc::{AllocError, Global};
 use tree_model::{Act, Case, Event, Presumption, ProcessId};
 
-/// The event that a line asks for, over a tree with this root; None where it is not an event.
+/// The event that a line asks for, over a tree with this root; None if it is not an event.
 #[tactic(auto, unfolding(crate::specs::Events::event_at))]
 pub fn event_of(alloc: Global, root: ProcessId, line: &str) -> Result<Option<Event>, AllocError>
     ensures { IfOk result (λ event. event ≡ event_at root line.now) }

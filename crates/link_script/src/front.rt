@@ -1,4 +1,4 @@
-//! What stands before the lines of an input: the text of a tree, and the line of three dashes.
+//! What is before the lines of an input: the text of a tree, and the line of three dashes.
 
 ghost use Rattle.std.specs.Prelude.{◌+◌, ◌<◌, ◌^◌, IfOk, IfErr, length, map};
 ghost use Rattle.link_script.specs.Inputs.{IsFront, IsFrontError};
@@ -14,7 +14,7 @@ use tree_model::Tree;
 /// An input cut at its first line of three dashes.
 #[derive(Drop)]
 pub struct Front<'a> {
-    /// The tree whose text stands before that line.
+    /// The tree whose text is before that line.
     pub tree: Tree,
     /// The number of that line, counted from the input's first from 1 on.
     pub rule: u64,

@@ -31,7 +31,7 @@ pub fn names_are_spelled_once()
     ensures case_spelled { (root : ProcessId) → SpelledIsRead (case_at root) case_text (FitsCase root) }
 {}
 
-/// Each line of an event has one spelling, with what stands in a `work`: what is read is spelled so, and
+/// Each line of an event has one spelling, with what is in a `work`: what is read is spelled so, and
 /// what is spelled so is read, over a tree with this root.
 pub fn lines_are_spelled_once()
     ensures op_read { ReadIsSpelled op_at op_text FitsOp }

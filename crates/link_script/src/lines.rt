@@ -51,7 +51,7 @@ pub fn around(text: &str) -> Option<(&str, u64, &str)>
 pub struct Lines<'a> {
     /// The root of the script's tree.
     root: ProcessId,
-    /// How many lines of the script stand before them.
+    /// How many lines of the script are before them.
     before: u64,
     lines: Vec<&'a str>,
 }
@@ -93,7 +93,7 @@ impl<'a> Lines<'a> {
         self.lines.len()
     }
 
-    /// The event that the line at this place asks for, from 0; None where it is empty or begins with `#`, and
+    /// The event that the line at this place asks for, from 0; None if it is empty or begins with `#`, and
     /// where there are not N. Line, with its number in the script: it is not an event.
     pub fn event(&self, alloc: Global, place: usize) -> Result<Option<Event>, ScriptError>
         ensures { Asks self.now.root (self.now.before + place + 1)

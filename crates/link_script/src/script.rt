@@ -24,7 +24,7 @@ pub enum ScriptFault {
     #[error("the tree text cannot be read")]
     TreeText,
     /// The processes of the tree text are no tree.
-    #[error("the processes are no tree: {0}")]
+    #[error("the processes are not a tree: {0}")]
     Tree(TreeError),
     /// More than 100,000 lines ask for an event.
     #[error("the script has more than 100000 event lines")]

@@ -38,11 +38,11 @@ Unanswered line (Serves old) new number = (why : NodeFailure) × (s : NodeState)
 Unanswered line (Failed why) new number = (new ≡ Failed why) × (number ≡ failure_number why)
 Unanswered line Ended new number = (new ≡ Ended) × (number ≡ 25)
 
--- the store was closed: all that stands in it was forced before
+-- the store was closed: all that is in it was forced before
 abbrev pub Closed : FileStore CalledFile → Type 0
 Closed store = (new : FileStore CalledFile) × Forces file_bytes file_forced file_failures store new
 
--- all that stands in the log of this node was forced, and then its file was closed
+-- all that is in the log of this node was forced, and then its file was closed
 pub record Ends (s : NodeState) : Type 0 where
   pub store : FileStore CalledFile
   pub closes : ClosesLog file_bytes file_forced file_failures s.core store

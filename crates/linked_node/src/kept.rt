@@ -116,7 +116,7 @@ fn closed(mut store: FileStore<CalledFile>) -> Result<(), NodeFailure>
     }
 }
 
-/// Ends a node in order: all that stands in its log is forced, and its file is closed.
+/// Ends a node in order: all that is in its log is forced, and its file is closed.
 fn ended(alloc: Global, node: FileNode) -> Result<(), NodeFailure>
     ensures { IfOk result (λ _. Ends (state_of node)) }
 {

@@ -21,7 +21,7 @@ found_passes test (j ∷ ks) k e = by_test (test j) refl e (found_passes test ks
     by_test true is e rest = let same : j ≡ k = cc in ap test (sym same) ∙ is
     by_test false is e rest = rest e
 
--- where nothing is found no key passes the test
+-- if nothing is found no key passes the test
 pub none_passes : (test : ℕ → Bool) (ks : List ℕ) → find test ks ≡ None → (k : ℕ)
     → is_key ks k ≡ true → test k ≡ false
 unfolding is_key
@@ -43,7 +43,7 @@ is_key-at (j ∷ ks) zero within = grind (arith, common_steps)
 is_key-at (j ∷ ks) (suc i) within = let later : is_key ks (get_or ks i 0) ≡ true =
     is_key-at ks i (omega (arith, within)) in grind (arith, common_steps, later)
 
--- a key among the first ones is the last of these or stands before it
+-- a key among the first ones is the last of these or is before it
 pub is_key-more : (ks : List ℕ) (i k : ℕ) → i < length ks → is_key (take (i + 1) ks) k ≡ true
     → (k ≡ get_or ks i 0) ⊎ (is_key (take i ks) k ≡ true)
 is_key-more ks i k within is =

@@ -1,4 +1,4 @@
--- A transaction's list changes where it stands in the map.
+-- A transaction's list changes where it is in the map.
 use Rattle.std.proofs.Common.{◌≡◌, ◌<◌, ◌==◌, ◌&&◌, ◌||◌, not, cond, ℕ, Bool, true, false, Option, Some, None, List, [], ◌∷◌, ◌++◌, refl, sym, ap, subst, ◌∙◌, arith, get_or, length, position, slice_get}
 use Rattle.std.specs.Prelude.{IfSome}
 use Rattle.std.specs.Cmp.{IsEquivalence}
@@ -66,14 +66,14 @@ list_at es t i ls at is = (Found-position (txns.ghosts.eq t) es i at).value ∙ 
 module _ {H : Type 0} (m : IndexMap Txn (SmallVec ℕ) H) (t : Txn) (i : ℕ) (ls new : SmallVec ℕ) (key : ℕ)
     (once : AreListedOnce m.entries) (at : place_in m.entries t ≡ Some i)
     (had : slice_get (values_of m.entries) i ≡ Some ls) where
-  -- another list stands there
+  -- another list is there
   writes_here : Writes t m.entries (set_value_at m.entries i new) new
   writes_here =
       let entry = entry_at m.entries t i at in
       subst (λ x. Writes x m.entries (set_value_at m.entries i new) new) (sym entry.2)
       (updates-with_value_at m i new same_laws once entry.0.0 entry.0.1 entry.1).0
 
-  -- the same list stands there
+  -- the same list is there
   pub same_here : new ≡ ls → SameLists m.entries (set_value_at m.entries i new)
   same_here is y k = by_test (txns.ghosts.eq t y) refl
     where

@@ -14,7 +14,7 @@ pub same_case-itself : (c : Case) → same_case c c ≡ true
 same_case-itself c = (case_tells c c).1 refl
 
 module _ {V : Type 0} where
-  -- a live value stands at some key
+  -- a live value is at some key
   pub live_found : (slots : List (Option (Case × V))) (c : Case) (v : V) → live_value slots c ≡ Some v
       → (k : ℕ) × (d : Case) × (entry_at slots k ≡ Some (d, v)) × (same_case d c ≡ true)
   unfolding live_value
@@ -49,7 +49,7 @@ module _ {V : Type 0} where
   apart_behind slot slots apart c j k here there = let same : suc j ≡ suc k =
       apart c (suc j) (suc k) here there in omega (arith, same)
 
-  -- what stands at a key is live
+  -- what is at a key is live
   pub live_at : (slots : List (Option (Case × V))) (c : Case) (k : ℕ) (p : Case × V)
       → AreApart slots → entry_at slots k ≡ Some p
       → same_case p.0 c ≡ true → live_value slots c ≡ Some p.1
@@ -71,7 +71,7 @@ module _ {V : Type 0} where
               absurd (omega (arith, one))
           by_test false here = rw here later
 
-  -- where no key has it, a case is not live
+  -- if no key has it, a case is not live
   pub live_nowhere : (slots : List (Option (Case × V))) (c : Case)
       → ((k : ℕ) → is_of_case c (entry_at slots k) ≡ false) → live_value slots c ≡ None
   unfolding live_value
@@ -167,7 +167,7 @@ module _ {V : Type 0} where
       → live_count (slot ∷ slots) ≡ one_for slot + live_count slots
   counted slot slots = sum_by-cons one_for slot slots
 
-  -- where values stand at the same keys, as many cases are live
+  -- where values are at the same keys, as many cases are live
   count_same : (old new : List (Option (Case × V)))
       → ((k : ℕ) → is_some (entry_at new k) ≡ is_some (entry_at old k)) → live_count new ≡ live_count old
   count_same [] [] same = refl

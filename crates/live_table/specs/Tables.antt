@@ -9,7 +9,7 @@ use Rattle.tree_model.specs.Names.{same_case, same_txn}
 use Rattle.tree_model.specs.contracts.names.TxnPartialEq.TheImpl as txns
 
 module _ {V : Type 0} where
-  -- what stands at a key
+  -- what is at a key
   abbrev pub entry_at : List (Option (Case × V)) → ℕ → Option (Case × V)
   entry_at slots k = slice_index_or slots k None
 

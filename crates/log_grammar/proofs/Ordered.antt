@@ -1,4 +1,4 @@
--- What may stand in order is read, and never damaged.
+-- What may be in order is read, and never damaged.
 use Rattle.std.proofs.Common.{◌≡◌, ◌≤◌, ◌∙◌, ℕ, Bool, true, false, List, [], ◌∷◌, ◌++◌, length, drop, Option, Some, None, refl, sym, ap, arith, length-append, take-append-drop, suc, zero, ◌+◌}
 use Rattle.std.specs.Prelude.{is_some}
 use Rattle.std.specs.List.{AllByRecursion}
@@ -18,7 +18,7 @@ use Rattle.rec_log.proofs.Carrying.{behind_header}
 use Rattle.log_grammar.specs.Grammar.{HasFrame, OrderedIsRead, OrderedLogIsRead, admitted, and_then}
 use Rattle.log_grammar.proofs.Framed.{text_reads}
 
--- each record that can stand in a log stands in a frame of its own
+-- each record that can be in a log is in a frame of its own
 all_frames : (p : LogForm) (ls : List LogRecord) → AllByRecursion (IsSound p.kind) ls → AllByRecursion (HasFrame p) ls
 all_frames p [] h = tt
 all_frames p (l ∷ ls) h = (

@@ -25,7 +25,7 @@ unfoldable pub admitted : SeenLog → List LogRecord → Option SeenLog
 admitted s [] = Some s
 admitted s (l ∷ ls) = and_then (after s l) (λ t. admitted t ls)
 
--- a record stands in a frame of its own, and is what this frame reads as
+-- a record is in a frame of its own, and is what this frame reads as
 pub record HasFrame (p : LogForm) (l : LogRecord) : Type 0 where
   pub short : length (payload_text p l.parent l.entry) < size_limit p.format
   pub reads : read_record p (kind_byte l.entry) (payload_text p l.parent l.entry) ≡ Some l
@@ -83,7 +83,7 @@ BytesReadAsText = (p : LogForm) (bytes : List ℕ) → AreBytes bytes → ReadsA
 abbrev pub MayFollow : List LogRecord → Type 0
 MayFollow ls = is_some (admitted nothing_seen ls) ≡ true
 
--- records that can stand in a log of this sort of process, and that may follow one another, are read as these after the
+-- records that can be in a log of this sort of process, and that may follow one another, are read as these after the
 -- header, and as damaged nowhere; bytes after them that are no whole frame are a torn tail
 abbrev pub OrderedIsRead : Type 0
 OrderedIsRead = (p : LogForm) (ls : List LogRecord) → AllByRecursion (IsSound p.kind) ls → MayFollow ls

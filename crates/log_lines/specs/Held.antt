@@ -23,7 +23,7 @@ placed_text place r = decimal place ++ codes " " ++ kind_word (kind_of r) ++ rec
 abbrev pub records_text : List Placed → List ℕ
 records_text ps = flat_map (λ x. placed_text x.place x.read.entry) ps
 
--- the line of a torn tail, where there is one
+-- the line of a torn tail, if there is one
 abbrev pub torn_text : ℕ → List ℕ
 torn_text n = if n == 0 then [] else codes "torn " ++ decimal n ++ codes "\n"
 

@@ -42,7 +42,7 @@ write_words w = left_words w.key w.value
 abbrev pub writes_words : List Write → List ℕ
 writes_words ws = flat_map write_words ws
 
--- a word, and each of the tickets after a space; nothing where there is none
+-- a word, and each of the tickets after a space; nothing if there is none
 abbrev pub listed_words : List ℕ → List Ticket → List ℕ
 listed_words word ts = if none_of ts then [] else word ++ ticket_words ts
 

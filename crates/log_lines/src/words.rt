@@ -41,7 +41,7 @@ fn push_tickets(out: &mut Vec<u8>, tickets: &[Ticket]) -> Result<(), AllocError>
     Ok(())
 }
 
-/// A word, and the tickets after it; nothing where there are none.
+/// A word, and the tickets after it; nothing if there are none.
 #[tactic(auto, unfolding(tree_model::specs::Records::none_of))]
 pub fn push_listed(out: &mut Vec<u8>, word: &str, tickets: &[Ticket]) -> Result<(), AllocError>
     ensures { OnOk result (out.new.items ≡ out.old.items ++ listed_words word.now tickets.now) }

@@ -7,6 +7,6 @@ use Rattle.tree_model.specs.Records.{boot_after}
 abbrev pub boot_behind : ℕ → LogRecord → ℕ
 boot_behind b l = boot_after b l.entry
 
--- the boot by the last Opened record of a log; 0 where there is none
+-- the boot by the last Opened record of a log; 0 if there is none
 abbrev pub boot_in : List LogRecord → ℕ
 boot_in ls = fold boot_behind 0 ls

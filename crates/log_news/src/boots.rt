@@ -15,7 +15,7 @@ fn behind(boot: u64, kept: &LogRecord) -> u64
     }
 }
 
-/// The boot by the last Opened record; 0 where there is none.
+/// The boot by the last Opened record; 0 if there is none.
 pub fn boot_of(records: &[LogRecord]) -> u64
     ensures { result ≡ boot_in records.now }
 {

@@ -4,7 +4,7 @@ use Rattle.log_store.specs.declared.fault.StoreCall.{StoreCall}
 use Rattle.log_store.specs.declared.fault.StoreCall.TheVariants.{Append, Force, Replace}
 use Rattle.log_store.specs.declared.fault.FaultStore.{FaultStore}
 
--- the bytes that stand in it
+-- the bytes that are in it
 abbrev pub fault_bytes : FaultStore → List ℕ
 fault_bytes s = s.store.bytes.items
 

@@ -2,7 +2,7 @@
 use Rattle.std.specs.Prelude.{ℕ, List}
 use Rattle.log_store.specs.declared.memory.MemoryStore.{MemoryStore}
 
--- the bytes that stand in it
+-- the bytes that are in it
 abbrev pub memory_bytes : MemoryStore → List ℕ
 memory_bytes s = s.bytes.items
 

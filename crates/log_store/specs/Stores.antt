@@ -12,13 +12,13 @@ pub record SameStore {S : Type 0} (bytes : S → List ℕ) (forced failures : S 
   pub forced_stays : forced new ≡ forced old
   pub failures_stay : failures new ≡ failures old
 
--- memory was refused where there was no room for N bytes, and nothing changed
+-- memory was refused if there was no room for N bytes, and nothing changed
 pub record MemoryRefuses {S : Type 0} (bytes : S → List ℕ) (forced failures : S → ℕ) (old new : S)
     (room size : ℕ) : Type 0 where
   pub small : room < size
   pub same : SameStore bytes forced failures old new
 
--- the bytes stand at the end, not forced
+-- the bytes are at the end, not forced
 pub record Appends {S : Type 0} (bytes : S → List ℕ) (forced failures : S → ℕ) (old new : S)
     (more : List ℕ) : Type 0 where
   pub text : bytes new ≡ bytes old ++ more

@@ -23,7 +23,7 @@ pub enum StoreCall {
 pub struct FaultStore {
     store: MemoryStore,
     call: StoreCall,
-    /// How many calls of the kind there are up to the one that fails; 0 where none is to fail any more.
+    /// How many calls of the kind there are up to the one that fails; 0 if none is to fail any more.
     left: u64,
     keep: usize,
     failed: bool,

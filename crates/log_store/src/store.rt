@@ -1,4 +1,4 @@
-//! What a log asks of the store that its bytes stand in.
+//! What a log asks of the store that its bytes are in.
 
 ghost use Rattle.std.specs.Prelude.{◌≡◌, ◌≤◌, ◌<◌, ◌+◌, List, ℕ, length, IfErr, OnOk};
 ghost use Rattle.log_store.specs.Errors.{store_error_number};
@@ -42,7 +42,7 @@ impl StoreError {
 
 /// Bytes in order, a front of which is forced: a crash cannot take it.
 pub trait LogStore {
-    /// What stands in it.
+    /// What is in it.
     ghost bytes: { Self → List ℕ };
 
     /// How many of these bytes a crash cannot take.
@@ -54,7 +54,7 @@ pub trait LogStore {
     /// No append and no replace that leaves at most N bytes is refused for memory.
     ghost room: { Self → ℕ };
 
-    /// All that stands in it.
+    /// All that is in it.
     fn bytes(&self) -> &[u8]
         ensures { result.now ≡ bytes self.now };
 
@@ -66,13 +66,13 @@ pub trait LogStore {
     fn failures(&self) -> u64
         ensures { result ≡ failures self.now };
 
-    /// Makes room for N bytes more than stand in it. A refusal changes nothing.
+    /// Makes room for N bytes more than are in it. A refusal changes nothing.
     fn reserve(&mut self, more: usize) -> Result<(), AllocError>
         ensures stays { SameStore bytes forced failures self.old self.new }
         ensures grows { room self.old ≤ room self.new }
         ensures room { OnOk result (length (bytes self.old) + more ≤ room self.new) };
 
-    /// Adds these bytes at the end. Where the device fails, any front of them stands there.
+    /// Adds these bytes at the end. Where the device fails, any front of them is there.
     fn append(&mut self, more: &[u8]) -> Result<(), StoreError>
         ensures ok { OnOk result (Appends bytes forced failures self.old self.new more.now) }
         ensures room { room self.old ≤ room self.new }

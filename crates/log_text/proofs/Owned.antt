@@ -79,7 +79,7 @@ opened_entry f q (Forgot b) m e = absurd (cc)
 opened_entry f q (Base k) m e = absurd (cc)
 opened_entry f q (Pair k v) m e = absurd (cc)
 
--- an Opened, whatever parent stands beside it
+-- an Opened, whatever parent is beside it
 pub opened_whole : (f : LogForm) (l : LogRecord) (n : ℕ) → boot_in l.entry ≡ Some n
     → record_text f (unnamed (Opened n)) ≡ record_text f l
 opened_whole f l n e = opened_entry f l.parent l.entry n e

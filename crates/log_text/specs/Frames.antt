@@ -1,4 +1,4 @@
--- Frames: how a record stands in a log.
+-- Frames: how a record is in a log.
 use Rattle.std.specs.Prelude.{ℕ, ◌+◌, ◌*◌, nat_lt, if◌then◌else◌, List, ◌∷◌, ◌++◌, Option, Some, None, length, take, drop}
 use Rattle.byteorder.specs.Endian.{big_bytes}
 use Rattle.log_text.specs.declared.form.LogFormat.{LogFormat}
@@ -18,7 +18,7 @@ abbrev pub cut_at : ℕ → ℕ → List ℕ → Option Cut
 cut_at kind size rest = if nat_lt (length rest) size then None
     else Some (kind, take size rest, drop size rest)
 
--- what stands before a payload: the kind, and the payload's length; and the bytes after
+-- what is before a payload: the kind, and the payload's length; and the bytes after
 abbrev pub Head : Type 0
 Head = ℕ × ℕ × List ℕ
 

@@ -150,7 +150,7 @@ unfoldable pub front_of : {A : Type 0} → (List ℕ → Front A) → ℕ → Li
 front_of at zero bytes = Some ([], bytes)
 front_of at (suc n) bytes = and_more (at bytes) (front_of at n)
 
--- what was read, where nothing is after it
+-- what was read, if nothing is after it
 abbrev pub alone : {A : Type 0} → Front A → Option A
 alone None = None
 alone (Some p) = if length p.1 == 0 then Some p.0 else None

@@ -97,7 +97,7 @@ opened_by Second f n = big_bytes 8 n ++ owner_text f
 abbrev pub opened_text : LogForm → ℕ → List ℕ
 opened_text f n = opened_by f.format f n
 
--- a record's payload: what it carries, after its name where it has one
+-- a record's payload: what it carries, after its name if it has one
 abbrev pub payload_text : LogForm → Option ProcessId → Record → List ℕ
 payload_text f p (Opened n) = opened_text f n
 payload_text f p (Collecting c ts) = name_text p (CaseBranch c) ++ tickets_text ts
@@ -123,7 +123,7 @@ abbrev pub boot_in : Record → Option ℕ
 boot_in (Opened n) = Some n
 boot_in _ = None
 
--- a record as it stands in a log
+-- a record as it is in a log
 unfoldable pub record_text : LogForm → LogRecord → List ℕ
 record_text f l = frame_text f.format (kind_byte l.entry) (payload_text f l.parent l.entry)
 
@@ -133,7 +133,7 @@ records_text f ls = flat_map (record_text f) ls
 
 -- Sizes that the bytes before a list, a key and a value can tell.
 
--- the length of a value, where there is one, fits two bytes
+-- the length of a value, if there is one, fits two bytes
 abbrev pub SizedValue : Option (List ℕ) → Type 0
 SizedValue None = ⊤
 SizedValue (Some v) = length v < 65536

@@ -78,7 +78,7 @@ fn push_branch(text: &mut Vec<u8>, xid: &Xid, entry: &BranchEntry<'_>) -> Result
     Ok(())
 }
 
-/// The record of this XID's branch as it stands in the log of any process.
+/// The record of this XID's branch as it is in the log of any process.
 #[tactic(auto, unfolding(crate::specs::Payloads::record_text, crate::specs::Frames::frame_text))]
 pub(crate) fn branch_bytes(
     entry: &BranchEntry<'_>,

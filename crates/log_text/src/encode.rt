@@ -300,7 +300,7 @@ pub(crate) fn write_length(text: &mut Vec<u8>, format: LogFormat)
     }
 }
 
-/// The record as it stands in a log of this form.
+/// The record as it is in a log of this form.
 #[tactic(auto, unfolding(crate::specs::Payloads::record_text, crate::specs::Frames::frame_text))]
 fn record_bytes(
     form: LogForm,
@@ -331,7 +331,7 @@ pub struct Frame {
     ghost boots: { boot ≡ boot_in made_of.value.entry },
 }
 
-/// The record as it stands in the log of a process, whosever it is.
+/// The record as it is in the log of a process, whosever it is.
 fn frame_bytes(
     entry: &Record,
     parent: Option<ProcessId>,
@@ -407,7 +407,7 @@ impl Frame {
         self.boot
     }
 
-    /// The bytes that stand in the log of any process, where it is no frame of an Opened.
+    /// The bytes that are in the log of any process, where it is no frame of an Opened.
     #[tactic(auto, using(crate::proofs::Owned::other_is))]
     pub fn bytes(&self) -> &[u8]
         requires { boot_in (frame_record self.now).entry ≡ None }
@@ -417,7 +417,7 @@ impl Frame {
         &self.bytes
     }
 
-    /// Adds the bytes that stand in a log of this form, which is that of a process.
+    /// Adds the bytes that are in a log of this form, which is that of a process.
     #[tactic(auto, using(crate::proofs::Owned::opened_whole))]
     pub fn push(&self, form: LogForm, text: &mut Vec<u8>) -> Result<(), AllocError>
         requires { form.format ≡ LogFormat.Second }

@@ -70,7 +70,7 @@ impl LogForm {
         LogForm::of(ProcessId(0), Kind::Coordinator)
     }
 
-    /// Opened with this boot, as it stands in a log of this form, which is that of a process.
+    /// Opened with this boot, as it is in a log of this form, which is that of a process.
     pub fn opened(self, boot: u64) -> [u8; 18]
         requires { self.format ≡ LogFormat.Second }
         ensures { result ≡ record_text self (unnamed (Opened boot)) }

@@ -1,4 +1,4 @@
-//! Frames: how a record stands in a log.
+//! Frames: how a record is in a log.
 
 ghost use Rattle.std.specs.Prelude.{◌≡◌, option_map};
 ghost use Rattle.log_text.specs.Frames.{first_frame, head_of};
@@ -6,7 +6,7 @@ ghost use Rattle.log_text.specs.Frames.{first_frame, head_of};
 use crate::form::LogFormat;
 
 /// The head of the first frame of these bytes: its kind and the length of its payload, and the bytes after.
-/// None where fewer bytes stand than a head has.
+/// None if fewer bytes stand than a head has.
 fn head(format: LogFormat, bytes: &[u8]) -> Option<(u8, usize, &[u8])>
     ensures { option_map (λ p. (p.0, p.1, p.2.now)) result ≡ head_of format bytes.now }
 {
@@ -23,7 +23,7 @@ fn head(format: LogFormat, bytes: &[u8]) -> Option<(u8, usize, &[u8])>
     }
 }
 
-/// The first frame of these bytes: its kind, its payload, and the bytes after it. None where fewer bytes
+/// The first frame of these bytes: its kind, its payload, and the bytes after it. None if fewer bytes
 /// stand than its head and length say. It takes no memory.
 pub fn first_frame(format: LogFormat, bytes: &[u8]) -> Option<(u8, &[u8], &[u8])>
     ensures { option_map (λ p. (p.0, p.1.now, p.2.now)) result ≡ first_frame format bytes.now }

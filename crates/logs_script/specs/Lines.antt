@@ -13,7 +13,7 @@ use Rattle.script_words.specs.Steps.{same}
 use Rattle.link_script.specs.Spellings.{process_text, FitsProcess}
 use Rattle.logs_script.specs.declared.line.ProcessLog.{ProcessLog}
 
--- a space and the bytes in lower-case hexadecimal, where there are any
+-- a space and the bytes in lower-case hexadecimal, if there are any
 abbrev pub bytes_part : List ℕ → List ℕ
 bytes_part [] = []
 bytes_part (b ∷ bs) = codes " " ++ encode_lower (b ∷ bs)
@@ -53,7 +53,7 @@ abbrev pub log_parts : List ℕ → Option (List ℕ × List ℕ) → Option Pro
 log_parts rest None = process_at rest >>= λ p. Some (process_log p [])
 log_parts rest (Some q) = process_at q.0 >>= λ p. bytes_at q.1 >>= λ bytes. Some (process_log p bytes)
 
--- the word `log`, and what stands after it
+-- the word `log`, and what is after it
 abbrev pub log_words : Option (List ℕ × List ℕ) → Option ProcessLog
 log_words None = None
 log_words (Some p) = if same p.0 (codes "log") then log_parts p.1 (cut_at 32 p.1) else None

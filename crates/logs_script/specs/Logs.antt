@@ -27,14 +27,14 @@ bytes_of (l ∷ ls) p = if same_process l.process p then l.bytes else bytes_of l
 abbrev pub may_follow : List TreeEntry → List ProcessLog → ProcessLog → Bool
 may_follow es ls l = is_listed es l.process && not (has_log ls l.process)
 
--- what is read after a line: the line's number, where it is not the line of a log that may stand there
+-- what is read after a line: the line's number, where it is not the line of a log that may be there
 abbrev pub line_then : List TreeEntry → List ProcessLog → ℕ → Option ProcessLog
     → (List ProcessLog → Result (List ProcessLog) ℕ) → Result (List ProcessLog) ℕ
 line_then es ls n None more = Err n
 line_then es ls n (Some l) more = if may_follow es ls l then more (ls ++ l ∷ []) else Err n
 
 -- these logs and those of the lines after them, the first of which has this number; or the number of the
--- first line that is not the line of a log that may stand there
+-- first line that is not the line of a log that may be there
 unfoldable pub logs_behind : List TreeEntry → List ProcessLog → ℕ → List (List ℕ) → Result (List ProcessLog) ℕ
 logs_behind es ls n [] = Ok ls
 logs_behind es ls n (line ∷ lines) =

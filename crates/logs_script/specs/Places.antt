@@ -17,14 +17,14 @@ abbrev pub placed : ℕ → LogRecord → Placed
 placed place l = record { place = place; read = l }
 
 -- What is read goes from frame to frame. Within a frame N bytes are still passed over, and a frame
--- begins where none are.
+-- begins if none are.
 
--- the record that begins there, where there is one, and those after it
+-- the record that begins there, if there is one, and those after it
 abbrev pub and_placed : ℕ → Option LogRecord → List Placed → List Placed
 and_placed place None more = []
 and_placed place (Some l) more = placed place l ∷ more
 
--- the record of the frame that begins there, where there is one, and those after it
+-- the record of the frame that begins there, if there is one, and those after it
 abbrev pub placed_by : LogForm → ℕ → Option Cut → (ℕ → ℕ → List Placed) → List Placed
 placed_by p place None more = []
 placed_by p place (Some c) more =

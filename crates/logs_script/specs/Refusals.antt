@@ -1,4 +1,4 @@
--- What is written where no log is told of: one is damaged, or the input is refused.
+-- What is written if no log is told of: one is damaged, or the input is refused.
 use Rattle.std.specs.Prelude.{◌≡◌, ℕ, List, Some}
 use Rattle.tree_model.specs.declared.names.ProcessId.{ProcessId}
 use Rattle.tree_model.specs.declared.trees.TreeEntry.{TreeEntry}

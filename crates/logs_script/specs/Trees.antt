@@ -8,12 +8,12 @@ use Rattle.link_script.specs.Documents.{kind_text}
 use Rattle.logs_script.specs.declared.line.ProcessLog.{ProcessLog}
 use Rattle.logs_script.specs.Lines.{log_lines}
 
--- the line of a parent, where there is one
+-- the line of a parent, if there is one
 abbrev pub parent_line : Option ProcessId → List ℕ
 parent_line None = []
 parent_line (Some p) = codes "parent = " ++ decimal p.0 ++ 10 ∷ []
 
--- the line of an info, where there is one
+-- the line of an info, if there is one
 abbrev pub info_line : Option (List ℕ) → List ℕ
 info_line None = []
 info_line (Some info) = codes "info = \"" ++ info ++ codes "\"\n"

@@ -35,7 +35,7 @@ fn decoded(alloc: Global, digits: &str) -> Result<Option<Sequence<u8>>, AllocErr
     Ok(Some(Sequence::from_vec(bytes)))
 }
 
-/// The log of a line: `log`, the process, and its bytes in hexadecimal where there are any.
+/// The log of a line: `log`, the process, and its bytes in hexadecimal if there are any.
 #[tactic(auto, unfolding(crate::specs::Lines::log_at))]
 pub fn log_of(alloc: Global, line: &str) -> Result<Option<ProcessLog>, AllocError>
     ensures { IfOk result (λ log. log ≡ log_at line.now) }

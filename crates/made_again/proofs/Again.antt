@@ -142,7 +142,7 @@ longer (x ∷ xs) old new (e ∷ es) asks leads =
           ∙ append_assoc old.entries (one.entry ∷ []) rest.0,
     )
 
--- the entry is the one that stands there
+-- the entry is the one that is there
 same_front : (xs ys zs : List Entry) → xs ++ ys ≡ xs ++ zs → ys ≡ zs
 same_front [] ys zs h = h
 same_front (x ∷ xs) ys zs h =

@@ -142,7 +142,7 @@ module _ (s t : WorldState) (alike : AlikeTrees s t) where
 
 -- Restarts that keep as many records.
 
--- no bytes stand after the records that are forced
+-- no bytes are after the records that are forced
 abbrev pub IsLevel : WorldState → Type 0
 IsLevel s = (q : ProcessId) (c : CoreState) → s.node_at q ≡ Some c → c.log.behind ≡ 0
 

@@ -24,7 +24,7 @@ bytes_of_first zero ls = 0
 bytes_of_first (suc n) [] = 0
 bytes_of_first (suc n) (l ∷ ls) = record_size l + bytes_of_first n ls
 
--- the records of a process's log that are not forced; none, where there is no such process
+-- the records of a process's log that are not forced; none, if there is no such process
 abbrev pub unforced_in : Option CoreState → List LogRecord
 unforced_in None = []
 unforced_in (Some s) = s.log.kept.unforced
@@ -60,7 +60,7 @@ ComesTo [] end w = (q : ProcessId) → HaveSame (end.node_at q) (w.node_at q)
 ComesTo (x ∷ xs) end w = (e : Event) (why : StepError) (left : WorldState)
     → AsksAgain w x.step.process x.step.happening e → Stops w e why left → IsExcused why
 
--- A tree opened, and made the events of these entries, which are its journal, where nothing was otherwise in between.
+-- A tree opened, and made the events of these entries, which are its journal, if nothing was otherwise in between.
 -- Another that has opened makes the first of them again.
 abbrev pub JournalsAreMadeAgain : Type 0
 JournalsAreMadeAgain = (tree : List TreeEntry) (front rest : List Entry) (start end again w : WorldState)

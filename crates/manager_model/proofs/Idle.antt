@@ -49,7 +49,7 @@ start_by known busy full taken room =
     if known then Err code.DupId else if busy then Err code.Proto else if full then Err code.RmErr
     else if taken then Err code.Proto else if room then row T0 code.Ok T1 else Err code.RmErr
 
--- where no thread is at work, it looks at the branches alone
+-- if no thread is at work, it looks at the branches alone
 pub starts_is : (m : ManagerSight) (x : Xid) → IsIdle m → starts m x
     ≡ is_ok (start_by (is_known m.tables.branches.branches x) false
     (nat_le 1024 (length m.tables.branches.branches)) false true)

@@ -1,4 +1,4 @@
--- In which order the records of a manager stand in its log, by the marks that those before them leave.
+-- In which order the records of a manager are in its log, by the marks that those before them leave.
 use Rattle.std.specs.Prelude.{◌≡◌, ◌≤◌, ⊤, ℕ, Option, Some, None, List, ◌∷◌, ◌++◌, map}
 use Rattle.xa_tables.specs.declared.states.BranchState.TheVariants.{S0, S3, S5}
 use Rattle.tree_model.specs.declared.names.ProcessId.{ProcessId}
@@ -11,7 +11,7 @@ use Rattle.tree_model.specs.Records.{boot_of, record_branch}
 use Rattle.tree_model.specs.Standings.{Mark, Unmarked, mark_at}
 use Rattle.manager_model.specs.Restarting.{marked_state}
 
--- a record may stand after this boot, where its branch is marked so: boots never fall; a branch promises that is
+-- a record may be after this boot, where its branch is marked so: boots never fall; a branch promises that is
 -- neither prepared nor decided by an operator; he decides one that is prepared; and one that he decided is told an
 -- outcome
 abbrev pub MayStand : ℕ → Mark → Record → Type 0
@@ -22,17 +22,17 @@ MayStand boot m (HeurRollback b) = marked_state m ≡ S3
 MayStand boot m (Told b o) = marked_state m ≡ S5
 MayStand boot m _ = ⊤
 
--- how these records mark the branch of this name, where there is one
+-- how these records mark the branch of this name, if there is one
 abbrev pub mark_before : List LogRecord → Option ProcessId → Option Branch → Mark
 mark_before ls p None = Unmarked
 mark_before ls p (Some b) = mark_at ls (name_xid p b)
 
--- a record may stand after these
+-- a record may be after these
 abbrev pub MayFollow : List LogRecord → LogRecord → Type 0
 MayFollow ls l =
     MayStand (boot_of (map (λ k. k.entry) ls)) (mark_before ls l.parent (record_branch l.entry)) l.entry
 
--- each of these records may stand after those before it
+-- each of these records may be after those before it
 abbrev pub AreInOrder : List LogRecord → Type 0
 AreInOrder ls = (front : List LogRecord) (l : LogRecord) (rest : List LogRecord) → ls ≡ front ++ l ∷ rest
     → MayFollow front l

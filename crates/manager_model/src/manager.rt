@@ -45,7 +45,7 @@ pub trait ResourceManager {
     fn state(&self, xid: &Xid) -> BranchState
         ensures { result ≡ state_at (sight self.now).tables xid.now };
 
-    /// What an operator decided of a branch, and what it was told since; None where no operator decided it,
+    /// What an operator decided of a branch, and what it was told since; None if no operator decided it,
     /// and after forget.
     fn decision(&self, xid: &Xid) -> Option<Decision>
         ensures { result ≡ decision_at (state_at (sight self.now).tables xid.now)
@@ -178,11 +178,11 @@ pub trait ResourceManager {
         ensures { IfOk result (λ records. (first : List AnyRecord) → IsFront (sight self.now).log size first
             → first ++ records.items ≡ left_by (sight self.now).log keep) };
 
-    /// Each record of its log can stand in a manager's log: it was read off bytes.
+    /// Each record of its log can be in a manager's log: it was read off bytes.
     fn records_are_sound(&self)
         ensures { AllByRecursion (IsSound kind.Manager) (records_of (sight self.now).log.kept) };
 
-    /// Each record of its log may stand after those before it, also where its device has failed.
+    /// Each record of its log may be after those before it, also where its device has failed.
     fn records_are_in_order(&self)
         ensures { AreInOrder (records_of (sight self.now).log.kept) };
 

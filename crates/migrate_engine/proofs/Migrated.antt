@@ -42,7 +42,7 @@ module _ (e : TreeEntry) (old new : List ℕ) where
     log_is = ap (process_log e.id) (text ∙ sym (ap (text_by form) read));
   }
 
-  -- what stands in the store after a migration is the log by the second format
+  -- what is in the store after a migration is the log by the second format
   pub migrates : (b : Bool) (forced failures forced' failures' : ℕ) → AreBytes (drop 5 new) → is_old old ≡ b
       → IsLogMigrated b form old forced failures new forced' failures'
       → MigratesTo e old (process_log e.id new)

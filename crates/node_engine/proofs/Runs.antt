@@ -163,7 +163,7 @@ served_first start now opening text shows left written = record {
   written = subst (λ (t : List ℕ). Appends start.held now.held t) (sym (append-nil text)) written;
 }
 
--- what comes of an answer, where there is one
+-- what comes of an answer, if there is one
 pub on_ok : {A E : Type 0} (P Q : Type 0) (r : Result A E) → (P → Q) → OnOk r P → OnOk r Q
 on_ok P Q (Ok a) f h = f h
 on_ok P Q (Err e) f h = tt

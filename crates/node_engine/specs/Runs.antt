@@ -18,7 +18,7 @@ use Rattle.node_engine.specs.declared.run.Ended.{Ended}
 use Rattle.node_engine.specs.declared.run.Ended.TheVariants.{Input, Asked}
 use Rattle.node_engine.specs.Answers.{AnswersLine, NodeState, Shows, TakesLine}
 
--- a line with its end, as it stands in an input: no byte but the last is a line feed
+-- a line with its end, as it is in an input: no byte but the last is a line feed
 abbrev pub IsPiece : List ℕ → Type 0
 IsPiece piece = StopsAt piece 10
 
@@ -112,7 +112,7 @@ abbrev pub EndsBy : Ended → Stand → Reaction → Stand → Type 0
 EndsBy Input start opening now = Served start opening now × ReadsAll start.left now.left
 EndsBy Asked start opening now = AsksEnd start opening now
 
--- how a node stands after a line, if there was one and it did not ask it to end
+-- how a node is after a line, if there was one and it did not ask it to end
 abbrev pub LeadsTo : Option Ended → Stand → Reaction → Stand → Type 0
 LeadsTo None start opening now = Served start opening now
 LeadsTo (Some by) start opening now = EndsBy by start opening now
@@ -137,7 +137,7 @@ pub record ClosesLog {L : Type 0} (bytes : L → List ℕ) (forced failures : L 
   pub forces : Forces bytes forced failures was store
 
 -- From its start on a node told what it did as it opened and answered each line, or each before one that asked it to
--- end; then all that stands in its log was forced, and `ok` is the answer to that line.
+-- end; then all that is in its log was forced, and `ok` is the answer to that line.
 pub record EndsInOrder {L : Type 0} (bytes : L → List ℕ) (forced failures : L → ℕ) (start : Stand)
     (opening : Reaction) (left held : Known) (store : L) : Type 0 where
   pub by : Ended

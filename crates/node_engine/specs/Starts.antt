@@ -26,7 +26,7 @@ use Rattle.node_engine.specs.declared.starting.StartError.{StartError}
 use Rattle.node_engine.specs.declared.starting.StartError.TheVariants.{Reopen, Stranger}
 use Rattle.node_engine.specs.Answers.{opened, state_of}
 
--- a case is the process's own, where there is one
+-- a case is the process's own, if there is one
 abbrev pub owns : ProcessId → Option ProcessId → List TreeEntry → Option ProcessId → Option Case → Bool
 owns me parent tree named None = true
 owns me parent tree named (Some c) = is_own (place_below me parent tree) named c

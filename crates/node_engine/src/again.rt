@@ -92,7 +92,7 @@ fn still_owing(
     Ok(owing)
 }
 
-/// What is sent once more of a case of which the records say this, while these owe an acknowledgement; None, where it waits
+/// What is sent once more of a case of which the records say this, while these owe an acknowledgement; None, if it waits
 /// for none.
 #[tactic(auto, using(crate::proofs::Owed::by_summary))]
 fn owed_by(

@@ -14,7 +14,7 @@ use tree_audit::AuditError;
 use tree_model::{ProcessId, Sequence, Standing, StepError, Tree};
 
 /// How far the log of a process counts, by whether it is the root of a branch below it, and by where the root's case of the
-/// transaction stands there.
+/// transaction is there.
 pub(crate) fn trust_by(is_above: bool, standing: Standing) -> Trust
     ensures { result ≡ trust_in is_above standing }
 {

@@ -16,7 +16,7 @@ fn pairs_of(replayed: &Replayed) -> Result<Vec<(Bytes, Bytes)>, AllocError>
     replayed.data.pairs()
 }
 
-/// The keys and values that these records make, keys rising; None where they are no key store's.
+/// The keys and values that these records make, keys rising; None if they are no key store's.
 #[tactic(auto, using(crate::proofs::Pairs::pairs_are))]
 pub(crate) fn pairs_in(
     alloc: Global,
@@ -31,7 +31,7 @@ pub(crate) fn pairs_in(
     }
 }
 
-/// What is told of these keys and values; a refusal, where there are none.
+/// What is told of these keys and values; a refusal, if there are none.
 pub(crate) fn answer(
     alloc: Global,
     manner: Manner,

@@ -226,7 +226,7 @@ fn write_end<W: Write, N: Witness>(
     }
 }
 
-/// A node whose input ended: all that stands in its log is forced, and after that `ok` is written, where a line
+/// A node whose input ended: all that is in its log is forced, and after that `ok` is written, where a line
 /// asked it to end.
 fn finish<W: Write, L: LogStore + Drop, N: Witness>(
     serving: Serving<L>,
@@ -254,7 +254,7 @@ fn finish<W: Write, L: LogStore + Drop, N: Witness>(
 /// `ok`, by `refused` and a number, or by `error` where it asks for nothing. Each answer is written
 /// before the next line is read, and after the records that it rests on, which are forced where the process
 /// forces them. After each answer the witness sees it with its line. At the end of the input, and at a line `end`,
-/// all that stands in the log is forced; `end` is answered then, and nothing is read after it. Ok: so it ended,
+/// all that is in the log is forced; `end` is answered then, and nothing is read after it. Ok: so it ended,
 /// and this is its store.
 pub fn run_node<R: BufRead, W: Write, L: LogStore + Drop, N: Witness>(
     alloc: Global,

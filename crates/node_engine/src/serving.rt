@@ -333,7 +333,7 @@ impl<L: LogStore> Serving<L> {
     }
 
     /// The answer to a line that asks for a decision once more: its messages, under the next numbers; nothing is
-    /// recorded. Refused, where the case is not this process's or waits for no acknowledgement: there is no such
+    /// recorded. Refused, if the case is not this process's or waits for no acknowledgement: there is no such
     /// message.
     fn again(&mut self, case: &Case) -> Result<Vec<u8>, NodeFailure>
         ensures ok { IfOk result (λ text. AnswersAgain (owed_at (state_of self.old) case.now)
@@ -386,7 +386,7 @@ impl<L: LogStore> Serving<L> {
         }
     }
 
-    /// Where the root's case of a transaction stands here; Unknown, where it is not live.
+    /// Where the root's case of a transaction stands here; Unknown, if it is not live.
     fn standing(&self, txn: Txn) -> Standing
         ensures { result ≡ ((state_of self.now).core.view_of (root_case txn)).standing }
     {
@@ -442,7 +442,7 @@ impl<L: LogStore> Serving<L> {
         Ok(name_text(self.alloc, self.manner, name, &answer)?)
     }
 
-    /// What is to be done with a branch of this name, by the node's own log: what stands there counts; at the root, of a
+    /// What is to be done with a branch of this name, by the node's own log: what is there counts; at the root, of a
     /// branch below it whose transaction is not under way, also that nothing does. Refused, if the log does not read.
     #[tactic(auto, using(crate::proofs::Resolving::text_so, crate::proofs::Resolving::no_text_at))]
     fn resolve(&self, name: &Bytes) -> Result<Vec<u8>, NodeFailure>

@@ -117,7 +117,7 @@ fn name_own(me: ProcessId, parent: Option<ProcessId>, tree: &Tree, records: &[Lo
         .all(|record| names_own(me, parent, tree, record))
 }
 
-/// The log of the process that these bytes are, over a copy of them in memory; None, where they are none.
+/// The log of the process that these bytes are, over a copy of them in memory; None, if they are none.
 #[tactic(auto, using(crate::proofs::Homes::damaged_is_none, crate::proofs::Homes::old_is_none))]
 fn copied_log(
     alloc: Global,

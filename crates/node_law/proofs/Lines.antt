@@ -200,7 +200,7 @@ module _ (s t : WorldState) (old new : NodeState) (was : Sits s old) (same : new
   unsaid None why h = h.0
   unsaid (Some es) why h = h.0
 
-  -- a message for this node stands in the net
+  -- a message for this node is in the net
   stands_there : (n : ℕ) (e : Envelope) → WasSent s.net (asked.Message n e) → hears old e ≡ true
       → InputStands s.net old.me (MessageInput n e.message)
   stands_there n e sent mine =

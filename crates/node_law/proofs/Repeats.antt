@@ -262,7 +262,7 @@ abort_is_coordinators : (c : Case) (r : Record) → is_abort c r ≡ true → is
 abort_is_coordinators c (AbortRecord d ts) e = refl
 abort_is_coordinators c r e = absurd (cc)
 
--- what a coordinator would read there stands there
+-- what a coordinator would read there is there
 module _ (place : Place) (coordinator : IsCoordinator place.role) (t : Record → Bool) where
   one_read : (l : LogRecord) (o : Option Case) → has t (own_by place l o) ≡ true → t l.entry ≡ true
   unfolding has

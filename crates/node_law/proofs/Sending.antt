@@ -60,7 +60,7 @@ pub all_more : (net more es : List Envelope) → AreAmong net es → AreAmong (n
 all_more net more [] h = tt
 all_more net more (e ∷ es) h = (among_more net more e h.0, all_more net more es h.1)
 
--- these stand in a list between others
+-- these are in a list between others
 pub between : (front es rest : List Envelope) → AreAmong (front ++ (es ++ rest)) es
 between front [] rest = tt
 between front (e ∷ es) rest = (
@@ -69,7 +69,7 @@ between front (e ∷ es) rest = (
       (between (front ++ e ∷ []) es rest),
 )
 
--- they stand at its end
+-- they are at its end
 pub at_end : (front es : List Envelope) → AreAmong (front ++ es) es
 at_end front es = subst (λ (xs : List Envelope). AreAmong (front ++ xs) es) (append-nil es) (between front es [])
 

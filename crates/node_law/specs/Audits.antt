@@ -26,7 +26,7 @@ abbrev pub AreFoundWhole : WorldState → List ProcessLog → Type 0
 AreFoundWhole s logs = (e : TreeEntry) → find (λ x. same_process x.id e.id) s.tree ≡ Some e
     → IsFoundWhole s e (bytes_of logs e.id)
 
--- Whichever nodes of a tree end and start, the tree comes to a run of which the headline holds; and where no process is
+-- Whichever nodes of a tree end and start, the tree makes a run of which the headline holds; and where no process is
 -- failed at last, and its file holds all that it keeps, the audit of the files is true of that run.
 abbrev pub NodesAreAuditedTruly : Type 0
 NodesAreAuditedTruly = (tree : List TreeEntry) (s t : WorldState) → IsTree tree → IsOpened s tree → NodeSteps s t

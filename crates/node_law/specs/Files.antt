@@ -15,7 +15,7 @@ use Rattle.file_store.specs.declared.store.FileStore.{FileStore}
 use Rattle.file_store.specs.Disks.{OnDisk, unforced}
 use Rattle.file_store.specs.Stores.{file_bytes, file_failures, file_forced}
 
--- What is known of the bytes under a process's log: they are a header and whole records, which can stand there, and the
+-- What is known of the bytes under a process's log: they are a header and whole records, which can be there, and the
 -- header is forced.
 pub record IsLogOf (c : CoreState) (text : List ℕ) (forced : ℕ) : Type 0 where
   pub begins : take 5 text ≡ header Second

@@ -133,7 +133,7 @@ module _ (s t : WorldState) (old new : NodeState) where
   EntersTaken asked.Unknown why h = Silent s t
   EntersTaken asked.NoText why h = Silent s t
 
--- A node answered a line, as `run_node` says: what it answers is what it did, and what it sent stands in it.
+-- A node answered a line, as `run_node` says: what it answers is what it did, and what it sent is in it.
 pub record Answered (s t : WorldState) : Type 0 where
   pub old : NodeState
   pub new : NodeState

@@ -95,7 +95,7 @@ pub fn nodes_are_never_refused<L: LogStore>()
     ensures new { NewFilesAreTakenUp L.bytes L.forced L.failures }
 {}
 
-/// Whichever nodes of a tree end and start, the tree comes to a run of which the headline holds; and where no process is
+/// Whichever nodes of a tree end and start, the tree makes a run of which the headline holds; and where no process is
 /// failed at last, and its file holds all that it keeps, as after an end in order, the audit of the files is true of that
 /// run. Nodes that were killed before, and devices that failed, are no matter.
 pub fn nodes_are_audited_truly()

@@ -1,6 +1,6 @@
 //! Floor: engines and program.
 //!
-//! A tree each process of which is a program of its own over a log in a file, and that it comes to a run of
+//! A tree each process of which is a program of its own over a log in a file, and that it makes a run of
 //! the model: laws alone.
 #![tactic(auto)]
 

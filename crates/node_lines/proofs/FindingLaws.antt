@@ -72,7 +72,7 @@ words_again w (v ∷ ws) h =
     slice_split_at (λ b. eqb b 32) w 32 (v ++ behind ws) (other_bytes w h.0) refl
     ∙ ap (λ vs. w ∷ vs) (words_again v ws h.1)
 
--- where the unreported tickets begin among words that stand in a text
+-- where the unreported tickets begin among words that are in a text
 
 mapped : (ws : List (Bor (List ℕ))) → position_or_len (λ w. begins_unreported w.now) ws
     ≡ position_or_len begins_unreported (map (λ w. w.now) ws)

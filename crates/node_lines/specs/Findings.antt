@@ -26,7 +26,7 @@ abbrev pub part_at : List ℕ → List (List ℕ) → Option (List Ticket)
 part_at name [] = Some []
 part_at name (w ∷ ws) = if same w name then some_tickets_at ws else None
 
--- the word that the unreported tickets stand after
+-- the word that the unreported tickets are after
 abbrev pub begins_unreported : List ℕ → Bool
 begins_unreported w = same w (codes "unreported")
 
@@ -41,7 +41,7 @@ parts_at ws =
 unfoldable pub findings_at : List ℕ → Option (List Finding)
 findings_at text = parts_at (words_in text)
 
--- what was found, by the text after an outcome; where there is none, nothing was
+-- what was found, by the text after an outcome; if there is none, nothing was
 abbrev pub found_at : Option (List ℕ) → Option (List Finding)
 found_at None = Some []
 found_at (Some text) = findings_at text

@@ -18,7 +18,7 @@ way_at word = do
   to ← process_at rest
   Some (from, to)
 
--- what stands before a message's text, and that text: its number, its sender and its receiver
+-- what is before a message's text, and that text: its number, its sender and its receiver
 unfoldable pub head_at : List ℕ → Option (ℕ × (ProcessId × ProcessId) × List ℕ)
 head_at line = do
   p ← cut_at 32 line
@@ -31,7 +31,7 @@ head_at line = do
 abbrev pub head_view : ℕ × (ProcessId × ProcessId) × Bor (List ℕ) → ℕ × (ProcessId × ProcessId) × List ℕ
 head_view (number, way, text) = (number, way, text.now)
 
--- a message with its number, its sender and its receiver, by what stands before its text, and by that text
+-- a message with its number, its sender and its receiver, by what is before its text, and by that text
 abbrev pub with_head : ProcessId → ℕ × (ProcessId × ProcessId) × List ℕ → Option (ℕ × Envelope)
 with_head root (number, way, text) =
     message_at root text >>= λ m. Some (number, record { from = way.0; to = way.1; message = m })

@@ -48,7 +48,7 @@ ending_at word =
     else if same word (codes "abort") then Some Aborted
     else None
 
--- the first word of a text, and what stands after it, if anything does
+-- the first word of a text, and what is after it, if anything does
 abbrev pub or_whole : List ℕ → Option (List ℕ × List ℕ) → List ℕ × Option (List ℕ)
 or_whole text None = (text, None)
 or_whole text (Some p) = (p.0, Some p.1)
@@ -90,7 +90,7 @@ plain_at root word rest =
     else if same word (codes "INQUIRE") then of_case (λ c. Inquire c) root rest
     else None
 
--- a message, by its first word and what stands after it
+-- a message, by its first word and what is after it
 abbrev pub message_parts : ProcessId → Option (List ℕ × List ℕ) → Option Message
 message_parts root None = None
 message_parts root (Some p) =

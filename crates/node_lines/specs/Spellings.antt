@@ -35,7 +35,7 @@ FitsFindings [] = Unit {0}
 FitsFindings (Mixed t ∷ fs) = FitsTicket t × FitsFindings fs
 FitsFindings (Unreported t ∷ fs) = FitsTicket t × FitsFindings fs
 
--- what an `ACK` names has a spelling, and what it found stands in the order of its text
+-- what an `ACK` names has a spelling, and what it found is in the order of its text
 pub record FitsAck (root : ProcessId) (c : Case) (fs : List Finding) : Type 0 where
   pub case_fits : FitsCase root c
   pub findings_fit : FitsFindings fs

@@ -16,7 +16,7 @@ use link_script::ticket_of;
 use std::alloc::{AllocError, Global};
 use tree_model::{Finding, Findings, Sequence, Ticket};
 
-/// What an acknowledgement found, by the text after its outcome, if there is one; None where the text tells
+/// What an acknowledgement found, by the text after its outcome, if there is one; None if the text tells
 /// of no findings.
 pub(crate) fn found_in(alloc: Global, text: Option<&str>) -> Result<Option<Findings>, AllocError>
     ensures { IfOk result (λ found. found ≡ found_at (option_map (λ t. t.now) text.entry)) }
@@ -50,7 +50,7 @@ fn words_of(alloc: Global, text: &str) -> Result<Vec<&str>, AllocError>
     text.split(' ').collect(alloc)
 }
 
-/// Whether the unreported tickets stand after this word.
+/// Whether the unreported tickets are after this word.
 fn begins_unreported(word: &str) -> bool
     ensures { result ≡ begins_unreported word.now }
 {
@@ -64,7 +64,7 @@ fn first_unreported(words: &[&str]) -> Option<usize>
     words.iter().position(|word| begins_unreported(word))
 }
 
-/// How many words stand before the first `unreported`.
+/// How many words are before the first `unreported`.
 fn mixed_words(words: &[&str]) -> usize
     ensures place { result ≡ position_or_len begins_unreported (map (λ word. word.now) words.now) }
     ensures within { result ≤ length words.now }
@@ -89,7 +89,7 @@ fn part_of(alloc: Global, name: &str, words: &[&str]) -> Result<Option<Vec<Ticke
     }
 }
 
-/// The tickets that words name; None where one of them names none.
+/// The tickets that words name; None if one of them names none.
 fn tickets_of(alloc: Global, words: &[&str]) -> Result<Option<Vec<Ticket>>, AllocError>
     ensures { IfOk result (λ tickets.
         option_map (λ ts. ts.items) tickets ≡ tickets_at (map (λ word. word.now) words.now)) }

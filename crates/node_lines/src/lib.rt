@@ -1,7 +1,7 @@
 //! Floor: the model.
 //!
-//! The lines that a node reads: messages as they stand in the lines of a trace, read back
-//! (`7 1->2 PREPARE a1.1@2.1.1 1`), acts as they stand in scripts, and what else a node is asked.
+//! The lines that a node reads: messages as they are in the lines of a trace, read back
+//! (`7 1->2 PREPARE a1.1@2.1.1 1`), acts as they are in scripts, and what else a node is asked.
 #![tactic(auto)]
 
 mod asked;

@@ -10,7 +10,7 @@ use spellings::word::cut;
 use std::alloc::{AllocError, Global};
 use tree_model::{Envelope, ProcessId};
 
-/// The message of a line and its number, over a tree with this root; None where it is not a message.
+/// The message of a line and its number, over a tree with this root; None if it is not a message.
 pub fn line_of(
     alloc: Global,
     root: ProcessId,

@@ -23,7 +23,7 @@ use spellings::word::cut;
 use std::alloc::{AllocError, Global};
 use tree_model::{Case, Message, Outcome, ProcessId};
 
-/// The message of a transaction of this root that a text is; None where it is the text of no message.
+/// The message of a transaction of this root that a text is; None if it is the text of no message.
 #[tactic(auto, unfolding(crate::specs::Messages::message_at))]
 pub fn message_of(alloc: Global, root: ProcessId, text: &str) -> Result<Option<Message>, AllocError>
     ensures { IfOk result (λ message. message ≡ message_at root text.now) }
@@ -100,7 +100,7 @@ fn ack_words(root: ProcessId, rest: &str) -> Option<(Case, Outcome, Option<&str>
     Some((case, outcome, text))
 }
 
-/// The first word of a text, and what stands after it, if anything does.
+/// The first word of a text, and what is after it, if anything does.
 fn before_blank(text: &str) -> (&str, Option<&str>)
     ensures { (result.0.now, option_map (λ t. t.now) result.1) ≡ first_word text.now }
 {

@@ -89,7 +89,7 @@ abbrev pub StepsGoOn : Type 0
 StepsGoOn = (s t : WorldState) (es : List Made) (w : World) → IsTree s.tree → FollowsBehindFaults es w s
     → LifeStep s t → GoesOnBehindFaults es w t
 
--- whatever programs of a tree come and go, it comes to a run of the model; the headline holds of it, and mismatches
+-- whatever programs of a tree come and go, it makes a run of the model; the headline holds of it, and mismatches
 -- are reported in it
 abbrev pub LivesAreRuns : Type 0
 LivesAreRuns = (tree : List TreeEntry) (s t : WorldState) → IsTree tree → IsOpened s tree → Lives s t

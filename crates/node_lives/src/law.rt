@@ -6,7 +6,7 @@ ghost use Rattle.node_lives.specs.Tells.{EntriesTellSo, ToldIsSo};
 
 /// Where the state of a tree stands for a run, in which devices may have failed, what a step of one of its
 /// programs makes of it stands for one that goes on, a program's end in any step and its start among them.
-/// So whatever programs come and go, the tree comes to a run of the model; the headline holds of it, and
+/// So whatever programs come and go, the tree makes a run of the model; the headline holds of it, and
 /// mismatches are reported in it.
 pub fn lives_are_runs()
     ensures step { StepsGoOn }

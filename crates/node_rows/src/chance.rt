@@ -11,7 +11,7 @@ impl Chance {
         Chance { state: seed }
     }
 
-    /// A number below this one; 0, where there is none.
+    /// A number below this one; 0, if there is none.
     pub fn below(&mut self, count: usize) -> usize {
         self.state = self
             .state

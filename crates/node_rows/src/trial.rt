@@ -332,7 +332,7 @@ impl Trial {
         true
     }
 
-    /// How many cases committed and aborted by an audit; None, where one is in doubt, or was told otherwise.
+    /// How many cases committed and aborted by an audit; None, if one is in doubt, or was told otherwise.
     fn count(&self) -> Option<(u64, u64)> {
         let audit = self.audit()?;
         let mut commits = 0u64;
@@ -383,7 +383,7 @@ pub fn run_lines(alloc: Global) -> &'static str {
     }
 }
 
-/// Runs a tree of nodes, and says what it came to; None where it goes wrong.
+/// Runs a tree of nodes, and says what it came to; None if it goes wrong.
 pub fn run(alloc: Global, seed: u64) -> Option<String> {
     let tree = read_tree(alloc, TREE).ok()?;
     tree.check().ok()?;

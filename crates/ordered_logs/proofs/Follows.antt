@@ -33,7 +33,7 @@ use Rattle.tree_nodes.proofs.Appends.{breaks, breaks_keeps, either_logs, loses}
 use Rattle.tree_nodes.proofs.Cases.{viewed}
 use Rattle.tree_nodes.proofs.Worlds.{put}
 
--- as far as boots and ends go, a coordinator's record may stand after these
+-- as far as boots and ends go, a coordinator's record may be after these
 abbrev pub Follows : List Record → Record → Type 0
 Follows rs (Opened k) = boot_of rs < k
 Follows rs (EndRecord c r) = has (is_end c) rs ≡ false

@@ -70,7 +70,7 @@ all_fit_of : (p : Option ProcessId) (rs : List Record) → CanStand (map (in_log
 all_fit_of p [] h = tt
 all_fit_of p (r ∷ rs) h = (fits_of p r h.0, all_fit_of p rs h.1)
 
--- where each record can stand in a coordinator's log, the records of the log may follow one another
+-- where each record can be in a coordinator's log, the records of the log may follow one another
 pub ordered_so : (tree : List TreeEntry) (es : List Made) (w : World) → IsTree tree → IsRun tree es w
     → (q : ProcessId) → is_listed tree q ≡ true → IsCoordinator (role_of tree q) → CanStand (log_of tree w q)
     → is_some (seen_of (log_of tree w q)) ≡ true

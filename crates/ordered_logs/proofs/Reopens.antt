@@ -1,4 +1,4 @@
--- What a coordinator appends at a restart can stand in its log, where what is left can.
+-- What a coordinator appends at a restart can be in its log, where what is left can.
 use Rattle.std.proofs.Common.{◌≡◌, ◌∙◌, ◌||◌, ◌+◌, ◌^◌, ◌<◌, ℕ, Bool, true, false, Option, Some, None, List, [], ◌∷◌, ◌++◌, length, map, take, drop, refl, sym, ap, subst, append_assoc, arith, if◌then◌else◌}
 use Rattle.std.specs.List.{AllByRecursion, flat_map}
 use Rattle.std.proofs.lemmas.List.{append-nil, take-append-drop}
@@ -36,12 +36,12 @@ record OnlyCollects (c : Case) (xs : List Record) : Type 0 where
   no_commit : has (is_commit c) xs ≡ false
   no_abort : has (is_abort c) xs ≡ false
 
--- the record can stand in the log of a coordinator below this parent
+-- the record can be in the log of a coordinator below this parent
 abbrev Stands : Option ProcessId → Record → Type 0
 Stands p x = IsSound Coordinator (in_log p x)
 
 module _ (p : Option ProcessId) (c : Case) where
-  -- what the list's records of the case name can stand in a record; and it is nobody, where one stood before it
+  -- what the list's records of the case name can be in a record; and it is nobody, where one stood before it
   record Names (pre xs : List Record) : Type 0 where
     sound : AreSoundTickets (flat_map (named_in c) xs)
     once : has (is_collecting c) pre ≡ true → flat_map (named_in c) xs ≡ []

@@ -45,7 +45,7 @@ IsReadWhole ls = (q : ProcessId) (tail : List ℕ) → first_frame Second tail �
     → read_log (log_form q Coordinator) (header Second ++ (records_text (log_form q Coordinator) ls ++ tail))
     ≡ Whole ls (length tail)
 
--- each record can stand in the log of a coordinator: its numbers are within their bounds, and it names 255 tickets at most,
+-- each record can be in the log of a coordinator: its numbers are within their bounds, and it names 255 tickets at most,
 -- an End that reports in each of its two lists
 abbrev pub CanStand : List LogRecord → Type 0
 CanStand ls = AllByRecursion (IsSound Coordinator) ls

@@ -22,15 +22,15 @@ pub fn coordinators_write_in_order()
 {}
 
 /// In every run of every tree the log of a coordinator, as bytes, is never damaged: it reads as its records, and as a torn tail
-/// after them where bytes stand there that are no whole frame. It asks that each record can stand in such a log.
+/// after them where bytes are there that are no whole frame. It asks that each record can be in such a log.
 pub fn coordinators_logs_are_read()
     ensures { (tree : List TreeEntry) (es : List Made) (w : World) → IsTree tree → IsRun tree es w
         → (q : ProcessId) → is_listed tree q ≡ true → IsCoordinator (role_of tree q)
         → CanStand (log_of tree w q) → IsReadWhole (log_of tree w q) }
 {}
 
-/// In every run what a coordinator appends at a restart can stand in its log, wherever a crash cuts it, while a boot below
-/// 2^63 is left: no Abort of it names more than 255 tickets. It asks that each record of the log can stand in it.
+/// In every run what a coordinator appends at a restart can be in its log, wherever a crash cuts it, while a boot below
+/// 2^63 is left: no Abort of it names more than 255 tickets. It asks that each record of the log can be in it.
 pub fn coordinators_can_restart()
     ensures { (tree : List TreeEntry) (es : List Made) (w : World) → IsRun tree es w → (q : ProcessId)
         → IsCoordinator (role_of tree q) → CanStand (log_of tree w q) → (k : ℕ)

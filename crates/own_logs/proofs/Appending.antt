@@ -1,4 +1,4 @@
--- What a coordinator appends at a restart over sound records in order can stand in its log, wherever it sits.
+-- What a coordinator appends at a restart over sound records in order can be in its log, wherever it sits.
 use Rattle.std.proofs.Common.{◌≡◌, ◌∙◌, ◌&&◌, ◌||◌, ◌⊎◌, ◌+◌, ◌^◌, ◌<◌, inl, inr, ℕ, Bool, true, false, Option, Some, None, List, [], ◌∷◌, ◌++◌, fold, map, refl, sym, ap, subst, arith, if◌then◌else◌}
 use Rattle.std.specs.List.{AllByRecursion, flat_map}
 use Rattle.std.proofs.lemmas.List.{append-nil}
@@ -36,12 +36,12 @@ record OnlyCollects (c : Case) (xs : List Record) : Type 0 where
   no_commit : has (is_commit c) xs ≡ false
   no_abort : has (is_abort c) xs ≡ false
 
--- the record can stand in the log of a coordinator below this parent
+-- the record can be in the log of a coordinator below this parent
 abbrev Stands : Option ProcessId → Record → Type 0
 Stands p x = IsSound Coordinator (in_log p x)
 
 module _ (p : Option ProcessId) (c : Case) where
-  -- what the list's records of the case name can stand in a record; and it is nobody, where one stood before it
+  -- what the list's records of the case name can be in a record; and it is nobody, where one stood before it
   record Names (pre xs : List Record) : Type 0 where
     sound : AreSoundTickets (flat_map (named_in c) xs)
     once : has (is_collecting c) pre ≡ true → flat_map (named_in c) xs ≡ []
@@ -132,7 +132,7 @@ unfolding recorded_view
 named_so c rs e =
     ap (λ (s : Standing). (view_at s rs c fresh_memory).named) (sym (recorded_stands c rs) ∙ e)
 
--- each of these records can stand in the log of a coordinator below this parent
+-- each of these records can be in the log of a coordinator below this parent
 abbrev AllStand : Option ProcessId → List Record → Type 0
 AllStand p rs = AllByRecursion (Stands p) rs
 
@@ -194,7 +194,7 @@ parent_so (Some r) p h = elim (same_process_tells r p) [
   | inr z ↦ absurd (let clash : true ≡ false = sym h ∙ z.0 in cc)
 ]
 
--- a case that is the process's own stands under its parent
+-- a case that is the process's own is under its parent
 under_parent : (r : Role) (t : Option Ticket) (q : Option ProcessId)
     → (is_ticketed r t && same_parent q (parent_of r)) ≡ true → ticket_parent (parent_of r) t ≡ q
 under_parent AtRoot None None h = refl

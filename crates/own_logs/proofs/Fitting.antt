@@ -49,7 +49,7 @@ use Rattle.own_logs.proofs.Reaching.{left_fit}
 
 -- Records that are fit.
 
--- Records that a coordinator wrote: each can stand in its log, and fits after those before it. Or that a manager wrote:
+-- Records that a coordinator wrote: each can be in its log, and fits after those before it. Or that a manager wrote:
 -- they may follow one another, and a subordinate which sits there can have written them.
 abbrev AreGood : Kind → Place → List LogRecord → Type 0
 AreGood Coordinator place ls = AllByRecursion (IsSound Coordinator) ls × AllFit [] (entries_of ls)

@@ -76,7 +76,7 @@ abbrev pub part_of : Part → ProcessId → ℕ → List Entry → List ℕ → 
 part_of (Case t) root start es counts = drawn_from (Some (at_root root t)) (marks_of_case root t es)
 part_of (Events r) root start es counts = drawn_from None (marks_of_events start counts r es)
 
--- The text has a picture of these steps of a tree, of a run of some events. What stands before and after it, as its caption, is not
+-- The text has a picture of these steps of a tree, of a run of some events. What is before and after it, as its caption, is not
 -- said.
 pub record HasPicture (tree : List TreeEntry) (entries : List Entry) (text : List ℕ) : Type 0 where
   -- how many events are drawn, and which of them was refused, if one was

@@ -1,4 +1,4 @@
-//! What stands above the picture of a part: which part it is, and how its events and messages are numbered in the run.
+//! What is above the picture of a part: which part it is, and how its events and messages are numbered in the run.
 
 ghost use Rattle.std.specs.Prelude.{◌≡◌, ◌++◌, IfOk, codes};
 ghost use Rattle.picture_parts.specs.Captions.{Surrounds};
@@ -95,7 +95,7 @@ fn size_of(text: &[u8]) -> Option<(u64, u64)> {
     Some((width.parse().ok()?, height.parse().ok()?))
 }
 
-/// What stands before a picture with a caption.
+/// What is before a picture with a caption.
 fn head_of(alloc: Global, caption: &[u8], text: &[u8]) -> Result<Vec<u8>, AllocError> {
     let (width, height) = size_of(text).unwrap_or((0, 0));
     let height = height.saturating_add(HEIGHT);

@@ -53,7 +53,7 @@ pub struct Mark {
     pub place: u32,
     pub row: u32,
     pub logged: Logged,
-    /// Whether its words stand at the right.
+    /// Whether its words are at the right.
     pub right: bool,
 }
 
@@ -222,7 +222,7 @@ pub fn stubs(
     Ok(stubs)
 }
 
-/// Whether the words of a step's records stand at the right: the message that it delivered came from the left.
+/// Whether the words of a step's records are at the right: the message that it delivered came from the left.
 fn is_right(seats: &[Seat], entries: &[Entry], fates: &[Fate], entry: &Entry) -> bool {
     let Some(number) = heard_by(entry) else {
         return true;

@@ -1,6 +1,6 @@
 //! Floor: engines and program.
 //!
-//! The rows of a run's picture: which process stands at which place, at which row each step begins and ends,
+//! The rows of a run's picture: which process is at which place, at which row each step begins and ends,
 //! and what is drawn from which row to which.
 #![tactic(auto)]
 

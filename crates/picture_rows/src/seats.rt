@@ -122,7 +122,7 @@ pub fn seats_of(alloc: Global, tree: &[TreeEntry]) -> Result<Vec<Seat>, PictureE
     sit_in_order(alloc, tree)
 }
 
-/// The place of a process; the root's, where it has none.
+/// The place of a process; the root's, if it has none.
 pub fn place_of(seats: &[Seat], process: ProcessId) -> u32
     ensures { result ≡ place_in seats.now process }
 {

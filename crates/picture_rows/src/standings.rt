@@ -87,7 +87,7 @@ fn is_in(standing: Standing, band: Band) -> bool {
     }
 }
 
-/// How a case stands after a record of this kind.
+/// How a case is after a record of this kind.
 fn standing_behind(kind: RecordKind) -> Standing {
     match kind {
         RecordKind::Prepare | RecordKind::Prepared => Standing::InDoubt,

@@ -16,7 +16,7 @@ use Rattle.picture_shapes.specs.Words.{pair_text, word_text}
 abbrev pub width_of : Frame → ℕ
 width_of f = line_at f.grid f.processes
 
--- as many entries of the legend as have room stand in a line: 236 pixels each, at least one, and at most 19
+-- as many entries of the legend as have room are in a line: 236 pixels each, at least one, and at most 19
 unfoldable pub keys_in_line : Frame → ℕ
 keys_in_line f = max (min ((width_of f - 20) / 236) 19) 1
 
@@ -119,7 +119,7 @@ keys_text f entry (k ∷ ks) = key_text f entry k.drawn k.meaning ++ keys_text f
 abbrev pub legend_text : Frame → Signs → List ℕ
 legend_text f s = keys_text f 0 (keys_of s)
 
--- All that stands before the shapes: the size, the title, the style, the ground and the legend. Its words and drawings are those
+-- All that is before the shapes: the size, the title, the style, the ground and the legend. Its words and drawings are those
 -- that are written here and in the constants `STYLE` and `LEGEND`, and nothing else is among it.
 unfoldable pub head_text : Frame → ℕ → Summary → Signs → List ℕ
 head_text f height summary s =

@@ -239,7 +239,7 @@ ground_text x y size = codes "<rect class=\"bg\"" ++ place_text x y ++ size_text
 abbrev pub ground_of : Label → List ℕ
 ground_of l = ground_text (if l.right then l.x else l.x - l.size) (l.y - 11) l.size
 
--- words of a class of their own, where there are any
+-- words of a class of their own, if there are any
 unfoldable pub span_text : List ℕ → List ℕ → List ℕ
 span_text begin [] = []
 span_text begin (b ∷ bs) = begin ++ escaped (b ∷ bs) ++ codes "</tspan>"

@@ -285,7 +285,7 @@ fn push_ground(out: &mut Vec<u8>, label: &Label) -> Result<(), AllocError>
     push_ground_at(out, ground_x(label), label.y.saturating_sub(11), label.size)
 }
 
-/// Words of a class of their own within a label, where there are any.
+/// Words of a class of their own within a label, if there are any.
 #[tactic(auto, unfolding(crate::specs::Svg::span_text))]
 fn push_span(out: &mut Vec<u8>, begin: &str, words: &Vec<u8>) -> Result<(), AllocError>
     ensures { OnOk result (out.new.items ≡ out.old.items ++ span_text begin.now words.now.items) }

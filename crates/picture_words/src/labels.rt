@@ -202,7 +202,7 @@ pub fn message_with(messages: &[Envelope], number: u64) -> Option<&Envelope>
     }
 }
 
-/// All of the message with this number, as a trace has it; nothing, where there is none.
+/// All of the message with this number, as a trace has it; nothing, if there is none.
 pub fn message_title(
     alloc: Global,
     number: u64,

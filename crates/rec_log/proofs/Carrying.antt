@@ -28,7 +28,7 @@ use Rattle.rec_log.proofs.Settling.{read_by, same_bytes_is}
 use Rattle.rec_log.proofs.SoundRecords.{sound_is_record}
 use Rattle.rec_log.specs.Texts.{and_records, records_in}
 
--- sound records can stand in a log, and fit its frames
+-- sound records can be in a log, and fit its frames
 pub all_stand : (k : Kind) (ls : List LogRecord) → AllByRecursion (IsSound k) ls → AreRecords k ls
 all_stand k [] h = tt
 all_stand k (l ∷ ls) h = (sound_is_record k l h.0, all_stand k ls h.1)

@@ -84,7 +84,7 @@ pub no_bytes : (f : LogFormat) → first_frame f [] ≡ None
 no_bytes First = refl
 no_bytes Second = refl
 
--- a frame stands after its first byte: N bytes are passed over, and what is after them is what was left
+-- a frame is after its first byte: N bytes are passed over, and what is after them is what was left
 pub record IsBehind (f : LogFormat) (bs : List ℕ) (c : Cut) : Type 0 where
   pub fits : size_bytes f + length c.1 ≤ length bs
   pub left : drop (size_bytes f + length c.1) bs ≡ c.2

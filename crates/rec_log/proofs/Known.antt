@@ -83,7 +83,7 @@ known_still p text text' forced forced' known k e f = record {
   whole = ap (λ t. is_whole p 0 (take (known - 5) (body t))) e ∙ k.whole;
 }
 
--- What stands after it.
+-- What is after it.
 
 pub split_known : (left : List ℕ) (known : ℕ) → 5 ≤ known
     → body left ≡ take (known - 5) (body left) ++ drop known left

@@ -171,7 +171,7 @@ rewrite_breaks p text bytes asked forced forced' failures failures' room room' r
       cause = g;
     })
 
--- a log stands there, whichever of the two came
+-- a log is there, whichever of the two came
 pub text_either : (p : LogForm) (text bytes asked : List ℕ) (forced forced' : ℕ) (rs : List LogRecord)
     (failed : Bool) → IsLogText p text forced failed → Spells p asked rs
     → Came text forced bytes forced' asked → IsLogText p bytes forced' true

@@ -1,4 +1,4 @@
--- Each record that is read off bytes can stand in a log.
+-- Each record that is read off bytes can be in a log.
 use Rattle.std.proofs.Common.{◌≡◌, ◌+◌, ◌*◌, ℕ, zero, suc, List, [], ◌∷◌, length, Option, Some, None, refl, subst, sym}
 use Rattle.std.specs.List.{AllByRecursion}
 use Rattle.log_text.specs.declared.form.LogForm.{LogForm}
@@ -61,7 +61,7 @@ sound_in p (suc k) (b ∷ bs) h = sound_in p k bs (bytes_behind 1 (b ∷ bs) h)
 sound_in p zero (b ∷ bs) h = by_sound p (first_frame p.format (b ∷ bs)) (λ k. records_in p k bs)
     (λ c e. payload_bytes p.format (b ∷ bs) c h e) (λ k. sound_in p k bs (bytes_behind 1 (b ∷ bs) h))
 
--- a sound record can stand in every log of its sort of process
+-- a sound record can be in every log of its sort of process
 pub sound_is_record : (k : Kind) (l : LogRecord) → IsSound k l → IsRecord k l
 sound_is_record k l h p same =
     let sound : IsSound p.kind l = subst (λ j. IsSound j l) (sym same) h in

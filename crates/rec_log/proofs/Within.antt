@@ -311,7 +311,7 @@ pub left_of_view : (p : LogForm) (text : List ℕ) (forced keep failures room : 
 left_of_view p text forced keep failures room failed s ls view second h le e =
     e ∙ left_records p text forced keep failures room failed second h le ∙ ap (λ z. left_by z.sight keep) view
 
--- The records behind the first ones.
+-- The records after the first ones.
 
 drop_within : (n : ℕ) (xs : List ℕ) → drop (min n (length xs)) xs ≡ drop n xs
 drop_within zero xs =
@@ -365,7 +365,7 @@ behind_by p second l ls more xs None e is f = absurd (no_first l (ls ++ more) (s
 behind_by p second l ls more xs (Some c) e is f =
     behind_first p second l ls more xs c (read_record p c.0 c.1) e refl is (f c)
 
--- what is read behind the frames of the first records
+-- what is read after the frames of the first records
 pub records_behind : (p : LogForm) → p.format ≡ Second → (first more : List LogRecord) (xs : List ℕ)
     → records_in p 0 xs ≡ first ++ more
     → records_in p 0 xs ≡ first ++ records_in p 0 (drop (frames_size first) xs)
@@ -375,7 +375,7 @@ records_behind p second (l ∷ ls) more xs is =
     behind_by p second l ls more xs (first_frame p.format xs) refl is
     (λ c h. records_behind p second ls more c.2 h)
 
--- what a crash leaves behind the first records
+-- what a crash leaves after the first records
 pub left_behind_front : (p : LogForm) (text left : List ℕ) (forced keep size cut failures room : ℕ) (failed : Bool)
     (s : LogState) (ls : List LogRecord)
     → log_state p text forced failures room failed ≡ s → p.format ≡ Second → 5 ≤ forced → forced ≤ length text

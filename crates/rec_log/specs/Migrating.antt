@@ -12,7 +12,7 @@ use Rattle.rec_log.specs.declared.opening.OpenError.TheVariants as opening
 use Rattle.rec_log.specs.declared.migrating.MigrateError.{MigrateError}
 use Rattle.rec_log.specs.declared.migrating.MigrateError.TheVariants.{Memory, Device, Damaged as DamagedError}
 
--- what reads as records and a torn tail by the first format stands in this form: the header and these records'
+-- what reads as records and a torn tail by the first format is in this form: the header and these records'
 -- frames, which read as just these records, and after them nothing
 pub record Carries (p : LogForm) (old new : List ℕ) : Type 0 where
   pub records : List LogRecord

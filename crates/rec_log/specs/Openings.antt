@@ -19,7 +19,7 @@ use Rattle.rec_log.specs.declared.opening.OpenError.TheVariants.{Memory, Device,
 abbrev pub is_old : List ℕ → Bool
 is_old bytes = same_bytes (take 5 bytes) (header First)
 
--- what was seen once the record of a frame is taken; none, where there is no record or it may not follow
+-- what was seen once the record of a frame is taken; none, if there is no record or it may not follow
 abbrev pub after_frame : SeenLog → Option LogRecord → Option SeenLog
 after_frame s None = None
 after_frame s (Some l) = after s l
@@ -55,7 +55,7 @@ IsNoLog p bytes Device = ⊥
 IsNoLog p bytes OldFormat = ⊥
 IsNoLog p bytes (DamagedError place) = read_log p bytes ≡ Damaged place
 
--- a log is written again where it is opened: a torn tail of N bytes stands after its frames, or its
+-- a log is written again where it is opened: a torn tail of N bytes is after its frames, or its
 -- header is not forced whole
 abbrev pub IsWrittenAnew : ℕ → ℕ → Type 0
 IsWrittenAnew torn forced = (0 < torn) ⊎ (forced < 5)

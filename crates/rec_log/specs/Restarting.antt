@@ -18,7 +18,7 @@ abbrev pub WritesLeft : LogForm → List ℕ → List LogRecord → Bool → Lis
 WritesLeft p left rs true text = LeavesText p left rs text
 WritesLeft p left rs false text = EndsSound p left (length left) × (text ≡ records_text p rs)
 
--- the text stands in place of what stood, or after it, all of it forced
+-- the text is in place of what stood, or after it, all of it forced
 pub record PutsLeft {S : Type 0} (bytes : S → List ℕ) (forced failures : S → ℕ) (old new : S) (anew : Bool)
     (text : List ℕ) : Type 0 where
   pub text_stands : bytes new ≡ (if anew then text else bytes old ++ text)

@@ -19,7 +19,7 @@ pub record Kept : Type 0 where
   pub forced : List LogRecord
   pub unforced : List LogRecord
 
--- what is seen of a log: its form, its records, how many of the forced bytes stand after the last one that is
+-- what is seen of a log: its form, its records, how many of the forced bytes are after the last one that is
 -- wholly forced, whether it has failed, and how often its device has
 pub record LogSight : Type 0 where
   pub form : LogForm
@@ -52,7 +52,7 @@ kept_of p text forced = record {
   unforced = drop (length (records_in p 0 (front text forced))) (records_in p 0 (body text));
 }
 
--- how many of the forced bytes stand after the last record that is wholly forced
+-- how many of the forced bytes are after the last record that is wholly forced
 abbrev pub bytes_behind : LogForm → List ℕ → ℕ → ℕ
 bytes_behind p text forced = length (front text forced) - whole_size p 0 (front text forced)
 
@@ -88,12 +88,12 @@ pub record ReadsAs (p : LogForm) (text : List ℕ) (ls : List LogRecord) (failed
   pub read : records_in p 0 (body text) ≡ ls
   pub whole : failed ≡ false → is_whole p 0 (body text) ≡ true
 
--- a record can stand in a log of this form: it fits a frame, and the frame reads as this record
+-- a record can be in a log of this form: it fits a frame, and the frame reads as this record
 pub record Stands (p : LogForm) (l : LogRecord) : Type 0 where
   pub fits : FitsFrameIn p l
   pub again : read_record p (kind_byte l.entry) (payload_text p l.parent l.entry) ≡ Some l
 
--- a record that can stand in any log of this sort of process
+-- a record that can be in any log of this sort of process
 abbrev pub IsRecord : Kind → LogRecord → Type 0
 IsRecord k l = (p : LogForm) → p.kind ≡ k → Stands p l
 
@@ -117,12 +117,12 @@ pub record Forced (old new : LogState) : Type 0 where
   pub failures : new.sight.failures ≡ old.sight.failures
   pub room : old.room ≤ new.room
 
--- records that can all stand in any log of this sort of process
+-- records that can all are in any log of this sort of process
 abbrev pub AreRecords : Kind → List LogRecord → Type 0
 AreRecords k [] = ⊤
 AreRecords k (l ∷ ls) = IsRecord k l × AreRecords k ls
 
--- a sound record can stand in a log
+-- a sound record can be in a log
 abbrev pub SoundIsRecord : Type 0
 SoundIsRecord = (k : Kind) (l : LogRecord) → IsSound k l → IsRecord k l
 
@@ -146,7 +146,7 @@ unfoldable pub frames_size : List LogRecord → ℕ
 frames_size [] = 0
 frames_size (l ∷ ls) = record_size l + frames_size ls
 
--- these records are the first ones of the log, all of them forced, and the header and their frames are so many bytes
+-- these records are the first ones of the log, all of them forced, and the header and their frames are N bytes
 pub record IsFront (s : LogSight) (size : ℕ) (first : List LogRecord) : Type 0 where
   pub rest : List LogRecord
   pub split : first ++ rest ≡ s.kept.forced

@@ -7,9 +7,9 @@ use Rattle.log_text.specs.Frames.{Cut, first_frame}
 use Rattle.log_text.specs.Reading.{read_record}
 
 -- What is read goes from frame to frame. Within a frame N bytes are still passed over, and a frame
--- begins where none are.
+-- begins if none are.
 
--- a record, where one was read, and those after it
+-- a record, if one was read, and those after it
 abbrev pub and_records : Option LogRecord → List LogRecord → List LogRecord
 and_records None more = []
 and_records (Some l) more = l ∷ more

@@ -33,7 +33,7 @@ pub record BeginsWith (p : LogForm) (bytes frame : List ℕ) (m : Mark) (rest : 
   pub whole : is_whole p 0 rest ≡ true
   pub shorter : length rest < length bytes
 
--- how many records the frame of the last Opened is: none, where there are no bytes
+-- how many records the frame of the last Opened is: none, if there are no bytes
 abbrev pub opened_count : List ℕ → ℕ
 opened_count [] = 0
 opened_count (b ∷ bs) = 1

@@ -2,12 +2,12 @@
 
 ghost use Rattle.rec_log.specs.Sights.{SoundIsRecord, WrittenIsRead};
 
-/// The text of any records that can stand in a log reads as these records.
+/// The text of any records that can be in a log reads as these records.
 pub fn written_is_read()
     ensures { WrittenIsRead }
 {}
 
-/// A sound record can stand in a log.
+/// A sound record can be in a log.
 pub fn sound_is_record()
     ensures { SoundIsRecord }
 {}

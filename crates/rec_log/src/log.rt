@@ -117,7 +117,7 @@ pub(crate) fn records_in(
     Ok(records)
 }
 
-/// The records at the front of what stands after the known bytes.
+/// The records at the front of what is after the known bytes.
 pub(crate) fn records_behind(
     form: LogForm,
     left: &[u8],
@@ -131,7 +131,7 @@ pub(crate) fn records_behind(
     records_in(form, behind, alloc)
 }
 
-/// The records that are read off these bytes can stand in a log.
+/// The records that are read off these bytes can be in a log.
 fn are_sound(form: LogForm, bytes: &[u8])
     ensures { AllByRecursion (IsSound form.kind) (records_in form 0 bytes.now) }
 {}
@@ -212,7 +212,7 @@ fn append_frame<L: LogStore>(store: &mut L, form: LogForm, frame: &Frame) -> Res
 struct Left {
     /// Whether a torn tail is left.
     is_torn: bool,
-    /// Where one is, all that is to stand; else the new frames, which are to stand after what is left.
+    /// Where one is, all that is to stand; else the new frames, which are to be after what is left.
     text: Vec<u8>,
 }
 
@@ -382,7 +382,7 @@ impl<L: LogStore> RecLog<L> {
         self.failed
     }
 
-    /// The store under the log, as it stands.
+    /// The store under the log, as it is.
     pub fn into_store(self) -> L
         ensures { log_state self.sight.form (L.bytes result) (L.forced result) (L.failures result)
             (L.room result) self.sight.failed ≡ self }
@@ -444,7 +444,7 @@ impl<L: LogStore> RecLog<L> {
     }
 
     /// The bytes of the log, its header and its frames, as a list made again. After a failure of the device
-    /// a torn frame may stand at the end.
+    /// a torn frame may be at the end.
     pub fn text(&self, alloc: Global) -> Result<Vec<u8>, AllocError>
         ensures { IfOk result (λ text. ReadsAs self.now.sight.form text.items
             (records_of self.now.sight.kept) self.now.sight.failed) }
@@ -505,7 +505,7 @@ impl<L: LogStore> RecLog<L> {
         Ok(left.len() - front.len())
     }
 
-    /// Each record that stands was read off bytes: so it can stand in a log of this sort of process.
+    /// Each record that stands was read off bytes: so it can be in a log of this sort of process.
     pub fn records_are_sound(&self)
         ensures { AllByRecursion (IsSound self.now.sight.form.kind) (records_of self.now.sight.kept) }
     {
@@ -594,7 +594,7 @@ impl<L: LogStore> RecLog<L> {
         self.trimmed
     }
 
-    /// Puts all that stands in its own place, by one `replace`, and reads nothing. Memory: nothing changed. Device: the
+    /// Puts all that is in its own place, by one `replace`, and reads nothing. Memory: nothing changed. Device: the
     /// log stands as it was, and has failed.
     pub fn put_again(&mut self, alloc: Global) -> Result<(), LogError>
         requires works { self.old.sight.failed ≡ false }

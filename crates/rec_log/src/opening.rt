@@ -53,7 +53,7 @@ impl From<AllocError> for OpenError {
     }
 }
 
-/// Takes the record of a frame. Malformed comes exactly where there is none, or it may not follow the records so
+/// Takes the record of a frame. Malformed comes exactly if there is none, or it may not follow the records so
 /// far. After an error nothing more is known.
 fn take_frame(
     seen: &mut Seen,
@@ -71,7 +71,7 @@ fn take_frame(
     seen.take(record)
 }
 
-/// How many bytes of a torn tail stand after the sound frames in the bytes after a header.
+/// How many bytes of a torn tail are after the sound frames in the bytes after a header.
 fn torn_tail(form: LogForm, bytes: &[u8], alloc: Global) -> Result<usize, OpenError>
     ensures ok { IfOk result (λ torn. Ends form bytes.now torn) }
     ensures err { IfErr result (λ e. IsFault form bytes.now e) }

@@ -52,7 +52,7 @@ fn last_opened<'a>(opened: &'a [u8], mark: &Mark, frame: &'a [u8]) -> &'a [u8]
     if mark.is_opened() { frame } else { opened }
 }
 
-/// The frame of the last Opened, and what the records say of each name. No bytes where there is no Opened.
+/// The frame of the last Opened, and what the records say of each name. No bytes if there is no Opened.
 fn read_marks<'a>(
     form: LogForm,
     bytes: &'a [u8],

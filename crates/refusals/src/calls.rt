@@ -6,7 +6,7 @@ use std::alloc::{AllocError, Global};
 use xa_engine::script::{Request, requests_of};
 use xa_engine::{Answer, Manager, first_manager, make, push_answer};
 
-/// A script, and what its requests are answered where nothing is refused.
+/// A script, and what its requests are answered if nothing is refused.
 #[derive(Drop)]
 struct Script {
     requests: Vec<Request>,
@@ -28,7 +28,7 @@ fn let_go(_manager: Manager) {}
 /// Lets an answer go, likewise.
 fn discard(_answer: Answer) {}
 
-/// The line of an answer; None where there is none, for want of memory.
+/// The line of an answer; None if there is none, for want of memory.
 fn told(alloc: Global, made: Result<Answer, AllocError>) -> Option<Vec<u8>> {
     let answer = made.ok()?;
     let mut line = Vec::new(alloc);
@@ -79,7 +79,7 @@ fn stands(
 
 /// Makes the request at a place with the nth allocation refused. Where one is, the log is as it was, and the
 /// request, made once more, and those after it are answered as if it had not been; or less room was enough,
-/// and the request and those after it are answered so. None where it is not so.
+/// and the request and those after it are answered so. None if it is not so.
 fn call_refused(
     alloc: Global,
     refuser: &mut Refuser,

@@ -68,7 +68,7 @@ impl Program {
         }
     }
 
-    /// Runs a script with each allocation refused in turn. None where one of these runs goes wrong.
+    /// Runs a script with each allocation refused in turn. None if one of these runs goes wrong.
     fn sweep(self, alloc: Global, refuser: &mut Refuser, input: &[u8]) -> Option<Met> {
         match self {
             Program::Tree => sweep_events(alloc, refuser, input),
@@ -78,7 +78,7 @@ impl Program {
     }
 }
 
-/// What the runs of the script of a line met. None where the line names no script, or a run goes wrong.
+/// What the runs of the script of a line met. None if the line names no script, or a run goes wrong.
 fn sweep_line(rt: &HostRuntime, refuser: &mut Refuser, line: &str) -> io::Result<Option<Met>> {
     let Some((word, name)) = line.split_once(' ') else {
         return Ok(None);

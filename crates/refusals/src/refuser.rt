@@ -6,7 +6,7 @@ use std::alloc::Global;
 /// none. No run of a script asks for as much.
 const REFUSE: usize = 0x5_EED0_0000;
 
-/// An allocation of N bytes is refused itself, just where one was refused since that was asked for last.
+/// An allocation of N bytes is refused itself, just if one was refused since that was asked for last.
 const WAS_REFUSED: usize = 0x5_EEC0_0000;
 
 /// Who asks for refusals. It keeps the last allocation by which it asked, so that no compiler leaves it out.

@@ -42,7 +42,7 @@ fn opened(alloc: Global, tree: &Tree) -> Option<Opened> {
     World::new(alloc, tree).ok()
 }
 
-/// What is seen of a tree as it stands.
+/// What is seen of a tree as it is.
 fn sight_of(alloc: Global, world: &Opened) -> Result<Sight, Failure> {
     let (trace, _) = trace_text(alloc, world, None)?;
     let mut logs = Vec::new(alloc);
@@ -121,7 +121,7 @@ fn has_made(alloc: Global, script: &Script, made: usize) -> Option<usize> {
     Some(steps)
 }
 
-/// Runs the script's events with the nth allocation refused. None where the run is not as it has to be.
+/// Runs the script's events with the nth allocation refused. None if the run is not as it has to be.
 fn run_refused(
     alloc: Global,
     refuser: &mut Refuser,

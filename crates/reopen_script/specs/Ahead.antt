@@ -68,7 +68,7 @@ abbrev pub set_line : ℕ → List (List ℕ) → List (List ℕ) → ℕ
 set_line before ahead [] = last_said before before ahead
 set_line before ahead (line ∷ lines) = before + length ahead + 1
 
--- what is read of the logs ahead: none, where there is none; else they, if they are those of all processes, or
+-- what is read of the logs ahead: none, if there is none; else they, if they are those of all processes, or
 -- the number of the line that says that they are not
 abbrev pub taken : List TreeEntry → ℕ → Result (List ProcessLog) ℕ → Result (Option (List ProcessLog)) ℕ
 taken es n (Err k) = Err k

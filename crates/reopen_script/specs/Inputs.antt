@@ -12,7 +12,7 @@ use Rattle.link_script.specs.Inputs.{IsFront, IsFrontFault, LinesState, asked_by
 use Rattle.logs_script.specs.declared.line.ProcessLog.{ProcessLog}
 use Rattle.reopen_script.specs.Ahead.{behind_in, leading, logs_ahead}
 
--- the lines after the logs, where N lines stand before the first of all these
+-- the lines after the logs, where N lines are before the first of all these
 abbrev pub lines_behind : List TreeEntry → ℕ → List (List ℕ) → LinesState
 lines_behind tree before lines = record {
   root = root_of tree;

@@ -53,7 +53,7 @@ no_log_keeps tree logs q none =
     by_test true = refl
     by_test false = refl
 
--- where nothing is kept, nothing is found
+-- if nothing is kept, nothing is found
 pub none_finds : (x : Txn) (u : Ticket) → finds (notes_of []) x u ≡ Nothing
 unfolding cases_in
 none_finds x u = refl

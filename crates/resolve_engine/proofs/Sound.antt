@@ -63,7 +63,7 @@ pub record IsSoundLog (q : ProcessId) (k : Kind) (bytes : List ℕ) : Type 0 whe
 some_entry : (a b : TreeEntry) → Some a ≡ Some b → a ≡ b
 some_entry a b e = cc
 
--- where no log is damaged, that of a listed process is sound
+-- if no log is damaged, that of a listed process is sound
 pub sound_at : (logs : List ProcessLog) (es : List TreeEntry) (q : ProcessId) (e : TreeEntry)
     → first_damage es logs ≡ None → find (λ x. same_process x.id q) es ≡ Some e
     → IsSoundLog e.id e.kind (bytes_of logs e.id)

@@ -18,7 +18,7 @@ commits word.Commit = Some true
 commits word.Rollback = Some false
 commits _ = None
 
--- a byte in a string of SQL: a quote stands there twice
+-- a byte in a string of SQL: a quote is there twice
 abbrev pub quoted_byte : ℕ → List ℕ
 quoted_byte b = if b == 39 then codes "''" else b ∷ []
 

@@ -75,7 +75,7 @@ reason_text reason.NoName = codes "no case of this tree has such a name"
 -- what an answer that waits waits for
 abbrev pub more_text : Word → List ℕ
 more_text word.Wait =
-    codes "; that counts only of the logs as they stand, of processes that do not run (--complete)"
+    codes "; that counts only if these are the logs as they are, of processes that do not run (--complete)"
 more_text _ = []
 
 -- why an answer is so, as a sentence without its end

@@ -21,16 +21,16 @@ pub enum Form {
 /// What the caller says of the logs.
 #[derive(Clone, Copy, PartialEq, Eq)]
 pub enum Trust {
-    /// They may be copies, old or cut: only what stands in them counts.
+    /// They may be copies, old or cut: only what is in them counts.
     Parts,
-    /// They are the logs as they stand, and their processes do not run: what does not stand in them counts, too.
+    /// They are the logs as they are, and their processes do not run: what is not in them counts, too.
     Complete,
 }
 
 /// What is asked for beside the names.
 #[derive(Clone, Copy)]
 pub struct Asked<'a> {
-    /// The name of the tree, which stands in the names of branches in databases.
+    /// The name of the tree, which is in the names of branches in databases.
     pub name: Option<&'a str>,
     pub trust: Trust,
     pub form: Form,

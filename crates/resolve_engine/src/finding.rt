@@ -165,7 +165,7 @@ impl<'a> Finder<'a> {
         }
     }
 
-    /// What the last step upward from a case says; where there is none, the case is the root's.
+    /// What the last step upward from a case says; if there is none, the case is the root's.
     fn above(&self, case: &Case, steps: &[Step]) -> Answer
         ensures { result ≡ above_answer self.now.trust self.now.logs.now case.now steps.now }
     {

@@ -118,7 +118,7 @@ fn push_more(out: &mut Vec<u8>, word: Word) -> Result<(), AllocError>
     match word {
         Word::Wait => push(
             out,
-            "; that counts only of the logs as they stand, of processes that do not run (--complete)",
+            "; that counts only if these are the logs as they are, of processes that do not run (--complete)",
         ),
         _ => Ok(()),
     }

@@ -29,7 +29,7 @@ fn is_commit(word: Word) -> Option<bool>
     }
 }
 
-/// A byte in a string of SQL: a quote stands there twice.
+/// A byte in a string of SQL: a quote is there twice.
 fn push_byte(out: &mut Vec<u8>, byte: u8) -> Result<(), AllocError>
     ensures { OnOk result (out.new.items ≡ out.old.items ++ quoted_byte byte) }
 {

@@ -125,7 +125,7 @@ fn trims(alloc: Global, keep: usize, appended: u64) -> Option<bool> {
     Some(ended && shown == Some(true))
 }
 
-/// A fault of each kind stands at the end of the trace, with what it left.
+/// A fault of each kind is at the end of the trace, with what it left.
 pub(crate) fn faults_stand_in_the_trace(alloc: Global) -> Option<bool> {
     let nothing = Wanted {
         process: ROOT,
@@ -167,13 +167,13 @@ fn restarts_after(trace: &[Entry], place: usize) -> bool {
     }
 }
 
-/// What the trace of a tree is to be that went on after a fault: the fault stands before the steps made since.
+/// What the trace of a tree is to be that went on after a fault: the fault is before the steps made since.
 fn goes_on(world: &World<FaultStore>, before: usize) -> Result<bool, AllocError> {
     let trace = world.trace()?;
     Ok(trace.len() == world.made().saturating_add(1) && restarts_after(&trace, before))
 }
 
-/// After a fault the root restarts, and the tree goes on: the fault stands in the trace where it was.
+/// After a fault the root restarts, and the tree goes on: the fault is in the trace where it was.
 pub(crate) fn a_run_goes_on_after_a_fault(alloc: Global) -> Option<bool> {
     let root = breaking(alloc, StoreCall::Force, 2, 0);
     let (mut world, txn) = written(alloc, Presumption::PresumeCommit, root, sound_store(alloc))?;

@@ -377,7 +377,7 @@ fn audits_clean(alloc: Global, world: &Running, tree: &Tree) -> Option<bool> {
     Some(audit(alloc, tree, &logs).ok()?.mismatches == 0)
 }
 
-/// Floods an open tree, calms it, and looks up the promises. How many transactions are committed; None, where a
+/// Floods an open tree, calms it, and looks up the promises. How many transactions are committed; None, if a
 /// promise is broken.
 fn commits_of(
     alloc: Global,
@@ -404,7 +404,7 @@ fn count_committed(fates: &[Fate]) -> usize {
         .count()
 }
 
-/// How many transactions a flood of the tree of a script commits; None, where a promise is broken.
+/// How many transactions a flood of the tree of a script commits; None, if a promise is broken.
 fn commits_of_flood(alloc: Global, script: &str, seed: u64) -> Option<usize> {
     let (tree, events) = read(alloc, script.as_bytes()).ok()?;
     let copy = copied_tree(alloc, tree.entries()).ok()?;

@@ -24,7 +24,7 @@ impl Left {
         })
     }
 
-    /// Whether these bytes stand there, all of them forced.
+    /// Whether these bytes are there, all of them forced.
     fn holds(&self, bytes: &[u8]) -> bool {
         self.is_forced && self.bytes.as_slice() == bytes
     }
@@ -73,7 +73,7 @@ fn sweep_log(alloc: Global, entry: &TreeEntry, bytes: &[u8]) -> Option<usize> {
 }
 
 /// Migrates each log of a tree with a stop at its replace, once with each number of its bytes done, and
-/// writes how many bytes each migrated log has. None where something else is left than the log as it was or
+/// writes how many bytes each migrated log has. None if something else is left than the log as it was or
 /// the migrated one, or the next migration does not go on from there.
 pub(crate) fn run_migrations(alloc: Global, input: &[u8], out: &mut Vec<u8>) -> Option<()> {
     let (tree, logs) = read_logs(alloc, input).ok()?;

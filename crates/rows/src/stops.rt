@@ -108,7 +108,7 @@ fn runs_into_stop(alloc: Global, world: &mut World<FaultStore>, events: &[Event]
     Some(false)
 }
 
-/// What the audit of a tree's logs says. None where a log is damaged.
+/// What the audit of a tree's logs says. None if a log is damaged.
 fn audited(alloc: Global, tree: &Tree, world: &World<FaultStore>) -> Option<Report> {
     tree.check().ok()?;
     let logs = logs_left(alloc, world).ok()?;
@@ -172,7 +172,7 @@ fn is_the_roots(world: &World<FaultStore>, report: &Report, line: &Line) -> bool
     decided == line.outcome && told == line.outcome
 }
 
-/// Audits the logs as they stand. None where one is damaged, a transaction has two outcomes, or an outcome is not
+/// Audits the logs as they are. None if one is damaged, a transaction has two outcomes, or an outcome is not
 /// the root's.
 fn audited_now(alloc: Global, tree: &Tree, world: &World<FaultStore>) -> Option<Report> {
     let report = audited(alloc, tree, world)?;
@@ -187,7 +187,7 @@ fn audited_now(alloc: Global, tree: &Tree, world: &World<FaultStore>) -> Option<
     Some(report)
 }
 
-/// Makes an event, and audits the logs after it. None where the event is refused, or the audit finds a fault.
+/// Makes an event, and audits the logs after it. None if the event is refused, or the audit finds a fault.
 fn audited_behind(
     alloc: Global,
     tree: &Tree,
@@ -198,7 +198,7 @@ fn audited_behind(
     audited_now(alloc, tree, world)
 }
 
-/// Makes the events of a script while no device fails, and audits the logs after each. None where the audit finds a fault.
+/// Makes the events of a script while no device fails, and audits the logs after each. None if the audit finds a fault.
 fn runs_audited(alloc: Global, script: &Script) -> Option<()> {
     let root = script.tree.entries().first()?.id;
     let mut world = opened(alloc, &script.tree, sound(root))?.ok()?;
@@ -381,7 +381,7 @@ fn sweep_call(alloc: Global, script: &Script, stop: Stop, bytes: usize) -> Optio
     Some(met)
 }
 
-/// The same of a call of the tree's opening, which is then refused.
+/// As `sweep_call`, of a call of the tree's opening, which is then refused.
 fn sweep_opening(alloc: Global, script: &Script, stop: Stop, bytes: usize) -> Option<Met> {
     let mut met = NOTHING_MET;
     for keep in 0..=bytes {
@@ -455,7 +455,7 @@ fn sweep(alloc: Global, script: &Script, out: &mut Vec<u8>) -> Option<Met> {
 
 /// Stops each device of a script's tree at each of its calls, with each number of the call's bytes done, and
 /// writes what was met. The logs are audited after each event: of the events before a stop once, since they leave the same
-/// logs whichever stop comes after them. None where a run does not answer Device at the stop or Failed after it, does not
+/// logs whichever stop comes after them. None if a run does not answer Device at the stop or Failed after it, does not
 /// go on after its restart, has two outcomes, or has one that is not the root's.
 pub(crate) fn run_stops(alloc: Global, input: &[u8], out: &mut Vec<u8>) -> Option<()> {
     let (tree, events) = read(alloc, input).ok()?;

@@ -45,7 +45,7 @@ pub(crate) fn words<'a>(alloc: Global) -> Result<Command<'a>, AllocError> {
     explaining(
         alloc,
         "expand",
-        "Writes a script that names messages by what they are as one of specified events",
+        "Writes a script that names messages by what they are as one that names them by number",
         EXPAND_HELP,
     )?
     .arg(source::word(alloc))
@@ -106,7 +106,7 @@ fn script_of<R: Read>(
     expand(alloc, &input)
 }
 
-/// The script of specified events to which one read from here comes; or the exit status, where there is none: then all is
+/// The script of specified events to which one read from here comes; or the exit status, if there is none: then all is
 /// told.
 pub(crate) fn expanded<R: Read>(
     rt: &HostRuntime,

@@ -35,15 +35,15 @@ impl Explainer {
 fn reason(line: &str, number: &str) -> &'static str {
     match number {
         "9" if line.starts_with("again ") => {
-            "the case is not this process's, or waits for no acknowledgement: there is no such message"
+            "the case does not belong to this process, or waits for no acknowledgement: there is no such message"
         }
         "3" => "no such case is live here: it was decided, or forgotten, or never begun",
-        "4" => "it is no child that can take this",
-        "5" => "the case is closed: commit or abort was asked before, or PREPARE came",
+        "4" => "it is not a child that can take this",
+        "5" => "the case is closed: it was already asked to commit or abort, or PREPARE came",
         "6" => "the process has failed: start it again",
         "7" => "the case is not in doubt here",
         "8" => "no operator decided it: there is nothing to forget",
-        "9" => "it is for another process than this one, or from one that may not send it",
+        "9" => "it is for another process, or from one that may not send it",
         _ => "it is refused",
     }
 }
@@ -67,10 +67,10 @@ fn is_of_scripts(line: &str) -> bool {
 /// What is wrong with the line of nothing.
 fn fault(alloc: Global, line: &str) -> Result<String, AllocError> {
     if is_of_scripts(line) || line.starts_with(|c: char| -> bool { c.is_ascii_digit() }) {
-        return format!(in alloc; "a node takes no such line\nwanted: {LINES}\n");
+        return format!(in alloc; "this is not a line that a node takes\nwanted: {LINES}\n");
     }
     match finding_of(alloc, Script::Tree, line)? {
-        None => format!(in alloc; "a node takes no such line\nwanted: {LINES}\n"),
+        None => format!(in alloc; "this is not a line that a node takes\nwanted: {LINES}\n"),
         Some(finding) => {
             let fault = finding.fault;
             format!(in alloc; "{fault}\nwanted: {LINES}\n")

@@ -57,7 +57,7 @@ fn no_tree(alloc: Global, path: &str, error: ScriptError) -> End {
             refused(format!(in alloc; "{path}: the tree text is not UTF-8"))
         }
         ScriptError::Fault(ScriptFault::Tree(cause)) => {
-            refused(format!(in alloc; "{path}: the processes are no tree: {cause}"))
+            refused(format!(in alloc; "{path}: the processes are not a tree: {cause}"))
         }
         ScriptError::Fault(_) => refused(format!(in alloc; "{path}: the tree text cannot be read")),
     }
@@ -95,7 +95,7 @@ pub(crate) fn tree_in(rt: &HostRuntime, path: &str) -> Result<Tree, End> {
 /// The process of this tree that a word names.
 pub(crate) fn entry_of<'a>(alloc: Global, tree: &'a Tree, me: &str) -> Result<&'a TreeEntry, End> {
     let Some(number) = process_of(me) else {
-        return Err(refused(format!(in alloc; "{me} is no process's number")));
+        return Err(refused(format!(in alloc; "{me} is not the number of a process")));
     };
     match tree.entry(number) {
         Some(entry) => Ok(entry),

@@ -94,7 +94,7 @@ fn number_in(alloc: Global, word: &str, most: u64) -> Result<u64, End>
 {
     match number_of(word) {
         Some(number) if number <= most => Ok(number),
-        _ => Err(refused(format!(in alloc; "{word} is no number up to {most}"))),
+        _ => Err(refused(format!(in alloc; "{word} is not a number up to {most}"))),
     }
 }
 

@@ -21,7 +21,7 @@ pub(crate) fn file<'a>(alloc: Global) -> Arg<'a> {
         .action(ArgAction::Set)
 }
 
-/// The words after `--file`, if it stands there.
+/// The words after `--file`, if it is there.
 pub(crate) fn words_of<'a>(
     alloc: Global,
     matches: &ArgMatches<'a>,

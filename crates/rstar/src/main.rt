@@ -333,7 +333,7 @@ fn explain<'a>(alloc: Global) -> Arg<'a> {
     flag(
         alloc,
         "explain",
-        "Tells on standard error what is wrong with a refused input or event, and why",
+        "Says on standard error what is wrong with a refused input or event, and why",
     )
 }
 
@@ -439,13 +439,13 @@ fn audit<'a>(alloc: Global) -> Result<Command<'a>, AllocError> {
     subcommand(
         alloc,
         "audit",
-        "Tells how the cases of a tree stand and end, and where an operator decided otherwise",
+        "Reports the state and the outcome of each case of a tree, and which an operator decided against its outcome",
         AUDIT_HELP,
     )
     .arg(flag(
         alloc,
         "explain",
-        "Tells of each case in doubt and each mismatch what decided it, and what to do; or what is wrong with a refused input",
+        "Says of each case in doubt and each mismatch what decided it, and what to do; or what is wrong with a refused input",
     ))?
     .arg(flag(
         alloc,
@@ -455,7 +455,7 @@ fn audit<'a>(alloc: Global) -> Result<Command<'a>, AllocError> {
     .arg(logs::file(alloc))
 }
 
-/// A word that has to stand there, and what help says of it.
+/// A word that has to be there, and what help says of it.
 fn word<'a>(alloc: Global, name: &'a str, help: &'a str) -> Arg<'a> {
     Arg::new(alloc, name)
         .help(help)
@@ -478,7 +478,7 @@ fn node_grammar<'a>(alloc: Global) -> Result<Command<'a>, AllocError> {
     .arg(flag(
         alloc,
         "explain",
-        "Tells on standard error what is wrong with each line that is refused",
+        "Says on standard error what is wrong with each line that is refused",
     ))?
     .arg(flag(
         alloc,
@@ -488,13 +488,13 @@ fn node_grammar<'a>(alloc: Global) -> Result<Command<'a>, AllocError> {
     .arg(flag(
         alloc,
         "joined",
-        "Says a line 'joined CASE CHILD TXN@TICKET' where a child has joined a case",
+        "Says a line 'joined CASE CHILD TXN@TICKET' when a child has joined a case",
     ))?
     .arg(
         Arg::new(alloc, "name")
             .long("name")
             .value_name("NAME")
-            .help("The name of the tree, as the names of its branches in databases begin")
+            .help("The name of the tree, with which the names of its branches in databases begin")
             .action(ArgAction::Set),
     )?
     .arg(
@@ -544,7 +544,7 @@ fn grammar<'a>(alloc: Global) -> Result<Command<'a>, AllocError> {
         explaining(
             alloc,
             "crash",
-            "Tries a crash of each process after each event of a script, and tells what stays in doubt",
+            "Crashes each process in turn after each event of a script, and lists what stays in doubt",
             CRASH_HELP,
         )?
         .arg(expanding::flag(alloc))?
@@ -593,7 +593,7 @@ fn told_of(matches: &ArgMatches) -> Told {
     }
 }
 
-/// The words of `rstar node`, each of which has to stand there.
+/// The words of `rstar node`, each of which has to be there.
 fn node_of<'a>(matches: &ArgMatches<'a>) -> Option<NodeWords<'a>> {
     Some(NodeWords {
         tree: matches.get_str("TREE")?,
@@ -774,7 +774,7 @@ fn run_on<T: Threads + Wait + Sync>(
     Ok(status)
 }
 
-/// The bytes of the longest script of whose run something is noted where no explanation is asked for, since the run is
+/// The bytes of the longest script of whose run something is noted if no explanation is asked for, since the run is
 /// made once more for that.
 const MOST_NOTED: usize = 1 << 16;
 

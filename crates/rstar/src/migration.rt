@@ -67,7 +67,7 @@ pub(crate) fn words<'a>(alloc: Global) -> Result<Command<'a>, AllocError> {
     .arg(word(alloc, "ME", "The number of the process")?)
 }
 
-/// The words after `--file`, if it stands there.
+/// The words after `--file`, if it is there.
 pub(crate) fn file_of<'a>(matches: &ArgMatches<'a>) -> Option<FileWords<'a>> {
     Some(FileWords {
         log: matches.get_str("file")?,

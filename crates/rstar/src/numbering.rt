@@ -8,7 +8,7 @@ use std::alloc::Global;
 use std::io::{Read, Write};
 use tree_engine::{Output, run_tree};
 
-/// What these words name as the input, where no picture is asked for: the word after `--events` is the file, if there is
+/// What these words name as the input, if no picture is asked for: the word after `--events` is the file, if there is
 /// one, and no other word may name it then.
 pub(crate) fn source_of<'a>(matches: &ArgMatches<'a>) -> Result<Source<'a>, &'a str> {
     match (matches.get_str("events"), source::source_of(matches)) {

@@ -61,7 +61,7 @@ pub(crate) fn words<'a>(alloc: Global) -> Result<Command<'a>, AllocError> {
     subcommand(
         alloc,
         "resolve",
-        "Tells of prepared branches that were left over: how to end them, by the logs of their tree",
+        "Says how to end prepared branches that were left over, by the logs of their tree",
         HELP,
     )
     .arg(option(alloc, "logs", "FILE", "The file of a tree and its logs").conflicts_with("file")?)?
@@ -70,14 +70,14 @@ pub(crate) fn words<'a>(alloc: Global) -> Result<Command<'a>, AllocError> {
         alloc,
         "name",
         "NAME",
-        "The name of the tree, as the names of its branches in databases begin",
+        "The name of the tree, with which the names of its branches in databases begin",
     ))?
     .arg(flag(
         alloc,
         "complete",
-        "These are the logs as they stand, and their processes do not run",
+        "These are the logs as they are, and their processes do not run",
     ))?
-    .arg(flag(alloc, "explain", "Tells of each answer which log says so"))?
+    .arg(flag(alloc, "explain", "Names the log that says so, for each answer"))?
     .arg(option(
         alloc,
         "sql",
@@ -110,7 +110,7 @@ fn form_of(alloc: Global, words: &ResolveWords<'_>) -> Result<Form, End> {
         Some("postgresql") => Ok(Form::Sql(Database::PostgreSql)),
         Some("mariadb") => Ok(Form::Sql(Database::MariaDb)),
         Some(other) => Err(refused(format!(in alloc;
-            "{other} is no database that it knows: postgresql or mariadb"
+            "{other} is not a database that it knows: postgresql or mariadb"
         ))),
     }
 }

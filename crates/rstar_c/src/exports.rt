@@ -140,7 +140,7 @@ pub extern "C" fn rstar_core_done(alloc: Global, core: &mut Core, is_made: u32) 
     status
 }
 
-/// Releases a node: its memory. What it had forced stands in its file; what a line `end` did not force may be lost.
+/// Releases a node: its memory. What it had forced is in its file; what a line `end` did not force may be lost.
 #[unsafe(no_mangle)]
 pub extern "C" fn rstar_core_close(alloc: Global, core: &mut Core)
     requires { IsSome core.old.node }

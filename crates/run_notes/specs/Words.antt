@@ -39,7 +39,7 @@ no_text c reason = case_text c ++ codes " votes NO: " ++ reason
 
 -- why a case votes NO of which no branch is known
 abbrev pub unknown_text : Case → List ℕ
-unknown_text c = no_text c (codes "it knows no such branch: it was lost in a crash, or has ended")
+unknown_text c = no_text c (codes "it does not know the branch, which was lost in a crash or has ended")
 
 -- why a case votes NO that did M of N works
 abbrev pub count_text : Case → ℕ → ℕ → List ℕ

@@ -89,7 +89,7 @@ pub(crate) fn unknown_words(alloc: Global, case: &Case) -> Result<Vec<u8>, Alloc
     let mut out = no_words(alloc, case)?;
     push(
         &mut out,
-        "it knows no such branch: it was lost in a crash, or has ended",
+        "it does not know the branch, which was lost in a crash or has ended",
     )?;
     Ok(out)
 }

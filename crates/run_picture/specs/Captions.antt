@@ -10,7 +10,7 @@ use Rattle.picture_words.specs.Labels.{label_in, number_text}
 use Rattle.run_picture.specs.Along.{tip_of}
 use Rattle.run_picture.specs.declared.sheet.Draft.{Draft}
 
--- words beside an arrow: a number, what follows it, and where they begin, or end if they stand at the left
+-- words beside an arrow: a number, what follows it, and where they begin, or end if they are at the left
 pub record Caption : Type 0 where
   pub number : List ℕ
   pub words : List ℕ

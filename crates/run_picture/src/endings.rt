@@ -99,7 +99,7 @@ impl Drawing {
                 continue;
             };
             let place = place_of(&plan.seats, entry.step.process);
-            // A manager is told by its parent, which stands at its left.
+            // A manager is told by its parent, which is at its left.
             self.draw_mismatch(place, rows.last, true, mismatch.told)?;
         }
         Ok(())

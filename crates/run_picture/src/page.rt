@@ -150,7 +150,7 @@ fn draw_lines(drawing: &mut Drawing, scene: &Scene, plan: &Plan) -> Result<(), A
     )
 }
 
-/// What stands before the shapes of a picture.
+/// What is before the shapes of a picture.
 fn head_of(
     alloc: Global,
     frame: Frame,

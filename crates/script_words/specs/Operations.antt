@@ -40,7 +40,7 @@ get_at rest = key_at rest >>= λ key. Some (Get key)
 abbrev pub delete_at : List ℕ → Option Op
 delete_at rest = key_at rest >>= λ key. Some (Delete key)
 
--- an operation on data, by its verb and what stands after it
+-- an operation on data, by its verb and what is after it
 abbrev pub op_by : List ℕ → List ℕ → Option Op
 op_by verb rest =
     if same verb (codes "put") then put_at rest

@@ -50,7 +50,7 @@ pub fn task_of(words: &str) -> Option<Task<'_>>
     task_by(verb, rest)
 }
 
-/// The operation of a verb and what stands after it. None: there is no such operation.
+/// The operation of a verb and what is after it. None: there is no such operation.
 pub fn task_by<'a>(verb: &str, rest: &'a str) -> Option<Task<'a>>
     ensures { option_map op_view result ≡ op_by verb.now rest.now }
 {

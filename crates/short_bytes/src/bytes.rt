@@ -6,7 +6,7 @@ ghost use Rattle.short_bytes.specs.Stores.{IsSound, stored};
 use std::alloc::{AllocError, Global};
 use std::marker::Model;
 
-/// How many bytes stand in place, so that they and where they stand take two words.
+/// How many bytes are in place, so that they and where they stand take two words.
 const PLACES: usize = 14;
 
 /// Where bytes stand.
@@ -80,7 +80,7 @@ impl Bytes {
         self.as_slice().len()
     }
 
-    /// The same bytes again; up to 14 take no memory.
+    /// A copy of the bytes; up to 14 take no memory.
     pub fn copied(&self, alloc: Global) -> Result<Bytes, AllocError>
         ensures bytes { IfOk result (λ copy. copy ≡ self.now) }
         ensures succeeds { length self.now ≤ 14 → IsOk result }

@@ -1,6 +1,6 @@
 //! Floor: spellings and names.
 //!
-//! Bytes in order, of which few stand in place.
+//! Bytes in order, of which few are in place.
 #![tactic(auto)]
 
 mod bytes;

@@ -35,7 +35,7 @@ placed_at starts [] k = refl
 placed_at starts (x ∷ xs) zero = refl
 placed_at starts (x ∷ xs) (suc k) = placed_at x.ends xs k
 
--- where none is found, there are not N
+-- if none is found, there are not N
 pub none_found : {A : Type 0} (xs : List A) (k : ℕ) → slice_get xs k ≡ None → length xs ≤ k
 none_found [] k is = omega arith
 none_found (x ∷ xs) zero is = absurd (cc)

@@ -27,7 +27,7 @@ part_more xs ys (suc k) zero a is = absurd (cc)
 part_more [] ys (suc k) (suc n) a is = absurd (cc)
 part_more (x ∷ xs) ys (suc k) (suc n) a is = part_more xs ys k n a is
 
--- What was added stands after.
+-- What was added is after.
 
 front_whole : {A : Type 0} (ys : List A) → front_in ys (length ys) ≡ Some ys
 front_whole [] = refl

@@ -186,7 +186,7 @@ begun ps xs q h r w sent =
       whole,
     )
 
--- likewise, where there is no last step
+-- likewise, if there is no last step
 pub begun_behind : (ps : Parts) (xs : List PlacedStep) (l : Option LastStep) (q : ProcessId) (h : Happening)
     (r : Reaction) → is_placed l ≡ true → IsWhole ps xs l → IsSent ps.sent h
     → (entries_of (parts_begun ps h r) xs (Some (last_step ps q h r))
@@ -195,7 +195,7 @@ pub begun_behind : (ps : Parts) (xs : List PlacedStep) (l : Option LastStep) (q 
 begun_behind ps xs None q h r is w sent = begun ps xs q h r w sent
 begun_behind ps xs (Some l) q h r is w sent = absurd (cc)
 
--- the message with this number, where there is one, which was sent with it
+-- the message with this number, if there is one, which was sent with it
 pub message_sent : (sent : List Envelope) (k : ℕ) → is_some (sent_as sent k) ≡ true
     → (l : Envelope) × (sent_as sent k ≡ Some l) × IsSent sent (Handles (MessageInput k l.message))
 message_sent sent k there = of (sent_as sent k) refl there where
@@ -318,7 +318,7 @@ step_at [] ps os k x is = absurd (cc)
 step_at (y ∷ xs) ps os zero x is = let same : y ≡ x = cc in rw same refl
 step_at (y ∷ xs) ps os (suc k) x is = step_at xs ps os k x is
 
--- the entry of a step stands in its place
+-- the entry of a step is in its place
 pub entry_found : (ps : Parts) (xs : List PlacedStep) (l : Option LastStep) (k : ℕ) (x : PlacedStep)
     → IsWhole ps xs l → slice_get xs k ≡ Some x → entry_in ps x ≡ slice_get (entries_of ps xs l) k
 entry_found ps xs l k x w is =
@@ -330,7 +330,7 @@ last_at : (xs : List PlacedStep) (ps : Parts) (o : Option Entry)
 last_at [] ps o = refl
 last_at (y ∷ xs) ps o = last_at xs ps o
 
--- that of the last step stands after them
+-- that of the last step is after them
 pub last_entry_found : (ps : Parts) (xs : List PlacedStep) (l : Option LastStep) (y : LastStep) (k : ℕ)
     → IsWhole ps xs l → l ≡ Some y → k ≡ length xs → last_entry ps y ≡ slice_get (entries_of ps xs l) k
 last_entry_found ps xs None y k w is at = absurd (cc)

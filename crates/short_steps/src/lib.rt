@@ -1,6 +1,6 @@
 //! Floor: the world.
 //!
-//! The steps of a journal, kept short: what stands elsewhere too is named by its place, and the step that was
+//! The steps of a journal, kept short: what is elsewhere too is named by its place, and the step that was
 //! made is read back from it.
 #![tactic(auto)]
 

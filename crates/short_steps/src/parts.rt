@@ -53,7 +53,7 @@ impl Parts {
         }
     }
 
-    /// What happened, of a step with this cause, made again; None, where what it names is not there.
+    /// What happened, of a step with this cause, made again; None, if what it names is not there.
     fn happening(&self, alloc: Global, cause: Cause) -> Result<Option<Happening>, AllocError>
         ensures { IfOk result (λ found. found ≡ happening_in (parts_of self.now) cause) }
     {
@@ -89,7 +89,7 @@ impl Parts {
         }
     }
 
-    /// What a step shows, lent; None, where what it names is not there.
+    /// What a step shows, lent; None, if what it names is not there.
     pub(crate) fn shown(&self, step: &PlacedStep) -> Option<Shown<'_>>
         ensures { option_map shown_part result
             ≡ option_map (λ r. (process_of step.now.cause, r)) (reaction_in (parts_of self.now) step.now) }
@@ -107,7 +107,7 @@ impl Parts {
         })
     }
 
-    /// What the last step shows, lent; None, where what it names is not there.
+    /// What the last step shows, lent; None, if what it names is not there.
     pub(crate) fn last_shown<'a>(&self, last: &'a LastStep) -> Option<Shown<'a>>
         ensures { option_map shown_part result
             ≡ option_map (λ r. (process_of last.now.cause, r)) (last_reaction (parts_of self.now) last.now) }
@@ -123,7 +123,7 @@ impl Parts {
         })
     }
 
-    /// The journal's entry of a step with this cause, which shows this, made again; None, where either is not
+    /// The journal's entry of a step with this cause, which shows this, made again; None, if either is not
     /// there.
     pub(crate) fn entry(
         &self,
@@ -185,7 +185,7 @@ impl Parts {
         begin_by(&mut self.asides, cause, reaction)
     }
 
-    /// The same of a step that handles the message with this number, whatever the message says.
+    /// As `begin`, of a step that handles the message with this number, whatever the message says.
     pub(crate) fn begin_message(
         &mut self,
         process: ProcessId,

@@ -6,7 +6,7 @@ ghost use Rattle.short_steps.specs.Steps.{ends_after, first_starts, placed_steps
 use crate::short_step::{Cause, Ends, ShortStep};
 use crate::span::Span;
 
-/// A step with its reaction, of which the parts stand in lists. It is made as it is read, and not kept.
+/// A step with its reaction, of which the parts are in lists. It is made as it is read, and not kept.
 #[derive(Clone, Copy)]
 pub struct PlacedStep {
     /// Which process made it, and why.
@@ -33,7 +33,7 @@ fn starts_at(steps: &[ShortStep], place: usize) -> Ends
     steps[place - 1].ends
 }
 
-/// The step at this place, from 0; None, where N are not kept.
+/// The step at this place, from 0; None, if N are not kept.
 pub(crate) fn step_at(steps: &[ShortStep], place: usize) -> Option<PlacedStep>
     ensures { result ≡ slice_get (placed_steps steps.now) place }
 {

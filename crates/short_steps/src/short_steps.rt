@@ -17,7 +17,7 @@ use std::alloc::{AllocError, Global};
 use std::marker::Model;
 use tree_model::{Entry, Envelope, Happening, Input, ProcessId, Reaction};
 
-/// Steps that were made, each with its reaction. Their parts stand in lists, one step's after another's, and
+/// Steps that were made, each with its reaction. Their parts are in lists, one step's after another's, and
 /// each step has where its own end. One that handled a message has the number of it.
 ///
 /// How many records and messages a step has is not known before it is made, and it is entered without a
@@ -91,7 +91,7 @@ impl ShortSteps {
         self.parts.message(number)
     }
 
-    /// What the step at this place shows, from 0, lent; None, where N were not made.
+    /// What the step at this place shows, from 0, lent; None, if N were not made.
     pub fn shown(&self, place: usize) -> Option<Shown<'_>>
         ensures { option_map shown_part result ≡ option_map entry_part (slice_get self.now.entries place) }
     {
@@ -110,7 +110,7 @@ impl ShortSteps {
         }
     }
 
-    /// The entry of the step at this place, from 0, made again; None, where N were not made.
+    /// The entry of the step at this place, from 0, made again; None, if N were not made.
     pub fn entry(&self, place: usize) -> Result<Option<Entry>, AllocError>
         ensures { IfOk result (λ found. found ≡ slice_get self.now.entries place) }
     {

@@ -6,14 +6,14 @@ ghost use Rattle.short_steps.specs.Spans.{part_in};
 
 use tree_model::Sequence;
 
-/// Where values stand in a list: from one place, counted from 0, up to another.
+/// Where values are in a list: from one place, counted from 0, up to another.
 #[derive(Clone, Copy)]
 pub struct Span {
     pub start: usize,
     pub end: usize,
 }
 
-/// The values that stand there; None, where the list has no such part.
+/// The values that are there; None, if the list has no such part.
 pub(crate) fn part_of<T>(list: &[T], span: Span) -> Option<&[T]>
     ensures { option_map (λ part. part.now) result ≡ part_in list.now span.start span.end }
 {

@@ -8,7 +8,7 @@ ghost use Rattle.std.specs.List.{list_all};
 ghost use Rattle.std.specs.Char.{is_ascii_digit};
 ghost use Rattle.spellings.specs.Numerals.{is_numeral, number_at};
 
-/// The number below 2^64 that a word spells in decimal: None where the word is no such number's spelling,
+/// The number below 2^64 that a word spells in decimal: None if the word is no such number's spelling,
 /// as `07`, `+7`, an empty word or 18446744073709551616.
 #[tactic(auto, unfolding(crate::specs::Numerals::number_at))]
 pub fn number_of(word: &str) -> Option<u64>
@@ -23,7 +23,7 @@ pub fn number_of(word: &str) -> Option<u64>
     }
 }
 
-/// The 32-bit number that a word spells in decimal, with a `-` before a negative one: None where the word is
+/// The 32-bit number that a word spells in decimal, with a `-` before a negative one: None if the word is
 /// no such number's spelling, as `-0` or 2147483648.
 pub fn integer_of(word: &str) -> Option<i32>
     ensures found { IfSome result (λ number. word.now ≡ signed_decimal number) }

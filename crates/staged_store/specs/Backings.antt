@@ -22,7 +22,7 @@ module _ {F : Type 0} where
     pub all : file_forced b.file ≡ length (promised s)
     pub rewrites : b.rewrites ≡ s.rewrites
 
-  -- what is promised beyond what stands in the file was appended, and forced by one block
+  -- what is promised beyond what is in the file was appended, and forced by one block
   pub record AddsPromised (writes : F → F → ℕ → List ℕ → Type 0) (syncs : F → F → Type 0)
       (replaces : F → F → List ℕ → Type 0) (old new : FileBacking F) (more : List ℕ) : Type 0 where
     pub mid : FileStore F
@@ -44,7 +44,7 @@ module _ {F : Type 0} where
     -- nothing: as much is forced in the file already
     asks_nothing : new ≡ old → old.rewrites ≡ rewrites → file_forced old.file ≡ length all
         → Asks writes syncs replaces old new all rewrites
-    -- one block and one sync, after what stands there
+    -- one block and one sync, after what is there
     asks_block : old.rewrites ≡ rewrites
         → AddsPromised writes syncs replaces old new (drop (length (file_bytes old.file)) all)
         → Asks writes syncs replaces old new all rewrites

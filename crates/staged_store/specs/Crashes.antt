@@ -9,7 +9,7 @@ use Rattle.staged_store.specs.declared.staged.StagedStore.{StagedStore}
 use Rattle.staged_store.specs.Staged.{promised}
 
 module _ {F : Type 0} where
-  -- The file stands between two stores: on the disk is what the first one promised, and what the second one promised beyond
+  -- The file is between two stores: on the disk is what the first one promised, and what the second one promised beyond
   -- that is to be forced by one block.
   pub record Between (f : FileStore F) (a b : StagedStore) (first : List ℕ) (others : List (List ℕ)) : Type 0 where
     pub disk : OnDisk f first others

@@ -2,7 +2,7 @@
 use Rattle.std.specs.Prelude.{◌≡◌, ◌≤◌, ℕ, List, take}
 use Rattle.staged_store.specs.declared.staged.StagedStore.{StagedStore}
 
--- the bytes that stand in it
+-- the bytes that are in it
 abbrev pub staged_bytes : StagedStore → List ℕ
 staged_bytes s = s.bytes.items
 
@@ -22,7 +22,7 @@ staged_rewrites s = s.rewrites
 abbrev pub promised : StagedStore → List ℕ
 promised s = take s.forced s.bytes.items
 
--- what was promised is still promised, and stands in front
+-- what was promised is still promised, and is in front
 pub record Grows (old new : StagedStore) : Type 0 where
   pub no_less : old.forced ≤ new.forced
   pub front : take old.forced new.bytes.items ≡ promised old

@@ -171,7 +171,7 @@ pub record HasReached (f : Front) (place : Place) (m : ManagerSight) : Type 0 wh
   pub promises : AllByRecursion (IsReached place m.boot) (records_of m.log.kept)
   pub front : IsFrontOf place m.log f
 
--- the manager's log is this process's, it is idle, and each live branch stands there as the subordinate keeps
+-- the manager's log is this process's, it is idle, and each live branch is there as the subordinate keeps
 -- it, under its case's XID, with what it was told after an operator's decision; and the log has reached the boots of
 -- the tickets by which cases of its own promise, and begins with the front that is remembered
 pub record IsTied (f : Front) (s : SubState) : Type 0 where

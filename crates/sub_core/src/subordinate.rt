@@ -138,7 +138,7 @@ impl<M: ResourceManager> Subordinate<M> {
         self.given < LAST_NUMBER
     }
 
-    /// Where a case stands; Unknown, where it is not live.
+    /// Where a case stands; Unknown, if it is not live.
     pub fn standing(&self, case: &Case) -> Standing
         ensures { result ≡ ((state M.sight self.now).branch_of case.now).standing }
     {
@@ -183,7 +183,7 @@ impl<M: ResourceManager> Subordinate<M> {
         &self.manager
     }
 
-    /// The manager that it drives, as it stands; its log is this process's.
+    /// The manager that it drives, as it is; its log is this process's.
     pub fn into_manager(self) -> M
         ensures manager { result ≡ self.manager }
         ensures own { (M.sight self.manager).log.form ≡ log_form self.me kind.Manager }

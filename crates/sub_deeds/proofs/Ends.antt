@@ -144,7 +144,7 @@ module _ (old new : ManagerSight) (v : Verb) (x : Xid) (flags : ℕ) (c : Call)
 
 -- What each of the calls comes to, by the state of its branch.
 
--- a call's row stands in the table, in this state
+-- a call's row is in the table, in this state
 pub record HasRow (m : ManagerSight) (x : Xid) (c : Call) (s : BranchState) : Type 0 where
   pub at : state_at m.tables x ≡ s
   pub here : s ≢ S0

@@ -30,7 +30,7 @@ use Rattle.tree_model.specs.declared.standings.Vote.TheVariants.{Yes, Read}
 abbrev pub Works : ManagerSight → ManagerSight → Xid → Op → Bool → Type 0
 Works old new x op done = WorksIdle old new x op done
 
--- a call made its row of a branch, and its record stands in the log; of a branch that an operator decided the
+-- a call made its row of a branch, and its record is in the log; of a branch that an operator decided the
 -- first outcome is noted
 pub record Finishes (old new : ManagerSight) (x : Xid) (c : Call) : Type 0 where
   pub comes : Comes old new x (row_for old x c).1

@@ -30,7 +30,7 @@ read_name place q (CaseBranch c) = if is_own place q c then CaseBranch c
     else Foreign (name_xid q (CaseBranch c))
 read_name place q (Foreign x) = Foreign x
 
--- a case is this one, where there is one
+-- a case is this one, if there is one
 abbrev pub is_it : Option Case → Case → Bool
 is_it None c = false
 is_it (Some d) c = same_case d c

@@ -136,7 +136,7 @@ takes_listed place p old new l takes listed =
 
 -- Reading on.
 
--- some records were read behind others
+-- some records were read after others
 pub record ReadsTo (place : Place) (p : ProcessId) (old : Cases) (done : List LogRecord) (now : Cases) : Type 0 where
   pub leaves : (ls : List LogRecord) → Leaves place p ls old → Leaves place p (ls ++ done) now
   pub listed : AreLiveOf old.branches old.order.keys → AreLiveOf now.branches now.order.keys
@@ -283,7 +283,7 @@ leaves_copied place p ls s t left alike tickets = record {
   newest = left.newest;
 }
 
--- with the record of a boot behind them
+-- with the record of a boot after them
 pub leaves_boot : (me p : ProcessId) (tree : List TreeEntry) (ls : List LogRecord) (s : Cases) (boot : ℕ)
     → Leaves (leaf_place me p tree) p ls s
     → Leaves (leaf_place me p tree) p (ls ++ boot_record boot ∷ []) (record s { boot = boot })

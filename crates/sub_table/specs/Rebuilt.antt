@@ -43,7 +43,7 @@ use Rattle.sub_table.specs.declared.rebuilt.Rebuilt.{Rebuilt}
 abbrev pub NameReads : Option ProcessId → AnyBranch → Type 0
 NameReads p b = name_in (name_xid p b) ≡ (p, b)
 
--- so does that of a record's branch, where it has one
+-- so does that of a record's branch, if it has one
 abbrev pub ReadsBy : Option ProcessId → Option AnyBranch → Type 0
 ReadsBy p None = ⊤
 ReadsBy p (Some b) = NameReads p b
@@ -91,7 +91,7 @@ pub record IsGivenBy (boot : ℕ) (c : Case) : Type 0 where
   pub has : c.ticket ≡ Some ticket
   pub within : ticket.boot ≤ boot
 
--- a case of the process's own, where there is one, has a ticket of a boot that is at most this
+-- a case of the process's own, if there is one, has a ticket of a boot that is at most this
 abbrev pub IsGivenWhere : ℕ → Option Case → Type 0
 IsGivenWhere boot None = ⊤
 IsGivenWhere boot (Some c) = IsGivenBy boot c
@@ -105,7 +105,7 @@ ReachesBy place boot q _ = ⊤
 abbrev pub IsReached : Place → ℕ → LogRecord → Type 0
 IsReached place boot l = ReachesBy place boot l.parent (saying_of l.entry)
 
--- records that a subordinate can have written: each can stand in a manager's log, and after those before it; and its
+-- records that a subordinate can have written: each can be in a manager's log, and after those before it; and its
 -- own cases promised by tickets of boots that the log has reached
 pub record AreFit (place : Place) (ls : List LogRecord) : Type 0 where
   pub sound : AllByRecursion (IsSound Manager) ls
@@ -177,7 +177,7 @@ pub record DecidesCase (old new : Cases) (c : Case) (told : Option Outcome) : Ty
   pub tickets : new.branches.tickets ≡ old.branches.tickets
   pub newest : new.newest ≡ old.newest
 
--- no ticket is active, where none was
+-- no ticket is active, if none was
 abbrev pub NoTickets : BranchTable → BranchTable → Type 0
 NoTickets old new = ((d : Case) → ticket_in old d ≡ None) → (d : Case) → ticket_in new d ≡ None
 
@@ -228,7 +228,7 @@ pub record CanDecide (s : Cases) (told : Option Outcome) (c : Case) : Type 0 whe
   pub live : branch_in s.branches c ≡ Some branch
   pub fits : fits_told told branch.stage ≡ true
 
--- a case of the process's own can promise, where there is one
+-- a case of the process's own can promise, if there is one
 abbrev pub PromisesWhere : Cases → Option Case → Type 0
 PromisesWhere s None = ⊤
 PromisesWhere s (Some c) = CanPromise s c

@@ -34,7 +34,7 @@ stage_view (Active d done spoiled) =
 stage_view Prepared = standing_branch PreparedStanding None
 stage_view (Heuristic told) = standing_branch HeuristicStanding told
 
--- how a case stands by what is kept of it; where nothing is, it is Unknown
+-- how a case stands by what is kept of it; if nothing is, it is Unknown
 abbrev pub kept_view : Option Branch → ManagerView
 kept_view None = unknown_branch
 kept_view (Some b) = stage_view b.stage

@@ -18,7 +18,7 @@ pub enum RebuildError {
     #[error("no memory")]
     Memory,
     /// The records are those of no log that a subordinate wrote.
-    #[error("the records are those of no subordinate")]
+    #[error("the records are not those of a subordinate")]
     Unfit,
     /// No boot below 2^63 comes after the last one.
     #[error("numbers are used up")]

@@ -6,7 +6,7 @@ use std::test::Fail;
 use trace_lines::case_text;
 use tree_model::{Act, Bytes, Envelope, Event, Message, Op, Presumption, Record};
 
-// A key and a value stand in each act, message, write and record.
+// A key and a value are in each act, message, write and record.
 const _: () = prove!(size_of::<Bytes>() == 16);
 
 #[test]

@@ -1,4 +1,4 @@
-//! Names and words, each written into a line so that it ends where what stands after it begins.
+//! Names and words, each written into a line so that it ends where what is after it begins.
 
 ghost use Rattle.std.specs.Prelude.{◌≡◌, ◌+◌, ◌<◌, ◌≤◌, ◌∷◌, ◌++◌, length, drop, decimal};
 ghost use Rattle.trace_lines.specs.declared.names.TheConstants.{CASE, NUMBER, TICKET, TXN};

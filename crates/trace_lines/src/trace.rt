@@ -245,7 +245,7 @@ fn is_any_unreported(findings: &[Finding]) -> bool
         .any(|finding| matches!(finding, Finding::Unreported(_)))
 }
 
-/// This word, if it is to stand there.
+/// This word, if it is to be there.
 fn push_if(out: &mut Vec<u8>, stands: bool, word: &str) -> Result<(), AllocError>
     ensures { OnOk result (out.new.items ≡ out.old.items ++ (if stands then word.now else [])) }
 {

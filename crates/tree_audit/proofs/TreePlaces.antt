@@ -239,7 +239,7 @@ none_passes g (x ∷ es) h = by_test (g x) h (none_passes g es)
     by_test false here rest = rest here
 
 module _ (tree : List TreeEntry) (t : IsTree tree) where
-  -- where no process is on top, no climb ends
+  -- if no process is on top, no climb ends
   never_ends : list_any is_top tree ≡ false → (k : ℕ) (q : ProcessId) → is_listed tree q ≡ true
       → level_within k tree q ≡ None
   unfolding parent_of

@@ -35,7 +35,7 @@ abbrev pub whole_records : LogReading → List LogRecord
 whole_records (Whole ls torn) = ls
 whole_records (Damaged place) = []
 
--- the kind of an entry; a coordinator's where there is none
+-- the kind of an entry; a coordinator's if there is none
 abbrev pub entry_kind : Option TreeEntry → Kind
 entry_kind None = Coordinator
 entry_kind (Some e) = e.kind

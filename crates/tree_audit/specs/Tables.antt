@@ -56,7 +56,7 @@ IsDamage e bytes (error.Damaged q place) = (q ≡ e.id) × (read_as e.id e.kind 
 abbrev pub TreeTables : Type 0
 TreeTables = List (ProcessId × LogNotes)
 
--- what is said of the cases of this process; nothing, where there is no such process
+-- what is said of the cases of this process; nothing, if there is no such process
 abbrev pub notes_or : Option LogNotes → LogNotes
 notes_or None = no_notes
 notes_or (Some n) = n

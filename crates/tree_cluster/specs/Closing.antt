@@ -22,7 +22,7 @@ LeaveLogs tree xs [] (l ∷ ls) = ⊥
 LeaveLogs tree xs (e ∷ es) [] = ⊥
 LeaveLogs tree xs (e ∷ es) (l ∷ ls) = LeavesLog tree xs e.id l × LeaveLogs tree xs es ls
 
--- the records of a process's log; none, where there is no such process
+-- the records of a process's log; none, if there is no such process
 abbrev pub log_by : Option CoreState → List LogRecord
 log_by None = []
 log_by (Some s) = records_of s.log.kept

@@ -11,7 +11,7 @@ use tree_model::{LogRecord, ProcessId, TreeEntry};
 use tree_threads::{Ledger, Pass, Seated, is_same};
 use tree_ties::seats::{Seats, Ties};
 
-/// Each pair of each of these passes stands in the journal.
+/// Each pair of each of these passes is in the journal.
 pub(crate) fn meet_all<N: Seats>(ties: &Ties, ledger: &mut Ledger<N>, passes: &mut [Pass<N>])
     requires { (ties.now.shared.table_id ≡ N.table) × (0 < N.table.words) }
     ensures met { AreMet ledger.old.entries passes.old }

@@ -157,7 +157,7 @@ impl<N: Seats> Cluster<N> {
         receiver_in(&mut *ledger, number)
     }
 
-    /// Posts an event of this process, or of none where no process has this name. An act is this process's. The processes
+    /// Posts an event of this process, or of none if no process has this name. An act is this process's. The processes
     /// lie in the order of the tree, so what waits for ever here never comes.
     pub(crate) fn post_at<R: Wait, G: Gate>(
         &self,

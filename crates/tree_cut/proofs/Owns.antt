@@ -192,7 +192,7 @@ one_stands tree xs left q s is_tree cut own =
 
 -- The end.
 
--- the node of a process, by its own run where there is one
+-- the node of a process, by its own run if there is one
 record Picked (tree : List TreeEntry) (xs : List Entry) (q : ProcessId) (o : Option CoreState) : Type 0 where
   pub node : Node
   pub moves : List Made

@@ -191,7 +191,7 @@ module _ (tree : List TreeEntry) (net : List Envelope) (q : ProcessId) (own : Li
         reaction = z.reaction;
       }) one
 
--- where nothing is otherwise it stands as before
+-- if nothing is otherwise it stands as before
 over_rests : (tree : List TreeEntry) (net : List Envelope) (q : ProcessId) (own : List Entry) (s t : CoreState)
     → OwnRunOver tree net q own s → SameCore s t → OwnRunOver tree net q own t
 over_rests tree net q own s t over same = record {

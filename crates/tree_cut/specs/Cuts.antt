@@ -25,7 +25,7 @@ pub data IsNodeRun (place : Place) : List Made → Node → Type 0 where
       → node_makes place n m ≡ Makes e n'
       → IsNodeRun place (record { move = m; effect = e } ∷ ms) n'
 
--- what happens at a process finds its message: where it delivers one, that stands in the net for the process,
+-- what happens at a process finds its message: where it delivers one, that is in the net for the process,
 -- under the number that is named
 abbrev pub FindsMessage : List Envelope → ProcessId → Happening → Type 0
 FindsMessage net q h = IsNew net 0 q h

@@ -65,7 +65,7 @@ TrimsAreMade = (tree : List TreeEntry) (q : ProcessId) (own : List Entry) (old n
     → old.log.failed ≡ false → IsSoundLog old → Trims old new remain
     → OwnMakes tree q own new (step_entry q Trim (trim_reaction remain))
 
--- where nothing is otherwise it stands as before
+-- if nothing is otherwise it stands as before
 abbrev pub SameStays : Type 0
 SameStays = (tree : List TreeEntry) (q : ProcessId) (own : List Entry) (old new : CoreState)
     → OwnRun tree q own old → SameCore old new → OwnRun tree q own new

@@ -57,7 +57,7 @@ pub fn cuts_hold()
 {}
 
 /// Where a journal is cut so, and a process's own entries are the journal's of it, some run with this journal
-/// leaves the process as it stands.
+/// leaves the process as it is.
 pub fn one_stands()
     ensures { OneStands }
 {}

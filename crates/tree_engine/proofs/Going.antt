@@ -165,7 +165,7 @@ cannot_all s given events k event rest why next h =
     ∙ ap (λ (xs : List Event). given ++ xs) (take-append-drop k events))
     (cannot_longer s ((given ++ take k events) ++ event ∷ []) rest why h)
 
--- fewer than 2^64 events cannot be made only where one is not
+-- fewer than 2^64 events cannot be made only if one is not
 pub breaks_off : (s : WorldState) (events : List Event) (why : Failure) → length events < 2 ^ 64
     → CannotMake s events why → BreaksOff s events why
 breaks_off s events why few (inl h) = h

@@ -41,7 +41,7 @@ taken_at (f ∷ es) (suc k) e is =
     let at : suc k + 1 ≡ suc (k + 1) = omega arith in
     rw at (ap (λ xs. f ∷ xs) (taken_at es k e is))
 
--- these are all where none is there
+-- these are all if none is there
 pub taken_past : (es : List Entry) (k : ℕ) → slice_get es k ≡ None → take k es ≡ es
 taken_past [] zero is = refl
 taken_past [] (suc k) is = refl
@@ -60,7 +60,7 @@ step_added es k sent next old new all (Some e) is adds so =
     ∙ ap (λ n. old ++ (entry_text sent e ++ entries_text n (drop (k + 1) es))) adds.0
     ∙ ap (λ xs. old ++ entries_text sent xs) (sym (dropped_at es k e is)) ∙ so
 
--- the text where there is no step more
+-- the text if there is no step more
 pub none_added : (es : List Entry) (k sent : ℕ) (old new all : List ℕ) (o : Option Entry) → slice_get es k ≡ o
     → AddsStep o old new sent None → old ++ entries_text sent (drop k es) ≡ all → new ≡ all
 none_added es k sent old new all (Some e) is adds so = absurd adds

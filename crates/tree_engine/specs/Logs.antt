@@ -5,7 +5,7 @@ use Rattle.logs_script.specs.Trees.{logs_text}
 use Rattle.core_law.specs.worlds.Worlds.{WorldState}
 use Rattle.tree_world.specs.LogsLeft.{AreByteLogs, AreLogs, LogsStand}
 
--- the text is that of the tree and of the log of each process, each of bytes; and each record can stand in its log, and a
+-- the text is that of the tree and of the log of each process, each of bytes; and each record can be in its log, and a
 -- manager's may follow one another
 pub record LeavesLogs (w : WorldState) (text : List ℕ) : Type 0 where
   pub logs : List ProcessLog

@@ -42,7 +42,7 @@ impl Sent {
         }
     }
 
-    /// Both together. None, where a sum is 2^64 or more.
+    /// Both together. None, if a sum is 2^64 or more.
     pub fn plus(self, more: Sent) -> Option<Sent>
         ensures sum { IfSome result (λ sum. sum ≡ sent_together self more) }
         ensures none { IfNone result (FitSent (sent_together self more) → ⊥) }
@@ -120,7 +120,7 @@ impl Counts {
         }
     }
 
-    /// Both together. None, where a sum is 2^64 or more.
+    /// Both together. None, if a sum is 2^64 or more.
     pub fn plus(self, more: Counts) -> Option<Counts>
         ensures sum { IfSome result (λ sum. sum ≡ together self more) }
         ensures none { IfNone result (Fit (together self more) → ⊥) }

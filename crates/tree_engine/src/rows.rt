@@ -28,7 +28,7 @@ fn is_at(entry: &Entry, process: ProcessId) -> bool
 }
 
 impl ProcessCounts {
-    /// The same after a step more. Exhausted: a sum is 2^64 or more.
+    /// The counts after a step more. Exhausted: a sum is 2^64 or more.
     fn behind(self, entry: &Entry) -> Result<ProcessCounts, Failure>
         ensures ok { IfOk result (λ row. row ≡ row_behind entry.now self) }
         ensures err { IfErr result (λ e. (e ≡ Failure.Exhausted)

@@ -110,14 +110,14 @@ impl Run {
         world.close();
     }
 
-    /// The tree as it stands.
+    /// The tree as it is.
     pub fn world(&self) -> &World<MemoryStore>
         ensures { result.now ≡ self.now.world }
     {
         &self.world
     }
 
-    /// The tree as it stands, which goes on without the run.
+    /// The tree as it is, which goes on without the run.
     pub fn into_world(self) -> World<MemoryStore>
         ensures { result ≡ self.world }
     {

@@ -19,7 +19,7 @@ fn push_count(out: &mut Vec<u8>, word: &str, count: u64) -> Result<(), AllocErro
     push_number(out, count)
 }
 
-/// The same, where there is any.
+/// The same, if there is any.
 #[tactic(auto, unfolding(crate::specs::Texts::kind_text))]
 fn push_kind(out: &mut Vec<u8>, word: &str, count: u64) -> Result<(), AllocError>
     ensures { OnOk result (out.new.items ≡ out.old.items ++ kind_text word.now count) }

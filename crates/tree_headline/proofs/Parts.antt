@@ -48,7 +48,7 @@ opened_accepts_none : {A : Type 0} (n : Node) → n ≡ opened_node → (c : Cas
 opened_accepts_none n same c t e =
     absurd (let x = subst (λ (k : Node). has_accepted k c t ≡ true) same e in cc)
 
--- who accepts a ticket stands at this process, and JOINED gave it the ticket
+-- who accepts a ticket is at this process, and JOINED gave it the ticket
 pub accepts : (tree : List TreeEntry) (w : World) → Standing tree w → (q : ProcessId) (c : Case) (t : Ticket)
     → has_accepted (w.at q) c t ≡ true → (process_of c ≡ q) × (sent (is_joined_message c t) w.net ≡ true)
 accepts tree w h q c t e = by_listed (is_listed tree q) refl

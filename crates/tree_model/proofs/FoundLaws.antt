@@ -216,7 +216,7 @@ none_found acks (a ∷ fs) o ts n h = by_tests (same_outcome a.1.0 o) (in_list t
     by_tests true false e i none = none
     by_tests false k e i none = none
 
--- where nobody has acknowledged, nothing is found
+-- if nobody has acknowledged, nothing is found
 pub nothing_noted : (acks : List (Ticket × Outcome)) (found : List (Ticket × (Outcome × List Finding)))
     → NotedIn acks found → acks ≡ [] → found ≡ []
 unfolding has_acked

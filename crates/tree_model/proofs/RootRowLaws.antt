@@ -123,7 +123,7 @@ collecting_abort_pure me c PresumeCommit why false us rs m f owes acks found u =
 
 -- A vote of a case that collects votes.
 
--- the view where no record was written and the phase stays
+-- the view if no record was written and the phase stays
 pub same_pure : (c : Case) (p : Presumption) (s : Standing) (rs : List Record) (m m' : Memory)
     → standing_with p rs c m ≡ s → m'.phase ≡ m.phase
     → view_at (standing_with p (rs ++ []) c m') (rs ++ []) c m' ≡ view_at s rs c m'

@@ -544,7 +544,7 @@ module _ (ver : Version) (me : ProcessId) (tree : List TreeEntry) (n : Node) (x 
       (MessageInput k (Ack (child_case x t) o fs)) ≡ memory_of place n (root_case y)
   ack_elsewhere k t o fs y q = rw q refl
 
-  -- a row of an acknowledgement that comes where no votes are taken
+  -- a row of an acknowledgement that comes if no votes are taken
   ack_noted : (k : ℕ) (a : DataAnswer) (t : Ticket) (o : Outcome) (fs : List Finding) (row : Row)
       → takes_ack m t o fs m.phase ≡ acked m t o fs → IsOf c row
       → read_view (rs ++ entries_written row.written) c (acked m t o fs) ≡ row.view

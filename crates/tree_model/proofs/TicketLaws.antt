@@ -56,7 +56,7 @@ pub ruleset pushed = (
   none_nil,
 )
 
--- where there is no decision nobody owes an acknowledgement
+-- if there is no decision nobody owes an acknowledgement
 pub undecided_owes : (c : Case) (rs : List Record) → has (is_commit c) rs ≡ false
     → has (is_abort c) rs ≡ false → owing_by c rs ≡ []
 unfolding has owing_by

@@ -48,7 +48,7 @@ pub record FitsTicket (b : ProcessId × Ticket) : Type 0 where
   pub boot : b.1.boot < 2 ^ 64
   pub number : b.1.number < 2 ^ 64
 
--- a parent and a ticket fit, where there are any
+-- a parent and a ticket fit, if there are any
 abbrev pub FitsBelow : Option (ProcessId × Ticket) → Type 0
 FitsBelow None = ⊤
 FitsBelow (Some b) = FitsTicket b

@@ -58,7 +58,7 @@ plain r = record { entry = r; is_forced = false } ∷ []
 abbrev pub post : ProcessId → ProcessId → Message → Envelope
 post me q m = record { from = me; to = q; message = m }
 
--- the message to the parent, where there is one
+-- the message to the parent, if there is one
 abbrev pub posted_up : ProcessId → Option ProcessId → Message → List Envelope
 posted_up me None m = []
 posted_up me (Some p) m = post me p m ∷ []
@@ -75,7 +75,7 @@ to_child s m t = post s.me t.child (m (child_case s.own.txn t))
 abbrev pub each : Seat → (Case → Message) → List Ticket → List Envelope
 each s m ts = map (to_child s m) ts
 
--- this is told where there is no parent; else nothing is
+-- this is told if there is no parent; else nothing is
 abbrev pub told_by : Option ProcessId → Conclusion → Option Conclusion
 told_by None a = Some a
 told_by (Some p) a = None
@@ -92,7 +92,7 @@ quiet v = record { written = []; told = None; messages = []; accepts = []; count
 abbrev pub sends : List Envelope → CoordinatorView → Row
 sends ls v = record { written = []; told = None; messages = ls; accepts = []; counts = []; view = v }
 
--- the case waits for these, or is forgotten where there are none
+-- the case waits for these, or is forgotten if there are none
 abbrev pub awaits : Standing → List Ticket → CoordinatorView → CoordinatorView
 awaits s ts v =
     if none_of ts then unknown_view else record v { standing = s; named = v.named ++ ts; owed = ts }
@@ -397,7 +397,7 @@ ends_with ver s fs =
     let reports = end_reports ver s.parent fs in
     record { entry = EndRecord s.own reports; is_forced = is_some reports } ∷ []
 
--- these still owe an acknowledgement, and so much was found by now; where there are none, an End record ends the
+-- these still owe an acknowledgement, and so much was found by now; if there are none, an End record ends the
 -- case
 abbrev pub decided_ack_by : Version → Seat → Outcome → List Ticket → List Finding → CoordinatorView → Row
 decided_ack_by ver s o left fs v =

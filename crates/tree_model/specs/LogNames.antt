@@ -96,7 +96,7 @@ parent_of AtRoot = None
 parent_of (Below p) = Some p
 parent_of (AtLeaf p) = Some p
 
--- whether a case with a ticket can stand at such a process
+-- whether a case with a ticket can be at such a process
 abbrev pub is_ticketed : Role → Option Ticket → Bool
 is_ticketed AtRoot None = true
 is_ticketed AtRoot (Some t) = false

@@ -52,7 +52,7 @@ root_case x = record { txn = x; ticket = None }
 abbrev pub child_case : Txn → Ticket → Case
 child_case x t = record { txn = x; ticket = Some t }
 
--- the outcome that an inquiry gets where nothing is known (R*)
+-- the outcome that an inquiry gets if nothing is known (R*)
 abbrev pub presumed : Presumption → Outcome
 presumed PresumeAbort = Aborted
 presumed PresumeCommit = Committed

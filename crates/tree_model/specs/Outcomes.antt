@@ -183,7 +183,7 @@ abbrev pub consents : Option Vote → Bool
 consents None = false
 consents (Some v) = is_consent v
 
--- the promise of the case stands in the forced front of its process, where the moves have left it
+-- the promise of the case is in the forced front of its process, where the moves have left it
 abbrev pub promise_is_forced : List TreeEntry → List Made → Case → Bool
 promise_is_forced tree es c = has (is_prepared c)
     (node_by (place_of tree (process_of c)) (made_by (process_of c) es)).forced
@@ -218,13 +218,13 @@ pub record Mismatch (w : World) (c : Case) (o : Outcome) : Type 0 where
   pub decided : has (is_decided c o) (w.at (process_of c)).durable ≡ true
   pub differs : o ≢ outcome_of w c.txn
 
--- a record that passes the first test stands in the list, the oldest first, with none after it that passes
+-- a record that passes the first test is in the list, the oldest first, with none after it that passes
 -- the second
 unfoldable pub has_last : (Record → Bool) → (Record → Bool) → List Record → Bool
 has_last q r [] = false
 has_last q r (x ∷ xs) = (q x && not (has r xs)) || has_last q r xs
 
--- the decision stands in the forced front, and no Forgot of its case is kept after it
+-- the decision is in the forced front, and no Forgot of its case is kept after it
 pub record DecisionStands (n : Node) (c : Case) (o : Outcome) : Type 0 where
   pub is_forced : has (is_decided c o) n.forced ≡ true
   pub not_forgotten : has_last (is_decided c o) (is_forgot c) (kept n) ≡ true

@@ -137,7 +137,7 @@ abbrev pub plays_input : List TreeEntry → Player → ProcessId → Input → L
 plays_input tree p q i delivered = plays_move tree p
     (move_of q (Handles i) (plain_answer (p.world.at q) i)) delivered
 
--- the message with this number comes to its receiver; where there is none, the run stops
+-- the message with this number comes to its receiver; if there is none, the run stops
 abbrev pub delivers : List TreeEntry → Player → ℕ → Option Envelope → Played
 delivers tree p k None = Stops NoSuch p
 delivers tree p k (Some e) = plays_input tree p e.to (MessageInput k e.message) (k ∷ p.delivered)

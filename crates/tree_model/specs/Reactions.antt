@@ -188,13 +188,13 @@ coordinator_acts place parent n (Forget c) =
 
 -- Messages of children.
 
--- a ticket's vote in the case to which it belongs; where there is none, nothing is done
+-- a ticket's vote in the case to which it belongs; if there is none, nothing is done
 abbrev pub vote_for : Place → Option ProcessId → Node → Ticket → Vote → Option Case → Effect
 vote_for place parent n t w None = no_effect
 vote_for place parent n t w (Some c) =
     let v = coordinator_view place n c in row_effect c (on_vote (seat_of place parent c) t w v v.standing)
 
--- a ticket's acknowledgement in the case to which it belongs; where there is none, nothing is done
+-- a ticket's acknowledgement in the case to which it belongs; if there is none, nothing is done
 abbrev pub ack_for : Version → Place → Option ProcessId → Node → Ticket → Outcome → List Finding → Option Case → Effect
 ack_for ver place parent n t o fs None = no_effect
 ack_for ver place parent n t o fs (Some c) =

@@ -124,7 +124,7 @@ decision_after c d _ = d
 unfoldable pub decision_of : List Record → Case → Option Outcome
 decision_of rs c = fold (decision_after c) None rs
 
--- the report of the case stands after one more record: an End with reports sets it up, and Cleared undoes it
+-- the report of the case is after one more record: an End with reports sets it up, and Cleared undoes it
 abbrev pub reported_after : Case → Bool → Record → Bool
 reported_after c b (End d rep) = if same_case d c then is_some rep else b
 reported_after c b (Cleared d) = if same_case d c then false else b
@@ -182,7 +182,7 @@ abbrev pub boot_after : ℕ → Record → ℕ
 boot_after b (Opened n) = n
 boot_after b _ = b
 
--- the boot of a log, by its last Opened record; 0 where there is none
+-- the boot of a log, by its last Opened record; 0 if there is none
 unfoldable pub boot_of : List Record → ℕ
 boot_of rs = fold boot_after 0 rs
 
@@ -286,7 +286,7 @@ kind_of (Forgot b) = ForgotKind
 kind_of (Base n) = BaseKind
 kind_of (Pair k v) = PairKind
 
--- what a record of this case is of; something other where there is none
+-- what a record of this case is of; something other if there is none
 abbrev pub case_subject : Option Case → Subject
 case_subject None = Other
 case_subject (Some c) = OfCase c

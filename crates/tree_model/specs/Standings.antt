@@ -1,4 +1,4 @@
--- Where a case stands at a process, and the process's view of it: read off its kept records and the heard
+-- Where a case is at a process, and the process's view of it: read off its kept records and the heard
 -- inputs.
 use Rattle.std.specs.Prelude.{ℕ, Bool, true, false, not, ◌||◌, if◌then◌else◌, Option, Some, None, List, [], ◌∷◌, ◌++◌, filter, find, fold, map}
 use Rattle.tree_model.specs.declared.names.Case.{Case}
@@ -53,7 +53,7 @@ unknown_view = record {
   found = [];
 }
 
--- the standing of a decided case, but Unknown where the decision names nobody
+-- the standing of a decided case, but Unknown if the decision names nobody
 abbrev pub unless_none : Bool → Standing → Standing
 unless_none true s = Unknown
 unless_none false s = s
@@ -247,7 +247,7 @@ manager_view place n c = marked_branch (memory_of place n c) (mark_of (CaseBranc
 
 -- Any process.
 
--- where the case stands at a process of this role
+-- where the case is at a process of this role
 abbrev pub standing_in : Role → Place → Node → Case → Standing
 standing_in (AtLeaf p) place n c = (manager_view place n c).standing
 standing_in _ place n c = (coordinator_view place n c).standing

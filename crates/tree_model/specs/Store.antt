@@ -28,7 +28,7 @@ unfoldable pub without_key : List ℕ → List (List ℕ × List ℕ) → List (
 without_key k [] = []
 without_key k (p ∷ ps) = if same_bytes k p.0 then ps else p ∷ without_key k ps
 
--- the pairs with the key at this value, or without it where there is none
+-- the pairs with the key at this value, or without it if there is none
 abbrev pub set_key : List ℕ → Option (List ℕ) → List (List ℕ × List ℕ) → List (List ℕ × List ℕ)
 set_key k (Some v) ps = with_pair k v ps
 set_key k None ps = without_key k ps

@@ -41,7 +41,7 @@ txn_text x = presumption_letter x.presumption ++ decimal x.boot ++ codes "." ++ 
 abbrev pub ticket_text : Ticket → List ℕ
 ticket_text t = decimal t.child.0 ++ codes "." ++ decimal t.boot ++ codes "." ++ decimal t.number
 
--- `@` and the ticket, where there is one
+-- `@` and the ticket, if there is one
 abbrev pub ticket_part : Option Ticket → List ℕ
 ticket_part None = []
 ticket_part (Some t) = codes "@" ++ ticket_text t

@@ -52,7 +52,7 @@ abbrev pub one_more : Option ℕ → Option ℕ
 one_more None = None
 one_more (Some n) = Some (n + 1)
 
--- one more than the climb from the parent gives; 1 where there is no parent
+-- one more than the climb from the parent gives; 1 if there is no parent
 abbrev pub levels_above : (ProcessId → Option ℕ) → Option ProcessId → Option ℕ
 levels_above climb None = Some 1
 levels_above climb (Some p) = one_more (climb p)
@@ -71,7 +71,7 @@ has_cycle es = list_any (λ e. is_none (level_within (length es) es e.id)) es
 abbrev pub is_top : TreeEntry → Bool
 is_top e = is_none e.parent
 
--- the id of an entry; 0 where there is none
+-- the id of an entry; 0 if there is none
 abbrev pub entry_id : Option TreeEntry → ProcessId
 entry_id None = record { 0 = 0 }
 entry_id (Some e) = e.id

@@ -109,7 +109,7 @@ abbrev pub root_seat : ProcessId → Case → Seat
 root_seat me c = record { me = me; parent = None; own = c }
 
 -- What a case that is open has on its lists: while it takes children no record says that it went on, votes
--- are taken exactly while it stands at Collecting, and Presumed Abort collects them after no record.
+-- are taken exactly while it is at Collecting, and Presumed Abort collects them after no record.
 pub record IsOpenAlike (place : Place) (n : Node) (c : Case) : Type 0 where
   pub open_is_active : (memory_of place n c).phase ≡ Open → (coordinator_view place n c).standing ≡ Active
   pub asked_is_collecting : (memory_of place n c).phase ≡ Asked

@@ -108,7 +108,7 @@ world_makes tree w m =
     let q = m.step.process in
     if is_listed tree q then world_stepped w q (node_makes (place_of tree q) (w.at q) m) else None
 
--- a message that stands in the net, for the process, whatever its number
+-- a message that is in the net, for the process, whatever its number
 pub record IsSent (net : List Envelope) (q : ProcessId) (number : ℕ) (message : Message) : Type 0 where
   pub sender : ProcessId
   pub place : ℕ

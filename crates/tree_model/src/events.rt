@@ -30,7 +30,7 @@ pub enum Act {
 }
 
 impl Act {
-    /// The same act again.
+    /// A copy of the act.
     pub fn copied(&self, alloc: Global) -> Result<Act, AllocError>
         ensures { IfOk result (λ copy. copy ≡ self.now) }
     {
@@ -68,7 +68,7 @@ pub enum Event {
 }
 
 impl Event {
-    /// The same event again.
+    /// A copy of the event.
     pub fn copied(&self, alloc: Global) -> Result<Event, AllocError>
         ensures { IfOk result (λ copy. copy ≡ self.now) }
     {
@@ -149,7 +149,7 @@ pub enum StepError {
     /// The device failed; the process answers `Failed` until its restart.
     #[error("the device failed")]
     Device,
-    /// No such case stands at the process.
+    /// No such case is at the process.
     #[error("no such case here")]
     UnknownTxn,
     /// The process is no child of this one, or for work no accepted child that is a manager.

@@ -74,7 +74,7 @@ impl<T> Sequence<T> {
 }
 
 impl<T: Copy> Sequence<T> {
-    /// The same values again.
+    /// A copy of the values.
     pub fn copied(&self, alloc: Global) -> Result<Sequence<T>, AllocError>
         ensures { IfOk result (λ copy. copy ≡ self.now) }
     {

@@ -16,7 +16,7 @@ pub enum Op {
 }
 
 impl Op {
-    /// The same operation again.
+    /// A copy of the operation.
     pub fn copied(&self, alloc: Global) -> Result<Op, AllocError>
         ensures { IfOk result (λ copy. copy ≡ self.now) }
     {
@@ -65,7 +65,7 @@ pub enum Message {
 }
 
 impl Message {
-    /// The same message again.
+    /// A copy of the message.
     pub fn copied(&self, alloc: Global) -> Result<Message, AllocError>
         ensures { IfOk result (λ copy. copy ≡ self.now) }
     {
@@ -96,7 +96,7 @@ pub struct Envelope {
 }
 
 impl Envelope {
-    /// The same message again, with its sender and its receiver.
+    /// A copy of the message, with its sender and its receiver.
     pub fn copied(&self, alloc: Global) -> Result<Envelope, AllocError>
         ensures { IfOk result (λ copy. copy ≡ self.now) }
     {

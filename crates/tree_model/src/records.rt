@@ -25,7 +25,7 @@ pub struct Write {
 }
 
 impl Write {
-    /// The same write again.
+    /// A copy of the write.
     pub fn copied(&self, alloc: Global) -> Result<Write, AllocError>
         ensures { IfOk result (λ copy. copy ≡ self.now) }
     {
@@ -39,7 +39,7 @@ impl Write {
     }
 }
 
-/// The same writes again.
+/// A copy of the writes.
 fn copied_writes(writes: &[Write], alloc: Global) -> Result<Writes, AllocError>
     ensures { IfOk result (λ copy. copy ≡ writes.now) }
 {
@@ -62,7 +62,7 @@ pub struct Reports {
 }
 
 impl Reports {
-    /// The same reports again.
+    /// A copy of the reports.
     pub fn copied(&self, alloc: Global) -> Result<Reports, AllocError>
         ensures { IfOk result (λ copy. copy ≡ self.now) }
     {
@@ -142,7 +142,7 @@ impl Branch {
 }
 
 impl Record {
-    /// The same record again.
+    /// A copy of the record.
     pub fn copied(&self, alloc: Global) -> Result<Record, AllocError>
         ensures { IfOk result (λ copy. copy ≡ self.now) }
     {

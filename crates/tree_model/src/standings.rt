@@ -9,7 +9,7 @@ pub enum Vote {
     Read,
 }
 
-/// Where a case stands at a process.
+/// Where a case is at a process.
 #[derive(Clone, Copy, PartialEq, Eq)]
 pub enum Standing {
     /// Nothing is known of it: it never was, or is forgotten.

@@ -68,7 +68,7 @@ pub enum TreeError {
     #[error("a parent is not listed")]
     Unknown,
     /// More than one process has no parent, or the one that has none is a manager.
-    #[error("there is not one coordinator without a parent")]
+    #[error("there is not exactly one coordinator without a parent")]
     Roots,
 }
 

@@ -96,7 +96,7 @@ always_said : seen_of [] ≡ None → ⊥
 unfolding seen_after
 always_said e = cc
 
--- where nothing was seen no limit is broken
+-- if nothing was seen no limit is broken
 within_limits : BreaksLimits nothing_seen → ⊥
 unfolding keys_once
 within_limits b = b.breaks (record { few = omega arith; each = tt; once = refl })

@@ -231,7 +231,7 @@ log_handed_back bytes forced failures k old new (logs.Damaged place) h =
     inl (same_store bytes forced failures old new h.0)
 log_handed_back bytes forced failures k old new logs.OldFormat h = inl (same_store bytes forced failures old new h.0)
 
--- a log that opened stands in the store, with these records after its own
+-- a log that opened is in the store, with these records after its own
 holds_on : {S : Type 0} (bytes : S → List ℕ) (forced failures : S → ℕ) (k : LogForm) (old new : S) (opened : LogState)
     (kept : Kept) (more : List LogRecord) → Opens k (bytes old) (forced old) (failures old) opened
     → kept_of k (bytes new) (forced new) ≡ kept → records_of kept ≡ records_of opened.sight.kept ++ more
@@ -239,7 +239,7 @@ holds_on : {S : Type 0} (bytes : S → List ℕ) (forced failures : S → ℕ) (
 holds_on bytes forced failures k old new opened kept more opens is has =
     record { log = opened; opens = opens; appended = more; records = ap records_of is ∙ has }
 
--- a log that opened stands there as it was
+-- a log that opened is there as it was
 holds_same : {S : Type 0} (bytes : S → List ℕ) (forced failures : S → ℕ) (k : LogForm) (old new : S)
     (opened left : LogState) → Opens k (bytes old) (forced old) (failures old) opened
     → kept_of k (bytes new) (forced new) ≡ left.sight.kept → left.sight ≡ opened.sight

@@ -28,7 +28,7 @@ abbrev pub core_of : {L : Type 0} → Node L → CoreState
 core_of (Coordinator c) = coordinators.state c
 core_of (Manager m) = managers.state sight_of m
 
--- where a case stands at a process
+-- where a case is at a process
 abbrev pub standing_at : {L : Type 0} → Node L → Case → Standing
 standing_at (Coordinator p) c = ((coordinators.state p).view_of c).standing
 standing_at (Manager p) c = ((managers.state sight_of p).branch_of c).standing
@@ -57,7 +57,7 @@ abbrev pub FollowAt : Role → List LogRecord → Type 0
 FollowAt (AtLeaf p) ls = are_ordered ls ≡ true
 FollowAt _ ls = Unit {0}
 
--- each record of the process can stand in its log, and a manager's may follow one another
+-- each record of the process can be in its log, and a manager's may follow one another
 pub record LogStands (s : CoreState) : Type 0 where
   pub sound : IsSoundLog s
   pub follow : FollowAt s.place.role (records_of s.log.kept)

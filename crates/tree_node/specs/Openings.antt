@@ -34,7 +34,7 @@ pub record DeviceFailed {L : Type 0} (bytes : L → List ℕ) (failures : L → 
   pub left : L
   pub more : MoreFailures (failures store) (failures left)
 
--- there is no store, or bytes stand in it
+-- there is no store, or bytes are in it
 abbrev pub IsNoEmptyStore : {L : Type 0} → (L → List ℕ) → Option L → Type 0
 IsNoEmptyStore bytes None = ⊤
 IsNoEmptyStore bytes (Some store) = bytes store ≢ []

@@ -124,14 +124,14 @@ NotReopened bytes forced failures p place store e =
 
 -- The store that is handed back with a refusal.
 
--- its log opened, and these records stand in it: those that were read, and perhaps that of a boot after them
+-- its log opened, and these records are in it: those that were read, and perhaps that of a boot after them
 pub record HoldsOn {L : Type 0} (bytes : L → List ℕ) (forced failures : L → ℕ) (p : LogForm) (old new : L) : Type 0 where
   pub log : LogState
   pub opens : Opens p (bytes old) (forced old) (failures old) log
   pub appended : List LogRecord
   pub records : records_of (kept_of p (bytes new) (forced new)) ≡ records_of log.sight.kept ++ appended
 
--- it is as it was, or its records stand in it; or its device failed
+-- it is as it was, or its records are in it; or its device failed
 abbrev pub HandsLogBack : {L : Type 0} → (L → List ℕ) → (L → ℕ) → (L → ℕ) → LogForm → L → L → ReopenError → Type 0
 HandsLogBack bytes forced failures p old new Device = MoreFailures (failures old) (failures new)
 HandsLogBack bytes forced failures p old new e =

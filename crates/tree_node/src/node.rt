@@ -132,7 +132,7 @@ impl<L: LogStore> Node<L> {
         }
     }
 
-    /// The same, and Exhausted where no numbers are left, by which nothing changed.
+    /// As `step`, and Exhausted if no numbers are left, by which nothing changed.
     pub fn handle(&mut self, input: InputRef<'_>) -> Result<Reaction, StepError>
         ensures ok { IfOk result (HandlesInput (core_of self.old) (core_of self.new)
             (data_of self.old) (data_of self.new) (input_of input.entry)) }
@@ -150,7 +150,7 @@ impl<L: LogStore> Node<L> {
 }
 
 impl<L: LogStore + Drop> Node<L> {
-    /// The store under its log, as it stands.
+    /// The store under its log, as it is.
     pub fn into_store(self) -> L
         ensures { HoldsLog L.bytes L.forced L.failures (core_of self) result }
     {

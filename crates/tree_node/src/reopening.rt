@@ -48,10 +48,10 @@ pub enum ReopenError {
     #[error("damaged at byte {0}")]
     Damaged(usize),
     /// The records are those of no such process; or numbers are used up after them.
-    #[error("the records are those of no such process")]
+    #[error("the records are not those of such a process")]
     Unfit,
     /// The log is of the first format, and is to be migrated before.
-    #[error("a log of the first format, which `rstar migrate --file LOG` carries over")]
+    #[error("a log of the first format, which `rstar migrate --file LOG` converts")]
     OldFormat,
 }
 

@@ -76,7 +76,7 @@ impl<L: LogStore> Node<L> {
         }
     }
 
-    /// Each record of its log can stand in a log of its sort.
+    /// Each record of its log can be in a log of its sort.
     pub fn records_are_sound(&self)
         ensures { IsSoundLog (core_of self.now) }
     {
@@ -96,7 +96,7 @@ impl<L: LogStore> Node<L> {
         }
     }
 
-    /// Each record of its log can stand there, and those of a manager may follow one another. It does nothing.
+    /// Each record of its log can be there, and those of a manager may follow one another. It does nothing.
     pub fn log_stands(&self)
         ensures { LogStands (core_of self.now) }
     {
@@ -104,7 +104,7 @@ impl<L: LogStore> Node<L> {
         self.records_follow();
     }
 
-    /// N bytes after the forced front are kept; all, where no number is given.
+    /// N bytes after the forced front are kept; all, if no number is given.
     fn kept_of(&self, bytes: Option<u64>) -> usize
         ensures { KeepsBytes (core_of self.now) bytes result }
     {

@@ -20,7 +20,7 @@ fn size_of(alloc: Global, record: &LogRecord) -> Result<u64, AllocError>
     Ok(frame.size() as u64)
 }
 
-/// The same of each of these.
+/// How many bytes the frame of each of these records takes.
 fn sizes_of(alloc: Global, records: &[LogRecord]) -> Result<Vec<u64>, AllocError>
     requires { All FitsFrame records.now }
     ensures { IfOk result (λ sizes. sizes.items ≡ map record_size records.now) }

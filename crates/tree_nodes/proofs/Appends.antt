@@ -130,7 +130,7 @@ nested_writes l new h = record {
   forced_is_old = h.forced_is_old;
 }
 
--- what stands after a fault
+-- what is after a fault
 pub breaks_keeps : (l : Logs) (new : List Record) (a f : ℕ)
     → standing (breaks l new a f) ≡ standing l ++ take a new
 breaks_keeps l new a f =

@@ -1,4 +1,4 @@
--- What a front of a coordinator's log holds of a case: each record stands after the ones that it needs, and
+-- What a front of a coordinator's log holds of a case: each record is after the ones that it needs, and
 -- each kind of record once.
 use Rattle.std.proofs.Common.{◌≡◌, ◌∙◌, ◌||◌, ◌&&◌, ◌⊎◌, inl, inr, Bool, true, false, List, [], ◌∷◌, ◌++◌, refl, sym, ap, arith}
 use Rattle.tree_model.specs.declared.names.Case.{Case}

@@ -1,4 +1,4 @@
--- Each record of a coordinator fits what stands before it; so the records of a case stand in order, and
+-- Each record of a coordinator fits what is before it; so the records of a case are in order, and
 -- decisions name whom they should.
 use Rattle.std.proofs.Common.{◌≡◌, ◌∙◌, ◌&&◌, inl, inr, Bool, true, false, List, [], ◌∷◌, ◌++◌, refl, sym, ap, subst, append_assoc, if◌then◌else◌, ◌⊎◌}
 use Rattle.std.specs.List.{flat_map}
@@ -30,7 +30,7 @@ pub record Undecided (rs : List Record) (c : Case) : Type 0 where
   pub no_commit : has (is_commit c) rs ≡ false
   pub no_abort : has (is_abort c) rs ≡ false
 
--- the record may stand after these
+-- the record may be after these
 abbrev pub Fits : List Record → Record → Type 0
 Fits rs (Collecting c ts) =
     (c.txn.presumption ≡ PresumeCommit)
@@ -67,7 +67,7 @@ fit_both rs (x ∷ xs) ys f g = (
 at_end : (q : Record → Bool) (rs : List Record) (x : Record) → q x ≡ true → has q (rs ++ x ∷ []) ≡ true
 at_end q rs x e = in_second q rs (x ∷ []) (has-cons q x [] ∙ left (q x) (has q []) e)
 
--- A record that does not fit after another never stands after it.
+-- A record that does not fit after another never is after it.
 
 module _ (q r : Record → Bool)
     (bars : (rs : List Record) (x : Record) → Fits rs x → q x ≡ true → has r rs ≡ false)

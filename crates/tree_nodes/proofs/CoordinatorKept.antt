@@ -75,7 +75,7 @@ memory_same place n k c e b =
     ap (λ hs. fold (remembers place.me place.role (boot_of (kept k)) c) fresh_memory hs) e
     ∙ ap (λ (j : ℕ). fold (remembers place.me place.role j c) fresh_memory n.heard) b
 
--- nothing is remembered where nothing was heard
+-- nothing is remembered if nothing was heard
 pub memory_empty : (place : Place) (k : Node) (c : Case) → k.heard ≡ [] → memory_of place k c ≡ fresh_memory
 unfolding memory_of
 memory_empty place k c e =

@@ -1,4 +1,4 @@
--- Each record of a coordinator's log fits what stands before it, over every run.
+-- Each record of a coordinator's log fits what is before it, over every run.
 use Rattle.std.proofs.Common.{◌≡◌, ◌∙◌, ◌+◌, ℕ, zero, suc, Bool, true, false, Option, Some, None, List, [], ◌∷◌, ◌++◌, take, drop, refl, sym, ap, subst, append_assoc, if◌then◌else◌}
 use Rattle.std.specs.List.{flat_map}
 use Rattle.std.proofs.lemmas.List.{append-nil, take-append-drop}
@@ -172,7 +172,7 @@ fits_effect place parent n h _ (presumes x t i e) a = tt
 
 -- What a restart appends.
 
--- what stands in neither is of the first alone, but for the Aborts that a restart appends for the cases seen
+-- what is in neither is of the first alone, but for the Aborts that a restart appends for the cases seen
 abbrev NoMore : List Record → List Case → List Record → Type 0
 NoMore rs seen pre = (q : Record → Bool) → ((k : ℕ) → q (Opened k) ≡ false)
     → ((d : Case) (ts : List Ticket) → has_case seen d ≡ true → q (AbortRecord d ts) ≡ false)

@@ -30,7 +30,7 @@ pub record Dead (place : Place) (n : Node) (c : Case) : Type 0 where
   pub none_kept : has (is_commit c) (kept n) ≡ false
   pub none_ever : has (is_commit c) n.durable ≡ false
 
--- a Commit that was in the forced front stands there, or no record says that the case collects
+-- a Commit that was in the forced front is there, or no record says that the case collects
 abbrev pub CommitStands : Logs → Type 0
 CommitStands l = (c : Case) → has (is_commit c) l.durable ≡ true
     → (has (is_commit c) l.forced ≡ true) ⊎ (has (is_collecting c) (standing l) ≡ false)

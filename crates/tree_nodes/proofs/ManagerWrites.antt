@@ -121,7 +121,7 @@ module _ (place : Place) (p : ProcessId) (n : Node) (h : Heard) where
   leaf_accepts _ (drops d i a) = refl
   leaf_accepts _ (asks d i k) = refl
 
--- the records that stand after an input
+-- the records that are after an input
 pub kept_after : (n : Node) (h : Heard) (e : Effect)
     → kept (after n h e) ≡ kept n ++ entries_written e.written
 kept_after n h e =

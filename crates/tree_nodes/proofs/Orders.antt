@@ -1,4 +1,4 @@
--- Lists in which each branch's records stand in order.
+-- Lists in which each branch's records are in order.
 use Rattle.std.proofs.Common.{◌≡◌, ◌∙◌, ◌||◌, ◌&&◌, inl, inr, ℕ, Bool, true, false, List, [], ◌∷◌, ◌++◌, take, drop, refl, sym, ap, subst, if◌then◌else◌, arith}
 use Rattle.std.specs.Prelude.{not, fold}
 use Rattle.std.proofs.lemmas.List.{take-append-drop}

@@ -8,7 +8,7 @@ use Rattle.tree_model.specs.Records.{has, is_end, is_reported, reported_after}
 use Rattle.tree_nodes.specs.WorldHolds.{is_record_of}
 use Rattle.tree_nodes.proofs.Tests.{left, right, either}
 
--- a report that stands after these records stood before them, or the case ended among them
+-- a report that is after these records stood before them, or the case ended among them
 reported_ended : (c : Case) (b : Bool) (rs : List Record)
     → fold (reported_after c) b rs ≡ true → (b || has (is_end c) rs) ≡ true
 unfolding has

@@ -33,7 +33,7 @@ use Rattle.tree_nodes.proofs.RootLogs.{reopened_record}
 use Rattle.tree_nodes.proofs.RootMemories.{same_memory}
 use Rattle.tree_nodes.proofs.RootTraces.{BegunSo, traces, if_remembered, if_told, if_found, if_committed, told_more, among_kept, heard_holds, born}
 
--- nothing is remembered where nothing was heard
+-- nothing is remembered if nothing was heard
 pub forgotten : (me : ProcessId) (tree : List TreeEntry) (k : Node) (c : Case) → k.heard ≡ []
     → is_begun (memory_of (root_place me tree) k c).phase ≡ false
 unfolding memory_of

@@ -57,7 +57,7 @@ module _ (c : Case) (rs : List Record) (none : has (is_record_of c) rs ≡ false
   pub no_collecting : has (is_collecting c) rs ≡ false
   no_collecting = none_such (is_collecting c) (λ r e. grind arith)
 
-  -- where there is no record, the phase says where the case stands
+  -- if there is no record, the phase says where the case stands
   pub stands_by_phase : (m : Memory) → coordinator_standing rs c m ≡ phase_standing c.txn.presumption m.phase
   stands_by_phase m = rw (no_end, no_commit, no_abort, no_prepare, no_collecting) refl
 

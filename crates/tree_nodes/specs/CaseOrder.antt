@@ -5,7 +5,7 @@ use Rattle.tree_model.specs.declared.records.Record.{Record}
 use Rattle.tree_model.specs.Records.{has, none_of, is_prepare, promised_by}
 use Rattle.tree_nodes.specs.WorldHolds.{InOrder, NamesBy}
 
--- the records of the case stand in the order in which they are written, decisions name whom they should by
+-- the records of the case are in the order in which they are written, decisions name whom they should by
 -- the presumption, and a promise names somebody
 pub record CaseInOrder (c : Case) (rs : List Record) : Type 0 where
   pub in_order : InOrder c rs

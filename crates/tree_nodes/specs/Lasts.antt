@@ -33,7 +33,7 @@ logs_of n = record {
 abbrev pub standing : Logs → List Record
 standing l = l.forced ++ l.unforced
 
--- what stands in the log, or ever stood in its forced front, was appended, the boots aside; and what stands
+-- what is in the log, or ever stood in its forced front, was appended, the boots aside; and what stands
 -- in the forced front ever stood there
 pub record Nested (l : Logs) : Type 0 where
   pub kept_was_written : (q : Record → Bool) → ((k : ℕ) → q (Opened k) ≡ false)

@@ -1,4 +1,4 @@
--- The order in which a branch's records stand in its manager's log.
+-- The order in which a branch's records are in its manager's log.
 use Rattle.std.specs.Prelude.{Bool, true, false, not, ◌||◌, ◌&&◌, Option, Some, None, List, [], ◌∷◌}
 use Rattle.tree_model.specs.declared.names.Case.{Case}
 use Rattle.tree_model.specs.declared.records.Branch.{Branch}
@@ -39,7 +39,7 @@ may_follow Decided (Forgot b) = true
 may_follow (ToldOf o) (Forgot b) = true
 may_follow _ _ = false
 
--- each record of the branch may follow what stands before it
+-- each record of the branch may follow what is before it
 unfoldable pub in_order_from : Case → Mark → List Record → Bool
 in_order_from d m [] = true
 in_order_from d m (r ∷ rs) = (not (is_branch_record d r) || may_follow m r) && in_order_from d

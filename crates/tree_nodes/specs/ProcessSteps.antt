@@ -1,4 +1,4 @@
--- What a step of one process does to the pairs of which it has a half, whatever stands at the other end.
+-- What a step of one process does to the pairs of which it has a half, whatever is at the other end.
 use Rattle.std.specs.Prelude.{◌≡◌, Bool, true, false, List, ◌++◌}
 use Rattle.tree_model.specs.declared.names.Case.{Case}
 use Rattle.tree_model.specs.declared.names.Ticket.{Ticket}

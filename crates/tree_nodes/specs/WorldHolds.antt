@@ -158,13 +158,13 @@ pub record Issues (place : Place) (net : List Envelope) (n : Node) : Type 0 wher
 
 -- A coordinator.
 
--- a record that passes the first test stands after one that passes the second; the list has the oldest
+-- a record that passes the first test is after one that passes the second; the list has the oldest
 -- first
 abbrev pub stands_behind : (Record → Bool) → (Record → Bool) → List Record → Bool
 stands_behind q r [] = false
 stands_behind q r (x ∷ xs) = (r x && has q xs) || stands_behind q r xs
 
--- the records of a case stand in the order in which they are written
+-- the records of a case are in the order in which they are written
 pub record InOrder (c : Case) (rs : List Record) : Type 0 where
   pub promise_commit : stands_behind (is_prepare c) (is_commit c) rs ≡ false
   pub promise_abort : stands_behind (is_prepare c) (is_abort c) rs ≡ false

@@ -18,7 +18,7 @@ ghost use Rattle.tree_model.specs.World.{IsRun, Made, World};
 ghost use Rattle.tree_model.specs.declared.trees.TreeEntry.{TreeEntry};
 
 /// In every run of every tree, with restarts, trims, faults and inquiries, an operator's decision that was
-/// ever in the forced front stands there, until a Forgot of its case was appended: so each mismatch stands
+/// ever in the forced front is there, until a Forgot of its case was appended: so each mismatch stands
 /// until then.
 pub fn mismatches_stand()
     ensures { (tree : List TreeEntry) (es : List Made) (w : World) → IsRun tree es w
@@ -48,7 +48,7 @@ pub fn roots_own_their_cases()
 
 /// In every run of every tree, each root keeps its part of the world's invariant as a coordinator: what it
 /// remembers of a case goes with the case's records and with the votes that it heard; whom it remembers,
-/// heard or named, it accepted, and JOINED named; a case's records stand in order; and a case that can still
+/// heard or named, it accepted, and JOINED named; a case's records are in order; and a case that can still
 /// be decided has no Commit.
 pub fn roots_hold()
     ensures { (tree : List TreeEntry) (es : List Made) (w : World) → IsRun tree es w → (p : ProcessId)
@@ -57,7 +57,7 @@ pub fn roots_hold()
 
 /// In every run of every tree, each coordinator, the root or one below it, keeps its part of the world's
 /// invariant: what it remembers of a case goes with the case's records and with the votes that it heard;
-/// whom it remembers, heard or named, it accepted, and JOINED named; a case's records stand in order; and a
+/// whom it remembers, heard or named, it accepted, and JOINED named; a case's records are in order; and a
 /// case that can still be decided has no Commit.
 pub fn coordinators_hold()
     ensures { (tree : List TreeEntry) (es : List Made) (w : World) → IsRun tree es w → (p : ProcessId)

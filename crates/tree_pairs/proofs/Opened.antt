@@ -1,4 +1,4 @@
--- The invariant holds where nothing has happened.
+-- The invariant holds if nothing has happened.
 use Rattle.std.proofs.Common.{Bool, arith}
 use Rattle.tree_pairs.specs.Invariant.{PresumedAbort, PresumedCommit}
 use Rattle.tree_pairs.specs.Opened.{opened}

@@ -72,7 +72,7 @@ pub record Chain (Inv : Reading → Type 0) : Type 0 where
   pub all_may_commit : (r : Reading) (rest : List Reading) → IsPath r rest → Inv r → AllHave Inv rest
       → RootCommits r → AllMayCommit rest
 
--- What the pair above tells the pair below: the guards of its moves that speak of what stands above.
+-- What the pair above tells the pair below: the guards of its moves that speak of what is above.
 pub record ToldFromAbove (Inv : Reading → Type 0) : Type 0 where
   -- PREPARE came: the case takes part.
   pub asked_takes_part : (above below : Reading) → Inv above → IsBelow above below

@@ -14,7 +14,7 @@ pub record ChildFront : Type 0 where
   pub forgot : Bool
 
 -- A front of the kept list that holds the forced front: nothing of it was lost, nothing is new, and no record
--- stands after a lost one.
+-- is after a lost one.
 pub record IsChildFront (front : ChildFront) (r : Reading) : Type 0 where
   pub holds_prepared : r.prepared_forced ≡ true → front.prepared ≡ true
   pub holds_learnt_commit : r.learnt_commit_forced ≡ true → front.learnt_commit ≡ true

@@ -69,7 +69,7 @@ abbrev pub Reaches : (Reading → Type 0) → (Reading → Type 0) → (Reading 
     → Type 0
 Reaches Inv May move old new = Inv old × May old × (move old ≡ new) × Inv new
 
--- The invariant holds where nothing has happened.
+-- The invariant holds if nothing has happened.
 pub record Opens : Type 0 where
   pub presumed_abort : (root manager : Bool) → PresumedAbort (opened root manager)
   pub presumed_commit : (root manager : Bool) → PresumedCommit (opened root manager)

@@ -12,7 +12,7 @@ pub record ParentFront : Type 0 where
   pub end : Bool
 
 -- A front of the kept list that holds the forced front: nothing of it was lost, nothing is new, and no record
--- stands after a lost one. (A forced Abort or End may be lost here too: nothing rests on them.)
+-- is after a lost one. (A forced Abort or End may be lost here too: nothing rests on them.)
 pub record IsParentFront (front : ParentFront) (r : Reading) : Type 0 where
   pub holds_collecting : r.collecting_forced ≡ true → front.collecting ≡ true
   pub holds_own_prepare : r.own_prepare_forced ≡ true → front.own_prepare ≡ true

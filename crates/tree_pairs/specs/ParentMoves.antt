@@ -125,7 +125,7 @@ gives_up r = record r {
   sent_abort = r.accepted || r.sent_abort;
 }
 
--- An ACK of the ticket came. (It counts where one is owed; before that it does no harm.)
+-- An ACK of the ticket came. (It counts if one is owed; before that it does no harm.)
 pub record MayHearAck (r : Reading) : Type 0 where
   pub said : r.sent_ack ≡ true
 
@@ -170,7 +170,7 @@ pub record MayPresumeAbort (r : Reading) : Type 0 where
   pub asked : r.sent_inquire ≡ true
   pub nothing_known : IsUnknownUnderAbort r ⊎ IsStranger r
 
--- an inquiry comes where nothing is known of the case, under Presumed Commit
+-- an inquiry comes if nothing is known of the case, under Presumed Commit
 pub record MayPresumeCommit (r : Reading) : Type 0 where
   pub asked : r.sent_inquire ≡ true
   pub nothing_known : IsUnknownUnderCommit r ⊎ IsStranger r

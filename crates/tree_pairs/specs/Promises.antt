@@ -41,7 +41,7 @@ pub record TrueAnswers (Inv : Reading → Type 0) : Type 0 where
   pub abort_is_true : (r s : Reading) → Inv r → Later r s → Inv s → r.sent_abort ≡ true → IsInDoubt r
       → s.outcome ≡ false
 
--- Standing mismatches: an operator's decision, once forced, stands in the forced front until an operator's
+-- Standing mismatches: an operator's decision, once forced, is in the forced front until an operator's
 -- Forgot.
 pub record StandingMismatches (Inv : Reading → Type 0) : Type 0 where
   pub stands : (r s : Reading) → Inv r → Later r s → Inv s → r.heuristic_ever ≡ true

@@ -55,7 +55,7 @@ pub record Reading : Type 0 where
   pub took_part_up : Bool
   -- It sent READ.
   pub read_up : Bool
-  -- The parent's log: the record stands in the kept list, stands in its forced front, was ever in a forced
+  -- The parent's log: the record is in the kept list, is in its forced front, was ever in a forced
   -- front.
   pub collecting_kept : Bool
   pub collecting_forced : Bool

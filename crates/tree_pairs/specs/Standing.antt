@@ -18,7 +18,7 @@ pub record IsInDoubt (r : Reading) : Type 0 where
   pub no_abort : r.learnt_abort_kept ≡ false
   pub not_forgotten : r.forgot_kept ≡ false
 
--- The child knows the ticket no more (at a coordinator also: it has begun to abort). It keeps no promise of
+-- The child no longer knows the ticket (at a coordinator also: it has begun to abort). It keeps no promise of
 -- it, or its operator forgot it, or it obeyed the outcome and no operator had decided before.
 pub record IsForgotten (r : Reading) : Type 0 where
   pub closed : r.ticket_open ≡ false

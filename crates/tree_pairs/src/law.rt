@@ -50,7 +50,7 @@ pub fn true_answers()
     ensures presumed_commit { TrueAnswers PresumedCommit }
 {}
 
-/// Standing mismatches: an operator's decision that was forced stands in the forced front until it is
+/// Standing mismatches: an operator's decision that was forced is in the forced front until it is
 /// forgotten.
 pub fn standing_mismatches()
     ensures presumed_abort { StandingMismatches PresumedAbort }

@@ -77,7 +77,7 @@ module _ (tree : List TreeEntry) (w : World) (h : WorldHolds tree w) (x : Txn) (
       → IsOver (place_of tree t.child) (w.at t.child) (child_case y t)) g.same
       (over_of tree w g.of t g.joined (pair_of tree w h x t g).1) e
 
--- the same, of any case that was given and stands at the process
+-- the same, of any case that was given and is at the process
 pub facts_at : (tree : List TreeEntry) (w : World) → WorldHolds tree w → (q : ProcessId) (d : Case)
     → process_of d ≡ q → sent (gives_case d) w.net ≡ true → CaseFacts (place_of tree q) (w.at q) d
 facts_at tree w h q d own e = by_ticket d.txn d.ticket own e

@@ -31,8 +31,8 @@ pub fn mismatches_are_reported()
         → (run : IsRunBy tree Second before es w) → AllReportTruly tree Second before es w run }
 {}
 
-/// The same of a run that the second version makes alone, from the opened tree on, whatever the numbers under which its
-/// messages come: each End that a root appends in it reports truly.
+/// As `mismatches_are_reported`, of a run that the second version makes alone from the opened tree, whatever numbers its
+/// messages have: each End that a root appends in it reports truly.
 pub fn second_runs_report()
     ensures { SecondRunsReport }
 {}

@@ -29,7 +29,7 @@ pub record SeatedState : Type 0 where
   pub own : List Entry
   pub node : Process MemoryStore
 
--- the log is that of the process, as it stands once it has made just the journal's entries of it, with its data
+-- the log is that of the process, as it is once it has made just the journal's entries of it, with its data
 pub record LeavesLog (tree : List TreeEntry) (xs : List Entry) (q : ProcessId) (log : List LogRecord) : Type 0 where
   pub core : CoreState
   pub held : ManagerData

@@ -13,7 +13,7 @@ pub record NotesOne (old new : PassState) (place : ℕ) (x : Entry) : Type 0 whe
   pub caller : new.caller ≡ old.caller
   pub pairs : new.pairs ≡ old.pairs ++ (place, x) ∷ []
 
--- the pass has the pairs of these entries more, of which the first stands at this place
+-- the pass has the pairs of these entries more, of which the first is at this place
 pub record NotesAll (old new : PassState) (place : ℕ) (zs : List (ℕ × Entry)) : Type 0 where
   pub caller : new.caller ≡ old.caller
   pub pairs : new.pairs ≡ old.pairs ++ places_from place zs

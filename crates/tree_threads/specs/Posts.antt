@@ -62,7 +62,7 @@ pub record PostsOne (tree : List TreeEntry) (q : ProcessId) (event : Event) (old
   pub is_for : AsksAt before event entry.step.happening
   pub begun_is : begun ≡ entry.reaction.begun
 
--- A turn of deliveries at this process: the pass has the pairs of these entries more, of which the first stands at the
+-- A turn of deliveries at this process: the pass has the pairs of these entries more, of which the first is at the
 -- answered place. Before them the process had made these entries by itself, with its data, and then it made these, one
 -- after another: the first delivers the message with this number, and each of the others some message to the process.
 pub record DeliversTurn (tree : List TreeEntry) (q : ProcessId) (number : ℕ) (old new : PassState)

@@ -205,7 +205,7 @@ pub fn mark<N: Seats>(
     Ok(marked)
 }
 
-/// The delivery of the message with this number, as a step that its receiver wants; None where memory for it was refused.
+/// The delivery of the message with this number, as a step that its receiver wants; None if memory for it was refused.
 fn mark_next<N: Seats>(
     alloc: Global,
     me: ProcessId,

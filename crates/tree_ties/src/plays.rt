@@ -107,7 +107,7 @@ impl Split<View> for WithPass {
     ghost right = { pass_part };
 }
 
-/// A seat that knows nothing, to stand in for one that is lent.
+/// A seat that knows nothing, to be in for one that is lent.
 pub struct Spare;
 
 impl Split<View> for Spare {

@@ -65,7 +65,7 @@ or_later (Some v) o = Some v
 or_later None o = o
 
 module _ (c : Case) (t : Ticket) where
-  -- votes that come later stand in front
+  -- votes that come later are in front
   first-append : (xs ys : List (Case × (Ticket × Vote)))
       → first_vote (xs ++ ys) c t ≡ or_later (first_vote ys c t) (first_vote xs c t)
   unfolding first_vote
@@ -115,7 +115,7 @@ module _ (c : Case) (t : Ticket) where
   none_in_front true false d w e f = cc
   none_in_front false b d w e f = cc
 
-  -- where there is no first vote none was heard
+  -- if there is no first vote none was heard
   none_is_heard : (q : Vote → Bool) (xs : List (Case × (Ticket × Vote))) → first_vote xs c t ≡ None
       → HeardSo c t q xs → ⊥
   unfolding first_vote
@@ -240,7 +240,7 @@ module _ (me : ProcessId) (parent : Option ProcessId) (tree : List TreeEntry) (n
         (subst IsLive (sym ((old.together up c).collecting_is_asked (sym (viewed place n c) ∙ s))) tt) t u
         ∙ ap (λ vs. voted_so u vs t) (sym (collecting_votes_here s))
 
-    -- a vote that the case hears counts where none was heard
+    -- a vote that the case hears counts if none was heard
     counts_if_none : n.failed ≡ false
         → (coordinator_view (coordinator_place me parent tree) n c).standing ≡ Collecting
         → in_list (coordinator_view (coordinator_place me parent tree) n c).accepted t ≡ true

@@ -32,7 +32,7 @@ was_forced place q (e ∷ es) = has q (node_by place (e ∷ es)).forced || was_f
 -- Votes.
 
 -- The case hears this vote of the ticket in a move while it collects votes: the process is up, and handles the message of the
--- ticket's child; the case, to which the ticket belongs, stands at Collecting, and has accepted the ticket.
+-- ticket's child; the case, to which the ticket belongs, is at Collecting, and has accepted the ticket.
 pub record HearsVote (place : Place) (n : Node) (m : Move) (c : Case) (t : Ticket) (v : Vote) : Type 0 where
   pub up : n.failed ≡ false
   pub input : Input

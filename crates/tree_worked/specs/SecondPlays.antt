@@ -17,7 +17,7 @@ use Rattle.tree_model.specs.World.{Move}
 abbrev pub second_move_of : ProcessId → Happening → DataAnswer → Move
 second_move_of q happening a = record (move_of q happening a) { version = Second }
 
--- a data answer where nothing is asked
+-- a data answer if nothing is asked
 abbrev pub no_answer : DataAnswer
 no_answer = record { starts = true; does = true; holding = ReadsOnly }
 
@@ -26,7 +26,7 @@ abbrev pub second_input : List TreeEntry → Player → ProcessId → Input → 
 second_input tree p q i delivered = plays_move tree p
     (second_move_of q (Handles i) (plain_answer (p.world.at q) i)) delivered
 
--- the message with this number comes to its receiver; where there is none, the run stops
+-- the message with this number comes to its receiver; if there is none, the run stops
 abbrev pub second_delivers : List TreeEntry → Player → ℕ → Option Envelope → Played
 second_delivers tree p k None = Stops NoSuch p
 second_delivers tree p k (Some e) = second_input tree p e.to (MessageInput k e.message) (k ∷ p.delivered)

@@ -268,7 +268,7 @@ first_acknowledgement_counts =
           ∷ [];
     }
 
--- a lost End: the coordinator aborts below, where nothing is known any more, and tells that with its acknowledgement
+-- a lost End: the coordinator aborts below, if nothing is known any more, and tells that with its acknowledgement
 abbrev pub abort_below_is_unreported : WorkedRun
 abort_below_is_unreported =
     record {

@@ -72,7 +72,7 @@ trimmed_so s t d e (Err x) (Some k) ok counts none = absurd (let wrong : Some k 
 trimmed_so s t d e (Ok n) (Some k) ok counts none =
     subst (λ (o : Option Count). IfSome o (λ x. x ≡ count_in t)) (sym counts) (sym (trimmed_count s t n ok.trims))
 
--- each record that can stand in a log fits a frame
+-- each record that can be in a log fits a frame
 pub sound_fit : (k : Kind) (ls : List LogRecord) → AllByRecursion (IsSound k) ls → All FitsFrame ls
 sound_fit k ls sound = All-from_recursion FitsFrame ls (fits ls sound)
   where

@@ -127,7 +127,7 @@ module _ {L : Type 0} (bytes : L → List ℕ) (forced failures : L → ℕ) (tr
   not_restarted_by copy same r why h = not_restarted r why
       (subst (λ t. NodeNotReopened bytes forced failures (form_by e) (place_by t e) store why) same h)
 
-  -- the records stand in a store that is ready
+  -- the records are in a store that is ready
   ready_records : IsReady bytes e store → records_of (kept_of (form_by e) (bytes store) (forced store)) ≡ ls
   ready_records r = records_stand (form_by e) (bytes store) (forced store)
       ∙ read_behind (form_by e) (bytes store) ls 0 r.begins r.reads

@@ -55,7 +55,7 @@ none tree ns empty bare = record {
     no_some : (o : Option CoreState) (s : CoreState) → o ≡ None → o ≡ Some s → ⊥
     no_some o s e f = absurd (cc)
 
--- the entries from a place on begin with the one that stands there, and after it come those from the next place on
+-- the entries from a place on begin with the one that is there, and after it come those from the next place on
 drop_behind : (es : List TreeEntry) (i j : ℕ) (e : TreeEntry) → j ≡ suc i → i < length es → e ≡ get_or es i e
     → drop i es ≡ e ∷ drop j es
 drop_behind [] i j e next lt is = absurd (omega (arith, lt))
@@ -64,7 +64,7 @@ drop_behind (x ∷ es) zero j e next lt is =
 drop_behind (x ∷ es) (suc i) j e next lt is =
     subst (λ k. drop i es ≡ e ∷ drop k (x ∷ es)) (sym next) (drop_behind es i (suc i) e refl (omega (arith, lt)) is)
 
--- the entries from a place on begin with the one that stands there
+-- the entries from a place on begin with the one that is there
 pub drop_at : (es : List TreeEntry) (i : ℕ) (e : TreeEntry) → i < length es → e ≡ get_or es i e
     → drop i es ≡ e ∷ drop (i + 1) es
 drop_at es i e lt is = drop_behind es i (i + 1) e (omega arith) lt is

@@ -34,7 +34,7 @@ settles_one_more i first before now mid k same made is d =
     subst (λ n. Settles n first mid) next
     (settles_more i first now mid k made (sym is) (subst (λ w. Delivers w mid k) same d))
 
--- where no message is left, it may go on as often as it likes
+-- if no message is left, it may go on as often as it likes
 idle_by : (n m : ℕ) (first now : WorldState) (o : Option ℕ)
     → ((w : WorldState) → Settles n w now → Settles m w now)
     → settles_by first now (λ w. Settles n w now) o → settles_by first now (λ w. Settles m w now) o

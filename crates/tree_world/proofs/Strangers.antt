@@ -1,4 +1,4 @@
--- The records of a log, one by one, up to the first that may not stand in it.
+-- The records of a log, one by one, up to the first that may not be in it.
 use Rattle.std.proofs.Common.{◌≡◌, ◌∙◌, ℕ, Bool, true, false, Option, Some, None, List, [], ◌∷◌, drop, sym, ap}
 use Rattle.tree_model.specs.declared.records.LogRecord.{LogRecord}
 use Rattle.tree_model.specs.declared.trees.TreeEntry.{TreeEntry}
@@ -15,7 +15,7 @@ pub none_strange : (home : ℕ → LogRecord → Bool) (boot : ℕ) (xs : List P
 unfolding first_stranger
 none_strange home boot xs all e h = sym (ap (first_stranger home boot) e) ∙ h
 
--- a record that may stand there is passed over
+-- a record that may be there is passed over
 pub home_goes_on : (home : ℕ → LogRecord → Bool) (boot next : ℕ) (xs more : List Placed) (place : ℕ) (l : LogRecord)
     (all : Option ℕ) → xs ≡ placed place l ∷ more → home boot l ≡ true → next ≡ boot_after boot l.entry
     → first_stranger home boot xs ≡ all → first_stranger home next more ≡ all

@@ -19,7 +19,7 @@ AreLogs w (e ∷ es) (l ∷ ls) = (l.process ≡ e.id) × SpellsLogBy (w.node_at
 abbrev pub AreByteLogs : List ProcessLog → Type 0
 AreByteLogs logs = AllByRecursion (λ l. All (λ b. b < 256) l.bytes) logs
 
--- each record of a process, where there is one, can stand in its log, and a manager's may follow one another
+-- each record of a process, if there is one, can be in its log, and a manager's may follow one another
 abbrev pub LogStandsBy : Option CoreState → Type 0
 LogStandsBy None = Unit {0}
 LogStandsBy (Some s) = LogStands s

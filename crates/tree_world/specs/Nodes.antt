@@ -39,12 +39,12 @@ nodes_at ns q = option_map core_of (node_in ns q)
 abbrev pub kept_at : {L : Type 0} → List (ProcessId × Node L) → NodesSight
 kept_at ns = record { node_at = nodes_at ns; data_at = λ q. data_in (node_in ns q) }
 
--- the records of a process's log; none, where there is no such process
+-- the records of a process's log; none, if there is no such process
 abbrev pub log_by : Option CoreState → List LogRecord
 log_by None = []
 log_by (Some s) = records_of s.log.kept
 
--- likewise; where there is no such process, there are no bytes
+-- likewise; if there is no such process, there are no bytes
 abbrev pub SpellsLogBy : Option CoreState → List ℕ → Type 0
 SpellsLogBy None text = text ≡ []
 SpellsLogBy (Some s) text = SpellsLog s text

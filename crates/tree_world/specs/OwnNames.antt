@@ -1,4 +1,4 @@
--- Which records may stand in the log of a process of a tree, and where a log has one that may not.
+-- Which records may be in the log of a process of a tree, and where a log has one that may not.
 use Rattle.std.specs.Prelude.{◌^◌, ◌&&◌, ◌||◌, ℕ, zero, suc, Bool, true, false, nat_lt, Option, Some, None, List, [], ◌∷◌, length, take}
 use Rattle.std.specs.List.{list_all}
 use Rattle.tree_model.specs.declared.names.Case.{Case}
@@ -53,7 +53,7 @@ abbrev pub is_own_case : List TreeEntry → TreeEntry → Option ProcessId → O
 is_own_case tree e of None = true
 is_own_case tree e of (Some c) = is_own (place_below e.id e.parent tree) of c
 
--- the numbers and tickets of a record may stand in the log of the process: boots and counts are below 2^62, and
+-- the numbers and tickets of a record may be in the log of the process: boots and counts are below 2^62, and
 -- whom it names is a child, or lies below
 abbrev pub has_own_names : List TreeEntry → ProcessId → Record → Bool
 has_own_names tree me (Opened n) = nat_lt n (2 ^ 62)
@@ -71,13 +71,13 @@ abbrev pub is_reached_by : Kind → ℕ → Record → Bool
 is_reached_by Manager boot r = is_reached boot (record_case r)
 is_reached_by Coordinator boot r = true
 
--- the record may stand in the log of the process of this entry, if the log has reached this boot
+-- the record may be in the log of the process of this entry, if the log has reached this boot
 abbrev pub is_at_home : List TreeEntry → TreeEntry → ℕ → LogRecord → Bool
 is_at_home tree e boot l =
     is_own_case tree e l.parent (record_case l.entry)
     && (has_own_names tree e.id l.entry && is_reached_by e.kind boot l.entry)
 
--- the place of the first record that may not stand there, if one may not
+-- the place of the first record that may not be there, if one may not
 abbrev pub stranger_or : Bool → ℕ → Option ℕ → Option ℕ
 stranger_or true place more = more
 stranger_or false place more = Some place
@@ -103,7 +103,7 @@ abbrev pub place_or : Option ℕ → Option ℕ → Option ℕ
 place_or (Some place) more = Some place
 place_or None more = more
 
--- the first of the records, before the damage if there is one, that may not stand in the log of the process of
+-- the first of the records, before the damage if there is one, that may not be in the log of the process of
 -- this entry
 abbrev pub stranger_of : List TreeEntry → TreeEntry → List ℕ → Option ℕ
 stranger_of tree e bytes =
@@ -111,6 +111,6 @@ stranger_of tree e bytes =
     (placed_records (form_in bytes e.id e.kind) (sound_to (damage_in (read_as e.id e.kind bytes)) bytes))
 
 -- The place of the first frame, in the order of the bytes, that is wrong in the log of the process of this entry, 0 for
--- the header: a record that may not stand there, or damage. None if the log is sound and each record may stand.
+-- the header: a record that may not be there, or damage. None if the log is sound and each record may stand.
 abbrev pub fault_of : List TreeEntry → TreeEntry → List ℕ → Option ℕ
 fault_of tree e bytes = place_or (stranger_of tree e bytes) (damage_in (read_as e.id e.kind bytes))

@@ -25,7 +25,7 @@ use Rattle.tree_world.specs.declared.reopening.ReopenError.TheVariants.{Memory, 
 
 -- The logs are made ready.
 
--- a log of the second format stands in the store, wholly of frames
+-- a log of the second format is in the store, wholly of frames
 pub record IsReady {L : Type 0} (bytes : L → List ℕ) (e : TreeEntry) (store : L) : Type 0 where
   pub begins : take 5 (bytes store) ≡ header Second
   pub reads : read_log (form_by e) (bytes store) ≡ Whole (records_read (read_log (form_by e) (bytes store))) 0
@@ -106,7 +106,7 @@ AreNotRestarted bytes failures tree es stores (Device p) =
 AreNotRestarted bytes failures tree es stores (DamagedError p place) =
     (is_listed es p ≡ true) × (place ≡ 0) × NoneRestarts (place_of tree p) (ready_logs bytes es stores p)
 
--- the store of a process that was ready is given back: its device failed, or the records stand in it that stood there
+-- the store of a process that was ready is given back: its device failed, or the records are in it that stood there
 abbrev pub IsGivenBack : {L : Type 0} → (L → List ℕ) → (L → ℕ) → (L → ℕ) → TreeEntry → L → L → ReopenError → Type 0
 IsGivenBack bytes forced failures e old new (Device p) =
     ((e.id ≡ p) × MoreFailures (failures old) (failures new))

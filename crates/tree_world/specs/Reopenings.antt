@@ -69,7 +69,7 @@ abbrev pub fault_or : ProcessId → Option ℕ → Option (ProcessId × ℕ) →
 fault_or p (Some place) more = Some (p, place)
 fault_or p None more = more
 
--- the first of these processes of the tree whose log has a fault, and its place; each log stands in the store at the
+-- the first of these processes of the tree whose log has a fault, and its place; each log is in the store at the
 -- place of its process
 abbrev pub faults_from : {L : Type 0} → (L → List ℕ) → List TreeEntry → List TreeEntry → List L → Option (ProcessId × ℕ)
 faults_from bytes tree [] stores = None
@@ -112,14 +112,14 @@ NotReopened bytes failures tree stores (DamagedError p place) =
 
 -- The stores that are handed back.
 
--- these records stand in the log of the process of this entry, in the second format, and perhaps those of a restart
+-- these records are in the log of the process of this entry, in the second format, and perhaps those of a restart
 -- after them
 pub record HoldsOn {L : Type 0} (bytes : L → List ℕ) (forced : L → ℕ) (e : TreeEntry) (ls : List LogRecord)
     (store : L) : Type 0 where
   pub appended : List LogRecord
   pub records : records_of (kept_of (form_by e) (bytes store) (forced store)) ≡ ls ++ appended
 
--- a store keeps the log of the process of this entry: it is as it was, or the records that its bytes read as stand in it
+-- a store keeps the log of the process of this entry: it is as it was, or the records that its bytes read as are in it
 abbrev pub KeepsLog : {L : Type 0} → (L → List ℕ) → (L → ℕ) → (L → ℕ) → TreeEntry → L → L → Type 0
 KeepsLog bytes forced failures e old new =
     SameStore bytes forced failures old new

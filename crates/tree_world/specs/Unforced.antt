@@ -3,7 +3,7 @@ use Rattle.std.specs.Prelude.{Option, Some, None, List, []}
 use Rattle.tree_model.specs.declared.records.LogRecord.{LogRecord}
 use Rattle.core_model.specs.States.{CoreState}
 
--- the records of a process's log after its forced front; none, where there is no such process
+-- the records of a process's log after its forced front; none, if there is no such process
 abbrev pub unforced_by : Option CoreState → List LogRecord
 unforced_by None = []
 unforced_by (Some s) = s.log.kept.unforced

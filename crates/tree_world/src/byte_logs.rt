@@ -17,7 +17,7 @@ pub(crate) fn are_bytes(bytes: &[u8])
     ensures each { AreBytes bytes.now }
 {}
 
-/// Each record of each log can stand there, and those of a manager may follow one another. It does nothing.
+/// Each record of each log can be there, and those of a manager may follow one another. It does nothing.
 fn logs_stand<L: LogStore>(world: &World<L>)
     ensures { LogsStand (state world.now) (state world.now).tree }
 {

@@ -1,4 +1,4 @@
-//! A process of a tree, and how many records stand in its log.
+//! A process of a tree, and how many records are in its log.
 
 ghost use Rattle.std.specs.Prelude.{◌≡◌, ◌≢◌, ◌+◌, ◌++◌, All, IfErr, IfOk, IfSome, None, OnErr, OnOk, Some, length};
 ghost use Rattle.tree_model.specs.declared.events.StepError.TheVariants.{Device};
@@ -130,7 +130,7 @@ pub(crate) fn fault_of<L: LogStore>(
     })
 }
 
-/// The count once a process handled an input or did not; None where it is not known.
+/// The count once a process handled an input or did not; None if it is not known.
 fn count_after(before: Count, made: &Result<Reaction, StepError>) -> Option<Count>
     ensures ok { IfOk made.now (λ reaction. IfSome result (λ count. count ≡ after_written before reaction.written)) }
     ensures err { IfErr made.now (λ e. IfSome result (λ count. (count ≡ before) × (e ≢ Device))) }

@@ -13,7 +13,7 @@ use log_store::LogStore;
 use std::alloc::{AllocError, Global};
 use tree_model::{Entry, Envelope, Happening, Input, Step};
 
-/// What happened as the message with this number was delivered, of these; None where there is none.
+/// What happened as the message with this number was delivered, of these; None if there is none.
 fn delivery_of(
     alloc: Global,
     sent: &[Envelope],

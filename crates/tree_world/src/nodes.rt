@@ -50,7 +50,7 @@ impl<L: LogStore> Nodes<L> {
         (before, node.handle(input, before))
     }
 
-    /// A process restarts, and keeps N bytes after its forced front; all of them, where no number is
+    /// A process restarts, and keeps N bytes after its forced front; all of them, if no number is
     /// given. Gives how many of its unforced records were kept, and the count of its log before, where its device failed.
     /// NoSuch: there is no such process.
     pub(crate) fn restart(
@@ -101,7 +101,7 @@ impl<L: LogStore> Nodes<L> {
         }
     }
 
-    /// What the last fault left of its process's log; None where there is no such process.
+    /// What the last fault left of its process's log; None if there is no such process.
     pub(crate) fn fault(&self, alloc: Global, last: &LastFault) -> Result<Option<Fault>, AllocError>
         ensures { IfOk result (λ fault. fault
             ≡ option_map (fault_by last.now.cause last.now.before) (nodes_at self.now.nodes.entries last.now.process)) }
@@ -124,7 +124,7 @@ impl<L: LogStore> Nodes<L> {
         }
     }
 
-    /// The records of a process's log; none, where there is no such process.
+    /// The records of a process's log; none, if there is no such process.
     pub(crate) fn records(
         &self,
         alloc: Global,
@@ -138,7 +138,7 @@ impl<L: LogStore> Nodes<L> {
         }
     }
 
-    /// What `Node::log_stands` says of a process, where there is one. It does nothing.
+    /// What `Node::log_stands` says of a process, if there is one. It does nothing.
     pub(crate) fn log_stands(&self, process: ProcessId)
         ensures { LogStandsBy (nodes_at self.now.nodes.entries process) }
     {
@@ -147,7 +147,7 @@ impl<L: LogStore> Nodes<L> {
         }
     }
 
-    /// The bytes of a process's log; none, where there is no such process.
+    /// The bytes of a process's log; none, if there is no such process.
     pub(crate) fn log_text(&self, alloc: Global, process: ProcessId) -> Result<Vec<u8>, AllocError>
         ensures { IfOk result (λ text. SpellsLogBy (nodes_at self.now.nodes.entries process) text.items) }
     {

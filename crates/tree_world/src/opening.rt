@@ -73,7 +73,7 @@ fn opened<L: LogStore + Drop>(
 }
 
 /// Opens the processes of a tree from this place on, each over the last store of the list, which leaves it. With
-/// a refusal all stores stand in the list again, and none is open.
+/// a refusal all stores are in the list again, and none is open.
 fn open_from<L: LogStore + Drop>(
     alloc: Global,
     tree: &[TreeEntry],
@@ -138,7 +138,7 @@ impl<L: LogStore + Drop> World<L> {
     /// With a refusal the stores are handed back, in the order of the tree: those of the processes that had opened
     /// with their first record, the others as they were. Memory: a growth was refused; of the store of the process
     /// that was opening a header may stand. Device: the device of the store of this process failed. Store: there
-    /// is no store for this process, or bytes stand in it.
+    /// is no store for this process, or bytes are in it.
     pub fn with_stores(
         alloc: Global,
         tree: Tree,

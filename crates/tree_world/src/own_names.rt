@@ -99,7 +99,7 @@ fn reports_those_below(tree: &Tree, me: ProcessId, reports: &Reports) -> bool
         && are_of_those_below(tree, me, reports.unreported.as_slice())
 }
 
-/// Whether the case of a record, where it has one, is of this process.
+/// Whether the case of a record, if it has one, is of this process.
 fn has_own_case(tree: &Tree, entry: &TreeEntry, record: &LogRecord) -> bool
     ensures { result ≡ is_own_case tree.now entry.now record.now.parent (record_case record.now.entry) }
 {
@@ -109,7 +109,7 @@ fn has_own_case(tree: &Tree, entry: &TreeEntry, record: &LogRecord) -> bool
     }
 }
 
-/// Whether the numbers and tickets of a record may stand in the log of this process.
+/// Whether the numbers and tickets of a record may be in the log of this process.
 fn has_own_names(tree: &Tree, me: ProcessId, record: &Record) -> bool
     ensures { result ≡ are_own_names tree.now me record.now }
 {
@@ -157,7 +157,7 @@ fn is_reached_by(kind: Kind, boot: u64, record: &Record) -> bool
     }
 }
 
-/// Whether a record may stand in the log of this process, if the log has reached this boot.
+/// Whether a record may be in the log of this process, if the log has reached this boot.
 fn is_at_home(tree: &Tree, entry: &TreeEntry, boot: u64, record: &LogRecord) -> bool
     ensures { result ≡ stands_at_home tree.now entry.now boot record.now }
 {
@@ -166,7 +166,7 @@ fn is_at_home(tree: &Tree, entry: &TreeEntry, boot: u64, record: &LogRecord) -> 
         && is_reached_by(entry.kind, boot, &record.entry)
 }
 
-/// The boot that a log has reached after what was read, if that record may stand there.
+/// The boot that a log has reached after what was read, if that record may be there.
 fn passed(tree: &Tree, entry: &TreeEntry, boot: u64, read: LogRecord) -> Option<u64>
     ensures some { IfSome result (λ next. (stands_at_home tree.now entry.now boot read ≡ true)
         × (next ≡ boot_after boot read.entry)) }
@@ -179,7 +179,7 @@ fn passed(tree: &Tree, entry: &TreeEntry, boot: u64, read: LogRecord) -> Option<
     }
 }
 
-/// The place of the first record in the bytes after a header that may not stand in the log of this process.
+/// The place of the first record in the bytes after a header that may not be in the log of this process.
 fn stranger_in(
     alloc: Global,
     tree: &Tree,
@@ -240,7 +240,7 @@ fn sound_bytes(bytes: &[u8], damage: Option<usize>) -> &[u8]
 }
 
 /// The place of the first frame that is wrong in the log of this process, 0 for the header: the bytes, of either
-/// format, are damaged there, or the record may not stand in the log of this process.
+/// format, are damaged there, or the record may not be in the log of this process.
 pub(crate) fn fault_in(
     alloc: Global,
     tree: &Tree,

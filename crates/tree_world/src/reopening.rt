@@ -100,7 +100,7 @@ fn of_node(process: ProcessId, error: NodeError) -> ReopenError
     }
 }
 
-/// A store with the log of this process in the second format, where each record of it may stand in it.
+/// A store with the log of this process in the second format, where each record of it may be in it.
 fn ready<L: LogStore + Drop>(
     alloc: Global,
     tree: &Tree,
@@ -124,7 +124,7 @@ fn ready<L: LogStore + Drop>(
 }
 
 /// Makes the stores of the processes from this place on ready, each the last of the list when its turn comes;
-/// all of them stand in the list again.
+/// all of them are in the list again.
 fn ready_from<L: LogStore + Drop>(
     alloc: Global,
     tree: &Tree,
@@ -168,7 +168,7 @@ fn ready_from<L: LogStore + Drop>(
 }
 
 /// Restarts the processes from this place on, each over the last store of the list, which leaves it; each restart is
-/// entered. With a refusal all stores stand in the list again, and none is open.
+/// entered. With a refusal all stores are in the list again, and none is open.
 fn restart_from<L: LogStore + Drop>(
     alloc: Global,
     tree: &Tree,
@@ -260,7 +260,7 @@ impl<L: LogStore + Drop> World<L> {
     /// second format, and after them those of a restart. Memory: a growth was refused. Device: the device of the store
     /// of this process failed, and that store is as the device left it; or there is no store for this process. Damaged:
     /// of all logs in the order of the tree the log of this process is the first with a fault, and this is the place of
-    /// the first one in it: damage, or a record that may not stand in the log of this process in this tree. If no log
+    /// the first one in it: damage, or a record that may not be in the log of this process in this tree. If no log
     /// has a fault it is told at place 0 of the first process that cannot restart over its log, as where no number comes
     /// after those that it has. No run leaves such a log.
     pub fn reopen(

@@ -13,7 +13,7 @@ use std::alloc::{AllocError, Global};
 use tree_model::ProcessId;
 
 impl<L: LogStore> Nodes<L> {
-    /// The same of a process; none, where there is no such process.
+    /// The same of a process; none, if there is no such process.
     pub(crate) fn unforced_sizes(
         &self,
         alloc: Global,

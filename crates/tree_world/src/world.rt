@@ -58,7 +58,7 @@ impl<L: LogStore> World<L> {
         self.running.journal.len()
     }
 
-    /// The step at this place, from 0, with its reaction, made again; None, where N were not made.
+    /// The step at this place, from 0, with its reaction, made again; None, if N were not made.
     pub fn entry(&self, place: usize) -> Result<Option<Entry>, AllocError>
         ensures { IfOk result (λ found. found ≡ slice_get (state self.now).entries place) }
     {
@@ -82,7 +82,7 @@ impl<L: LogStore> World<L> {
         self.running.trace()
     }
 
-    /// What the step at this place shows, from 0, as the journal has it; None, where N were not made.
+    /// What the step at this place shows, from 0, as the journal has it; None, if N were not made.
     pub fn shown(&self, place: usize) -> Option<Shown<'_>>
         ensures { option_map shown_part result
             ≡ option_map entry_part (slice_get (state self.now).entries place) }
@@ -119,14 +119,14 @@ impl<L: LogStore> World<L> {
         self.running.nodes.live(process)
     }
 
-    /// The bytes of a process's log, as a list made again; none, where there is no such process.
+    /// The bytes of a process's log, as a list made again; none, if there is no such process.
     pub fn log_text(&self, process: ProcessId) -> Result<Vec<u8>, AllocError>
         ensures { IfOk result (λ text. SpellsLogBy ((state self.now).node_at process) text.items) }
     {
         self.running.nodes.log_text(self.running.alloc, process)
     }
 
-    /// Each record of a process's log can stand there, and a manager's may follow one another. It does nothing.
+    /// Each record of a process's log can be there, and a manager's may follow one another. It does nothing.
     pub(crate) fn log_stands(&self, process: ProcessId)
         ensures { LogStandsBy ((state self.now).node_at process) }
     {

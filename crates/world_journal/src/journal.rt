@@ -62,7 +62,7 @@ impl Journal {
         self.steps.len()
     }
 
-    /// The step at this place, from 0, with its reaction, made again; None, where N were not made.
+    /// The step at this place, from 0, with its reaction, made again; None, if N were not made.
     pub fn entry(&self, place: usize) -> Result<Option<Entry>, AllocError>
         ensures { IfOk result (λ found. found ≡ slice_get self.now.entries place) }
     {
@@ -76,7 +76,7 @@ impl Journal {
         self.steps.entries()
     }
 
-    /// What the step at this place shows, from 0, lent; None, where N were not made.
+    /// What the step at this place shows, from 0, lent; None, if N were not made.
     pub fn shown(&self, place: usize) -> Option<Shown<'_>>
         ensures { option_map shown_part result ≡ option_map entry_part (slice_get self.now.entries place) }
     {
@@ -90,7 +90,7 @@ impl Journal {
         self.steps.sent()
     }
 
-    /// The message with this number, where a step can be entered; None where no message has it.
+    /// The message with this number, where a step can be entered; None if no message has it.
     pub fn message(&self, number: u64) -> Option<&Envelope>
         requires { IsReady self.now }
         ensures { option_copied result ≡ sent_as self.now.net number }

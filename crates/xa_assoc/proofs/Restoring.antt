@@ -58,7 +58,7 @@ once_by true rest tail later o s h t k = absurd cc
 once_by false true tail later o s h t k = absurd cc
 once_by false false tail later o s h t k = k t h
 
--- a branch that is not known stands there once
+-- a branch that is not known is there once
 pub unknown_once : (front : List (Xid × Bool)) (e : Xid × Bool) → has_twice front ≡ false
     → is_known (states_left front) e.0 ≡ false → has_twice (front ++ e ∷ []) ≡ false
 unknown_once [] e t h = refl
@@ -145,7 +145,7 @@ is_refused left i old new e c h bad =
     refusal_is (nat_lt 1024 (length left)) (has_twice left) (few (length left) h.short) there
     ∙ ap (λ (k : Code). Some k) (sym both.1)
 
--- one that is taken up goes last, and stands there once
+-- one that is taken up goes last, and is there once
 pub is_taken : (left : List (Xid × Bool)) (i : ℕ) (old new : BranchList) (e : Xid × Bool) (c : Code)
     → Taken left i old new e c → c ≡ code.Ok
     → has_twice (take i left) ≡ false → old.scans ≡ []

@@ -116,7 +116,7 @@ active_case false false h = absurd cc
 pub is_active-T1 : (a : AssocList) (t : ℕ) (x : Xid) → own_state a t x ≡ T1 → is_active a t x ≡ true
 is_active-T1 a t x h = active_case (is_active a t x) (has_seat a t x) (sym (state2_is a t x) ∙ h)
 
--- where no branch is active and this one is suspended or not
+-- if no branch is active and this one is suspended or not
 pub own_state-none : (a : AssocList) (t : ℕ) (x : Xid) (b : Bool) → active_of a t ≡ None → has_seat a t x ≡ b
     → own_state a t x ≡ (if b then T2 else T0)
 unfolding state2

@@ -203,6 +203,6 @@ Steps old new t x plan answer = MatchResult plan
     (λ r. (answer ≡ r.1) × Moves old new t x r.0 r.2)
     (λ refusal. (answer ≡ refusal) × (new ≡ old))
 
--- what a plan makes stands in the table
+-- what a plan makes is in the table
 abbrev pub IsRowOf : Call → Result Row Code → Type 0
 IsRowOf call plan = IfOk plan (λ r. Contains (assoc_rows r.0 call) (r.1, r.2))

@@ -19,7 +19,7 @@ pub record Turns (old new : List Seat) (seat : Seat) (taken : Bool) : Type 0 whe
 abbrev pub count_of : {K : Type 0} → (K → K → Bool) → List (K × ℕ) → K → ℕ
 count_of same_key counts k = unwrap_or (lookup (same_key k) counts) 0
 
--- each thread, and each branch, is counted as often as it stands in the list
+-- each thread, and each branch, is counted as often as it is in the list
 pub record IsCounted (seats : List Seat) (by_thread : List (ℕ × ℕ))
     (by_branch : List (Xid × ℕ)) : Type 0 where
   pub threads : (t : ℕ) → count_of nat_eq by_thread t ≡ count_by (λ s. nat_eq s.thread t) seats

@@ -5,7 +5,7 @@ ghost use Rattle.xa_xid.specs.declared.xid.Xid.{Xid as AnyXid};
 ghost use Rattle.xa_tables.specs.declared.call.Call.TheVariants as call;
 ghost use Rattle.xa_assoc.specs.Associations.{AssocList, IsRowOf, start_plan, resume_plan, suspend_plan, end_plan};
 
-/// Whatever row a call makes stands in the table of associations, at that call.
+/// Whatever row a call makes is in the table of associations, at that call.
 pub fn walks_rows()
     ensures start { (a : AssocList) (t : ℕ) (x : AnyXid) → IsRowOf call.Start (start_plan a t x) }
     ensures join { (a : AssocList) (t : ℕ) (x : AnyXid) → IsRowOf call.StartJoin (start_plan a t x) }

@@ -45,7 +45,7 @@ impl States {
 
     /// The tables after a restart: a manager that is not open, without associations and scans, and these
     /// branches in doubt, in this order: prepared (in S3), or where the second is true decided by an operator
-    /// (in S5). RmErr: they are more than 1,024. DupId: one of them stands there twice.
+    /// (in S5). RmErr: they are more than 1,024. DupId: one of them is there twice.
     pub fn restored(alloc: Global, left: &[(Xid, bool)]) -> Result<Result<Self, Code>, AllocError>
         ensures { IfOk result (λ made. MatchResult made
             (λ states. (restore_refusal left.now ≡ None) × Restored left.now states)
@@ -224,14 +224,14 @@ impl States {
         Ok((call, place, state))
     }
 
-    /// Where a branch stands among the known ones, and its state.
+    /// Where a branch is among the known ones, and its state.
     pub fn find(&self, xid: &Xid) -> Option<(usize, BranchState)>
         ensures { Finds self.now.branches.branches xid.now result }
     {
         self.branches.find(xid)
     }
 
-    /// The known branch that stands at a place comes to the state after the row that it takes. Where no
+    /// The known branch that is at a place comes to the state after the row that it takes. Where no
     /// branch stands nothing changes. It takes no memory.
     pub fn finish(&mut self, place: usize, to: BranchState)
         ensures taken { (x : AnyXid) → StandsAt self.old.branches.branches x place

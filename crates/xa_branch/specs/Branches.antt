@@ -38,7 +38,7 @@ pub record AreListedOnce (bs : List (Xid × BranchState)) : Type 0 where
   pub once : IsDistinct same (keys_of bs)
   pub begun : AllByRecursion (λ e. e.1 ≢ S0) bs
 
--- a known branch stands at this place among them
+-- a known branch is at this place among them
 pub record StandsAt (bs : List (Xid × BranchState)) (x : Xid) (place : ℕ) : Type 0 where
   pub within : place < length bs
   pub stands : position (same x) (keys_of bs) ≡ Some place

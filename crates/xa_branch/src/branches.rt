@@ -99,7 +99,7 @@ impl Branches {
         self.scans.clear();
     }
 
-    /// Where a branch stands among the known ones, and its state.
+    /// Where a branch is among the known ones, and its state.
     pub fn find(&self, xid: &Xid) -> Option<(usize, BranchState)>
         ensures { Finds self.now.branches xid.now result }
     {
@@ -197,7 +197,7 @@ impl Branches {
         true
     }
 
-    /// The known branch that stands at a place moves to a state; a caller picks the row of the table. Where no
+    /// The known branch that is at a place moves to a state; a caller picks the row of the table. Where no
     /// branch stands nothing changes.
     pub fn place(&mut self, index: usize, to: BranchState)
         ensures moved { (x : Xid) → position (same x) (keys_of self.old.branches) ≡ Some index

@@ -59,7 +59,7 @@ impl Scans {
         self.left.len() >= THREADS
     }
 
-    /// What a thread's scan has still to give: nothing where none is open.
+    /// What a thread's scan has still to give: nothing if none is open.
     pub fn rest(&self, thread: u32) -> Result<Vec<Xid>, AllocError>
         ensures { IfOk result (λ v. v.items ≡ unwrap_or (scan_of self.now thread) []) }
     {

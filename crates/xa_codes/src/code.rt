@@ -90,7 +90,7 @@ impl Code {
         }
     }
 
-    /// The answer of a number: None where no answer has that number.
+    /// The answer of a number: None if no answer has that number.
     pub fn from_number(number: i32) -> Option<Code>
         ensures found { IfSome result (λ code. code_number code ≡ number) }
         ensures none { IfNone result ((code : AnyCode) → code_number code ≢ number) }

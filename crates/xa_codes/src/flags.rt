@@ -72,7 +72,7 @@ impl Flags {
 
     /// The flags that a text names: the names, joined by `+`, of one or more flags.
     ///
-    /// `TMNOFLAGS`, the switch flags and repeats are names like others. None where the text is anything else,
+    /// `TMNOFLAGS`, the switch flags and repeats are names like others. None if the text is anything else,
     /// as an empty one, a name with a space or a `+` with no name beside it. No memory is taken.
     pub fn parse(text: &str) -> Option<Flags>
         ensures found { IfSome result (λ flags. IsFlagText text.now flags.0) }

@@ -22,7 +22,7 @@ use Rattle.xa_engine.specs.Makes.{Makes}
 abbrev pub IsFresh : KvSight → Type 0
 IsFresh m = RestoredFrom (record { 0 = 1 }) [] 0 0 m
 
--- what is true of the log of a manager: its records can stand in a manager's log and may follow one another; and for some N
+-- what is true of the log of a manager: its records can be in a manager's log and may follow one another; and for some N
 -- below 2^64 a crash that keeps N of the unforced bytes leaves all of them
 pub record HasSoundLog (m : KvSight) : Type 0 where
   pub sound : AllByRecursion (IsSound Manager) (records_of m.log.sight.kept)

@@ -84,7 +84,7 @@ fn refusal(alloc: Global, error: ScriptError) -> Result<Vec<u8>, AllocError>
 const PROCESS: ProcessId = ProcessId(1);
 
 /// A manager over a store in memory whose log begins with it. An error says that memory was refused: nothing
-/// that stands in an empty store is refused, and the device of one in memory does not fail.
+/// that is in an empty store is refused, and the device of one in memory does not fail.
 #[tactic(auto, using(tree_node::proofs::Refusals::manager_refused))]
 pub fn first_manager(alloc: Global) -> Result<Manager, AllocError>
     ensures { IfOk result (λ manager. IsFresh manager) }
@@ -141,7 +141,7 @@ fn run(
     Ok(Ok(out))
 }
 
-/// The records of its log can stand in it and may follow one another, and there are fewer than 2^64 bytes of them.
+/// The records of its log can be in it and may follow one another, and there are fewer than 2^64 bytes of them.
 fn log_is_sound(manager: &Manager)
     ensures { HasSoundLog manager.now }
 {

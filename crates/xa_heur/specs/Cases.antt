@@ -21,7 +21,7 @@ pub record DecisionTable : Type 0 where
 abbrev pub open_cases : DecisionTable → List Xid
 open_cases t = map (λ e. e.0) t.decisions
 
--- what an operator decided of a branch: None where none did
+-- what an operator decided of a branch: None if none did
 abbrev pub decision_in : DecisionTable → Xid → Option Decision
 decision_in t x = lookup (same x) t.decisions
 

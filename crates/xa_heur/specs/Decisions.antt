@@ -44,7 +44,7 @@ decision_after b d (HeurRollback a) = if same_branch a b then decided_as Aborted
 decision_after b d (Told a o) = if same_branch a b then record { outcome = d.outcome; told = Some o } else d
 decision_after b d _ = d
 
--- what an operator decided of a branch by these records, and what it was told since; where none did, this
+-- what an operator decided of a branch by these records, and what it was told since; if none did, this
 -- says nothing
 unfoldable pub decision_of : Branch → List Record → Decision
 decision_of b rs = fold (decision_after b) (decided_as Aborted) rs

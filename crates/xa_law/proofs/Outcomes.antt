@@ -315,7 +315,7 @@ plain_checks m call.RecoverStart t x known out w = plain_is known out
 plain_checks m call.RecoverEnd t x known out w = plain_is known out
 plain_checks m call.RecoverWhole t x known out w = plain_is known out
 
--- What stands in the table is no refusal.
+-- What is in the table is no refusal.
 
 abbrev is_answered : List (Code × BranchState) → Bool
 is_answered rows = list_all (λ row. not (is_refusal row.0)) rows

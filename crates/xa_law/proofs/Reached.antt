@@ -168,7 +168,7 @@ moved_none : (es : List (Xid × ℕ)) (x : Xid) → length es ≡ 0 → lookup (
 moved_none [] x e = refl
 moved_none (v ∷ es) x e = absurd (omega arith)
 
--- where there are no associations, each thread is in T0 with each branch
+-- if there are no associations, each thread is in T0 with each branch
 pub bare_states : (a : AssocList) → IsBare a → IsKept a → (t : ℕ) (x : Xid) → own_state a t x ≡ T0
 bare_states a bare kept t x =
     elim (kept t x) [
@@ -181,7 +181,7 @@ bare_states a bare kept t x =
 pub bare_moved : (a : AssocList) → IsBare a → (x : Xid) → moved_of a x ≡ 0
 bare_moved a bare x = ap (λ o. unwrap_or o 0) (moved_none a.moved x bare.moved)
 
--- where no branch is suspended, and no thread is listed, each thread is in T0 with each branch
+-- if no branch is suspended, and no thread is listed, each thread is in T0 with each branch
 pub empty_states : (a : AssocList) → IsBare a → a.seats ≡ [] → (t : ℕ) (x : Xid) → own_state a t x ≡ T0
 unfolding state_by
 empty_states a bare seats t x =

@@ -26,7 +26,7 @@ pub data Move : Type 0 where
   Decide : Xid → Move
   Restart : List (Xid × Bool) → Move
 
--- the rows that a manager takes stand in the table: for each call that finishes a branch in a state, where
+-- the rows that a manager takes are in the table: for each call that finishes a branch in a state, where
 -- there are any
 abbrev pub FitsRows : Wanted → BranchState → Type 0
 FitsRows wanted s = (c : Call) → is_work c ≡ false → has_rows (branch_rows s c) ≡ true

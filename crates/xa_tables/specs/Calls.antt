@@ -110,7 +110,7 @@ abbrev pub refused_async : Option Call → Result Call Code
 refused_async None = Err Inval
 refused_async (Some call) = Err Async
 
--- flags that make no call by themselves: TMASYNC is named where it stands beside legal flags, and recover
+-- flags that make no call by themselves: TMASYNC is named where it is beside legal flags, and recover
 -- does not take it
 abbrev pub refused : Verb → ℕ → Result Call Code
 refused verb.Recover flags = Err Inval

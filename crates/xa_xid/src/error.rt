@@ -24,7 +24,7 @@ pub enum XidError {
     #[error("there are bytes after an XID")]
     Trailing,
     /// The text is not a format, a colon, a hexadecimal gtrid, a colon and a hexadecimal bqual.
-    #[error("the text of an XID is not spelled as one")]
+    #[error("the text does not spell an XID")]
     Syntax,
 }
 

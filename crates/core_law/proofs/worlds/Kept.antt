@@ -158,7 +158,7 @@ open_fits tree es w run q up = by_role (role_of tree q) refl
     by_role (AtLeaf p) e =
         subst (λ r. OpenFits r (at r) (w.at q)) (sym e) ((holds (AtLeaf p) e).role.0.open_is_unmarked up)
 
--- An Opened stands in the forced front.
+-- An Opened is in the forced front.
 
 abbrev Opens : Node → Type 0
 Opens n = has is_opened n.forced ≡ true

@@ -172,7 +172,7 @@ open_alike s t alike = ap (least_open 1) alike.delivered
 abbrev StopsIn : ℕ → WorldState → WorldState → StepError → Type 0
 StopsIn n t t' e = (before : WorldState) × Settles n t before × NoneDelivered before t' e (least_open 1 before.delivered)
 
--- no more deliveries are made where there is no open message
+-- no more deliveries are made if there is no open message
 nothing_open : (n : ℕ) (t before t' : WorldState) (e : StepError) → ForItself e → least_open 1 t.delivered ≡ None
     → before ≡ t → NoneDelivered before t' e (least_open 1 before.delivered) → ⊥
 nothing_open n t before t' e itself none is h =

@@ -263,7 +263,7 @@ module _ (journal : List Made → List Entry) (shows : ShowsMoves journal)
   pub step_goes_on : GoesOnBy journal es w s'
   step_goes_on = moved_goes_on journal es w s s' (input_move q i None h.handles.answer) step_follows.moved
 
--- a message with a number stands in the net
+-- a message with a number is in the net
 pub sent_stands : (net : List Envelope) (k : ℕ) (envelope : Envelope) → sent_as net k ≡ Some envelope
     → IsSent net envelope.to k envelope.message
 sent_stands net zero envelope h = absurd (cc)

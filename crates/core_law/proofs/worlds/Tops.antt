@@ -62,7 +62,7 @@ top_counted (x ∷ xs) q listed role = by_test (same_process x.id q) refl listed
     by_test false is listed role more = counts_more (is_top x) _ (count_by is_top xs)
         (one_more x xs) (more listed role)
 
--- where there is one at most, it is the first
+-- if there is one at most, it is the first
 first_top : (xs : List TreeEntry) (q : ProcessId) → is_listed xs q ≡ true → role_of xs q ≡ AtRoot
     → count_by is_top xs ≤ 1 → entry_id (find is_top xs) ≡ q
 unfolding is_listed role_of

@@ -14,8 +14,8 @@ pub record ShowTheSame (a b : WorldState) : Type 0 where
   pub net : b.net ≡ a.net
   pub delivered : b.delivered ≡ a.delivered
 
--- Two trees of the same processes, which have all opened empty logs, come to states that show the same by the same
--- events, and the event that is refused, where there is one, is the same and refused by the same error; of each it is
+-- Two trees of the same processes, which have all opened empty logs, reach states that show the same by the same
+-- events, and the event that is refused, if there is one, is the same and refused by the same error; of each it is
 -- asked that no event be refused for memory or for numbers that are used up, nor because a device failed.
 abbrev pub OneInputOneText : Type 0
 OneInputOneText = (tree : List TreeEntry) (a b c d : WorldState) (events : List Event) (r s : Refusal) → IsTree tree

@@ -80,7 +80,7 @@ abbrev pub RunsKeepOwn : Type 0
 RunsKeepOwn = (tree : List TreeEntry) (es : List Made) (w : World) → IsTree tree → IsRun tree es w
     → (q : ProcessId) → is_listed tree q ≡ true → KeepsOwn (place_of tree q) (w.at q)
 
--- in every run an Opened stands in the log of each process
+-- in every run an Opened is in the log of each process
 abbrev pub RunsHaveOpened : Type 0
 RunsHaveOpened = (tree : List TreeEntry) (es : List Made) (w : World) → IsRun tree es w → (q : ProcessId)
     → HasOpened (w.at q)
@@ -115,7 +115,7 @@ RestartFaultsMoveRuns = (tree : List TreeEntry) (es : List Made) (w : World) →
     → old.place ≡ place_of tree q → Stands (w.at q) old → NotRestarted old keep new Device
     → BreaksOffWorld tree w q new (restart_of old keep)
 
--- after any run of a tree, a trim of a listed process that is up, and whose records can stand in a log, is
+-- after any run of a tree, a trim of a listed process that is up, and whose records can be in a log, is
 -- a move of the model's world
 abbrev pub TrimsMoveRuns : Type 0
 TrimsMoveRuns = (tree : List TreeEntry) (es : List Made) (w : World) → IsTree tree → IsRun tree es w

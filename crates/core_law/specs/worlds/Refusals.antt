@@ -72,13 +72,13 @@ abbrev pub LeadsTo : WorldState → List Event → Refusal → WorldState → Ty
 LeadsTo start events None end = Leads start events end
 LeadsTo start events (Some refused) end = LeadsUntil start events refused.0 refused.1 end
 
--- the refused event, where there is one, was refused for itself: not for memory or for numbers that are used up,
+-- the refused event, if there is one, was refused for itself: not for memory or for numbers that are used up,
 -- nor because a device failed
 abbrev pub IsForItself : Refusal → Type 0
 IsForItself None = ⊤
 IsForItself (Some refused) = (refused.1 ≢ Memory) × (refused.1 ≢ Device) × (refused.1 ≢ Exhausted)
 
--- the refused event, where there is one, is refused so by the model, where these messages were delivered
+-- the refused event, if there is one, is refused so by the model, where these messages were delivered
 abbrev pub RefusesIn : List TreeEntry → World → List Bool → List Event → Refusal → Type 0
 RefusesIn tree w delivered events None = ⊤
 RefusesIn tree w delivered events (Some refused) = RefusesNext tree w delivered events refused.0 refused.1

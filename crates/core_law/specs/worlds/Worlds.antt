@@ -133,7 +133,7 @@ pub record RestartsAt (old new : WorldState) (q : ProcessId) (bytes : Option ℕ
   pub holdings : RestartsData before.place.role (left_by before.log keep) (new.data_at q)
   pub enters : Enters old new q (restart_of before keep) reaction old.delivered
 
--- the log of a process that is up, and whose records can stand in one, is trimmed, and the step is entered,
+-- the log of a process that is up, and whose records can be in one, is trimmed, and the step is entered,
 -- with the number of records that remain
 pub record TrimsAt (old new : WorldState) (q : ProcessId) : Type 0 where
   pub before : CoreState

@@ -85,7 +85,7 @@ pub fn modelled_trees_keep_the_headline()
 {}
 
 /// One input has one text: by the same events two trees of the same processes, which have opened empty logs, come to
-/// states that show the same, and refuse the same event by the same error; where no event is refused for memory or for
+/// states that show the same, and refuse the same event by the same error; if no event is refused for memory or for
 /// numbers that are used up, nor because a device failed.
 pub fn one_input_has_one_text()
     ensures { OneInputOneText }

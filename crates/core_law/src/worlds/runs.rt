@@ -51,7 +51,7 @@ pub fn restart_faults_move_runs()
 {}
 
 /// After every run of every tree, a trim of a listed process that is up, where it stands for the model's
-/// process there and the records of its log can stand in one, is a move of the model's world: as many
+/// process there and the records of its log can be in one, is a move of the model's world: as many
 /// records remain, and the process stands for what the move leaves.
 pub fn trims_move_runs()
     ensures { TrimsMoveRuns }

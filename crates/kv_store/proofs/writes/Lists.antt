@@ -11,7 +11,7 @@ use Rattle.log_rules.specs.sound.Sound.{IsSoundWrite}
 use Rattle.kv_store.proofs.Order.{same_is, same_other_way}
 use Rattle.kv_store.specs.writes.Writes.{AreWrites, is_of, is_within_limit}
 
--- a branch's write of a key is found exactly where it has one
+-- a branch's write of a key is found exactly if it has one
 pub found_is_named : (ws : List Write) (k : List ℕ) → is_some (find (is_of k) ws) ≡ names_key ws k
 unfolding names_key
 found_is_named [] k = refl

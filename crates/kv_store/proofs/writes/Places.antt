@@ -1,4 +1,4 @@
--- Where the lists of the branches stand in the map.
+-- Where the lists of the branches are in the map.
 use Rattle.std.proofs.Common.{rules, ◌≡◌, ◌+◌, ◌-◌, ◌≤◌, ◌<◌, ℕ, Bool, true, false, cond, Option, Some, None, List, [], ◌∷◌, refl, sym, ap, subst, ◌∙◌, arith, slice_get, position, option_map}
 use Rattle.std.proofs.lemmas.Grind.{common_steps}
 use Rattle.std.specs.Global.{Vec}
@@ -37,13 +37,13 @@ put_others [] x y v apart = grind (arith, same_flips x y apart)
 put_others (e ∷ es) x y v apart =
     grind (arith, put_others es x y v apart, same_is x e.0, same_flips x y apart)
 
--- a list stands after an insertion where its branch stood, or after all others
+-- a list is after an insertion where its branch stood, or after all others
 put_place : (es : Lists) (x : Xid) (v : Vec Write)
     → position (same x) (keys_of (insert_entry same es x v)) ≡ Some (position_or_len (same x) (keys_of es))
 put_place [] x v = grind (arith, common_steps, same_itself x)
 put_place (e ∷ es) x v = grind (arith, common_steps, put_place es x v)
 
--- the list of a branch stands in the table where it stands in the map
+-- the list of a branch is in the table where it is in the map
 pub stands_is : (es : Lists) (x : Xid) (o : Option ℕ) → position (same x) (keys_of es) ≡ o
     → position (same x) (keys_of (table_of es)) ≡ o
 stands_is es x o at = ap (position (same x)) (keys_are es) ∙ at
@@ -142,7 +142,7 @@ pub none_within : (es : Lists) (x : Xid) (k : List ℕ) → lookup (same x) es �
 unfolding names_key
 none_within es x k none = ap (λ ws. is_within_limit ws k) (writes_are es x None none)
 
--- a branch has no list in the table where it has none in the map
+-- a branch has no list in the table if it has none in the map
 pub not_listed : (es : Lists) (x : Xid) → position (same x) (keys_of (table_of es)) ≡ None
     → writes_of (table_of es) x ≡ []
 not_listed es x none = writes_are es x None

@@ -25,12 +25,12 @@ pub record Workspace : Type 0 where
 abbrev pub WriteTable : Type 0
 WriteTable = List (Xid × Workspace)
 
--- the writes in a workspace: none where there is none
+-- the writes in a workspace: none if there is none
 abbrev pub writes_in : Option Workspace → List Write
 writes_in None = []
 writes_in (Some s) = s.writes
 
--- the room in a workspace: none where there is none
+-- the room in a workspace: none if there is none
 abbrev pub room_in : Option Workspace → ℕ
 room_in None = 0
 room_in (Some s) = s.room
@@ -55,7 +55,7 @@ is_within_limit ws k = names_key ws k || nat_lt (length ws) 64
 abbrev pub ListedAt : WriteTable → Xid → Option ℕ → Type 0
 ListedAt t x place = position (same x) (keys_of t) ≡ place
 
--- the list of a branch stands at this place, and one write more of it fits
+-- the list of a branch is at this place, and one write more of it fits
 pub record HasRoomAt (t : WriteTable) (x : Xid) (place : ℕ) : Type 0 where
   pub stands : position (same x) (keys_of t) ≡ Some place
   pub room : 1 ≤ room_of t x

@@ -52,7 +52,7 @@ pub(crate) fn put(list: &mut Vec<Write>, write: Write)
     }
 }
 
-/// The same writes again.
+/// A copy of the writes.
 pub(crate) fn copied(writes: &[Write], alloc: Global) -> Result<Vec<Write>, AllocError>
     ensures { IfOk result (λ copy. copy.items ≡ writes.now) }
 {

@@ -51,7 +51,7 @@ starts (Collecting c ts) = true
 starts (Prepare c ts) = true
 starts _ = false
 
--- the report stands after a record of the case
+-- the report is after a record of the case
 abbrev pub reports_next : Bool → Record → Bool
 reports_next b (End c rep) = is_some rep
 reports_next b (Cleared c) = false

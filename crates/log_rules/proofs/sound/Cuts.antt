@@ -13,7 +13,7 @@ use Rattle.log_text.specs.Payloads.{key_text, left_text, reports_text, ticket_te
 use Rattle.log_rules.specs.sound.Written.{AreBytes}
 pub use Rattle.log_text.proofs.NumberBytes.{bytes_behind, first_bytes, number_again, number_bytes, tail_bytes}
 
--- What stands after a test that passed.
+-- What is after a test that passed.
 
 pub both : (a b : Bool) → (a && b) ≡ true → (a ≡ true) × (b ≡ true)
 both true true h = (refl, refl)

@@ -1,4 +1,4 @@
--- What is read of a payload can stand in a log.
+-- What is read of a payload can be in a log.
 use Rattle.std.proofs.Common.{◌≡◌, ◌≤◌, ◌<◌, ◌+◌, ◌*◌, ◌^◌, ℕ, zero, suc, Bool, true, false, ◌&&◌, ◌||◌, cond, nat_le, nat_lt, List, [], ◌∷◌, length, take, drop, Option, Some, None, option_map, refl, ap, subst, ◌∙◌, arith}
 use Rattle.std.specs.Prelude.{◌==◌, is_some, All, bytes_eq, if◌then◌else◌}
 use Rattle.std.specs.Int.{w32, from_be_bytes}

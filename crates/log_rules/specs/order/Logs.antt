@@ -23,7 +23,7 @@ with_first l (Damaged place) = Damaged place
 
 -- What is read goes from frame to frame; within a frame N bytes are still passed over.
 
--- the record and what is read after it, where it may stand there; else its frame is damaged
+-- the record and what is read after it, where it may be there; else its frame is damaged
 abbrev pub seen_by : ℕ → LogRecord → Option SeenLog → (SeenLog → LogReading) → LogReading
 seen_by place l None more = Damaged place
 seen_by place l (Some s) more = with_first l (more s)

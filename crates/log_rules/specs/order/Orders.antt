@@ -38,7 +38,7 @@ same = names.ghosts.eq
 -- most once: their ranks rise. After an End that reports what was found, and after nothing else, comes
 -- Cleared, once.
 
--- how far a case has come: the rank of its last record, 0 where it has none
+-- how far a case has come: the rank of its last record, 0 if it has none
 abbrev pub rank_in : List (Xid × ℕ) → Xid → ℕ
 rank_in ranks x = unwrap_or (lookup (same x) ranks) 0
 
@@ -177,19 +177,19 @@ told s x =
 abbrev pub forgot : SeenLog → Xid → Option SeenLog
 forgot s x = if is_heuristic (found s x) then Some (without_promise s x) else None
 
--- a pair stands after its Base or a pair of a lower key
+-- a pair is after its Base or a pair of a lower key
 abbrev pub rises : Data → List ℕ → Bool
 rises Other k = false
 rises Base k = true
 rises (Pair j) k = key_below j k
 
--- a Pair of this key, where it stands after its Base or a Pair of a lower key
+-- a Pair of this key, where it is after its Base or a Pair of a lower key
 abbrev pub paired : SeenLog → List ℕ → Option SeenLog
 paired s k = if rises s.before k then Some (with_data s (Pair k)) else None
 
 -- Both. The first record is Opened, and boots rise.
 
--- a boot is higher than the last one, where there was one
+-- a boot is higher than the last one, if there was one
 abbrev pub boot_rises : Option ℕ → ℕ → Bool
 boot_rises None n = true
 boot_rises (Some b) n = nat_lt b n

@@ -1,4 +1,4 @@
--- Which records can stand in a log of each sort of process.
+-- Which records can be in a log of each sort of process.
 use Rattle.std.specs.Prelude.{◌≡◌, ◌<◌, ◌≤◌, ◌^◌, ⊤, ℕ, List, Option, Some, None, length}
 use Rattle.std.specs.List.{AllByRecursion}
 use Rattle.xa_xid.specs.Xids.{IsXid, XidParts}
@@ -56,7 +56,7 @@ abbrev pub IsSoundLeft : Option (List ℕ) → Type 0
 IsSoundLeft None = ⊤
 IsSoundLeft (Some v) = length v ≤ 256
 
--- a write can stand in a log: its key and its value have lengths within bounds
+-- a write can be in a log: its key and its value have lengths within bounds
 pub record IsSoundWrite (w : Write) : Type 0 where
   pub key : IsSoundKey w.key
   pub left : IsSoundLeft w.value
@@ -74,7 +74,7 @@ IsSoundUnnamed Manager (Base n) = n < 2 ^ 63
 IsSoundUnnamed Manager (Pair k v) = IsSoundKey k × (length v ≤ 256)
 IsSoundUnnamed _ _ = ⊥
 
--- a record can stand in a log of this sort of process: its kind is of that sort, its name whole, and its
+-- a record can be in a log of this sort of process: its kind is of that sort, its name whole, and its
 -- parts in range
 abbrev pub IsSoundEntry : Kind → Option ProcessId → Record → Type 0
 IsSoundEntry Coordinator p (Collecting c ts) = IsSoundName p (CaseBranch c) × AreSoundTickets ts
@@ -94,7 +94,7 @@ IsSoundEntry Manager p (Told b o) = IsSoundName p b
 IsSoundEntry Manager p (Forgot b) = IsSoundName p b
 IsSoundEntry k p r = (p ≡ None) × IsSoundUnnamed k r
 
--- a record that can stand in such a log
+-- a record that can be in such a log
 abbrev pub IsSound : Kind → LogRecord → Type 0
 IsSound k l = IsSoundEntry k l.parent l.entry
 

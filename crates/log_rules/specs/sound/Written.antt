@@ -20,7 +20,7 @@ abbrev pub ReadIsWritten : Type 0
 ReadIsWritten = (f : LogForm) (kind : ℕ) (payload : List ℕ) (l : LogRecord) → AreBytes payload
     → read_record f kind payload ≡ Some l → IsWrittenAs f l kind payload
 
--- what is read of a payload can stand in a log
+-- what is read of a payload can be in a log
 abbrev pub ReadIsSound : Type 0
 ReadIsSound = (f : LogForm) (kind : ℕ) (payload : List ℕ) (l : LogRecord) → AreBytes payload
     → read_record f kind payload ≡ Some l → IsSound f.kind l

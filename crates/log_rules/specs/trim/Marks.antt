@@ -43,7 +43,7 @@ life_by i life d = record {
   since = if promises d then i else life.since;
 }
 
--- the table after one more record of this name, where it has one
+-- the table after one more record of this name, if it has one
 abbrev pub marked_by : ℕ → Table → Deed → Option Xid → Table
 marked_by i t d None = t
 marked_by i t d (Some x) = insert_entry same t x (life_by i (life_in t x) d)

@@ -69,7 +69,7 @@ abbrev pub is_prepared : Record → Bool
 is_prepared (Prepared b ws) = true
 is_prepared _ = false
 
--- The table: for each name what its records say, and how many records stand before the one that last prepared
+-- The table: for each name what its records say, and how many records are before the one that last prepared
 -- it.
 
 -- what the records have said of each name, under its XID
@@ -91,7 +91,7 @@ life_after i life r = record {
   since = if is_prepared r then i else life.since;
 }
 
--- the table after one more record of this name, where it has one
+-- the table after one more record of this name, if it has one
 abbrev pub noted_by : ℕ → Table → Record → Option Xid → Table
 noted_by i t r None = t
 noted_by i t r (Some x) = insert_entry same t x (life_after i (life_in t x) r)

@@ -51,7 +51,7 @@ staying ls (l ∷ behind) = if stays ls behind l then l ∷ staying ls behind el
 abbrev pub opened_after : List LogRecord → LogRecord → List LogRecord
 opened_after o l = if is_opened l.entry then l ∷ [] else o
 
--- the last Opened, where there is one
+-- the last Opened, if there is one
 unfoldable pub last_opened : List LogRecord → List LogRecord
 last_opened ls = fold opened_after [] ls
 

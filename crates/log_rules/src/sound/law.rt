@@ -33,7 +33,7 @@ pub fn what_is_read_was_written()
     ensures { ReadIsWritten }
 {}
 
-/// What is read of a payload can stand in a log.
+/// What is read of a payload can be in a log.
 pub fn what_is_read_is_sound()
     ensures { ReadIsSound }
 {}

@@ -28,7 +28,7 @@ pub enum Said {
 }
 
 /// What a log says of a name, and the place of the record that last prepared it: how many records stand
-/// before it, 0 where there is none.
+/// before it, 0 if there is none.
 #[derive(Clone, Copy)]
 pub struct Life {
     said: Said,
@@ -142,7 +142,7 @@ impl Lives {
         Ok(())
     }
 
-    /// Whether the record stays that stands after N others.
+    /// Whether the record stays that is after N others.
     pub fn keeps(&self, place: usize, mark: &Mark) -> bool
         ensures { result ≡ keeps_by self.now place mark.now.name }
     {

@@ -79,7 +79,7 @@ pub length-ticket_bytes : (b : ProcessId × Ticket) → length (ticket_bytes b) 
 unfolding ticket_bytes
 length-ticket_bytes b = refl
 
--- a number that stands after the front of a name
+-- a number that is after the front of a name
 pub number_behind : (n k v : ℕ) (bytes name : List ℕ) → bytes ≡ name → big_number n (drop k bytes) ≡ v
     → big_number n (take (length name - k) (drop k name)) ≡ v
 number_behind n k v bytes name e h =
@@ -87,7 +87,7 @@ number_behind n k v bytes name e h =
     take_all (length name - k) (drop k name) (omega (arith, length-drop k name)) in
     ap (λ (l : List ℕ). big_number n l) rest ∙ ap (λ (l : List ℕ). big_number n (drop k l)) (sym e) ∙ h
 
--- a number that stands at the front of a name
+-- a number that is at the front of a name
 pub number_first : (n v : ℕ) (bytes name : List ℕ) → bytes ≡ name → big_number n bytes ≡ v
     → big_number n name ≡ v
 number_first n v bytes name e h = ap (λ (l : List ℕ). big_number n l) (sym e) ∙ h

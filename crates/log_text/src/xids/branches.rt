@@ -150,7 +150,7 @@ fn case_read(xid: &Xid) -> Option<(Txn, Option<(ProcessId, Ticket)>)>
 }
 
 /// The transaction of a case's XID, and below the root the parent and the ticket. `ForeignXid` comes exactly
-/// where no case has this XID. It takes no memory.
+/// if no case has this XID. It takes no memory.
 pub fn read_branch(xid: &Xid) -> Result<(Txn, Option<(ProcessId, Ticket)>), ForeignXid>
     ensures found { IfOk result (λ named. branch_parts named.0 named.1 ≡ xid.now) }
     ensures foreign { OnErr result ((x : AnyTxn)

@@ -103,7 +103,7 @@ record SameFront (es fs : List TreeEntry) (m n : ℕ) (ls ks : List (List ℕ)) 
   rules : m ≡ n
   lines : ls ≡ ks
 
--- bytes have one tree text, and the same stands before and after it
+-- bytes have one tree text, and the same is before and after it
 pub text_is_one : (bytes : List ℕ) (fronts behind fronts' behind' : List (List ℕ)) (es fs : List TreeEntry)
     → HasTreeText bytes fronts behind es
     → HasTreeText bytes fronts' behind' fs → (fronts ≡ fronts') × (behind ≡ behind') × (es ≡ fs)

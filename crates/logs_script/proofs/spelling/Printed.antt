@@ -119,7 +119,7 @@ some_behind : (fronts : List (List ℕ)) (p : List ℕ) (rest : List (List ℕ))
 some_behind [] p rest = omega arith
 some_behind (f ∷ fronts) p rest = omega arith
 
--- the first line of three dashes stands after the lines that are none
+-- the first line of three dashes is after the lines that are none
 pub rule_found : (fronts behind : List (List ℕ)) → AllByRecursion (λ line. is_rule line ≡ false) fronts
     → around_rule (fronts ++ codes "---" ∷ ended behind) ≡ Some (fronts, ended behind)
 rule_found [] behind h = around_more (codes "---") (ended behind) (some_behind behind [] [])

@@ -225,7 +225,7 @@ process_next done last p kind None (Some info) = refl
 process_next done last p kind (Some q) None = refl
 process_next done last p kind (Some q) (Some info) = refl
 
--- these processes stand after those that are complete
+-- these processes are after those that are complete
 abbrev Behind : Items → Nodes → List TreeEntry → Type 0
 Behind done last es = (doc : Document) × (run (inside done last) (expressions es) ≡ Some doc)
     × (close doc.0 ≡ member (codes "process")

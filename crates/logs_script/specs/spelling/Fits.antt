@@ -14,12 +14,12 @@ use Rattle.logs_script.specs.Logs.{each_has_log}
 abbrev pub IsNumbered : ProcessId → Type 0
 IsNumbered p = (1 ≤ p.0) × (p.0 < 2 ^ 32)
 
--- a parent, where there is one, has such a number
+-- a parent, if there is one, has such a number
 abbrev pub FitsParent : Option ProcessId → Type 0
 FitsParent None = Unit {0}
 FitsParent (Some p) = IsNumbered p
 
--- an info, where there is one, has up to 32 letters
+-- an info, if there is one, has up to 32 letters
 abbrev pub FitsInfo : Option (List ℕ) → Type 0
 FitsInfo None = Unit {0}
 FitsInfo (Some info) = (length info ≤ 32) × All IsAsciiAlphabetic info

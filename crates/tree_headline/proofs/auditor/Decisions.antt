@@ -1,4 +1,4 @@
--- An operator decides a branch once, and nothing of the branch stands after a Forgot.
+-- An operator decides a branch once, and nothing of the branch is after a Forgot.
 use Rattle.std.proofs.Common.{◌≡◌, ◌∙◌, ◌||◌, inl, inr, Bool, true, false, not, List, [], ◌∷◌, ◌++◌, refl, sym, arith, if◌then◌else◌}
 use Rattle.tree_model.specs.declared.names.Case.{Case}
 use Rattle.tree_model.specs.declared.names.Outcome.{Outcome}
@@ -54,7 +54,7 @@ rolls_back_not Finished b k = refl
 rolls_back_not Unmarked b k = absurd k
 rolls_back_not Promised b k = absurd k
 
--- the record may stand after those with this mark
+-- the record may be after those with this mark
 abbrev Fits : Case → Mark → Record → Type 0
 Fits d m r = (not (is_branch_record d r) || may_follow m r) ≡ true
 

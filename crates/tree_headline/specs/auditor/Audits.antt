@@ -55,7 +55,7 @@ decision_by false true _ = Some Aborted
 decision_by false false true = None
 decision_by false false false = Some Aborted
 
--- the records from a manager's last Prepared of the case on, or all where there is none
+-- the records from a manager's last Prepared of the case on, or all if there is none
 abbrev pub since_promise : Case → List Record → List Record
 since_promise c [] = []
 since_promise c (r ∷ rs) = if has (is_prepared c) rs then since_promise c rs else r ∷ rs
@@ -74,7 +74,7 @@ abbrev pub naming_case : List TreeEntry → ProcessId → Txn → Ticket → Lis
 naming_case tree p x t rs =
     find (λ c. (same_txn c.txn x && has (is_naming c t) rs) && is_case_at tree p c) (cases_in rs)
 
--- what that case says; where there is none, the presumption
+-- what that case says; if there is none, the presumption
 abbrev pub said_above : (Case → Outcome) → Presumption → Option Case → Outcome
 said_above says p None = presumed p
 said_above says p (Some c) = says c

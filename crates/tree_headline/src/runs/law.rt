@@ -13,7 +13,7 @@ ghost use Rattle.tree_nodes.specs.WorldHolds.{AboutGiven, AllGo, WorldHolds};
 /// operators' decisions, under both presumptions mixed: no two processes end one transaction differently
 /// except by a manager's heuristic decision; commit is decided only where every participant voted yes or
 /// read-only; every answer that finds its asker in doubt tells the root's outcome, now and in every later
-/// world; a mismatch stands in its log until it is forgotten; and an operator's record comes from that
+/// world; a mismatch is in its log until it is forgotten; and an operator's record comes from that
 /// operator alone (R*).
 pub fn headline()
     ensures { (tree : List TreeEntry) (es : List Made) (w : World) → IsTree tree → IsRun tree es w

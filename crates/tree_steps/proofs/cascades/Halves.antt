@@ -20,7 +20,7 @@ use Rattle.tree_model.specs.declared.names.ProcessId.{ProcessId}
 
 -- What the process says of its own case: whether it is open, whether it aborted after its promise or
 -- committed, and
--- which of its records stand in the log, in its forced front, or ever stood there.
+-- which of its records are in the log, in its forced front, or ever stood there.
 pub record OwnHalf : Type 0 where
   pub failed : Bool
   pub is_open : Bool

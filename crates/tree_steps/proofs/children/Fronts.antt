@@ -1,4 +1,4 @@
--- What a front of a log in order holds of a branch: each record stands after the ones that it needs.
+-- What a front of a log in order holds of a branch: each record is after the ones that it needs.
 use Rattle.std.proofs.Common.{◌≡◌, ◌∙◌, ◌⊎◌, inl, inr, Bool, true, false, List, [], ◌∷◌, ◌++◌, refl, sym, ap, subst}
 use Rattle.tree_model.specs.declared.names.Case.{Case}
 use Rattle.tree_model.specs.declared.records.Record.{Record}
@@ -56,7 +56,7 @@ module _ (d : Case) where
       → IsMarked (mark_behind d Unmarked rs) → has (is_promise d) rs ≡ true
   has_promise rs e k = elim (has_marked Unmarked rs e k) [ inl none ↦ absurd none | inr there ↦ there ]
 
-  -- A Forgot stands after the operator's decision.
+  -- A Forgot is after the operator's decision.
 
   forgets : (m : Mark) (r : Record) → may_follow m r ≡ true → is_forgot d r ≡ true → IsDecidedMark m
   forgets Decided (Forgot b) f e = tt

@@ -1,4 +1,4 @@
--- What the last record of a branch says of the others, where they stand in order: what is not there.
+-- What the last record of a branch says of the others, where they are in order: what is not there.
 use Rattle.std.proofs.Common.{◌≡◌, ◌∙◌, ◌||◌, inl, inr, Bool, true, false, List, [], ◌∷◌, refl, sym, subst, arith}
 use Rattle.std.specs.Prelude.{not}
 use Rattle.tree_model.specs.declared.names.Case.{Case}
@@ -62,7 +62,7 @@ module _ (d : Case) where
           | inr rest ↦ ends_in q enters (after m r) rs b.1 (second_false _ _ f) rest
         ]
 
-  -- An outcome, or an operator's decision, stands after the promise.
+  -- An outcome, or an operator's decision, is after the promise.
 
   abbrev pub IsLate : Mark → Type 0
   IsLate Unmarked = ⊥
@@ -80,7 +80,7 @@ module _ (d : Case) where
   late_stays Unmarked r k e f = absurd k
   late_stays Promised r k e f = absurd k
 
-  -- What the branch was told, or obeyed, or forgot, stands after the operator's decision or the promise.
+  -- What the branch was told, or obeyed, or forgot, is after the operator's decision or the promise.
 
   abbrev pub IsTold : Mark → Type 0
   IsTold (ToldOf o) = Unit {0}

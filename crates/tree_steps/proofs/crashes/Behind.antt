@@ -27,7 +27,7 @@ use Rattle.tree_steps.proofs.crashes.Reopened.{collects_alone, is_alone}
 
 -- Histories.
 
--- of records newly appended, none of which passes the second test, those that pass the first stand after
+-- of records newly appended, none of which passes the second test, those that pass the first are after
 -- what passed it
 -- before
 follows-new : (q p : Record → Bool) (xs ys : List Record) → has p xs ≡ false

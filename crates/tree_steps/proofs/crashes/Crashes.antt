@@ -28,7 +28,7 @@ use Rattle.tree_nodes.proofs.Tests.{front_none, has-append}
 use Rattle.tree_steps.proofs.crashes.Reopened.{AllName, aborts_name_collected, aborts_where_alone, collects_alone, names-take, names_by_aborts}
 use Rattle.tree_steps.proofs.crashes.LostHalves.{Crashed}
 
--- nothing is remembered where nothing was heard
+-- nothing is remembered if nothing was heard
 pub forgetful : (place : Place) (n : Node) (c : Case) → n.heard ≡ [] → memory_of place n c ≡ fresh_memory
 unfolding memory_of
 forgetful place n c e = rw e

@@ -53,7 +53,7 @@ use Rattle.tree_steps.proofs.parents.Wires.{Silent, same_children, silent_before
 use Rattle.tree_model.specs.declared.messages.Finding.{Finding}
 use Rattle.tree_model.specs.declared.records.Reports.{Reports}
 
--- a case that stands at Prepared has a promise
+-- a case that is at Prepared has a promise
 prepared_by : (E C A P K N : Bool) (s : Standing) → s ≢ Prepared
     → standing_by E C A P K N s ≡ Prepared → P ≡ true
 prepared_by true C A P K N s x e = absurd (cc)

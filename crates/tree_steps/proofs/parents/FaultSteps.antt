@@ -88,7 +88,7 @@ module _ (turn : Turn) where
 
   -- The pair's own case.
 
-  -- the records of the case stand in order after the fault
+  -- the records of the case are in order after the fault
   pub record Orders (row : Row) (x f : ℕ) : Type 0 where
     pub is : InOrder c (kept (fails_in n h (row_effect c row) x f))
 

@@ -93,7 +93,7 @@ module _ (turn : Turn) where
   pub act_is_at_root : (x : Txn) → c ≡ root_case x → parent ≡ None
   act_is_at_root x e = seat_is (λ s f. s) (λ p s f. clash (at_root turn) (act_is_roots x e) f)
 
-  -- What stands at Active or Collecting.
+  -- What is at Active or Collecting.
 
   pub active_open : v.standing ≡ Active → m.phase ≡ Open
   active_open e = active_is_open place n c e

@@ -293,7 +293,7 @@ module _ (c : Case) (t : Ticket) (net : List Envelope) where
   pub silent-work : (me q : ProcessId) (e : Case) (l : ℕ) (op : Op) → Silent (post me q (Work e l op) ∷ [])
   silent-work me q e l op = simp (sent-cons, sent-none)
 
--- what is silent may stand before anything
+-- what is silent may be before anything
 pub silent_before : (c : Case) (t : Ticket) (net xs ys : List Envelope) → Silent c t net xs
     → wire c t (net ++ (xs ++ ys)) ≡ wire c t (net ++ ys)
 silent_before c t net xs ys e =

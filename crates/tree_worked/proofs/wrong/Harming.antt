@@ -99,7 +99,7 @@ unvoted_fails tree w x t committed accepted unheard es h =
     falls : consents (first_vote (w.at x.root).voted (root_case x) t) ≡ true → ⊥
     falls f = absurd (cc unheard)
 
--- Standing mismatches: an operator's decision was forced, and stands no more, and nobody forgot it.
+-- Standing mismatches: an operator's decision was forced, and no longer stands, and nobody forgot it.
 pub lost_fails : (tree : List TreeEntry) (w : World) (c : Case) (o : Outcome)
     → has (is_decided c o) (w.at (process_of c)).durable ≡ true
     → has (is_decided c o) (w.at (process_of c)).forced ≡ false

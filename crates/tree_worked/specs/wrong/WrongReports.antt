@@ -87,7 +87,7 @@ acknowledges_before_children = record {
 }
 
 -- The coordinator has ended, and told the root of the mismatch by message 13, which is lost. COMMIT comes again, and of
--- the case, which it knows no more, the coordinator reports nothing.
+-- the case, which it no longer knows, the coordinator reports nothing.
 abbrev pub unknown_reports_nothing : WrongStep
 unknown_reports_nothing = record {
   tree = tree_b;

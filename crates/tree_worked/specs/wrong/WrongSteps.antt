@@ -30,7 +30,7 @@ pub record WrongStep : Type 0 where
 abbrev pub wrongly_left : WrongStep → World → World
 wrongly_left s w = record { at = put_at s.process (s.leaves (w.at s.process)) w.at; net = w.net ++ s.sends }
 
--- The list is a tree, none of the events is refused, and they are a run; what happens next stands in the
+-- The list is a tree, none of the events is refused, and they are a run; what happens next is in the
 -- net, where it is a message; and the world after the wrong step does not have the invariant any more.
 pub record Breaks (s : WrongStep) : Type 0 where
   pub player : Player

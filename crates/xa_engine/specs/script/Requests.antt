@@ -53,18 +53,18 @@ pub record IsInfo (w : List ℕ) : Type 0 where
   pub short : length w ≤ 32
   pub letters : All IsAsciiAlphabetic w
 
--- what stands after `open`: flags, and then the manager migrates; or flags and an information text, and then
+-- what is after `open`: flags, and then the manager migrates; or flags and an information text, and then
 -- it migrates unless the text is `nomigrate`
 abbrev pub IsOpenOf : List ℕ → Option (List ℕ × List ℕ) → ℕ → Bool → Type 0
 IsOpenOf rest None flags migrates = IsFlagText rest flags × (migrates ≡ true)
 IsOpenOf rest (Some p) flags migrates =
     IsFlagText p.0 flags × IsInfo p.1 × (migrates ≡ not (same p.1 (codes "nomigrate")))
 
--- what stands after `open` spells these flags, and whether the manager migrates associations
+-- what is after `open` spells these flags, and whether the manager migrates associations
 abbrev pub SpellsOpen : List ℕ → ℕ → Bool → Type 0
 SpellsOpen rest flags migrates = IsOpenOf rest (cut_at 32 rest) flags migrates
 
--- three words, of the first and the cut of what stands after it
+-- three words, of the first and the cut of what is after it
 abbrev pub last_two : List ℕ → Option (List ℕ × List ℕ) → Option (List ℕ × List ℕ × List ℕ)
 last_two first None = None
 last_two first (Some q) = Some (first, q.0, q.1)
@@ -74,29 +74,29 @@ abbrev pub first_of_three : Option (List ℕ × List ℕ) → Option (List ℕ �
 first_of_three None = None
 first_of_three (Some p) = last_two p.0 (cut_at 32 p.1)
 
--- two words, and what stands after them, with one space between
+-- two words, and what is after them, with one space between
 unfoldable pub three_at : List ℕ → Option (List ℕ × List ℕ × List ℕ)
 three_at rest = first_of_three (cut_at 32 rest)
 
--- what stands after a function that is called on a branch: a thread, the name of a branch and flags
+-- what is after a function that is called on a branch: a thread, the name of a branch and flags
 abbrev pub SpellsBranch : List ℕ → ℕ → Xid → ℕ → Type 0
 SpellsBranch rest thread xid flags =
     IsSomeAnd (three_at rest) (λ p. IsNumber p.0 thread × IsName p.1 xid × IsFlagText p.2 flags)
 
--- what stands after `recover`: a thread, a count and flags
+-- what is after `recover`: a thread, a count and flags
 abbrev pub SpellsRecover : List ℕ → ℕ → ℕ → ℕ → Type 0
 SpellsRecover rest thread count flags =
     IsSomeAnd (three_at rest) (λ p. IsNumber p.0 thread × IsNumber p.1 count × IsFlagText p.2 flags)
 
--- what stands after `restart`: how many bytes are kept
+-- what is after `restart`: how many bytes are kept
 abbrev pub SpellsKeep : List ℕ → Option ℕ → Type 0
 SpellsKeep rest keep = IsSomeAnd keep (λ n. number_at rest ≡ Some n)
 
--- what stands after `heur`: the name of a branch, and what an operator decides
+-- what is after `heur`: the name of a branch, and what an operator decides
 abbrev pub SpellsDecision : List ℕ → Xid → Outcome → Type 0
 SpellsDecision rest xid o = IsSomeAnd (cut_at 32 rest) (λ p. IsName p.0 xid × (outcome_at p.1 ≡ Some o))
 
--- what stands after the name of a call spells it
+-- what is after the name of a call spells it
 abbrev pub SpellsCall : Call → List ℕ → Request → Type 0
 SpellsCall c rest (Open flags migrates) = (c ≡ call.Open) × SpellsOpen rest flags.0 migrates
 SpellsCall c rest (Close flags) = (c ≡ call.Close) × IsFlagText rest flags.0
@@ -107,7 +107,7 @@ SpellsCall c rest (Restart keep) = (c ≡ call.Restart) × SpellsKeep rest keep
 SpellsCall c rest Trim = ⊥
 SpellsCall c rest (Decide xid o) = (c ≡ call.Decide) × SpellsDecision rest xid o
 
--- what stands after `put`, `get` and `del`: a thread, and the key with its value
+-- what is after `put`, `get` and `del`: a thread, and the key with its value
 abbrev pub SpellsTask : List ℕ → List ℕ → ℕ → Op → Type 0
 SpellsTask verb rest thread op =
     IsSomeAnd (cut_at 32 rest) (λ p. IsNumber p.0 thread × (op_by verb p.1 ≡ Some op))
@@ -117,7 +117,7 @@ abbrev pub SpellsWork : List ℕ → List ℕ → Request → Type 0
 SpellsWork verb rest (Work thread op) = SpellsTask verb rest thread op
 SpellsWork verb rest _ = ⊥
 
--- the first word of a line and what stands after it spell a request
+-- the first word of a line and what is after it spell a request
 abbrev pub SpellsBy : Option Word → List ℕ → List ℕ → Request → Type 0
 SpellsBy None first rest request = ⊥
 SpellsBy (Some (word.Call c)) first rest request = SpellsCall c rest request

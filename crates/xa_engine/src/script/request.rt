@@ -140,7 +140,7 @@ fn alone_of(line: &str) -> Option<Request>
     }
 }
 
-/// The request of a call, by what stands after its name.
+/// The request of a call, by what is after its name.
 fn call_of(call: Call, rest: &str) -> Option<Request>
     ensures found { IfSome result (λ request. SpellsCall call rest.now request) }
     ensures none { IfNone result ((request : AnyRequest) → SpellsCall call rest.now request → ⊥) }
@@ -183,7 +183,7 @@ fn call_of(call: Call, rest: &str) -> Option<Request>
     }
 }
 
-/// The request of an operation on data, by its verb and what stands after it.
+/// The request of an operation on data, by its verb and what is after it.
 fn work_of(alloc: Global, verb: &str, rest: &str) -> Result<Option<Request>, AllocError>
     ensures found { IfOk result (λ read. IfSome read (λ request. SpellsWork verb.now rest.now request)) }
     ensures none { IfOk result (λ read. IfNone read ((request : AnyRequest)
@@ -230,7 +230,7 @@ fn open_of(rest: &str) -> Option<(Flags, bool)>
     }
 }
 
-/// The two words that a text begins with, and what stands after them.
+/// The two words that a text begins with, and what is after them.
 #[tactic(auto, unfolding(crate::specs::script::Requests::three_at))]
 fn three_of(rest: &str) -> Option<(&str, &str, &str)>
     ensures { option_map (λ p. (p.0.now, p.1.now, p.2.now)) result ≡ three_at rest.now }

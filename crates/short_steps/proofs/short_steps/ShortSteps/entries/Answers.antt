@@ -2,7 +2,7 @@ use Rattle.std.proofs.Common.{◌≡◌, ◌∙◌, ap, sym, refl, ℕ, zero, su
 use Rattle.std.proofs.lemmas.Option.{none-some, same_Some}
 use Rattle.short_steps.proofs.short_steps.ShortSteps.entries.Goals as goal
 
--- a list up to after a place is that up to the place, and what stands there
+-- a list up to after a place is that up to the place, and what is there
 one_more : {A : Type 0} (xs : List A) (i : ℕ) (x : A) → slice_get xs i ≡ Some x
     → take i xs ++ x ∷ [] ≡ take (suc i) xs
 one_more [] i x e = absurd (none-some x e)
