@@ -2,7 +2,7 @@
  *
  * What is proved is behind rstar_core.h; here are the calls of the system that a log's file wants, each until it
  * is done, and in the order in which it is asked for. An answer leaves the library only once the calls that it waits
- * for have been made. The file is treated as by `rstar node` (crates/file_store, HostFile): what a call does to it, and
+ * for have been made. The file is treated as by `rstar node` (crates/log_file, HostFile): what a call does to it, and
  * what is refused, is the same there. */
 #define _DEFAULT_SOURCE 1
 #include "rstar.h"

@@ -2,16 +2,16 @@
 use Rattle.std.proofs.Common.{◌≡◌, ◌∙◌, Bool, true, false, ◌||◌, ◌&&◌, if◌then◌else◌, is_some, List, [], ◌∷◌, Option, Some, None, option_map, find, fold, refl, sym, ap}
 use Rattle.std.specs.Map.{lookup}
 use Rattle.indexmap.specs.IndexMap.{insert_entry}
-use Rattle.tree_model.specs.declared.names.Case.{Case}
-use Rattle.tree_model.specs.declared.names.Ticket.{Ticket}
-use Rattle.tree_model.specs.declared.names.Txn.{Txn}
-use Rattle.tree_model.specs.Names.{child_case, same_case, same_owner, same_ticket, same_txn}
-use Rattle.tree_model.specs.Records.{in_list}
-use Rattle.tree_model.proofs.Equality.{case_equality}
-use Rattle.inquire_core.specs.Readings.{same}
-use Rattle.inquire_core.proofs.CaseTables.{apart_back, same_is}
+use Rattle.protocol.specs.declared.names.Case.{Case}
+use Rattle.protocol.specs.declared.names.Ticket.{Ticket}
+use Rattle.protocol.specs.declared.names.Txn.{Txn}
+use Rattle.protocol.specs.Names.{child_case, same_case, same_owner, same_ticket, same_txn}
+use Rattle.protocol.specs.Records.{in_list}
+use Rattle.protocol.proofs.Equality.{case_equality}
+use Rattle.coord_records.specs.Readings.{same}
+use Rattle.coord_records.proofs.CaseTables.{apart_back, same_is}
 use Rattle.audit_cases.specs.Firsts.{firsts_of, with_entry, with_first, with_named}
-use Rattle.audit_cases.specs.Notes.{CaseNote, Table}
+use Rattle.audit_cases.specs.Notes.{CaseNote, NoteTable}
 use Rattle.audit_cases.specs.Sayings.{first_naming, names}
 
 -- the first of two that is there
@@ -125,7 +125,7 @@ named_found y v s (u ∷ us) x t =
 -- The cases.
 
 module _ {A : Type 0} (kept : Case × CaseNote → A) (x : Txn) (t : Ticket) where
-  all_found : (s : List (Case × A)) (notes : Table) → lookup (same (child_case x t))
+  all_found : (s : List (Case × A)) (notes : NoteTable) → lookup (same (child_case x t))
       (fold (with_entry kept) s notes)
       ≡ or_else (lookup (same (child_case x t)) s) (option_map kept (first_naming notes x t))
   all_found s [] = sym (or_nothing (lookup (same (child_case x t)) s))
@@ -143,6 +143,6 @@ module _ {A : Type 0} (kept : Case × CaseNote → A) (x : Txn) (t : Ticket) whe
       by_test false = refl
 
   -- what a pass over all cases keeps
-  pub first_kept : (notes : Table) → lookup (same (child_case x t)) (firsts_of kept notes)
+  pub first_kept : (notes : NoteTable) → lookup (same (child_case x t)) (firsts_of kept notes)
       ≡ option_map kept (first_naming notes x t)
   first_kept notes = all_found [] notes

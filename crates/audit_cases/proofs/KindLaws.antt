@@ -2,18 +2,18 @@
 -- definitions say.
 use Rattle.std.proofs.Common.{◌≡◌, ◌∙◌, Bool, true, false, ◌||◌, if◌then◌else◌, List, [], ◌∷◌, ◌++◌, refl, sym, ap}
 use Rattle.std.proofs.lemmas.List.Folds.{list_any-append}
-use Rattle.tree_model.specs.declared.names.Case.{Case}
-use Rattle.tree_model.specs.declared.names.Outcome.{Outcome}
-use Rattle.tree_model.specs.declared.names.Outcome.TheVariants.{Committed as CommittedOutcome, Aborted as AbortedOutcome}
-use Rattle.tree_model.specs.declared.records.Branch.TheVariants.{Case as CaseBranch, Foreign}
-use Rattle.tree_model.specs.declared.records.Record.{Record}
-use Rattle.tree_model.specs.declared.records.Record.TheVariants.{Opened, Collecting, Prepare, Commit, Abort, End, Prepared, Committed, RolledBack, Direct, HeurCommit, HeurRollback, Told, Forgot, Base, Pair, Cleared}
-use Rattle.tree_model.specs.Names.{same_case}
-use Rattle.tree_model.specs.Records.{has, is_abort, is_collecting, is_commit, is_committed, is_decided, is_end, is_forgot, is_prepare, is_prepared, is_rolled_back}
-use Rattle.tree_model.specs.Nodes.{Role, AtRoot, Below, AtLeaf}
-use Rattle.tree_pairs.specs.readings.ReadingOf.{is_committing, is_learnt_abort, is_learnt_commit, is_promise, is_told_of}
-use Rattle.tree_headline.specs.auditor.Audits.{decision_by, has_line_in, is_abort_learnt, own_decision, since_promise}
-use Rattle.inquire_core.proofs.Summaries.{is_of}
+use Rattle.protocol.specs.declared.names.Case.{Case}
+use Rattle.protocol.specs.declared.names.Outcome.{Outcome}
+use Rattle.protocol.specs.declared.names.Outcome.TheVariants.{Committed as CommittedOutcome, Aborted as AbortedOutcome}
+use Rattle.protocol.specs.declared.records.BranchName.TheVariants.{Case as CaseBranch, Foreign}
+use Rattle.protocol.specs.declared.records.Record.{Record}
+use Rattle.protocol.specs.declared.records.Record.TheVariants.{Opened, Collecting, Prepare, Commit, Abort, End, Prepared, Committed, RolledBack, Direct, HeurCommit, HeurRollback, Told, Forgot, Base, Pair, Cleared}
+use Rattle.protocol.specs.Names.{same_case}
+use Rattle.protocol.specs.Records.{has, is_abort, is_collecting, is_commit, is_committed, is_decided, is_end, is_forgot, is_prepare, is_prepared, is_rolled_back}
+use Rattle.protocol.specs.Nodes.{Role, AtRoot, Below, AtLeaf}
+use Rattle.protocol.specs.Audits.{is_committing, is_learnt_abort, is_learnt_commit, is_promise, is_told_of}
+use Rattle.protocol.specs.Audits.{decision_by, has_line_in, is_abort_learnt, own_decision, since_promise}
+use Rattle.coord_records.proofs.Summaries.{is_of}
 use Rattle.audit_cases.specs.declared.kinds.Kinds.{Kinds}
 use Rattle.audit_cases.specs.Kinds.{decided_in, decision_in, is_aborting, kinds_after, kinds_of, line_in, no_kinds, own_by, own_in, own_of}
 

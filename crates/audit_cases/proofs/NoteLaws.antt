@@ -3,17 +3,17 @@ use Rattle.std.proofs.Common.{◌≡◌, ◌∙◌, Bool, true, false, if◌then
 use Rattle.std.proofs.lemmas.Grind.{flat_map-append, fold-append}
 use Rattle.std.proofs.lemmas.List.{append-nil}
 use Rattle.std.specs.List.{flat_map}
-use Rattle.tree_model.specs.declared.names.Case.{Case}
-use Rattle.tree_model.specs.declared.names.Ticket.{Ticket}
-use Rattle.tree_model.specs.declared.records.Branch.TheVariants.{Case as CaseBranch, Foreign}
-use Rattle.tree_model.specs.declared.records.Record.{Record}
-use Rattle.tree_model.specs.declared.records.Record.TheVariants.{Opened, Collecting, Prepare, Commit, Abort, End, Prepared, Committed, RolledBack, Direct, HeurCommit, HeurRollback, Told, Forgot, Base, Pair, Cleared}
-use Rattle.tree_model.specs.declared.records.Reports.{Reports}
-use Rattle.tree_model.specs.Names.{same_case}
-use Rattle.tree_model.specs.Records.{cases_in, named_by, named_in, record_case}
-use Rattle.tree_headline.specs.auditor.Audits.{since_promise}
-use Rattle.inquire_core.proofs.CaseTables.{IsSaying, next_table, one_then, said, same_table}
-use Rattle.inquire_core.proofs.Summaries.{is_of}
+use Rattle.protocol.specs.declared.names.Case.{Case}
+use Rattle.protocol.specs.declared.names.Ticket.{Ticket}
+use Rattle.protocol.specs.declared.records.BranchName.TheVariants.{Case as CaseBranch, Foreign}
+use Rattle.protocol.specs.declared.records.Record.{Record}
+use Rattle.protocol.specs.declared.records.Record.TheVariants.{Opened, Collecting, Prepare, Commit, Abort, End, Prepared, Committed, RolledBack, Direct, HeurCommit, HeurRollback, Told, Forgot, Base, Pair, Cleared}
+use Rattle.protocol.specs.declared.records.Reports.{Reports}
+use Rattle.protocol.specs.Names.{same_case}
+use Rattle.protocol.specs.Records.{cases_in, named_by, named_in, record_case}
+use Rattle.protocol.specs.Audits.{since_promise}
+use Rattle.coord_records.proofs.CaseTables.{IsSaying, next_table, one_then, said, same_table}
+use Rattle.coord_records.proofs.Summaries.{is_of}
 use Rattle.audit_cases.specs.Kinds.{kinds_after, kinds_of}
 use Rattle.audit_cases.specs.Notes.{log_notes_of, no_note, no_notes, note_after, note_in, note_of, noted, noted_by, notes_of, promised_by, promised_in, reported_behind, reported_in, reports_behind, tickets_in}
 use Rattle.audit_cases.proofs.KindLaws.{kinds_behind, no_kinds_of}

@@ -4,16 +4,16 @@ use Rattle.std.proofs.lemmas.List.{at_drop_more, reverse-append}
 use Rattle.std.proofs.lemmas.List.Folds.{list_any-append}
 use Rattle.std.specs.List.{list_any}
 use Rattle.indexmap.specs.IndexSet.{insert_key}
-use Rattle.tree_model.specs.declared.names.Case.{Case}
-use Rattle.tree_model.specs.Names.{same_case}
-use Rattle.tree_model.specs.declared.records.Branch.TheVariants.{Case as CaseBranch, Foreign}
-use Rattle.tree_model.specs.declared.records.Record.{Record}
-use Rattle.tree_model.specs.declared.records.Record.TheVariants.{Opened, Collecting, Prepare, Commit, Abort, End, Prepared, Committed, RolledBack, Direct, HeurCommit, HeurRollback, Told, Forgot, Base, Pair, Cleared}
-use Rattle.tree_model.specs.Records.{has, has_case, is_prepared}
-use Rattle.tree_model.specs.NameLaws.{same_case-refl}
-use Rattle.tree_model.proofs.Equality.{case_equality}
-use Rattle.inquire_core.specs.Readings.{same}
-use Rattle.inquire_core.proofs.CaseTables.{apart_back, is_same}
+use Rattle.protocol.specs.declared.names.Case.{Case}
+use Rattle.protocol.specs.Names.{same_case}
+use Rattle.protocol.specs.declared.records.BranchName.TheVariants.{Case as CaseBranch, Foreign}
+use Rattle.protocol.specs.declared.records.Record.{Record}
+use Rattle.protocol.specs.declared.records.Record.TheVariants.{Opened, Collecting, Prepare, Commit, Abort, End, Prepared, Committed, RolledBack, Direct, HeurCommit, HeurRollback, Told, Forgot, Base, Pair, Cleared}
+use Rattle.protocol.specs.Records.{has, has_case, is_prepared}
+use Rattle.protocol.specs.NameLaws.{same_case-refl}
+use Rattle.protocol.proofs.Equality.{case_equality}
+use Rattle.coord_records.specs.Readings.{same}
+use Rattle.coord_records.proofs.CaseTables.{apart_back, is_same}
 use Rattle.audit_cases.specs.Notes.{last_places, promised_by, promised_in}
 
 -- a case is among the last places of a list just where it is in the list

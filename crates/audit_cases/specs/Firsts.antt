@@ -2,12 +2,12 @@
 use Rattle.std.specs.Prelude.{if◌then◌else◌, is_some, List, [], fold}
 use Rattle.std.specs.Map.{lookup}
 use Rattle.indexmap.specs.IndexMap.{insert_entry}
-use Rattle.tree_model.specs.declared.names.Case.{Case}
-use Rattle.tree_model.specs.declared.names.Ticket.{Ticket}
-use Rattle.tree_model.specs.declared.names.Txn.{Txn}
-use Rattle.tree_model.specs.Names.{child_case}
-use Rattle.inquire_core.specs.Readings.{same}
-use Rattle.audit_cases.specs.Notes.{CaseNote, Table}
+use Rattle.protocol.specs.declared.names.Case.{Case}
+use Rattle.protocol.specs.declared.names.Ticket.{Ticket}
+use Rattle.protocol.specs.declared.names.Txn.{Txn}
+use Rattle.protocol.specs.Names.{child_case}
+use Rattle.coord_records.specs.Readings.{same}
+use Rattle.audit_cases.specs.Notes.{CaseNote, NoteTable}
 
 module _ {A : Type 0} where
   -- these with what is kept of a child's case, unless something was before
@@ -23,5 +23,5 @@ module _ {A : Type 0} where
   with_entry kept s e = with_named e.0.txn (kept e) s e.1.named
 
   -- what is kept for all entries, the first that names a ticket before the others
-  abbrev pub firsts_of : (Case × CaseNote → A) → Table → List (Case × A)
+  abbrev pub firsts_of : (Case × CaseNote → A) → NoteTable → List (Case × A)
   firsts_of kept notes = fold (with_entry kept) [] notes

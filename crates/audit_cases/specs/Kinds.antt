@@ -1,14 +1,14 @@
 -- What the records of a case say to an audit: which kinds of them there are, and what follows.
 use Rattle.std.specs.Prelude.{Bool, true, false, not, ◌&&◌, ◌||◌, Option, List}
-use Rattle.tree_model.specs.declared.names.Case.{Case}
-use Rattle.tree_model.specs.declared.names.Outcome.{Outcome}
-use Rattle.tree_model.specs.declared.names.Outcome.TheVariants.{Committed as CommittedOutcome, Aborted as AbortedOutcome}
-use Rattle.tree_model.specs.declared.records.Record.{Record}
-use Rattle.tree_model.specs.declared.records.Record.TheVariants.{Opened, Collecting, Prepare, Commit, Abort, End, Prepared, Committed, RolledBack, Direct, HeurCommit, HeurRollback, Told, Forgot, Base, Pair, Cleared}
-use Rattle.tree_model.specs.Records.{has, is_abort, is_collecting, is_commit, is_committed, is_decided, is_end, is_forgot, is_prepare, is_prepared, is_rolled_back}
-use Rattle.tree_model.specs.Nodes.{Role, AtRoot, Below, AtLeaf}
-use Rattle.tree_pairs.specs.readings.ReadingOf.{is_committing, is_promise, is_told_of}
-use Rattle.tree_headline.specs.auditor.Audits.{decision_by}
+use Rattle.protocol.specs.declared.names.Case.{Case}
+use Rattle.protocol.specs.declared.names.Outcome.{Outcome}
+use Rattle.protocol.specs.declared.names.Outcome.TheVariants.{Committed as CommittedOutcome, Aborted as AbortedOutcome}
+use Rattle.protocol.specs.declared.records.Record.{Record}
+use Rattle.protocol.specs.declared.records.Record.TheVariants.{Opened, Collecting, Prepare, Commit, Abort, End, Prepared, Committed, RolledBack, Direct, HeurCommit, HeurRollback, Told, Forgot, Base, Pair, Cleared}
+use Rattle.protocol.specs.Records.{has, is_abort, is_collecting, is_commit, is_committed, is_decided, is_end, is_forgot, is_prepare, is_prepared, is_rolled_back}
+use Rattle.protocol.specs.Nodes.{Role, AtRoot, Below, AtLeaf}
+use Rattle.protocol.specs.Audits.{is_committing, is_promise, is_told_of}
+use Rattle.protocol.specs.Audits.{decision_by}
 use Rattle.audit_cases.specs.declared.kinds.Kinds.{Kinds}
 use Rattle.audit_cases.specs.declared.kinds.Own.{Own}
 use Rattle.audit_cases.specs.declared.kinds.Own.TheVariants as own

@@ -3,27 +3,27 @@ use Rattle.std.specs.Prelude.{◌≡◌, ⊤, Bool, true, false, if◌then◌els
 use Rattle.std.specs.List.{flat_map}
 use Rattle.std.specs.Map.{lookup}
 use Rattle.indexmap.specs.IndexMap.{insert_entry}
-use Rattle.tree_model.specs.declared.names.Case.{Case}
-use Rattle.tree_model.specs.declared.names.Kind.{Kind}
-use Rattle.tree_model.specs.declared.names.Kind.TheVariants.{Coordinator, Manager}
-use Rattle.tree_model.specs.declared.names.Ticket.{Ticket}
-use Rattle.tree_model.specs.declared.records.Branch.TheVariants.{Case as CaseBranch}
-use Rattle.tree_model.specs.declared.records.Record.{Record}
-use Rattle.tree_model.specs.declared.records.Record.TheVariants.{Collecting, Prepare, Commit, Abort, End, Prepared, Cleared}
-use Rattle.tree_model.specs.declared.records.Reports.{Reports}
-use Rattle.tree_model.specs.declared.trees.TreeEntry.{TreeEntry}
-use Rattle.tree_model.specs.Names.{same_case}
-use Rattle.tree_model.specs.Nodes.{Place, Role, AtLeaf, role_by}
-use Rattle.tree_model.specs.Records.{cases_in, has_case, named_by, record_case}
-use Rattle.tree_headline.specs.auditor.Audits.{since_promise}
-use Rattle.inquire_core.specs.Readings.{same}
+use Rattle.protocol.specs.declared.names.Case.{Case}
+use Rattle.protocol.specs.declared.names.Kind.{Kind}
+use Rattle.protocol.specs.declared.names.Kind.TheVariants.{Coordinator, Manager}
+use Rattle.protocol.specs.declared.names.Ticket.{Ticket}
+use Rattle.protocol.specs.declared.records.BranchName.TheVariants.{Case as CaseBranch}
+use Rattle.protocol.specs.declared.records.Record.{Record}
+use Rattle.protocol.specs.declared.records.Record.TheVariants.{Collecting, Prepare, Commit, Abort, End, Prepared, Cleared}
+use Rattle.protocol.specs.declared.records.Reports.{Reports}
+use Rattle.protocol.specs.declared.trees.TreeProcess.{TreeProcess}
+use Rattle.protocol.specs.Names.{same_case}
+use Rattle.protocol.specs.Nodes.{Place, Role, AtLeaf, role_by}
+use Rattle.protocol.specs.Records.{cases_in, has_case, named_by, record_case}
+use Rattle.protocol.specs.Audits.{since_promise}
+use Rattle.coord_records.specs.Readings.{same}
 use Rattle.audit_cases.specs.declared.kinds.Kinds.{Kinds}
 use Rattle.audit_cases.specs.Kinds.{kinds_after, kinds_of, no_kinds}
 
 -- Whose log it is.
 
 -- where the process of an entry sits in the tree
-abbrev pub place_at : List TreeEntry → TreeEntry → Place
+abbrev pub place_at : List TreeProcess → TreeProcess → Place
 place_at tree e = record { me = e.id; role = role_by e.kind e.parent; tree = tree }
 
 -- a record that only a coordinator writes
@@ -120,12 +120,12 @@ listed_cases role rs = listed_by role (cases_in rs) (promised_by rs)
 -- The pass.
 
 -- for each case, in order of the first records, what is noted of it
-abbrev pub Table : Type 0
-Table = List (Case × CaseNote)
+abbrev pub NoteTable : Type 0
+NoteTable = List (Case × CaseNote)
 
 -- what is noted of a process: its cases, and those of its Prepared, one after another
 pub record LogNotes : Type 0 where
-  pub table : Table
+  pub table : NoteTable
   pub promised : List Case
 
 -- nothing is noted
@@ -133,11 +133,11 @@ abbrev pub no_notes : LogNotes
 no_notes = record { table = []; promised = [] }
 
 -- what is noted of a case
-abbrev pub note_in : Table → Case → CaseNote
+abbrev pub note_in : NoteTable → Case → CaseNote
 note_in t c = unwrap_or (lookup (same c) t) no_note
 
 -- the table after one more record of the case
-abbrev pub noted_of : Table → Case → Record → Table
+abbrev pub noted_of : NoteTable → Case → Record → NoteTable
 noted_of t c r = insert_entry same t c (note_after (note_in t c) r)
 
 -- what is noted after one more record, of this case if it is of any
@@ -150,7 +150,7 @@ abbrev pub noted : LogNotes → Record → LogNotes
 noted n r = noted_by n r (record_case r)
 
 -- what all these records say of the cases
-abbrev pub notes_of : List Record → Table
+abbrev pub notes_of : List Record → NoteTable
 notes_of rs = map (λ c. (c, note_of rs c)) (cases_in rs)
 
 -- what is noted of all these records

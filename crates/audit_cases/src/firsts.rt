@@ -3,14 +3,14 @@
 ghost use Rattle.std.specs.Prelude.{◌≡◌, [], OnOk};
 ghost use Rattle.std.specs.Map.{lookup};
 ghost use Rattle.std.specs.Option.{option_copied};
-ghost use Rattle.inquire_core.specs.Readings.{same};
+ghost use Rattle.coord_records.specs.Readings.{same};
 ghost use Rattle.audit_cases.specs.Firsts.{with_first, with_named};
 
 use crate::notes::Noted;
 use indexmap::IndexMap;
+use protocol::Case;
 use std::alloc::{AllocError, Global};
 use std::marker::Model;
-use tree_model::Case;
 
 /// Of each case of a child that a case of the process names, what was kept for the first that names it.
 #[derive(Drop)]
@@ -20,7 +20,7 @@ pub struct Firsts<V: Drop> {
 
 impl<V: Drop> Model for Firsts<V> {
     ghost use Rattle.std.specs.Prelude.{List};
-    ghost use Rattle.tree_model.specs.declared.names.Case.{Case as AnyCase};
+    ghost use Rattle.protocol.specs.declared.names.Case.{Case as AnyCase};
 
     ghost Value = { List (AnyCase × V) };
 

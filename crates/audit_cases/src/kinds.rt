@@ -1,10 +1,10 @@
 //! Which records a case has, and what follows.
 
 ghost use Rattle.std.specs.Prelude.{◌≡◌, ◌||◌};
-ghost use Rattle.tree_model.specs.Nodes.{role_by};
+ghost use Rattle.protocol.specs.Nodes.{role_by};
 ghost use Rattle.audit_cases.specs.Kinds.{decided_in, decision_in, kinds_after, line_in, no_kinds, own_in};
 
-use tree_model::{Kind, Outcome, ProcessId, Record};
+use protocol::{Kind, Outcome, ProcessId, Record};
 
 /// How a case stands by its own records, as a line of an audit says it.
 #[derive(Clone, Copy, PartialEq, Eq)]

@@ -17,5 +17,5 @@ mod sayings;
 
 pub use firsts::Firsts;
 pub use kinds::{Kinds, Own};
-pub use notes::{Noted, Notes};
+pub use notes::{Noted, NotedCases};
 pub use sayings::{Sayings, outcome_of};

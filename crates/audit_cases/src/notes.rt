@@ -3,20 +3,20 @@
 ghost use Rattle.std.specs.Prelude.{◌≡◌, ◌++◌, [], IfOk, OnOk, fold, map};
 ghost use Rattle.std.specs.Map.{lookup};
 ghost use Rattle.std.specs.Option.{option_copied};
-ghost use Rattle.tree_model.specs.LogNames.{own_by};
-ghost use Rattle.tree_model.specs.Nodes.{role_by};
-ghost use Rattle.tree_model.specs.Records.{record_case};
-ghost use Rattle.inquire_core.specs.Readings.{same};
+ghost use Rattle.protocol.specs.LogNames.{own_by};
+ghost use Rattle.protocol.specs.Nodes.{role_by};
+ghost use Rattle.protocol.specs.Records.{record_case};
+ghost use Rattle.coord_records.specs.Readings.{same};
 ghost use Rattle.audit_cases.specs.Notes.{IsRecordAt, last_places as last_places_of, listed_in, no_note, no_notes, note_after, noted, noted_of, place_at, promised_in, reports_behind, tickets_in};
 
 use crate::kinds::Kinds;
+use coord_records::is_own;
 use indexmap::{IndexMap, IndexSet};
-use inquire_core::is_own;
+use protocol::{
+    BranchName, Case, Kind, LogRecord, ProcessId, Record, Reports, Ticket, Tree, TreeProcess,
+};
 use std::alloc::{AllocError, Global};
 use std::marker::Model;
-use tree_model::{
-    Branch, Case, Kind, LogRecord, ProcessId, Record, Reports, Ticket, Tree, TreeEntry,
-};
 
 /// What is noted of a case: which records it has, the tickets that they name, and what its End reports that
 /// was not cleared.
@@ -38,13 +38,13 @@ impl Model for Noted {
 /// What is noted of each case of a process, in order of the first records, and the cases of its Prepared, one
 /// after another.
 #[derive(Drop)]
-pub struct Notes {
+pub struct NotedCases {
     alloc: Global,
     cases: IndexMap<Case, Noted>,
     promised: Vec<Case>,
 }
 
-impl Model for Notes {
+impl Model for NotedCases {
     ghost use Rattle.audit_cases.specs.Notes.{LogNotes};
 
     ghost Value = { LogNotes };
@@ -153,7 +153,7 @@ fn note_promise(promised: &mut Vec<Case>, record: &Record) -> Result<(), AllocEr
     ensures { OnOk result (promised.new.items ≡ promised.old.items ++ promised_in record.now) }
 {
     match record {
-        Record::Prepared(Branch::Case(case), _) => {
+        Record::Prepared(BranchName::Case(case), _) => {
             promised.push(*case)?;
             Ok(())
         }
@@ -188,12 +188,12 @@ fn cases_of(alloc: Global, cases: &IndexMap<Case, Noted>) -> Result<Vec<Case>, A
     Ok(listed)
 }
 
-impl Notes {
+impl NotedCases {
     /// No records. It takes no memory.
-    pub fn new(alloc: Global) -> Notes
+    pub fn new(alloc: Global) -> NotedCases
         ensures { result ≡ no_notes }
     {
-        Notes {
+        NotedCases {
             alloc,
             cases: IndexMap::new(alloc),
             promised: Vec::new(alloc),
@@ -206,7 +206,7 @@ impl Notes {
     pub fn take(
         &mut self,
         tree: &Tree,
-        entry: &TreeEntry,
+        entry: &TreeProcess,
         record: &LogRecord,
     ) -> Result<(), AllocError>
         requires { IsRecordAt entry.now.kind record.now.entry }

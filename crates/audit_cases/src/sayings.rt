@@ -5,11 +5,11 @@ ghost use Rattle.std.specs.Option.{option_copied};
 ghost use Rattle.audit_cases.specs.Sayings.{AreSaid, outcome_in, said_by, sayings_of};
 
 use crate::firsts::Firsts;
-use crate::notes::{Noted, Notes};
-use inquire_core::presumed;
+use crate::notes::{Noted, NotedCases};
+use coord_records::presumed;
+use protocol::{Case, Outcome};
 use std::alloc::{AllocError, Global};
 use std::marker::Model;
-use tree_model::{Case, Outcome};
 
 /// Of each case of a child that a case of the process names, the outcome: that of the first of its cases
 /// that names it.
@@ -42,7 +42,11 @@ pub fn outcome_of(above: Option<&Sayings>, case: &Case, note: &Noted) -> Outcome
 
 impl Sayings {
     /// What is said by these notes, one case after another.
-    fn passing(alloc: Global, above: Option<&Sayings>, notes: &Notes) -> Result<Sayings, AllocError>
+    fn passing(
+        alloc: Global,
+        above: Option<&Sayings>,
+        notes: &NotedCases,
+    ) -> Result<Sayings, AllocError>
         ensures { IfOk result (λ s. s ≡ sayings_of (option_copied above.entry) notes.now.table) }
     {
         let mut outcomes = Firsts::new(alloc);
@@ -54,7 +58,11 @@ impl Sayings {
 
     /// What a process says that knows this of its cases, where this is said of them above it. It goes
     /// through them once.
-    pub fn of(alloc: Global, above: Option<&Sayings>, notes: &Notes) -> Result<Sayings, AllocError>
+    pub fn of(
+        alloc: Global,
+        above: Option<&Sayings>,
+        notes: &NotedCases,
+    ) -> Result<Sayings, AllocError>
         ensures { IfOk result (λ s. AreSaid (option_copied above.entry) notes.now.table s) }
     {
         Sayings::passing(alloc, above, notes)

@@ -1,20 +1,20 @@
 -- The text of who reported what, piece by piece.
 use Rattle.std.proofs.Common.{◌≡◌, ◌∙◌, ◌-◌, ℕ, zero, suc, Some, List, ◌++◌, codes, refl, sym, ap, arith}
 use Rattle.std.specs.Fmt.{decimal}
-use Rattle.tree_model.specs.declared.names.Case.{Case}
-use Rattle.tree_model.specs.declared.names.ProcessId.{ProcessId}
-use Rattle.tree_model.specs.declared.names.Ticket.{Ticket}
-use Rattle.tree_model.specs.declared.trees.TreeEntry.{TreeEntry}
-use Rattle.tree_model.specs.Names.{child_case}
-use Rattle.tree_model.specs.Texts.{case_text}
-use Rattle.tree_model.specs.Trees.{parent_of}
+use Rattle.protocol.specs.declared.names.Case.{Case}
+use Rattle.protocol.specs.declared.names.ProcessId.{ProcessId}
+use Rattle.protocol.specs.declared.names.Ticket.{Ticket}
+use Rattle.protocol.specs.declared.trees.TreeProcess.{TreeProcess}
+use Rattle.protocol.specs.Names.{child_case}
+use Rattle.protocol.specs.Texts.{case_text}
+use Rattle.protocol.specs.Trees.{parent_of}
 use Rattle.audit_engine.specs.Explanations.{mixed_text, reporter_text, unreported_text, way_on, way_text}
 use Rattle.audit_engine.proofs.Texts.{eight, five, six}
 
 -- The way of a report.
 
 -- a process told its parent, and so on
-pub way_goes_on : (tree : List TreeEntry) (p q : ProcessId) (old a b c d new : List ℕ) (most : ℕ)
+pub way_goes_on : (tree : List TreeProcess) (p q : ProcessId) (old a b c d new : List ℕ) (most : ℕ)
     → (most ≡ 0 → ⊥) → parent_of tree p ≡ Some q
     → a ≡ old ++ codes ", " → b ≡ a ++ decimal p.0 → c ≡ b ++ codes " told " → d ≡ c ++ decimal q.0
     → new ≡ d ++ way_text (most - 1) tree q → new ≡ old ++ way_text most tree p
@@ -28,7 +28,7 @@ way_goes_on tree p q old a b c d new (suc n) some is e f g h more =
 
 -- Who reported a ticket, and what to do.
 
-pub mixed_pushed : (tree : List TreeEntry) (root : Case) (t : Ticket) (old a b c d e f g h : List ℕ)
+pub mixed_pushed : (tree : List TreeProcess) (root : Case) (t : Ticket) (old a b c d e f g h : List ℕ)
     → a ≡ old ++ reporter_text tree t (codes " was decided otherwise by an operator")
     → b ≡ a ++ codes "  do: put the data of " → c ≡ b ++ decimal t.child.0
     → d ≡ c ++ codes " right, then forget " → e ≡ d ++ case_text (child_case root.txn t)
@@ -39,7 +39,7 @@ mixed_pushed tree root t old a b c d e f g h told puts place right child then na
     (case_text (child_case root.txn t)) (codes ", then forget ") (case_text root) (codes "\n")
     told puts place right child then named end
 
-pub unreported_pushed : (tree : List TreeEntry) (root : Case) (t : Ticket) (old a b c d e f : List ℕ)
+pub unreported_pushed : (tree : List TreeProcess) (root : Case) (t : Ticket) (old a b c d e f : List ℕ)
     → a ≡ old ++ reporter_text tree t (codes " was no longer known")
     → b ≡ a ++ codes "  do: look at the data of " → c ≡ b ++ decimal t.child.0
     → d ≡ c ++ codes " and of what is below it, then forget " → e ≡ d ++ case_text root

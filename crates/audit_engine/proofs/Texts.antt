@@ -1,18 +1,18 @@
 -- The text of a report, word by word, and how it ends.
 use Rattle.std.proofs.Common.{◌≡◌, ◌∙◌, ℕ, nat_eq, Bool, true, false, None, if◌then◌else◌, List, ◌++◌, codes, OnOk, Result, Ok, Err, refl, sym, ap, subst, append_assoc}
 use Rattle.std.specs.Fmt.{decimal}
-use Rattle.tree_model.specs.declared.trees.TreeEntry.{TreeEntry}
-use Rattle.tree_model.specs.Texts.{case_text, outcome_word}
-use Rattle.logs_script.specs.declared.line.ProcessLog.{ProcessLog}
-use Rattle.logs_script.specs.Faults.{first_damage}
-use Rattle.tree_audit.specs.Reports.{kept_lists, mismatches_in}
-use Rattle.tree_audit.specs.declared.report.Line.{Line}
-use Rattle.tree_audit.specs.declared.report.Report.{Report}
+use Rattle.protocol.specs.declared.trees.TreeProcess.{TreeProcess}
+use Rattle.protocol.specs.Texts.{case_text, outcome_word}
+use Rattle.log_script.specs.declared.line.ProcessLog.{ProcessLog}
+use Rattle.log_script.specs.Faults.{first_damage}
+use Rattle.audit_tree.specs.Reports.{kept_lists, mismatches_in}
+use Rattle.audit_tree.specs.declared.report.ReportLine.{ReportLine}
+use Rattle.audit_tree.specs.declared.report.Report.{Report}
 use Rattle.audit_engine.specs.Audits.{IsAudited, Reports, audit_lines, detailed_text, ending_by}
 use Rattle.audit_engine.specs.Lines.{count_text, line_text, mismatch_part, own_word, reports_part}
 use Rattle.audit_engine.specs.declared.detail.Detail.{Detail}
-use Rattle.audit_engine.specs.declared.ending.Ending.{Ending}
-use Rattle.audit_engine.specs.declared.ending.Ending.TheVariants as ending
+use Rattle.audit_engine.specs.declared.ending.AuditStatus.{AuditStatus}
+use Rattle.audit_engine.specs.declared.ending.AuditStatus.TheVariants as ending
 
 pub on_ok : {A E : Type 0} {P Q : Type 0} (r : Result A E) → (P → Q) → OnOk r P → OnOk r Q
 on_ok (Ok a) f h = f h
@@ -50,14 +50,14 @@ pub count_pushed : (n : ℕ) (old a b c : List ℕ) → a ≡ old ++ codes "mism
 count_pushed n old a b c e f g = three old a b c (codes "mismatches ") (decimal n) (codes "\n") e f g
 
 -- a line is pushed up to its outcome
-pub outcome_pushed : (l : Line) (old a b c d own : List ℕ) → a ≡ old ++ case_text l.case → b ≡ a ++ codes " "
+pub outcome_pushed : (l : ReportLine) (old a b c d own : List ℕ) → a ≡ old ++ case_text l.case → b ≡ a ++ codes " "
     → c ≡ b ++ own → own ≡ own_word l.own → d ≡ c ++ codes " "
     → d ≡ old ++ (case_text l.case ++ (codes " " ++ (own_word l.own ++ codes " ")))
 outcome_pushed l old a b c d own e f g own_is h =
     four old a b c d (case_text l.case) (codes " ") (own_word l.own) (codes " ") e f
     (g ∙ ap (λ t. b ++ t) own_is) h
 
-pub line_pushed : (l : Line) (old d e f r g out mis : List ℕ)
+pub line_pushed : (l : ReportLine) (old d e f r g out mis : List ℕ)
     → d ≡ old ++ (case_text l.case ++ (codes " " ++ (own_word l.own ++ codes " "))) → e ≡ d ++ out
     → out ≡ outcome_word l.outcome → f ≡ e ++ mis → mis ≡ mismatch_part l.mismatch
     → r ≡ f ++ reports_part l.reports → g ≡ r ++ codes "\n" → g ≡ old ++ line_text l
@@ -74,9 +74,9 @@ line_pushed l old d e f r g out mis up_to o out_is m mis_is reported end =
     joined t x y z w o m r n = simp append_assoc
 
 -- how an audit ends with this report
-pub report_ends : (detail : Detail) (tree : List TreeEntry) (logs : List ProcessLog)
+pub report_ends : (detail : Detail) (tree : List TreeProcess) (logs : List ProcessLog)
     (r : Report) (text : List ℕ)
-    (e : Ending) → first_damage tree logs ≡ None → r.lines.items ≡ audit_lines tree logs
+    (e : AuditStatus) → first_damage tree logs ≡ None → r.lines.items ≡ audit_lines tree logs
     → r.mismatches ≡ mismatches_in r.lines.items
     → text ≡ detailed_text detail tree (kept_lists tree logs) r.lines.items → e ≡ ending_by r.mismatches
     → IsAudited detail e tree logs text

@@ -1,12 +1,12 @@
 -- What is written is true of every run that left the logs.
 use Rattle.std.proofs.Common.{List, ℕ}
-use Rattle.tree_audit.proofs.Truths.{true_of_runs}
+use Rattle.audit_tree.proofs.Truths.{true_of_runs}
 use Rattle.audit_engine.specs.Audits.{AuditsLogs, IsAuditReport, IsTrueReport, Reports, ReportsRuns, audit_lines}
 use Rattle.audit_engine.specs.declared.detail.Detail.{Detail}
-use Rattle.audit_engine.specs.declared.ending.Ending.{Ending}
-use Rattle.audit_engine.specs.declared.ending.Ending.TheVariants as ending
+use Rattle.audit_engine.specs.declared.ending.AuditStatus.{AuditStatus}
+use Rattle.audit_engine.specs.declared.ending.AuditStatus.TheVariants as ending
 
-of_logs : (d : Detail) (e : Ending) (input text : List ℕ) (a : AuditsLogs d e input text)
+of_logs : (d : Detail) (e : AuditStatus) (input text : List ℕ) (a : AuditsLogs d e input text)
     → Reports d a.tree a.logs text
     → ReportsRuns d input text
 of_logs d e input text a reports = record {
@@ -19,7 +19,7 @@ of_logs d e input text a reports = record {
 }
 
 -- the report of an input is true of every run that left its logs
-pub true_report : (d : Detail) (e : Ending) (input text : List ℕ) → IsAuditReport d e input text
+pub true_report : (d : Detail) (e : AuditStatus) (input text : List ℕ) → IsAuditReport d e input text
     → IsTrueReport d e input text
 true_report d ending.Agrees input text a = of_logs d ending.Agrees input text a a.audits.0
 true_report d ending.Differs input text a = of_logs d ending.Differs input text a a.audits.0

@@ -2,11 +2,11 @@
 use Rattle.std.specs.Prelude.{ℕ, Bool, true, false, Option, Some, None, List, [], ◌++◌, codes}
 use Rattle.std.specs.List.{flat_map}
 use Rattle.std.specs.Fmt.{decimal}
-use Rattle.tree_model.specs.declared.records.Reports.{Reports}
-use Rattle.tree_model.specs.Texts.{case_text, outcome_word}
+use Rattle.protocol.specs.declared.records.Reports.{Reports}
+use Rattle.protocol.specs.Texts.{case_text, outcome_word}
 use Rattle.audit_cases.specs.declared.kinds.Own.{Own}
 use Rattle.audit_cases.specs.declared.kinds.Own.TheVariants as own
-use Rattle.tree_audit.specs.declared.report.Line.{Line}
+use Rattle.audit_tree.specs.declared.report.ReportLine.{ReportLine}
 use Rattle.log_lines.specs.Words.{listed_words}
 
 -- the word of how a case stands by its own records
@@ -30,13 +30,13 @@ reports_part (Some r) =
     listed_words (codes " reported") r.mixed ++ listed_words (codes " unreported") r.unreported
 
 -- the line of a case: its name, its own word, its outcome, whether they do not agree, and what is reported
-abbrev pub line_text : Line → List ℕ
+abbrev pub line_text : ReportLine → List ℕ
 line_text l =
     case_text l.case ++ codes " " ++ own_word l.own ++ codes " " ++ outcome_word l.outcome
     ++ mismatch_part l.mismatch ++ reports_part l.reports ++ codes "\n"
 
 -- the lines of cases
-abbrev pub lines_text : List Line → List ℕ
+abbrev pub lines_text : List ReportLine → List ℕ
 lines_text ls = flat_map line_text ls
 
 -- the line of a number of mismatches

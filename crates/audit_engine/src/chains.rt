@@ -1,23 +1,23 @@
 //! The steps from a case upward.
 
 ghost use Rattle.std.specs.Prelude.{◌≡◌, ◌++◌, ◌∷◌, [], IfOk, OnOk, length, take};
-ghost use Rattle.tree_headline.specs.auditor.Audits.{Logs};
-ghost use Rattle.tree_model.specs.Trees.{IsTree};
+ghost use Rattle.protocol.specs.Audits.{KeptLogs};
+ghost use Rattle.protocol.specs.Trees.{IsTree};
 ghost use Rattle.std.specs.Map.{lookup};
-ghost use Rattle.tree_audit.specs.Tables.{AreNotes, same_id};
+ghost use Rattle.audit_tree.specs.Tables.{AreNotes, same_id};
 ghost use Rattle.audit_engine.specs.Chains.{Adds, AreNamings, found_by_table, asks as deed_asking, asks_on, chain_of, deed_behind, steps_within};
 
 use crate::namings::{Namings, TreeNamings};
-use crate::steps::{Deed, Found, Stands, Step};
+use crate::steps::{AuditStep, Stands, StepDeed, StepFound};
+use audit_tree::TreeNotes;
 use indexmap::IndexMap;
+use protocol::{Case, ProcessId, Tree};
 use std::alloc::{AllocError, Global};
-use tree_audit::TreeNotes;
-use tree_model::{Case, ProcessId, Tree};
 
 /// What each process of the tree names.
 pub fn all_namings(alloc: Global, tree: &Tree, notes: &TreeNotes) -> Result<TreeNamings, AllocError>
     requires { IsTree tree.now }
-    ensures { IfOk result (λ namings. (logs : Logs) → AreNotes tree.now logs notes.now.entries
+    ensures { IfOk result (λ namings. (logs : KeptLogs) → AreNotes tree.now logs notes.now.entries
         → AreNamings tree.now logs namings.entries) }
 {
     let mut namings = IndexMap::new(alloc);
@@ -49,35 +49,35 @@ fn add(
 }
 
 /// What this process finds of a case.
-fn find(namings: &TreeNamings, process: ProcessId, case: &Case) -> Found
+fn find(namings: &TreeNamings, process: ProcessId, case: &Case) -> StepFound
     ensures { result ≡ found_by_table (lookup (same_id process) namings.now.entries) case.now }
 {
     match namings.get(&process) {
-        None => Found::Nothing,
+        None => StepFound::Nothing,
         Some(own) => own.of_child(case),
     }
 }
 
 /// The case that is in doubt itself, or ended with no decision, and so asks in its turn.
-fn asks_next(found: Found) -> Option<Case>
+fn asks_next(found: StepFound) -> Option<Case>
     ensures { result ≡ asks_on found }
 {
     match found {
-        Found::Kept(case, Stands::Prepare | Stands::Ended) => Some(case),
+        StepFound::Kept(case, Stands::Prepare | Stands::Ended) => Some(case),
         _ => None,
     }
 }
 
 /// The steps from a case upward, N at most.
 fn push_steps(
-    steps: &mut Vec<Step>,
+    steps: &mut Vec<AuditStep>,
     tree: &Tree,
     namings: &TreeNamings,
     case: Case,
     most: usize,
 ) -> Result<(), AllocError>
     requires { IsTree tree.now }
-    ensures { OnOk result ((logs : Logs) → AreNamings tree.now logs namings.now.entries
+    ensures { OnOk result ((logs : KeptLogs) → AreNamings tree.now logs namings.now.entries
         → steps.new.items ≡ steps.old.items ++ steps_within most tree.now logs case) }
 {
     if most == 0 {
@@ -90,7 +90,7 @@ fn push_steps(
         return Ok(());
     };
     let found = find(namings, process, &case);
-    steps.push(Step {
+    steps.push(AuditStep {
         ticket,
         process,
         found,
@@ -108,9 +108,9 @@ pub fn steps_of(
     tree: &Tree,
     namings: &TreeNamings,
     case: &Case,
-) -> Result<Vec<Step>, AllocError>
+) -> Result<Vec<AuditStep>, AllocError>
     requires { IsTree tree.now }
-    ensures { IfOk result (λ steps. (logs : Logs) → AreNamings tree.now logs namings.now.entries
+    ensures { IfOk result (λ steps. (logs : KeptLogs) → AreNamings tree.now logs namings.now.entries
         → steps.items ≡ chain_of tree.now logs case.now) }
 {
     let mut steps = Vec::new(alloc);
@@ -119,25 +119,25 @@ pub fn steps_of(
 }
 
 /// To ask for the outcome of a case in doubt.
-fn asking(case: &Case) -> Deed
+fn asking(case: &Case) -> StepDeed
     ensures { result ≡ deed_asking case.now case.now.ticket }
 {
     match case.ticket {
-        None => Deed::Restart(case.process()),
-        Some(_) => Deed::Ask(*case),
+        None => StepDeed::Restart(case.process()),
+        Some(_) => StepDeed::Ask(*case),
     }
 }
 
 /// What is to be done about a case in doubt after these steps: the last case in doubt asks, or the process
 /// that collects votes is restarted.
-pub fn deed_of(case: &Case, steps: &[Step]) -> Deed
+pub fn deed_of(case: &Case, steps: &[AuditStep]) -> StepDeed
     ensures { result ≡ deed_behind case.now steps.now }
 {
     let mut last = *case;
     for step in steps {
         match step.found {
-            Found::Kept(_, Stands::Collecting) => return Deed::Restart(step.process),
-            Found::Kept(next, Stands::Prepare) => last = next,
+            StepFound::Kept(_, Stands::Collecting) => return StepDeed::Restart(step.process),
+            StepFound::Kept(next, Stands::Prepare) => last = next,
             _ => return asking(&last),
         }
     }

@@ -5,7 +5,7 @@ ghost use Rattle.audit_engine.specs.Audits.{ending_number};
 
 /// How an audit ended.
 #[derive(Clone, Copy, PartialEq, Eq)]
-pub enum Ending {
+pub enum AuditStatus {
     /// No line shows a mismatch.
     Agrees,
     /// A line shows a mismatch.
@@ -14,15 +14,15 @@ pub enum Ending {
     Refused,
 }
 
-impl Ending {
+impl AuditStatus {
     /// The exit status.
     pub fn number(self) -> u8
         ensures { result ≡ ending_number self }
     {
         match self {
-            Ending::Agrees => 0,
-            Ending::Refused => 1,
-            Ending::Differs => 3,
+            AuditStatus::Agrees => 0,
+            AuditStatus::Refused => 1,
+            AuditStatus::Differs => 3,
         }
     }
 }

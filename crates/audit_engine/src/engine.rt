@@ -3,20 +3,20 @@
 ghost use Rattle.std.specs.Prelude.{◌≡◌, ℕ, List, IfOk, IfErr};
 ghost use Rattle.std.specs.Io.KnownBytes.{Appends, Keeps};
 ghost use Rattle.audit_engine.specs.Audits.{IsAuditReport, IsAudited, IsTrueReport, ending_by};
-ghost use Rattle.audit_engine.specs.declared.ending.Ending.{Ending as AnyEnding};
+ghost use Rattle.audit_engine.specs.declared.ending.AuditStatus.{AuditStatus as AnyEnding};
 ghost use Rattle.report_io.specs.Streams.{IsInput, WritesFront};
-ghost use Rattle.tree_model.specs.Trees.{IsTree};
+ghost use Rattle.protocol.specs.Trees.{IsTree};
 
 use crate::detail::Detail;
-use crate::ending::Ending;
+use crate::ending::AuditStatus;
 use crate::lines::told;
-use link_script::ScriptError;
-use logs_script::{ProcessLog, damaged, read_logs, refusal};
+use audit_tree::{AuditError, Report, all_notes, audit_notes};
+use log_script::{ProcessLog, damaged, read_logs, refusal};
+use protocol::Tree;
 use report_io::{Failure, read_all, write_all};
 use std::alloc::{AllocError, Global};
 use std::io::{Read, Write};
-use tree_audit::{AuditError, Report, all_notes, audit_notes};
-use tree_model::Tree;
+use tree_script::ScriptError;
 
 /// Reads a tree with its logs, audits them, and writes a line for each case that is told of and the number
 /// of mismatches; as the detail asks, after a line that is in doubt or shows a mismatch what decided it and
@@ -31,7 +31,7 @@ pub fn run_audit<R: Read, W: Write>(
     detail: Detail,
     reader: &mut R,
     writer: &mut W,
-) -> Result<Ending, Failure>
+) -> Result<AuditStatus, Failure>
     ensures written { IfOk result (λ ending. (input : List ℕ) × (text : List ℕ)
         × IsInput (R.remaining reader.old) input × IsAuditReport detail ending input text
         × Appends (W.contents writer.old) (W.contents writer.new) text) }
@@ -56,12 +56,12 @@ pub fn run_audit<R: Read, W: Write>(
 }
 
 /// The answer to an input.
-fn answer(alloc: Global, detail: Detail, input: &[u8]) -> Result<(Vec<u8>, Ending), AllocError>
+fn answer(alloc: Global, detail: Detail, input: &[u8]) -> Result<(Vec<u8>, AuditStatus), AllocError>
     ensures { IfOk result (λ r. IsAuditReport detail r.1 input.now r.0.items) }
 {
     match read_logs(alloc, input) {
         Ok((tree, logs)) => audited(alloc, detail, &tree, logs.as_slice()),
-        Err(ScriptError::Fault(fault)) => Ok((refusal(alloc, fault)?, Ending::Refused)),
+        Err(ScriptError::Fault(fault)) => Ok((refusal(alloc, fault)?, AuditStatus::Refused)),
         Err(ScriptError::Memory) => Err(AllocError),
     }
 }
@@ -72,7 +72,7 @@ fn audited(
     detail: Detail,
     tree: &Tree,
     logs: &[ProcessLog],
-) -> Result<(Vec<u8>, Ending), AllocError>
+) -> Result<(Vec<u8>, AuditStatus), AllocError>
     requires { IsTree tree.now }
     ensures { IfOk result (λ r. IsAudited detail r.1 tree.now logs.now r.0.items) }
 {
@@ -85,19 +85,19 @@ fn audited(
             ))
         }
         Err(AuditError::Damaged(process, place)) => {
-            Ok((damaged(alloc, process, place)?, Ending::Refused))
+            Ok((damaged(alloc, process, place)?, AuditStatus::Refused))
         }
         Err(AuditError::Memory) => Err(AllocError),
     }
 }
 
 /// How an audit with this report ends.
-fn ending_of(report: &Report) -> Ending
+fn ending_of(report: &Report) -> AuditStatus
     ensures { result ≡ ending_by report.now.mismatches }
 {
     if report.mismatches == 0 {
-        Ending::Agrees
+        AuditStatus::Agrees
     } else {
-        Ending::Differs
+        AuditStatus::Differs
     }
 }

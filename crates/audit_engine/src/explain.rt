@@ -2,20 +2,20 @@
 
 ghost use Rattle.std.specs.Prelude.{◌≡◌, ◌++◌, IfOk, OnOk};
 ghost use Rattle.std.specs.List.{flat_map};
-ghost use Rattle.tree_headline.specs.auditor.Audits.{Logs};
-ghost use Rattle.tree_model.specs.Trees.{IsTree};
+ghost use Rattle.protocol.specs.Audits.{KeptLogs};
+ghost use Rattle.protocol.specs.Trees.{IsTree};
 ghost use Rattle.audit_engine.specs.Chains.{AreNamings};
 ghost use Rattle.audit_engine.specs.Explanations.{asker_text, deed_text, do_text, explained_line, explanation_text, found_text, is_explained as is_explained_line, kept_text, mend_text, mixed_text, place_text, reported_text, reporter_text, reports_text, stands_word as word_of_stands, step_text, steps_of as steps_by_decision, steps_text, told_part, told_text, unreported_text, way_text, why_text};
 
 use crate::chains::{deed_of, steps_of};
 use crate::lines::push_line;
 use crate::namings::TreeNamings;
-use crate::steps::{Deed, Found, Stands, Step};
-use inquire_core::presumed;
+use crate::steps::{AuditStep, Stands, StepDeed, StepFound};
+use audit_tree::{Own, ReportLine};
+use coord_records::presumed;
+use protocol::{Case, Outcome, Presumption, ProcessId, Reports, Ticket, Tree};
 use std::alloc::{AllocError, Global};
 use trace_lines::{outcome_word, push, push_case, push_number, push_ticket};
-use tree_audit::{Line, Own};
-use tree_model::{Case, Outcome, Presumption, ProcessId, Reports, Ticket, Tree};
 
 /// The word of what stands of a case.
 fn stands_word(stands: Stands) -> &'static str
@@ -61,7 +61,7 @@ fn push_place(out: &mut Vec<u8>, case: &Case, process: ProcessId) -> Result<(), 
 }
 
 /// What stands of a case that names the step's ticket.
-fn push_kept(out: &mut Vec<u8>, stands: Stands, step: &Step) -> Result<(), AllocError>
+fn push_kept(out: &mut Vec<u8>, stands: Stands, step: &AuditStep) -> Result<(), AllocError>
     ensures { OnOk result (out.new.items ≡ out.old.items ++ kept_text stands step.now.ticket) }
 {
     push(out, ": ")?;
@@ -71,25 +71,33 @@ fn push_kept(out: &mut Vec<u8>, stands: Stands, step: &Step) -> Result<(), Alloc
 }
 
 /// What a step found.
-fn push_found(out: &mut Vec<u8>, presumption: Presumption, step: &Step) -> Result<(), AllocError>
+fn push_found(
+    out: &mut Vec<u8>,
+    presumption: Presumption,
+    step: &AuditStep,
+) -> Result<(), AllocError>
     ensures { OnOk result (out.new.items
         ≡ out.old.items ++ found_text presumption step.now.ticket step.now.process step.now.found) }
 {
     match &step.found {
-        Found::Nothing => {
+        StepFound::Nothing => {
             push(out, "at ")?;
             push_number(out, u64::from(step.process.0))?;
             push(out, ": nothing kept, presumed ")?;
             push(out, outcome_word(presumed(presumption)))
         }
-        Found::Kept(case, stands) => {
+        StepFound::Kept(case, stands) => {
             push_place(out, case, step.process)?;
             push_kept(out, *stands, step)
         }
     }
 }
 
-fn push_step(out: &mut Vec<u8>, presumption: Presumption, step: &Step) -> Result<(), AllocError>
+fn push_step(
+    out: &mut Vec<u8>,
+    presumption: Presumption,
+    step: &AuditStep,
+) -> Result<(), AllocError>
     ensures { OnOk result (out.new.items ≡ out.old.items ++ step_text presumption step.now) }
 {
     push(out, "  ")?;
@@ -99,7 +107,11 @@ fn push_step(out: &mut Vec<u8>, presumption: Presumption, step: &Step) -> Result
     push(out, "\n")
 }
 
-fn push_steps(out: &mut Vec<u8>, presumption: Presumption, steps: &[Step]) -> Result<(), AllocError>
+fn push_steps(
+    out: &mut Vec<u8>,
+    presumption: Presumption,
+    steps: &[AuditStep],
+) -> Result<(), AllocError>
     ensures { OnOk result (out.new.items ≡ out.old.items ++ steps_text presumption steps.now) }
 {
     for step in steps {
@@ -109,15 +121,15 @@ fn push_steps(out: &mut Vec<u8>, presumption: Presumption, steps: &[Step]) -> Re
 }
 
 /// What to do about a case in doubt.
-fn push_deed(out: &mut Vec<u8>, deed: &Deed) -> Result<(), AllocError>
+fn push_deed(out: &mut Vec<u8>, deed: &StepDeed) -> Result<(), AllocError>
     ensures { OnOk result (out.new.items ≡ out.old.items ++ deed_text deed.now) }
 {
     match deed {
-        Deed::Ask(case) => {
+        StepDeed::Ask(case) => {
             push(out, "  do: ask ")?;
             push_case(out, case)?;
         }
-        Deed::Restart(process) => {
+        StepDeed::Restart(process) => {
             push(out, "  do: restart ")?;
             push_number(out, u64::from(process.0))?;
         }
@@ -141,10 +153,10 @@ fn steps_for(
     alloc: Global,
     tree: &Tree,
     namings: &TreeNamings,
-    line: &Line,
-) -> Result<Vec<Step>, AllocError>
+    line: &ReportLine,
+) -> Result<Vec<AuditStep>, AllocError>
     requires { IsTree tree.now }
-    ensures { IfOk result (λ steps. (logs : Logs) → AreNamings tree.now logs namings.now.entries
+    ensures { IfOk result (λ steps. (logs : KeptLogs) → AreNamings tree.now logs namings.now.entries
         → steps.items ≡ steps_by_decision tree.now logs line.now.case line.now.decision) }
 {
     match line.decision {
@@ -168,7 +180,7 @@ fn push_told_part(
 }
 
 /// What to do about the case of a line: about a mismatch, or else about a case in doubt after these steps.
-fn push_do(out: &mut Vec<u8>, line: &Line, steps: &[Step]) -> Result<(), AllocError>
+fn push_do(out: &mut Vec<u8>, line: &ReportLine, steps: &[AuditStep]) -> Result<(), AllocError>
     ensures { OnOk result (out.new.items ≡ out.old.items
         ++ do_text line.now.mismatch line.now.case steps.now) }
 {
@@ -185,10 +197,10 @@ fn push_explanation(
     alloc: Global,
     tree: &Tree,
     namings: &TreeNamings,
-    line: &Line,
+    line: &ReportLine,
 ) -> Result<(), AllocError>
     requires { IsTree tree.now }
-    ensures { OnOk result ((logs : Logs) → AreNamings tree.now logs namings.now.entries
+    ensures { OnOk result ((logs : KeptLogs) → AreNamings tree.now logs namings.now.entries
         → out.new.items ≡ out.old.items ++ explanation_text tree.now logs line.now) }
 {
     let steps = steps_for(alloc, tree, namings, line)?;
@@ -345,7 +357,7 @@ fn push_reports(
 }
 
 /// Whether a line is explained: it shows a mismatch, or its case is in doubt.
-fn is_explained(line: &Line) -> bool
+fn is_explained(line: &ReportLine) -> bool
     ensures { result ≡ is_explained_line line.now }
 {
     line.mismatch || line.own == Own::InDoubt
@@ -357,10 +369,10 @@ fn push_why(
     alloc: Global,
     tree: &Tree,
     namings: &TreeNamings,
-    line: &Line,
+    line: &ReportLine,
 ) -> Result<(), AllocError>
     requires { IsTree tree.now }
-    ensures { OnOk result ((logs : Logs) → AreNamings tree.now logs namings.now.entries
+    ensures { OnOk result ((logs : KeptLogs) → AreNamings tree.now logs namings.now.entries
         → out.new.items ≡ out.old.items ++ why_text tree.now logs line.now) }
 {
     if is_explained(line) {
@@ -376,10 +388,10 @@ pub(crate) fn push_explained(
     alloc: Global,
     tree: &Tree,
     namings: &TreeNamings,
-    line: &Line,
+    line: &ReportLine,
 ) -> Result<(), AllocError>
     requires { IsTree tree.now }
-    ensures { OnOk result ((logs : Logs) → AreNamings tree.now logs namings.now.entries
+    ensures { OnOk result ((logs : KeptLogs) → AreNamings tree.now logs namings.now.entries
         → out.new.items ≡ out.old.items ++ explained_line tree.now logs line.now) }
 {
     push_line(out, line)?;

@@ -28,8 +28,8 @@ mod steps;
 
 pub use chains::{all_namings, steps_of};
 pub use detail::Detail;
-pub use ending::Ending;
+pub use ending::AuditStatus;
 pub use engine::run_audit;
 pub use logs::run_log;
 pub use namings::{Namings, TreeNamings};
-pub use steps::{Deed, Found, Stands, Step};
+pub use steps::{AuditStep, Stands, StepDeed, StepFound};

@@ -2,10 +2,10 @@
 
 ghost use Rattle.std.specs.Prelude.{◌≡◌, ◌++◌, OnOk, IfOk};
 ghost use Rattle.std.specs.List.{flat_map};
-ghost use Rattle.tree_headline.specs.auditor.Audits.{Logs};
-ghost use Rattle.tree_model.specs.Trees.{IsTree};
-ghost use Rattle.tree_audit.specs.Reports.{mismatches_in};
-ghost use Rattle.tree_audit.specs.Tables.{AreNotes};
+ghost use Rattle.protocol.specs.Audits.{KeptLogs};
+ghost use Rattle.protocol.specs.Trees.{IsTree};
+ghost use Rattle.audit_tree.specs.Reports.{mismatches_in};
+ghost use Rattle.audit_tree.specs.Tables.{AreNotes};
 ghost use Rattle.audit_engine.specs.Chains.{AreNamings};
 ghost use Rattle.audit_engine.specs.Audits.{detailed_text, explained_text};
 ghost use Rattle.audit_engine.specs.Explanations.{explained_line};
@@ -15,11 +15,11 @@ use crate::chains::all_namings;
 use crate::detail::Detail;
 use crate::explain::push_explained;
 use crate::namings::TreeNamings;
+use audit_tree::{Own, Report, ReportLine, TreeNotes};
 use log_lines::push_listed;
+use protocol::{Reports, Tree};
 use std::alloc::{AllocError, Global};
 use trace_lines::{outcome_word, push, push_case, push_number};
-use tree_audit::{Line, Own, Report, TreeNotes};
-use tree_model::{Reports, Tree};
 
 /// The word of how a case stands by its own records.
 fn own_word(own: Own) -> &'static str
@@ -55,7 +55,7 @@ fn push_reports(out: &mut Vec<u8>, reports: &Option<Reports>) -> Result<(), Allo
     }
 }
 
-pub(crate) fn push_line(out: &mut Vec<u8>, line: &Line) -> Result<(), AllocError>
+pub(crate) fn push_line(out: &mut Vec<u8>, line: &ReportLine) -> Result<(), AllocError>
     ensures { OnOk result (out.new.items ≡ out.old.items ++ line_text line.now) }
 {
     push_case(out, &line.case)?;
@@ -76,7 +76,7 @@ fn push_count(out: &mut Vec<u8>, count: usize) -> Result<(), AllocError>
     push(out, "\n")
 }
 
-fn push_lines(out: &mut Vec<u8>, lines: &[Line]) -> Result<(), AllocError>
+fn push_lines(out: &mut Vec<u8>, lines: &[ReportLine]) -> Result<(), AllocError>
     ensures { OnOk result (out.new.items ≡ out.old.items ++ lines_text lines.now) }
 {
     for line in lines {
@@ -102,10 +102,10 @@ fn push_all_explained(
     alloc: Global,
     tree: &Tree,
     namings: &TreeNamings,
-    lines: &[Line],
+    lines: &[ReportLine],
 ) -> Result<(), AllocError>
     requires { IsTree tree.now }
-    ensures { OnOk result ((logs : Logs) → AreNamings tree.now logs namings.now.entries
+    ensures { OnOk result ((logs : KeptLogs) → AreNamings tree.now logs namings.now.entries
         → out.new.items ≡ out.old.items ++ flat_map (explained_line tree.now logs) lines.now) }
 {
     for line in lines {
@@ -123,7 +123,7 @@ fn explained_of(
 ) -> Result<Vec<u8>, AllocError>
     requires tree { IsTree tree.now }
     requires counted { report.now.mismatches ≡ mismatches_in report.now.lines.items }
-    ensures { IfOk result (λ text. (logs : Logs) → AreNotes tree.now logs notes.now.entries
+    ensures { IfOk result (λ text. (logs : KeptLogs) → AreNotes tree.now logs notes.now.entries
         → text.items ≡ explained_text tree.now logs report.now.lines.items) }
 {
     let namings = all_namings(alloc, tree, notes)?;
@@ -143,7 +143,7 @@ pub(crate) fn told(
 ) -> Result<Vec<u8>, AllocError>
     requires tree { IsTree tree.now }
     requires counted { report.now.mismatches ≡ mismatches_in report.now.lines.items }
-    ensures { IfOk result (λ text. (logs : Logs) → AreNotes tree.now logs notes.now.entries
+    ensures { IfOk result (λ text. (logs : KeptLogs) → AreNotes tree.now logs notes.now.entries
         → text.items ≡ detailed_text detail tree.now logs report.now.lines.items) }
 {
     match detail {

@@ -1,6 +1,6 @@
 //! A step upward, and what is to be done about a case.
 
-use tree_model::{Case, ProcessId, Ticket};
+use protocol::{Case, ProcessId, Ticket};
 
 /// What stands of a case at a coordinator, as it decides there.
 #[derive(Clone, Copy, PartialEq, Eq)]
@@ -19,7 +19,7 @@ pub enum Stands {
 
 /// What is found of a case that is asked about.
 #[derive(Clone, Copy, PartialEq, Eq)]
-pub enum Found {
+pub enum StepFound {
     /// No kept case of its transaction names its ticket.
     Nothing,
     /// The first that does, and what stands of it.
@@ -28,16 +28,16 @@ pub enum Found {
 
 /// A ticket asks its parent.
 #[derive(Clone, Copy, PartialEq, Eq)]
-pub struct Step {
+pub struct AuditStep {
     pub ticket: Ticket,
     /// The parent.
     pub process: ProcessId,
-    pub found: Found,
+    pub found: StepFound,
 }
 
 /// What is to be done about a case.
 #[derive(Clone, Copy, PartialEq, Eq)]
-pub enum Deed {
+pub enum StepDeed {
     /// Ask for the outcome of this case.
     Ask(Case),
     /// Restart this process, which aborts what it collects.

@@ -6,7 +6,7 @@ use Rattle.hex.specs.Hex.{decode_of as hex_decode}
 use Rattle.spellings.specs.Numerals.{number_at}
 use Rattle.spellings.specs.Words.{cut_at}
 use Rattle.script_words.specs.Steps.{◌>>=◌}
-use Rattle.link_script.specs.Names.{after_at}
+use Rattle.tree_script.specs.Names.{after_at}
 use Rattle.xa_xid.specs.declared.error.XidError.{XidError}
 use Rattle.xa_xid.specs.Text.{xid_text}
 use Rattle.xa_xid.specs.Xids.{IsXid, XidParts, branch_fault}

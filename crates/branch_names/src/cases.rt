@@ -2,16 +2,16 @@
 
 ghost use Rattle.std.specs.Prelude.{◌≡◌, IfOk, option_map, pos};
 ghost use Rattle.std.specs.Ordering.{int_eq};
-ghost use Rattle.tree_model.specs.Trees.{root_of as root_in};
+ghost use Rattle.protocol.specs.Trees.{root_of as root_in};
 ghost use Rattle.branch_names.specs.Cases.{IsInBytes, IsInWords, IsNaming, IsPlaced, OfXid, case_below, has_place as has_place_in, has_seat as has_seat_in, named_case_at, naming_alone, of_named, of_tree, placed as placed_in, words_at};
 
 use crate::forms::xid_in;
-use link_script::{case_of, ticket_of, txn_of};
 use log_text::xids::read_branch;
+use protocol::{Case, ProcessId, Ticket, Tree, Txn};
 use spellings::word::cut;
 use std::alloc::{AllocError, Global};
 use std::str;
-use tree_model::{Case, ProcessId, Ticket, Tree, Txn};
+use tree_script::{case_of, ticket_of, txn_of};
 use xa_xid::Xid;
 
 /// The format of an XID that names a case in words.
@@ -40,7 +40,7 @@ fn has_seat(tree: &Tree, ticket: Option<Ticket>) -> bool
 
 /// Whether a case has its place in a tree: its process is listed, its transaction is of the root, and its ticket of a process
 /// below the root, or it has none.
-#[tactic(auto, unfolding(tree_model::specs::Names::same_process))]
+#[tactic(auto, unfolding(protocol::specs::Names::same_process))]
 fn has_place(tree: &Tree, case: &Case) -> bool
     ensures { result ≡ has_place_in tree.now case.now }
 {
@@ -111,7 +111,7 @@ fn in_words(tree: &Tree, name: Option<&str>, xid: &Xid) -> Naming
 }
 
 /// The case of a transaction, and below the root of a ticket, if the parent is that of the ticket's process.
-#[tactic(auto, unfolding(tree_model::specs::Names::same_process))]
+#[tactic(auto, unfolding(protocol::specs::Names::same_process))]
 fn below(tree: &Tree, txn: Txn, named: Option<(ProcessId, Ticket)>) -> Option<Case>
     ensures { result ≡ case_below tree.now txn named }
 {

@@ -4,10 +4,10 @@ ghost use Rattle.std.specs.Prelude.{◌≡◌, IfOk, option_map};
 ghost use Rattle.branch_names.specs.Forms.{IsXidOf, base64_at, driver_at, driver_parts_at, format_at, hex_at, named_parts, or_else, quoted_at, sql_at, sql_parts_at};
 
 use base64::engine::general_purpose::STANDARD;
-use link_script::after;
 use spellings::numeral::number_of;
 use spellings::word::cut;
 use std::alloc::{AllocError, Global};
+use tree_script::after;
 use xa_xid::Xid;
 
 /// The bytes of a text in hexadecimal, in upper or lower case.

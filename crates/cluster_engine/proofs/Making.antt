@@ -1,24 +1,24 @@
 -- Events made one after another with a pass.
 use Rattle.std.proofs.Common.{◌≡◌, ◌∙◌, ◌+◌, ◌<◌, ◌≤◌, ap, sym, subst, refl, ℕ, zero, suc, Option, Some, None, Result, IfErr, IfSome, List, [], ◌∷◌, ◌++◌, length, length-append, get_or, slice_get, take, arith}
 use Rattle.std.proofs.lemmas.List.{take_all, take_more}
-use Rattle.tree_model.specs.declared.trees.TreeEntry.{TreeEntry}
-use Rattle.tree_model.specs.declared.events.Event.{Event}
-use Rattle.tree_model.specs.declared.events.Event.TheVariants.{Act as ActOf, Deliver, Settle, Restart, Trim}
-use Rattle.tree_threads.specs.Passes.{PassState}
-use Rattle.tree_threads.specs.declared.errors.PostError.{PostError}
-use Rattle.tree_cluster.specs.Passes.{IsLonger, new_pass, new_passes}
-use Rattle.tree_cluster.specs.Refusals.{IsRefused, NotSettled}
-use Rattle.tree_cluster.proofs.Passing.{as_long}
+use Rattle.protocol.specs.declared.trees.TreeProcess.{TreeProcess}
+use Rattle.protocol.specs.declared.events.Event.{Event}
+use Rattle.protocol.specs.declared.events.Event.TheVariants.{Act as ActOf, Deliver, Settle, Restart, Trim}
+use Rattle.cluster_process.specs.Passes.{PassState}
+use Rattle.cluster_process.specs.declared.errors.PostError.{PostError}
+use Rattle.cluster_tree.specs.Passes.{IsLonger, new_pass, new_passes}
+use Rattle.cluster_tree.specs.Refusals.{IsRefusedPost, NotSettled}
+use Rattle.cluster_tree.proofs.Passing.{as_long}
 use Rattle.cluster_engine.specs.Made.{AreLonger, AreMade, FirstMade, FirstStops, IsMade, NotMade, StopsAt}
 
-made_behind : (tree : List TreeEntry) (es : List Event) (e : Event) (old mid new : PassState) → AreMade tree es old mid
+made_behind : (tree : List TreeProcess) (es : List Event) (e : Event) (old mid new : PassState) → AreMade tree es old mid
     → IsMade tree e mid new → AreMade tree (es ++ e ∷ []) old new
 made_behind tree [] e old mid new same made = (new, subst (λ p. IsMade tree e p new) same made, refl)
 made_behind tree (x ∷ es) e old mid new first made =
     (first.0, first.1, made_behind tree es e first.0 mid new first.2 made)
 
 -- one event more
-pub made_more : (tree : List TreeEntry) (es : List Event) (i : ℕ) (e : Event) (old mid new : PassState) → i < length es
+pub made_more : (tree : List TreeProcess) (es : List Event) (i : ℕ) (e : Event) (old mid new : PassState) → i < length es
     → e ≡ get_or es i e → AreMade tree (take i es) old mid → IsMade tree e mid new
     → AreMade tree (take (i + 1) es) old new
 made_more tree es i e old mid new lt is before made =
@@ -27,7 +27,7 @@ made_more tree es i e old mid new lt is before made =
     (made_behind tree (take i es) e old mid new before made)
 
 -- all of them
-pub made_all : (tree : List TreeEntry) (es : List Event) (i : ℕ) (old new : PassState) → length es ≤ i
+pub made_all : (tree : List TreeProcess) (es : List Event) (i : ℕ) (old new : PassState) → length es ≤ i
     → AreMade tree (take i es) old new → AreMade tree es old new
 made_all tree es i old new past made = subst (λ l. AreMade tree l old new) (take_all i es past) made
 
@@ -73,18 +73,18 @@ some_passes (suc n) given some new =
     subst (λ l. 0 < length l) (sym (new ∙ rest.1)) first
 
 -- what was made with the first pass, and delivered with the others
-pub first_made : (tree : List TreeEntry) (es : List Event) (p q : PassState) (ps qs old new : List PassState)
+pub first_made : (tree : List TreeProcess) (es : List Event) (p q : PassState) (ps qs old new : List PassState)
     → old ≡ p ∷ ps → new ≡ q ∷ qs → AreMade tree es p q → AreLonger ps qs → FirstMade tree es old new
 first_made tree es p q ps qs old new was is made long =
     subst (λ l. FirstMade tree es l new) (sym was)
     (subst (λ l. FirstMade tree es (p ∷ ps) l) (sym is) (made, long))
 
-pub first_stops : (tree : List TreeEntry) (es : List Event) (p : PassState) (ps old : List PassState) (made : ℕ)
+pub first_stops : (tree : List TreeProcess) (es : List Event) (p : PassState) (ps old : List PassState) (made : ℕ)
     (why : PostError) → old ≡ p ∷ ps → StopsAt tree es p made why → FirstStops tree es old made why
 first_stops tree es p ps old made why was stops = subst (λ l. FirstStops tree es l made why) (sym was) stops
 
 -- likewise, if something was refused at all
-pub some_stops : (tree : List TreeEntry) (es : List Event) (p : PassState) (ps old : List PassState)
+pub some_stops : (tree : List TreeProcess) (es : List Event) (p : PassState) (ps old : List PassState)
     (r : Option (ℕ × PostError)) → old ≡ p ∷ ps → IfSome r (λ x. StopsAt tree es p x.0 x.1)
     → IfSome r (λ x. FirstStops tree es old x.0 x.1)
 some_stops tree es p ps old None was stops = stops
@@ -105,7 +105,7 @@ each_longer (p ∷ ps) (q ∷ qs) long each =
     (each 0 p (omega arith), each_longer ps qs (omega (arith, long)) (λ i d within. each (suc i) d (omega (arith, within))))
 
 -- the next event is refused
-pub stops_here : (tree : List TreeEntry) (es : List Event) (i : ℕ) (e : Event) (old mid : PassState) (why : PostError)
+pub stops_here : (tree : List TreeProcess) (es : List Event) (i : ℕ) (e : Event) (old mid : PassState) (why : PostError)
     → i < length es → e ≡ get_or es i e → AreMade tree (take i es) old mid → NotMade tree e mid why
     → StopsAt tree es old i why
 stops_here tree es i e old mid why lt is before not = record {
@@ -122,8 +122,8 @@ stops_here tree es i e old mid why lt is before not = record {
     next_at (x ∷ es) (suc i) e lt is = next_at es i e (omega (arith, lt)) is
 
 -- an event that is no settle was refused
-pub not_made_so : {A : Type 0} (r : Result A PostError) (tree : List TreeEntry) (event : Event) (pass : PassState)
-    → (event ≡ Settle → ⊥) → IfErr r (IsRefused tree event pass) → IfErr r (NotMade tree event pass)
+pub not_made_so : {A : Type 0} (r : Result A PostError) (tree : List TreeProcess) (event : Event) (pass : PassState)
+    → (event ≡ Settle → ⊥) → IfErr r (IsRefusedPost tree event pass) → IfErr r (NotMade tree event pass)
 not_made_so r tree (ActOf a) pass other h = h
 not_made_so r tree (Deliver k) pass other h = h
 not_made_so r tree Settle pass other h = absurd (other refl)
@@ -131,6 +131,6 @@ not_made_so r tree (Restart p bytes) pass other h = h
 not_made_so r tree (Trim p) pass other h = h
 
 -- a settle went no further
-pub not_settled_so : {A : Type 0} (r : Result A PostError) (tree : List TreeEntry) (event : Event) (pass : PassState)
+pub not_settled_so : {A : Type 0} (r : Result A PostError) (tree : List TreeProcess) (event : Event) (pass : PassState)
     → event ≡ Settle → IfErr r (NotSettled tree) → IfErr r (NotMade tree event pass)
 not_settled_so r tree event pass is h = subst (λ (e : Event). IfErr r (NotMade tree e pass)) (sym is) h

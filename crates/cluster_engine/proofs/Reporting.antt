@@ -2,26 +2,26 @@
 use Rattle.std.proofs.Common.{◌≡◌, ◌∙◌, ◌⊎◌, ◌+◌, ◌<◌, ◌≤◌, ap, refl, sym, subst, inl, inr, eqb, eq-eqb, if◌then◌else◌, Bool, true, false, ℕ, zero, suc, List, [], ◌∷◌, All, Result, Ok, Err, IfOk, arith}
 use Rattle.std.proofs.lemmas.Bool.{cases_lt}
 use Rattle.std.proofs.lemmas.List.Elements.{All-cons, All-nil}
-use Rattle.tree_model.specs.declared.events.Entry.{Entry}
-use Rattle.tree_model.specs.declared.events.Event.{Event}
-use Rattle.tree_model.specs.declared.trees.TreeEntry.{TreeEntry}
-use Rattle.link_script.specs.Inputs.{IsScript}
+use Rattle.protocol.specs.declared.events.JournalEntry.{JournalEntry}
+use Rattle.protocol.specs.declared.events.Event.{Event}
+use Rattle.protocol.specs.declared.trees.TreeProcess.{TreeProcess}
+use Rattle.tree_script.specs.Inputs.{IsScript}
 use Rattle.report_io.specs.declared.streams.Failure.{Failure}
 use Rattle.report_io.specs.declared.streams.Failure.TheVariants as failure
 use Rattle.report_io.specs.declared.status.Status.{Status}
 use Rattle.report_io.specs.declared.status.Status.TheVariants.{Ended, Refused, Stopped}
-use Rattle.tree_threads.specs.declared.errors.PostError.{PostError}
-use Rattle.tree_threads.specs.Passes.{PassState}
-use Rattle.tree_ties.specs.Views.{AreBelow, pairs_by}
-use Rattle.tree_cluster.specs.Closing.{IsMet}
-use Rattle.tree_cluster.specs.Passes.{IsDelivery, IsLonger, new_pass, new_passes}
-use Rattle.cluster_engine.specs.declared.engine.Output.{Output}
+use Rattle.cluster_process.specs.declared.errors.PostError.{PostError}
+use Rattle.cluster_process.specs.Passes.{PassState}
+use Rattle.cluster_ties.specs.Views.{AreBelow, pairs_by}
+use Rattle.cluster_tree.specs.Closing.{IsMet}
+use Rattle.cluster_tree.specs.Passes.{IsDelivery, IsLonger, new_pass, new_passes}
+use Rattle.cluster_engine.specs.declared.engine.ClusterOutput.{ClusterOutput}
 use Rattle.cluster_engine.specs.Made.{AreLonger, AreMade, FirstMade, FirstStops, StopsAt}
-use Rattle.cluster_engine.specs.Reports.{AreAsked, CannotReport, CannotWrite, ClosesUnnumbered, IsClusterReport, IsPostFailure, RefusesBehind, RefusesOne, RunsTree, TellsClosed, Writes}
+use Rattle.cluster_engine.specs.Reports.{AreAsked, CannotReport, CannotWrite, ClosesUnnumbered, IsClusterReport, IsPostFailure, RefusesBehind, RefusesOne, RunsTree, TellsClosed, WritesReport}
 use Rattle.cluster_engine.proofs.Making.{AreNext, first_new}
 
-by_status : (output : Output) (status : Status) (input : List ℕ) (tree : List TreeEntry) (events : List Event)
-    (text : List ℕ) → IsScript input tree events → Writes output status tree events text
+by_status : (output : ClusterOutput) (status : Status) (input : List ℕ) (tree : List TreeProcess) (events : List Event)
+    (text : List ℕ) → IsScript input tree events → WritesReport output status tree events text
     → IsClusterReport output status input text
 by_status output Ended input tree events text script writes =
     record { tree = tree; events = events; script = script; writes = writes }
@@ -30,16 +30,16 @@ by_status output Stopped input tree events text script writes =
 by_status output Refused input tree events text script writes = absurd writes
 
 -- what is written of a script's tree is the report of the script
-pub reported : {A E : Type 0} (text_of : A × Status → List ℕ) (output : Output) (input : List ℕ)
-    (tree : List TreeEntry) (events : List Event) (made : Result (A × Status) E) → IsScript input tree events
-    → IfOk made (λ r. Writes output r.1 tree events (text_of r))
+pub reported : {A E : Type 0} (text_of : A × Status → List ℕ) (output : ClusterOutput) (input : List ℕ)
+    (tree : List TreeProcess) (events : List Event) (made : Result (A × Status) E) → IsScript input tree events
+    → IfOk made (λ r. WritesReport output r.1 tree events (text_of r))
     → IfOk made (λ r. IsClusterReport output r.1 input (text_of r))
 reported text_of output input tree events (Ok r) script writes =
     by_status output r.1 input tree events (text_of r) script writes
 reported text_of output input tree events (Err e) script writes = tt
 
 -- the first of some new passes is the one that leads
-stops_first : (tree : List TreeEntry) (events : List Event) (workers : ℕ) (given : List PassState) (made : ℕ)
+stops_first : (tree : List TreeProcess) (events : List Event) (workers : ℕ) (given : List PassState) (made : ℕ)
     (why : PostError) → 0 < workers → given ≡ new_passes workers → FirstStops tree events given made why
     → StopsAt tree events (new_pass 0) made why
 stops_first tree events zero given made why some new stops = absurd (omega (arith, some))
@@ -47,12 +47,12 @@ stops_first tree events (suc n) given made why some new stops =
     subst (λ l. FirstStops tree events l made why) (new ∙ (first_new n).1) stops
 
 -- the line of a refused event is what is written of a run that stopped there
-pub refused_written : {A E : Type 0} (text_of : A × Status → List ℕ) (output : Output) (tree : List TreeEntry)
+pub refused_written : {A E : Type 0} (text_of : A × Status → List ℕ) (output : ClusterOutput) (tree : List TreeProcess)
     (events : List Event) (workers : ℕ) (given : List PassState) (count : ℕ) (why : PostError)
     (made : Result (A × Status) E) → 0 < workers → given ≡ new_passes workers
     → FirstStops tree events given count why
     → IfOk made (λ r. RefusesBehind count why (text_of r)) → IfOk made (λ r. r.1 ≡ Stopped)
-    → IfOk made (λ r. Writes output r.1 tree events (text_of r))
+    → IfOk made (λ r. WritesReport output r.1 tree events (text_of r))
 refused_written text_of output tree events workers given count why (Ok r) some new stops line status =
     let refuses : RefusesOne tree events (text_of r) = record {
       made = count;
@@ -60,7 +60,7 @@ refused_written text_of output tree events workers given count why (Ok r) some n
       stops = stops_first tree events workers given count why some new stops;
       tells = line;
     } in
-    subst (λ s. Writes output s tree events (text_of r)) (sym status) refuses
+    subst (λ s. WritesReport output s tree events (text_of r)) (sym status) refuses
 refused_written text_of output tree events workers given count why (Err e) some new stops line status = tt
 
 -- a pass that was new, with which messages were delivered alone, has deliveries alone
@@ -68,7 +68,7 @@ all_deliver : (c : ℕ) (q : PassState) → IsLonger (new_pass c) q → All IsDe
 all_deliver c q long = subst (All IsDelivery) (sym long.pairs) long.deliver
 
 -- of the passes of those who do not lead, the first of whom has this number
-others_deliver : (journal : List (ℕ × Entry)) (n c : ℕ) (ps qs : List PassState) → AreNext n c ps → AreLonger ps qs
+others_deliver : (journal : List (ℕ × JournalEntry)) (n c : ℕ) (ps qs : List PassState) → AreNext n c ps → AreLonger ps qs
     → All (IsMet journal) qs → (k : ℕ) → c ≤ k → k < c + n → All IsDelivery (pairs_by k 0 journal)
 others_deliver journal zero c ps qs next long met k low high = absurd (omega (arith, low, high))
 others_deliver journal (suc n) c [] qs next long met k low high = absurd next
@@ -85,7 +85,7 @@ others_deliver journal (suc n) c (p ∷ ps) (q ∷ qs) next long met k low high 
     ]
 
 -- each entry of a journal was asked for, where those under each number but the first are deliveries
-all_asked : (n k : ℕ) (journal : List (ℕ × Entry)) → AreBelow n journal
+all_asked : (n k : ℕ) (journal : List (ℕ × JournalEntry)) → AreBelow n journal
     → ((c : ℕ) → 1 ≤ c → c < n → All IsDelivery (pairs_by c k journal)) → AreAsked journal
 all_asked n k [] below others = All-nil (λ x. (x.0 ≡ 0) ⊎ IsDelivery x)
 all_asked n k (x ∷ xs) below others =
@@ -107,7 +107,7 @@ all_asked n k (x ∷ xs) below others =
     rest c true all = λ i d within. all (suc i) d (omega (arith, within))
     rest c false all = all
 
-runs_tree : (output : Output) (tree : List TreeEntry) (events : List Event) (n : ℕ) (rest : List PassState)
+runs_tree : (output : ClusterOutput) (tree : List TreeProcess) (events : List Event) (n : ℕ) (rest : List PassState)
     (q : PassState) (qs : List PassState) (text : List ℕ) → AreNext n 1 rest → AreMade tree events (new_pass 0) q
     → AreLonger rest qs → TellsClosed output tree (suc n) (q ∷ qs) text → RunsTree output tree events text
 runs_tree output tree events n rest q qs text next made long told = record {
@@ -123,7 +123,7 @@ runs_tree output tree events n rest q qs text next made long told = record {
   tells = told.tells;
 }
 
-told_so : (output : Output) (tree : List TreeEntry) (events : List Event) (n : ℕ) (rest passes : List PassState)
+told_so : (output : ClusterOutput) (tree : List TreeProcess) (events : List Event) (n : ℕ) (rest passes : List PassState)
     (text : List ℕ) → AreNext n 1 rest → FirstMade tree events (new_pass 0 ∷ rest) passes
     → TellsClosed output tree (suc n) passes text → RunsTree output tree events text
 told_so output tree events n rest [] text next made told = absurd made
@@ -131,16 +131,16 @@ told_so output tree events n rest (q ∷ qs) text next made told =
     runs_tree output tree events n rest q qs text next made.0 made.1 told
 
 -- what a closed cluster tells is what is written of its run
-pub closed_written : {A E : Type 0} (text_of : A × Status → List ℕ) (output : Output) (tree : List TreeEntry)
+pub closed_written : {A E : Type 0} (text_of : A × Status → List ℕ) (output : ClusterOutput) (tree : List TreeProcess)
     (events : List Event) (workers callers : ℕ) (given passes : List PassState) (made : Result (A × Status) E)
     → 0 < workers → workers ≡ callers → given ≡ new_passes workers → FirstMade tree events given passes
     → IfOk made (λ r. TellsClosed output tree callers passes (text_of r)) → IfOk made (λ r. r.1 ≡ Ended)
-    → IfOk made (λ r. Writes output r.1 tree events (text_of r))
+    → IfOk made (λ r. WritesReport output r.1 tree events (text_of r))
 closed_written text_of output tree events zero callers given passes made some as_many new first told status =
     absurd (omega (arith, some))
 closed_written text_of output tree events (suc n) callers given passes (Ok r) some as_many new first told status =
     let rest = first_new n in
-    subst (λ s. Writes output s tree events (text_of r)) (sym status)
+    subst (λ s. WritesReport output s tree events (text_of r)) (sym status)
     (told_so output tree events n rest.0 passes (text_of r) rest.2
     (subst (λ l. FirstMade tree events l passes) (new ∙ rest.1) first)
     (subst (λ k. TellsClosed output tree k passes (text_of r)) (sym as_many) told))
@@ -149,14 +149,14 @@ closed_written text_of output tree events (suc n) callers given passes (Err e) s
 -- Why nothing is written.
 
 -- the journal of a closed cluster has too many messages to be told
-pub not_closed : (tree : List TreeEntry) (events : List Event) (why : Failure)
+pub not_closed : (tree : List TreeProcess) (events : List Event) (why : Failure)
     → (why ≡ failure.Memory) ⊎ ((why ≡ failure.Exhausted) × ClosesUnnumbered tree)
     → (why ≡ failure.Memory) ⊎ CannotWrite tree events why
 not_closed tree events why (inl memory) = inl memory
 not_closed tree events why (inr (exhausted, closes)) = inr (inr (exhausted, closes))
 
 -- one of the events was refused for a reason after which no run goes on
-pub not_posted : (tree : List TreeEntry) (events : List Event) (workers : ℕ) (given : List PassState) (made : ℕ)
+pub not_posted : (tree : List TreeProcess) (events : List Event) (workers : ℕ) (given : List PassState) (made : ℕ)
     (refusal : PostError) (why : Failure) → 0 < workers → given ≡ new_passes workers
     → FirstStops tree events given made refusal → (why ≡ failure.Memory) ⊎ IsPostFailure refusal why
     → (why ≡ failure.Memory) ⊎ CannotWrite tree events why
@@ -170,7 +170,7 @@ not_posted tree events workers given made refusal why some new stops (inr fails)
     }))
 
 -- nothing is written of a script
-pub not_reported : (input : List ℕ) (tree : List TreeEntry) (events : List Event) (why : Failure)
+pub not_reported : (input : List ℕ) (tree : List TreeProcess) (events : List Event) (why : Failure)
     → IsScript input tree events → (why ≡ failure.Memory) ⊎ CannotWrite tree events why
     → (why ≡ failure.Memory) ⊎ CannotReport input why
 not_reported input tree events why script (inl memory) = inl memory

@@ -3,21 +3,21 @@ use Rattle.std.proofs.Common.{◌≡◌, ◌∙◌, ◌+◌, ◌<◌, ap, sym, r
 use Rattle.std.proofs.lemmas.List.{length-take-le, take_more}
 use Rattle.std.specs.Global.{Vec}
 use Rattle.std.specs.Option.{option_to_list}
-use Rattle.tree_model.specs.declared.events.Entry.{Entry}
-use Rattle.tree_model.specs.declared.events.Told.{Told}
-use Rattle.journal_turns.specs.Turns.{all_of}
-use Rattle.journal_turns.proofs.Gathered.{all_more}
+use Rattle.protocol.specs.declared.events.JournalEntry.{JournalEntry}
+use Rattle.protocol.specs.declared.events.Told.{Told}
+use Rattle.cluster_turns.specs.Turns.{all_of}
+use Rattle.cluster_turns.proofs.Gathered.{all_more}
 use Rattle.cluster_engine.specs.declared.told.ToldPlace.{ToldPlace}
 use Rattle.cluster_engine.specs.Told.{told_in, told_places}
 
-told_both : (xs ys : List (ℕ × Entry)) → told_in (xs ++ ys) ≡ told_in xs ++ told_in ys
+told_both : (xs ys : List (ℕ × JournalEntry)) → told_in (xs ++ ys) ≡ told_in xs ++ told_in ys
 told_both [] ys = refl
 told_both (x ∷ xs) ys =
     let one = option_to_list x.1.reaction.told in
     ap (λ l. one ++ l) (told_both xs ys) ∙ sym (append_assoc one (told_in xs) (told_in ys))
 
 -- what is told up to the next entry
-pub told_next : (first : List Told) (xs : List (ℕ × Entry)) (i : ℕ) (d : ℕ × Entry) (old new : List Told)
+pub told_next : (first : List Told) (xs : List (ℕ × JournalEntry)) (i : ℕ) (d : ℕ × JournalEntry) (old new : List Told)
     → i < length xs → new ≡ old ++ option_to_list (get_or xs i d).1.reaction.told
     → old ≡ first ++ told_in (take i xs) → new ≡ first ++ told_in (take (i + 1) xs)
 told_next first xs i d old new lt pushed so =
@@ -29,7 +29,7 @@ told_next first xs i d old new lt pushed so =
     pushed ∙ ap (λ l. l ++ one) so ∙ append_assoc first (told_in (take i xs)) one ∙ ap (λ l. first ++ l) (sym more)
 
 -- what is told up to the next turn
-pub told_turn : (es : List (Vec (ℕ × Entry))) (i : ℕ) (d : Vec (ℕ × Entry)) (old new : List Told) → i < length es
+pub told_turn : (es : List (Vec (ℕ × JournalEntry))) (i : ℕ) (d : Vec (ℕ × JournalEntry)) (old new : List Told) → i < length es
     → new ≡ old ++ told_in (get_or es i d).items → old ≡ told_in (all_of (take i es))
     → new ≡ told_in (all_of (take (i + 1) es))
 told_turn es i d old new lt pushed so =

@@ -3,20 +3,20 @@ use Rattle.std.proofs.Common.{◌≡◌, ◌∙◌, ◌+◌, ◌<◌, ap, sym, �
 use Rattle.std.proofs.Common.{◌≤◌, zero, suc, add-one, refl}
 use Rattle.std.proofs.Math.Seq.{drop-cons}
 use Rattle.std.specs.List.{flat_map}
-use Rattle.tree_model.specs.declared.events.Entry.{Entry}
+use Rattle.protocol.specs.declared.events.JournalEntry.{JournalEntry}
 use Rattle.tree_engine.specs.Failures.{message_count}
 use Rattle.trace_lines.specs.Trace.{entries_text, entry_text}
-use Rattle.tree_ties.specs.Views.{entries_in}
+use Rattle.cluster_ties.specs.Views.{entries_in}
 use Rattle.std.specs.Global.{Vec}
-use Rattle.journal_turns.specs.Turns.{all_of}
+use Rattle.cluster_turns.specs.Turns.{all_of}
 
 -- the entry at a place and those after it
-dropped_at : (xs : List (ℕ × Entry)) (i : ℕ) (d : ℕ × Entry) → i < length xs
+dropped_at : (xs : List (ℕ × JournalEntry)) (i : ℕ) (d : ℕ × JournalEntry) → i < length xs
     → drop i xs ≡ get_or xs i d ∷ drop (i + 1) xs
 dropped_at xs i d within = rw add-one (drop-cons xs i d within)
 
 -- the text after one entry more
-pub entry_added : (xs : List (ℕ × Entry)) (i : ℕ) (d : ℕ × Entry) (sent next : ℕ) (old new all : List ℕ)
+pub entry_added : (xs : List (ℕ × JournalEntry)) (i : ℕ) (d : ℕ × JournalEntry) (sent next : ℕ) (old new all : List ℕ)
     → i < length xs → next ≡ sent + length (get_or xs i d).1.reaction.messages
     → new ≡ old ++ entry_text sent (get_or xs i d).1
     → old ++ entries_text sent (entries_in (drop i xs)) ≡ all
@@ -31,16 +31,16 @@ entry_added xs i d sent next old new all lt then pushed so =
     ∙ ap (λ es. old ++ entries_text sent es) (sym rest) ∙ so
 
 -- how many messages the entries from this one on send
-rest_sent : (xs : List (ℕ × Entry)) (i : ℕ) (d : ℕ × Entry) → i < length xs
+rest_sent : (xs : List (ℕ × JournalEntry)) (i : ℕ) (d : ℕ × JournalEntry) → i < length xs
     → message_count (entries_in (drop i xs))
     ≡ length (get_or xs i d).1.reaction.messages + message_count (entries_in (drop (i + 1) xs))
 rest_sent xs i d within =
     let rest = entries_in (drop (i + 1) xs) in
-    ap (λ (ys : List (ℕ × Entry)). message_count (entries_in ys)) (dropped_at xs i d within)
-    ∙ length-append (get_or xs i d).1.reaction.messages (flat_map (λ (e : Entry). e.reaction.messages) rest)
+    ap (λ (ys : List (ℕ × JournalEntry)). message_count (entries_in ys)) (dropped_at xs i d within)
+    ∙ length-append (get_or xs i d).1.reaction.messages (flat_map (λ (e : JournalEntry). e.reaction.messages) rest)
 
 -- N are sent after one entry more
-pub sent_more : (xs : List (ℕ × Entry)) (i : ℕ) (d : ℕ × Entry) (sent next total : ℕ) → i < length xs
+pub sent_more : (xs : List (ℕ × JournalEntry)) (i : ℕ) (d : ℕ × JournalEntry) (sent next total : ℕ) → i < length xs
     → next ≡ sent + length (get_or xs i d).1.reaction.messages
     → sent + message_count (entries_in (drop i xs)) ≡ total
     → next + message_count (entries_in (drop (i + 1) xs)) ≡ total
@@ -48,7 +48,7 @@ sent_more xs i d sent next total within more so =
     let rest = rest_sent xs i d within in omega (arith, rest, more, so)
 
 -- where those of the next entry come to 2^64 all do
-pub sent_past : (xs : List (ℕ × Entry)) (i : ℕ) (d : ℕ × Entry) (sent total : ℕ) → i < length xs
+pub sent_past : (xs : List (ℕ × JournalEntry)) (i : ℕ) (d : ℕ × JournalEntry) (sent total : ℕ) → i < length xs
     → 2 ^ 64 ≤ sent + length (get_or xs i d).1.reaction.messages
     → sent + message_count (entries_in (drop i xs)) ≡ total
     → 2 ^ 64 ≤ total
@@ -62,57 +62,57 @@ none_past (y ∷ ys) zero h = absurd (omega (arith, h))
 none_past (y ∷ ys) (suc k) h = none_past ys k (omega (arith, h))
 
 -- none is left after the last
-pub all_added : (xs : List (ℕ × Entry)) (i sent : ℕ) (old all : List ℕ) → length xs ≤ i
+pub all_added : (xs : List (ℕ × JournalEntry)) (i sent : ℕ) (old all : List ℕ) → length xs ≤ i
     → old ++ entries_text sent (entries_in (drop i xs)) ≡ all → old ≡ all
 all_added xs i sent old all past so =
     sym (append-nil old)
-    ∙ ap (λ (ys : List (ℕ × Entry)). old ++ entries_text sent (entries_in ys)) (sym (none_past xs i past)) ∙ so
+    ∙ ap (λ (ys : List (ℕ × JournalEntry)). old ++ entries_text sent (entries_in ys)) (sym (none_past xs i past)) ∙ so
 
-pub all_sent : (xs : List (ℕ × Entry)) (i sent total : ℕ) → length xs ≤ i
+pub all_sent : (xs : List (ℕ × JournalEntry)) (i sent total : ℕ) → length xs ≤ i
     → sent + message_count (entries_in (drop i xs)) ≡ total → sent ≡ total
 all_sent xs i sent total past so =
     let none : message_count (entries_in (drop i xs)) ≡ 0 =
-    ap (λ (ys : List (ℕ × Entry)). message_count (entries_in ys)) (none_past xs i past) in
+    ap (λ (ys : List (ℕ × JournalEntry)). message_count (entries_in ys)) (none_past xs i past) in
     omega (arith, none, so)
 
 -- Turn by turn.
 
-texts_both : (sent : ℕ) (xs ys : List Entry)
+texts_both : (sent : ℕ) (xs ys : List JournalEntry)
     → entries_text sent (xs ++ ys) ≡ entries_text sent xs ++ entries_text (sent + message_count xs) ys
 texts_both sent [] ys = ap (λ n. entries_text n ys) (let z : sent ≡ sent + 0 = omega arith in z)
 texts_both sent (x ∷ xs) ys =
     let n = length x.reaction.messages in
-    let long = length-append x.reaction.messages (flat_map (λ (e : Entry). e.reaction.messages) xs) in
+    let long = length-append x.reaction.messages (flat_map (λ (e : JournalEntry). e.reaction.messages) xs) in
     let count : (sent + n) + message_count xs ≡ sent + message_count (x ∷ xs) = omega (arith, long) in
     ap (λ l. entry_text sent x ++ l)
     (texts_both (sent + n) xs ys ∙ ap (λ k. entries_text (sent + n) xs ++ entries_text k ys) count)
     ∙ sym (append_assoc (entry_text sent x) (entries_text (sent + n) xs)
     (entries_text (sent + message_count (x ∷ xs)) ys))
 
-counts_both : (xs ys : List Entry) → message_count (xs ++ ys) ≡ message_count xs + message_count ys
+counts_both : (xs ys : List JournalEntry) → message_count (xs ++ ys) ≡ message_count xs + message_count ys
 counts_both [] ys = zero_plus (message_count ys)
   where
     zero_plus : (n : ℕ) → n ≡ 0 + n
     zero_plus n = omega arith
 counts_both (x ∷ xs) ys =
     let both = counts_both xs ys in
-    let one = length-append x.reaction.messages (flat_map (λ (e : Entry). e.reaction.messages) (xs ++ ys)) in
-    let two = length-append x.reaction.messages (flat_map (λ (e : Entry). e.reaction.messages) xs) in
+    let one = length-append x.reaction.messages (flat_map (λ (e : JournalEntry). e.reaction.messages) (xs ++ ys)) in
+    let two = length-append x.reaction.messages (flat_map (λ (e : JournalEntry). e.reaction.messages) xs) in
     omega (arith, both, one, two)
 
-in_both : (xs ys : List (ℕ × Entry)) → entries_in (xs ++ ys) ≡ entries_in xs ++ entries_in ys
+in_both : (xs ys : List (ℕ × JournalEntry)) → entries_in (xs ++ ys) ≡ entries_in xs ++ entries_in ys
 in_both [] ys = refl
 in_both (x ∷ xs) ys = ap (λ l. x.1 ∷ l) (in_both xs ys)
 
 -- the entries of a turn and of those after it
-rest_entries : (es : List (Vec (ℕ × Entry))) (i : ℕ) (d : Vec (ℕ × Entry)) → i < length es
+rest_entries : (es : List (Vec (ℕ × JournalEntry))) (i : ℕ) (d : Vec (ℕ × JournalEntry)) → i < length es
     → entries_in (all_of (drop i es)) ≡ entries_in (get_or es i d).items ++ entries_in (all_of (drop (i + 1) es))
 rest_entries es i d within =
     let rest : drop i es ≡ get_or es i d ∷ drop (i + 1) es = rw add-one (drop-cons es i d within) in
     ap (λ l. entries_in (all_of l)) rest ∙ in_both (get_or es i d).items (all_of (drop (i + 1) es))
 
 -- the text after one turn more
-pub turn_added : (es : List (Vec (ℕ × Entry))) (i : ℕ) (d : Vec (ℕ × Entry)) (sent next : ℕ) (old new all : List ℕ)
+pub turn_added : (es : List (Vec (ℕ × JournalEntry))) (i : ℕ) (d : Vec (ℕ × JournalEntry)) (sent next : ℕ) (old new all : List ℕ)
     → i < length es → next ≡ sent + message_count (entries_in (get_or es i d).items)
     → new ≡ old ++ entries_text sent (entries_in (get_or es i d).items)
     → old ++ entries_text sent (entries_in (all_of (drop i es))) ≡ all
@@ -126,7 +126,7 @@ turn_added es i d sent next old new all lt then pushed so =
     ∙ ap (λ l. old ++ l) (sym (texts_both sent xs ys))
     ∙ ap (λ l. old ++ entries_text sent l) (sym (rest_entries es i d lt)) ∙ so
 
-turns_sent : (es : List (Vec (ℕ × Entry))) (i : ℕ) (d : Vec (ℕ × Entry)) → i < length es
+turns_sent : (es : List (Vec (ℕ × JournalEntry))) (i : ℕ) (d : Vec (ℕ × JournalEntry)) → i < length es
     → message_count (entries_in (all_of (drop i es)))
     ≡ message_count (entries_in (get_or es i d).items) + message_count (entries_in (all_of (drop (i + 1) es)))
 turns_sent es i d within =
@@ -134,7 +134,7 @@ turns_sent es i d within =
     ∙ counts_both (entries_in (get_or es i d).items) (entries_in (all_of (drop (i + 1) es)))
 
 -- N are sent after one turn more
-pub turn_more : (es : List (Vec (ℕ × Entry))) (i : ℕ) (d : Vec (ℕ × Entry)) (sent next total : ℕ) → i < length es
+pub turn_more : (es : List (Vec (ℕ × JournalEntry))) (i : ℕ) (d : Vec (ℕ × JournalEntry)) (sent next total : ℕ) → i < length es
     → next ≡ sent + message_count (entries_in (get_or es i d).items)
     → sent + message_count (entries_in (all_of (drop i es))) ≡ total
     → next + message_count (entries_in (all_of (drop (i + 1) es))) ≡ total
@@ -142,7 +142,7 @@ turn_more es i d sent next total within more so =
     let rest = turns_sent es i d within in omega (arith, rest, more, so)
 
 -- where those of the next turn come to 2^64 all do
-pub turn_past : (es : List (Vec (ℕ × Entry))) (i : ℕ) (d : Vec (ℕ × Entry)) (sent total : ℕ) → i < length es
+pub turn_past : (es : List (Vec (ℕ × JournalEntry))) (i : ℕ) (d : Vec (ℕ × JournalEntry)) (sent total : ℕ) → i < length es
     → 2 ^ 64 ≤ sent + message_count (entries_in (get_or es i d).items)
     → sent + message_count (entries_in (all_of (drop i es))) ≡ total
     → 2 ^ 64 ≤ total
@@ -150,9 +150,9 @@ turn_past es i d sent total within past so =
     let rest = turns_sent es i d within in omega (arith, rest, past, so)
 
 -- none is left after the last
-pub turns_added : (es : List (Vec (ℕ × Entry))) (i sent : ℕ) (old all : List ℕ) → length es ≤ i
+pub turns_added : (es : List (Vec (ℕ × JournalEntry))) (i sent : ℕ) (old all : List ℕ) → length es ≤ i
     → old ++ entries_text sent (entries_in (all_of (drop i es))) ≡ all → old ≡ all
 turns_added es i sent old all past so =
     sym (append-nil old)
-    ∙ ap (λ (ys : List (Vec (ℕ × Entry))). old ++ entries_text sent (entries_in (all_of ys))) (sym (none_past es i past))
+    ∙ ap (λ (ys : List (Vec (ℕ × JournalEntry))). old ++ entries_text sent (entries_in (all_of ys))) (sym (none_past es i past))
     ∙ so

@@ -1,28 +1,28 @@
 -- What the engine of `rstar run` writes.
 use Rattle.std.specs.Prelude.{◌≡◌, ◌+◌, ◌≤◌, ◌^◌, ◌⊎◌, ℕ, All, Option, Some, None, List, [], ◌∷◌, ◌++◌, codes}
-use Rattle.tree_model.specs.declared.events.Entry.{Entry}
-use Rattle.tree_model.specs.declared.events.Event.{Event}
-use Rattle.tree_model.specs.declared.events.StepError.TheVariants as steps
-use Rattle.tree_model.specs.declared.records.LogRecord.{LogRecord}
-use Rattle.tree_model.specs.declared.trees.TreeEntry.{TreeEntry}
-use Rattle.tree_model.specs.Errors.{step_error_number}
+use Rattle.protocol.specs.declared.events.JournalEntry.{JournalEntry}
+use Rattle.protocol.specs.declared.events.Event.{Event}
+use Rattle.protocol.specs.declared.events.StepError.TheVariants as steps
+use Rattle.protocol.specs.declared.records.LogRecord.{LogRecord}
+use Rattle.protocol.specs.declared.trees.TreeProcess.{TreeProcess}
+use Rattle.protocol.specs.Errors.{step_error_number}
 use Rattle.trace_lines.specs.Trace.{entries_text}
-use Rattle.link_script.specs.Inputs.{IsScript}
+use Rattle.tree_script.specs.Inputs.{IsScript}
 use Rattle.report_io.specs.declared.status.Status.{Status}
 use Rattle.report_io.specs.declared.status.Status.TheVariants.{Ended, Refused, Stopped}
 use Rattle.report_io.specs.declared.streams.Failure.{Failure}
 use Rattle.report_io.specs.declared.streams.Failure.TheVariants as failure
-use Rattle.tree_ties.specs.Views.{AreBelow, entries_in}
-use Rattle.tree_threads.specs.Passes.{PassState}
-use Rattle.tree_threads.specs.declared.errors.PostError.{PostError}
-use Rattle.tree_threads.specs.declared.errors.PostError.TheVariants.{Stranger, JournalFull, Step, Memory}
-use Rattle.tree_cluster.specs.Closing.{AreMet, IsClosed, IsMet}
-use Rattle.tree_cluster.specs.Passes.{IsDelivery, new_pass}
+use Rattle.cluster_ties.specs.Views.{AreBelow, entries_in}
+use Rattle.cluster_process.specs.Passes.{PassState}
+use Rattle.cluster_process.specs.declared.errors.PostError.{PostError}
+use Rattle.cluster_process.specs.declared.errors.PostError.TheVariants.{Stranger, JournalFull, Step, Memory}
+use Rattle.cluster_tree.specs.Closing.{AreMet, IsClosed, IsMet}
+use Rattle.cluster_tree.specs.Passes.{IsDelivery, new_pass}
 use Rattle.tree_engine.specs.Failures.{message_count}
 use Rattle.tree_engine.specs.Runs.{IsFailure}
 use Rattle.tree_engine.specs.Trees.{RefusesScript, opened_text, refused_text}
-use Rattle.cluster_engine.specs.declared.engine.Output.{Output}
-use Rattle.cluster_engine.specs.declared.engine.Output.TheVariants.{Told, Trace}
+use Rattle.cluster_engine.specs.declared.engine.ClusterOutput.{ClusterOutput}
+use Rattle.cluster_engine.specs.declared.engine.ClusterOutput.TheVariants.{Told, Trace}
 use Rattle.cluster_engine.specs.Told.{TellsAll}
 use Rattle.cluster_engine.specs.Made.{AreMade, StopsAt}
 
@@ -32,23 +32,23 @@ abbrev pub same_line : List ℕ
 same_line = codes "replay same" ++ 10 ∷ []
 
 -- the journal as a trace
-abbrev pub journal_text : List TreeEntry → List (ℕ × Entry) → List ℕ
+abbrev pub journal_text : List TreeProcess → List (ℕ × JournalEntry) → List ℕ
 journal_text tree journal =
     (opened_text tree ++ entries_text 0 (entries_in journal)) ++ (codes "end" ++ 10 ∷ [])
 
 -- what was told, by boot and sequence, and after it this line
-abbrev pub TellsJournal : List (ℕ × Entry) → List ℕ → List ℕ → Type 0
+abbrev pub TellsJournal : List (ℕ × JournalEntry) → List ℕ → List ℕ → Type 0
 TellsJournal journal last text = (lines : List ℕ) × TellsAll journal lines × (text ≡ lines ++ last)
 
 -- what is written of a journal
-abbrev pub Tells : Output → List TreeEntry → List (ℕ × Entry) → List ℕ → Type 0
+abbrev pub Tells : ClusterOutput → List TreeProcess → List (ℕ × JournalEntry) → List ℕ → Type 0
 Tells Told tree journal text = TellsJournal journal same_line text
 Tells Trace tree journal text = text ≡ journal_text tree journal
 
 -- A cluster of this tree, of N callers, was closed with these passes: the text tells its journal.
-pub record TellsClosed (output : Output) (tree : List TreeEntry) (callers : ℕ) (passes : List PassState)
+pub record TellsClosed (output : ClusterOutput) (tree : List TreeProcess) (callers : ℕ) (passes : List PassState)
     (text : List ℕ) : Type 0 where
-  pub journal : List (ℕ × Entry)
+  pub journal : List (ℕ × JournalEntry)
   pub logs : List (List LogRecord)
   pub closed : IsClosed tree journal logs
   pub met : AreMet journal passes
@@ -56,15 +56,15 @@ pub record TellsClosed (output : Output) (tree : List TreeEntry) (callers : ℕ)
   pub tells : Tells output tree journal text
 
 -- each of these entries was asked for: it is under the number of the caller who leads, or a message is delivered in it
-abbrev pub AreAsked : List (ℕ × Entry) → Type 0
+abbrev pub AreAsked : List (ℕ × JournalEntry) → Type 0
 AreAsked journal = All (λ x. (x.0 ≡ 0) ⊎ IsDelivery x) journal
 
 -- The text tells the journal of a closed cluster on this tree. It is a run of the tree, of which the headline holds,
 -- and in which mismatches are reported; a tree on one thread that makes its events leaves the same logs. These events were
 -- made with one pass, in order; the journal has just the pairs of that pass under its caller's number, and besides
 -- deliveries alone.
-pub record RunsTree (output : Output) (tree : List TreeEntry) (events : List Event) (text : List ℕ) : Type 0 where
-  pub journal : List (ℕ × Entry)
+pub record RunsTree (output : ClusterOutput) (tree : List TreeProcess) (events : List Event) (text : List ℕ) : Type 0 where
+  pub journal : List (ℕ × JournalEntry)
   pub logs : List (List LogRecord)
   pub closed : IsClosed tree journal logs
   pub pass : PassState
@@ -92,27 +92,27 @@ pub record RefusesBehind (made : ℕ) (why : PostError) (text : List ℕ) : Type
 
 -- the text is the one line of that of these events which was refused: those before it were made, and it was not, for
 -- the reason whose number is told
-pub record RefusesOne (tree : List TreeEntry) (events : List Event) (text : List ℕ) : Type 0 where
+pub record RefusesOne (tree : List TreeProcess) (events : List Event) (text : List ℕ) : Type 0 where
   pub made : ℕ
   pub why : PostError
   pub stops : StopsAt tree events (new_pass 0) made why
   pub tells : RefusesBehind made why text
 
 -- what is written of a tree and its events, by how the run ends
-abbrev pub Writes : Output → Status → List TreeEntry → List Event → List ℕ → Type 0
-Writes output Ended tree events text = RunsTree output tree events text
-Writes output Stopped tree events text = RefusesOne tree events text
-Writes output Refused tree events text = ⊥
+abbrev pub WritesReport : ClusterOutput → Status → List TreeProcess → List Event → List ℕ → Type 0
+WritesReport output Ended tree events text = RunsTree output tree events text
+WritesReport output Stopped tree events text = RefusesOne tree events text
+WritesReport output Refused tree events text = ⊥
 
 -- the input is a script, and this is written of its tree and its events
-pub record RunsScript (output : Output) (status : Status) (input text : List ℕ) : Type 0 where
-  pub tree : List TreeEntry
+pub record RunsScript (output : ClusterOutput) (status : Status) (input text : List ℕ) : Type 0 where
+  pub tree : List TreeProcess
   pub events : List Event
   pub script : IsScript input tree events
-  pub writes : Writes output status tree events text
+  pub writes : WritesReport output status tree events text
 
 -- what is written of an input, by how the run ends
-abbrev pub IsClusterReport : Output → Status → List ℕ → List ℕ → Type 0
+abbrev pub IsClusterReport : ClusterOutput → Status → List ℕ → List ℕ → Type 0
 IsClusterReport output Ended input text = RunsScript output Ended input text
 IsClusterReport output Stopped input text = RunsScript output Stopped input text
 IsClusterReport output Refused input text = RefusesScript input text
@@ -126,28 +126,28 @@ IsPostFailure Memory why = why ≡ failure.Memory
 IsPostFailure _ why = ⊥
 
 -- one of these events was refused so, after those before it were made
-pub record PostFails (tree : List TreeEntry) (events : List Event) (why : Failure) : Type 0 where
+pub record PostFails (tree : List TreeProcess) (events : List Event) (why : Failure) : Type 0 where
   pub made : ℕ
   pub refusal : PostError
   pub stops : StopsAt tree events (new_pass 0) made refusal
   pub fails : IsPostFailure refusal why
 
 -- 2^64 messages or more were sent in this journal
-abbrev pub IsUnnumbered : List (ℕ × Entry) → Type 0
+abbrev pub IsUnnumbered : List (ℕ × JournalEntry) → Type 0
 IsUnnumbered journal = 2 ^ 64 ≤ message_count (entries_in journal)
 
 -- N were sent in the journal of a closed cluster on this tree
-abbrev pub ClosesUnnumbered : List TreeEntry → Type 0
+abbrev pub ClosesUnnumbered : List TreeProcess → Type 0
 ClosesUnnumbered tree =
-    (journal : List (ℕ × Entry)) × (logs : List (List LogRecord)) × IsClosed tree journal logs × IsUnnumbered journal
+    (journal : List (ℕ × JournalEntry)) × (logs : List (List LogRecord)) × IsClosed tree journal logs × IsUnnumbered journal
 
 -- why nothing is written of a tree and these events
-abbrev pub CannotWrite : List TreeEntry → List Event → Failure → Type 0
+abbrev pub CannotWrite : List TreeProcess → List Event → Failure → Type 0
 CannotWrite tree events why = PostFails tree events why ⊎ ((why ≡ failure.Exhausted) × ClosesUnnumbered tree)
 
 -- why nothing is written of an input, which is a script
 pub record CannotReport (input : List ℕ) (why : Failure) : Type 0 where
-  pub tree : List TreeEntry
+  pub tree : List TreeProcess
   pub events : List Event
   pub script : IsScript input tree events
   pub cannot : CannotWrite tree events why

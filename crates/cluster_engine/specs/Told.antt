@@ -2,15 +2,15 @@
 use Rattle.std.specs.Prelude.{◌≡◌, ℕ, suc, List, [], ◌∷◌, ◌++◌, IsPermutation, IsSorted, slice_get}
 use Rattle.std.specs.List.{flat_map}
 use Rattle.std.specs.Option.{option_to_list}
-use Rattle.tree_model.specs.declared.events.Entry.{Entry}
-use Rattle.tree_model.specs.declared.events.Told.{Told}
-use Rattle.tree_model.specs.Texts.{told_lines}
+use Rattle.protocol.specs.declared.events.JournalEntry.{JournalEntry}
+use Rattle.protocol.specs.declared.events.Told.{Told}
+use Rattle.protocol.specs.Texts.{told_lines}
 use Rattle.trace_lines.specs.Trace.{lines_text}
 use Rattle.cluster_engine.specs.declared.told.ToldPlace.{ToldPlace}
 use Rattle.cluster_engine.specs.contracts.told.ToldPlaceOrd.TheImpl as places
 
 -- all that these entries told, in their order
-abbrev pub told_in : List (ℕ × Entry) → List Told
+abbrev pub told_in : List (ℕ × JournalEntry) → List Told
 told_in [] = []
 told_in (x ∷ xs) = option_to_list x.1.reaction.told ++ told_in xs
 
@@ -28,7 +28,7 @@ abbrev pub AddsTold : List Told → List ToldPlace → List ℕ → List ℕ →
 AddsTold told places old new = new ≡ old ++ told_text told places
 
 -- The text is the lines of all that was told, in order of boot and sequence; of one transaction, in order of the journal.
-pub record TellsAll (journal : List (ℕ × Entry)) (text : List ℕ) : Type 0 where
+pub record TellsAll (journal : List (ℕ × JournalEntry)) (text : List ℕ) : Type 0 where
   pub lines : List ToldPlace
   pub all : IsPermutation (told_places 0 (told_in journal)) lines
   pub sorted : IsSorted places.ghosts.cmp lines

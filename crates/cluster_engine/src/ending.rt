@@ -5,17 +5,17 @@ ghost use Rattle.report_io.specs.declared.status.Status.TheVariants as ends;
 ghost use Rattle.report_io.specs.Streams.{IsOfRun};
 ghost use Rattle.cluster_engine.specs.Reports.{ClosesUnnumbered, IsPostFailure, IsUnnumbered, RefusesBehind, Tells, TellsClosed, TellsJournal, refusal_number, same_line};
 
-use crate::engine::Output;
+use crate::engine::ClusterOutput;
 use crate::told::push_told;
 use crate::trace::push_trace;
-use journal_turns::Journal;
+use cluster_process::{Pass, PostError};
+use cluster_ties::seats::Seats;
+use cluster_tree::Cluster;
+use cluster_turns::ClosedJournal;
+use protocol::{LogRecord, StepError, Tree, TreeProcess};
 use report_io::{Failure, Status};
 use std::alloc::{AllocError, Global};
-use tree_cluster::Cluster;
 use tree_engine::{own_refusal, push_refused};
-use tree_model::{LogRecord, StepError, Tree, TreeEntry};
-use tree_threads::{Pass, PostError};
-use tree_ties::seats::Seats;
 
 /// The number of a refusal as it is printed: a step's own; 9 for what the journal has not; 10 where it is
 /// full.
@@ -53,7 +53,7 @@ pub(crate) fn refused_line(
 /// Closes the cluster, and tells what its journal is.
 pub(crate) fn closed_text<N: Seats>(
     alloc: Global,
-    output: Output,
+    output: ClusterOutput,
     cluster: Cluster<N>,
     passes: &mut [Pass<N>],
     tree: Tree,
@@ -82,14 +82,14 @@ pub(crate) fn closed_text<N: Seats>(
 pub(crate) fn let_go<N: Seats>(_cluster: Cluster<N>) {}
 
 /// Lets go of a journal and of logs.
-fn discard(_journal: Journal, _logs: Vec<Vec<LogRecord>>) {}
+fn discard(_journal: ClosedJournal, _logs: Vec<Vec<LogRecord>>) {}
 
 /// What a journal tells.
 fn journal_told(
     alloc: Global,
-    output: Output,
-    tree: &[TreeEntry],
-    journal: &Journal,
+    output: ClusterOutput,
+    tree: &[TreeProcess],
+    journal: &ClosedJournal,
 ) -> Result<Vec<u8>, Failure>
     ensures text { IfOk result (λ text. Tells output tree.now journal.now text.items) }
     ensures err { IfErr result (λ e. (e ≡ Failure.Memory)
@@ -97,18 +97,18 @@ fn journal_told(
     ensures why { IfErr result IsOfRun }
 {
     match output {
-        Output::Trace => {
+        ClusterOutput::Trace => {
             let mut out = Vec::new(alloc);
             push_trace(alloc, &mut out, tree, journal)?;
             Ok(out)
         }
-        Output::Told => Ok(told_text(alloc, journal)?),
+        ClusterOutput::Told => Ok(told_text(alloc, journal)?),
     }
 }
 
 /// The lines of what was told, and after them that a tree on one thread which makes the events of the journal leaves the
 /// same logs. It is so of each cluster that closes (`Cluster::close`), so it is not tried.
-fn told_text(alloc: Global, journal: &Journal) -> Result<Vec<u8>, AllocError>
+fn told_text(alloc: Global, journal: &ClosedJournal) -> Result<Vec<u8>, AllocError>
     ensures { IfOk result (λ text. TellsJournal journal.now same_line text.items) }
 {
     let mut out = Vec::new(alloc);

@@ -4,30 +4,30 @@ ghost use Rattle.std.specs.Prelude.{◌≡◌, ◌⊎◌, ◌<◌, ◌≤◌, �
 ghost use Rattle.std.specs.Io.KnownBytes.{Appends, Keeps};
 ghost use Rattle.report_io.specs.declared.status.Status.{Status as AnyStatus};
 ghost use Rattle.report_io.specs.Streams.{IsInput, IsOfRun, WritesFront};
-ghost use Rattle.tree_model.specs.Trees.{IsTree};
-ghost use Rattle.tree_cluster.specs.Opening.{SeatsTree};
+ghost use Rattle.protocol.specs.Trees.{IsTree};
+ghost use Rattle.cluster_tree.specs.Opening.{SeatsTree};
 ghost use Rattle.tree_engine.specs.Failures.{IsStop};
-ghost use Rattle.cluster_engine.specs.Reports.{CannotReport, CannotWrite, IsClusterReport, Writes};
+ghost use Rattle.cluster_engine.specs.Reports.{CannotReport, CannotWrite, IsClusterReport, WritesReport};
 
 use crate::ending::{closed_text, let_go, refused_line};
 use crate::player::play;
-use link_script::{ScriptError, read};
+use cluster_process::Gate;
+use cluster_ties::seats::{Opened, Seats};
+use cluster_tree::{Cluster, seats};
+use protocol::{Event, Tree};
 use report_io::{Failure, Status, read_all, write_all};
 use std::alloc::Global;
 use std::io::{Read, Write};
 use std::marker::Brand;
 use std::sync::Wait;
 use std::thread::Threads;
-use tree_cluster::{Cluster, seats};
 use tree_engine::refusal;
-use tree_model::{Event, Tree};
-use tree_node::copied_tree;
-use tree_threads::Gate;
-use tree_ties::seats::{Opened, Seats};
+use tree_process::copied_tree;
+use tree_script::{ScriptError, read};
 
 /// What is written of a run.
 #[derive(Clone, Copy, PartialEq, Eq)]
-pub enum Output {
+pub enum ClusterOutput {
     /// What the application was told, by transaction.
     Told,
     /// The journal as a trace.
@@ -48,7 +48,7 @@ pub enum Output {
 pub fn run_cluster<R: Threads + Wait + Sync, G: Gate + Sync, I: Read, W: Write>(
     rt: &R,
     alloc: Global,
-    output: Output,
+    output: ClusterOutput,
     workers: usize,
     gate: &G,
     reader: &mut I,
@@ -81,7 +81,7 @@ pub fn run_cluster<R: Threads + Wait + Sync, G: Gate + Sync, I: Read, W: Write>(
 fn report<R: Threads + Wait + Sync, G: Gate + Sync>(
     rt: &R,
     alloc: Global,
-    output: Output,
+    output: ClusterOutput,
     workers: usize,
     gate: &G,
     input: &[u8],
@@ -102,7 +102,7 @@ fn report<R: Threads + Wait + Sync, G: Gate + Sync>(
 fn run_script<R: Threads + Wait + Sync, G: Gate + Sync>(
     rt: &R,
     alloc: Global,
-    output: Output,
+    output: ClusterOutput,
     workers: usize,
     gate: &G,
     tree: Tree,
@@ -110,7 +110,7 @@ fn run_script<R: Threads + Wait + Sync, G: Gate + Sync>(
 ) -> Result<(Vec<u8>, Status), Failure>
     requires workers { (0 < workers) × (workers ≤ 16) }
     requires tree { IsTree tree }
-    ensures text { IfOk result (λ r. Writes output r.1 tree events.now r.0.items) }
+    ensures text { IfOk result (λ r. WritesReport output r.1 tree events.now r.0.items) }
     ensures err { IfErr result (λ e. (e ≡ Failure.Memory) ⊎ CannotWrite tree events.now e) }
     ensures why { IfErr result IsOfRun }
 {
@@ -122,7 +122,7 @@ fn run_script<R: Threads + Wait + Sync, G: Gate + Sync>(
 fn run_seated<N: Seats + Send + Sync, R: Threads + Wait + Sync, G: Gate + Sync>(
     rt: &R,
     alloc: Global,
-    output: Output,
+    output: ClusterOutput,
     workers: usize,
     gate: &G,
     tree: Tree,
@@ -132,7 +132,7 @@ fn run_seated<N: Seats + Send + Sync, R: Threads + Wait + Sync, G: Gate + Sync>(
     requires workers { (0 < workers) × (workers ≤ 16) }
     requires seats { SeatsTree N.table N.tree tree opened.ties.shared.table_id opened.ties.shared.key.items }
     requires callers { workers ≡ N.callers }
-    ensures text { IfOk result (λ r. Writes output r.1 tree events.now r.0.items) }
+    ensures text { IfOk result (λ r. WritesReport output r.1 tree events.now r.0.items) }
     ensures err { IfErr result (λ e. (e ≡ Failure.Memory) ⊎ CannotWrite tree events.now e) }
     ensures why { IfErr result IsOfRun }
 {

@@ -9,4 +9,4 @@ mod player;
 mod told;
 mod trace;
 
-pub use engine::{Output, run_cluster};
+pub use engine::{ClusterOutput, run_cluster};

@@ -1,22 +1,22 @@
 //! The events of a script, made by one caller; the others deliver.
 
 ghost use Rattle.std.specs.Prelude.{◌≡◌, ◌<◌, ℕ, IfErr, IfSome, OnOk, length, slice_index_or};
-ghost use Rattle.tree_threads.specs.Passes.{PassState as AnyPass};
-ghost use Rattle.tree_cluster.specs.Passes.{IsLonger};
-ghost use Rattle.tree_cluster.specs.Refusals.{IsRefused};
+ghost use Rattle.cluster_process.specs.Passes.{PassState as AnyPass};
+ghost use Rattle.cluster_tree.specs.Passes.{IsLonger};
+ghost use Rattle.cluster_tree.specs.Refusals.{IsRefusedPost};
 ghost use Rattle.cluster_engine.specs.Made.{AreLonger, AreMade, FirstMade, FirstStops, IsMade, IsPosted, NotMade, StopsAt};
 
+use cluster_process::{Gate, Pass, PostError};
+use cluster_ties::seats::Seats;
+use cluster_tree::{Cluster, Rounds};
+use protocol::Event;
 use std::alloc::Global;
 use std::sync::Wait;
 use std::thread;
 use std::thread::Threads;
-use tree_cluster::{Cluster, Rounds};
-use tree_model::Event;
-use tree_threads::{Gate, Pass, PostError};
-use tree_ties::seats::Seats;
 
 /// How many events were made, and why the next was refused; or none was.
-pub(crate) type Refusal = Option<(usize, PostError)>;
+pub(crate) type PostRefusal = Option<(usize, PostError)>;
 
 /// Posts an event.
 fn post<N: Seats, R: Wait, G: Gate>(
@@ -28,7 +28,7 @@ fn post<N: Seats, R: Wait, G: Gate>(
     pass: &mut Pass<N>,
 ) -> Result<(), PostError>
     ensures ok { OnOk result (IsPosted N.tree event.now pass.old pass.new) }
-    ensures err { IfErr result (IsRefused N.tree event.now pass.old) }
+    ensures err { IfErr result (IsRefusedPost N.tree event.now pass.old) }
 {
     let copy = event.copied(alloc)?;
     cluster.post(rt, copy, pass, gate)?;
@@ -63,7 +63,7 @@ fn make_all<N: Seats, R: Wait, G: Gate>(
     events: &[Event],
     gate: &G,
     pass: &mut Pass<N>,
-) -> Refusal
+) -> PostRefusal
     ensures made { result ≡ None → AreMade N.tree events.now pass.old pass.new }
     ensures stopped { IfSome result (λ r. StopsAt N.tree events.now pass.old r.0 r.1) }
     ensures within { IfSome result (λ r. r.0 < length events.now) }
@@ -85,7 +85,7 @@ fn lead<N: Seats, R: Wait, G: Gate>(
     events: &[Event],
     gate: &G,
     pass: &mut Pass<N>,
-) -> Refusal
+) -> PostRefusal
     ensures made { result ≡ None → AreMade N.tree events.now pass.old pass.new }
     ensures stopped { IfSome result (λ r. StopsAt N.tree events.now pass.old r.0 r.1) }
     ensures within { IfSome result (λ r. r.0 < length events.now) }
@@ -146,7 +146,7 @@ fn lead_and_serve<'a, N: Seats + Send + Sync, R: Threads + Wait + Sync, G: Gate 
     gate: &'a G,
     first: &'a mut Pass<N>,
     others: &'a mut [Pass<N>],
-) -> Refusal
+) -> PostRefusal
     ensures made { result ≡ None → AreMade N.tree events.now first.old first.new }
     ensures stopped { IfSome result (λ r. StopsAt N.tree events.now first.old r.0 r.1) }
     ensures others { AreLonger others.old others.new }
@@ -170,7 +170,7 @@ fn play_first<N: Seats + Send + Sync, R: Threads + Wait + Sync, G: Gate + Sync>(
     gate: &G,
     first: &mut Pass<N>,
     others: &mut [Pass<N>],
-) -> Refusal
+) -> PostRefusal
     ensures made { result ≡ None → AreMade N.tree events.now first.old first.new }
     ensures stopped { IfSome result (λ r. StopsAt N.tree events.now first.old r.0 r.1) }
     ensures others { AreLonger others.old others.new }
@@ -191,7 +191,7 @@ pub(crate) fn play<N: Seats + Send + Sync, R: Threads + Wait + Sync, G: Gate + S
     events: &[Event],
     gate: &G,
     passes: &mut [Pass<N>],
-) -> Refusal
+) -> PostRefusal
     requires { 0 < length passes.old }
     ensures made { result ≡ None → FirstMade N.tree events.now passes.old passes.new }
     ensures stopped { IfSome result (λ r. FirstStops N.tree events.now passes.old r.0 r.1) }

@@ -2,13 +2,13 @@
 
 ghost use Rattle.std.specs.Prelude.{◌≡◌, ◌++◌, ℕ, List, IfOk, OnOk, slice_get};
 ghost use Rattle.std.specs.Option.{option_to_list};
-ghost use Rattle.journal_turns.specs.Turns.{all_of};
+ghost use Rattle.cluster_turns.specs.Turns.{all_of};
 ghost use Rattle.cluster_engine.specs.Told.{AddsTold, TellsAll, told_in, told_places};
 
-use journal_turns::{Entries, Journal};
+use cluster_turns::{ClosedJournal, Entries};
+use protocol::{JournalEntry, Told};
 use std::alloc::{AllocError, Global};
 use trace_lines::push_conclusion;
-use tree_model::{Entry, Told};
 
 /// What was told: the boot and the number of its transaction, and its place among all that was told. They are sorted in
 /// this order.
@@ -34,7 +34,7 @@ fn push_one(all: &mut Vec<Told>, told: Option<Told>) -> Result<(), AllocError>
 }
 
 /// Adds what these entries told.
-fn push_turn(all: &mut Vec<Told>, turn: &[(u64, Entry)]) -> Result<(), AllocError>
+fn push_turn(all: &mut Vec<Told>, turn: &[(u64, JournalEntry)]) -> Result<(), AllocError>
     ensures { OnOk result (all.new.items ≡ all.old.items ++ told_in turn.now) }
 {
     for place in 0..turn.len() {
@@ -94,7 +94,7 @@ fn push_lines(out: &mut Vec<u8>, told: &[Told], places: &[ToldPlace]) -> Result<
 pub(crate) fn push_told(
     alloc: Global,
     out: &mut Vec<u8>,
-    journal: &Journal,
+    journal: &ClosedJournal,
 ) -> Result<(), AllocError>
     ensures { OnOk result ((text : List ℕ) × TellsAll journal.now text
         × (out.new.items ≡ out.old.items ++ text)) }

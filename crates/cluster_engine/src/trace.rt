@@ -2,17 +2,17 @@
 
 ghost use Rattle.std.specs.Prelude.{◌≡◌, ◌⊎◌, ◌+◌, ◌≤◌, ◌^◌, ◌++◌, IfErr, IfOk, OnOk, length, string_bytes};
 ghost use Rattle.trace_lines.specs.Trace.{entries_text, entry_text};
-ghost use Rattle.journal_turns.specs.Turns.{all_of};
+ghost use Rattle.cluster_turns.specs.Turns.{all_of};
 ghost use Rattle.tree_engine.specs.Failures.{message_count};
 ghost use Rattle.tree_engine.specs.Trees.{opened_text, opening_text};
-ghost use Rattle.tree_ties.specs.Views.{entries_in};
+ghost use Rattle.cluster_ties.specs.Views.{entries_in};
 ghost use Rattle.cluster_engine.specs.Reports.{IsUnnumbered, journal_text};
 
-use journal_turns::{Entries, Journal};
+use cluster_turns::{ClosedJournal, Entries};
+use protocol::{JournalEntry, TreeProcess};
 use report_io::Failure;
 use std::alloc::{AllocError, Global};
 use trace_lines::{push_begun, push_conclusion, push_kept, push_messages, push_written};
-use tree_model::{Entry, TreeEntry};
 
 /// The line of a process's opening.
 fn opening_line(alloc: Global, process: u64) -> Result<String, AllocError>
@@ -31,7 +31,7 @@ fn push_opening(alloc: Global, out: &mut Vec<u8>, process: u32) -> Result<(), Al
 }
 
 /// The lines of the processes' opening.
-fn push_opened(alloc: Global, out: &mut Vec<u8>, tree: &[TreeEntry]) -> Result<(), AllocError>
+fn push_opened(alloc: Global, out: &mut Vec<u8>, tree: &[TreeProcess]) -> Result<(), AllocError>
     ensures { OnOk result (out.new.items ≡ out.old.items ++ opened_text tree.now) }
 {
     for entry in tree {
@@ -43,7 +43,7 @@ fn push_opened(alloc: Global, out: &mut Vec<u8>, tree: &[TreeEntry]) -> Result<(
 /// The lines of an entry, before which N messages were sent. How many were with its own. Exhausted:
 /// 2^64 or more.
 #[tactic(auto, unfolding(trace_lines::specs::Trace::entry_text))]
-fn push_entry(out: &mut Vec<u8>, sent: u64, entry: &Entry) -> Result<u64, Failure>
+fn push_entry(out: &mut Vec<u8>, sent: u64, entry: &JournalEntry) -> Result<u64, Failure>
     ensures sent { IfOk result (λ next. next ≡ sent + length entry.now.reaction.messages) }
     ensures text { OnOk result (out.new.items ≡ out.old.items ++ entry_text sent entry.now) }
     ensures err { IfErr result (λ e. (e ≡ Failure.Memory)
@@ -63,7 +63,7 @@ fn push_entry(out: &mut Vec<u8>, sent: u64, entry: &Entry) -> Result<u64, Failur
 
 /// The lines of the entries of a turn, before which N messages were sent. How many were with theirs. Exhausted: 2^64 or
 /// more.
-fn push_turn(out: &mut Vec<u8>, before: u64, turn: &[(u64, Entry)]) -> Result<u64, Failure>
+fn push_turn(out: &mut Vec<u8>, before: u64, turn: &[(u64, JournalEntry)]) -> Result<u64, Failure>
     ensures sent { IfOk result (λ next. next ≡ before + message_count (entries_in turn.now)) }
     ensures text { OnOk result (out.new.items ≡ out.old.items ++ entries_text before (entries_in turn.now)) }
     ensures err { IfErr result (λ e. (e ≡ Failure.Memory)
@@ -94,8 +94,8 @@ fn push_turns(out: &mut Vec<u8>, turns: &[Entries]) -> Result<(), Failure>
 pub(crate) fn push_trace(
     alloc: Global,
     out: &mut Vec<u8>,
-    tree: &[TreeEntry],
-    journal: &Journal,
+    tree: &[TreeProcess],
+    journal: &ClosedJournal,
 ) -> Result<(), Failure>
     ensures text { OnOk result (out.new.items ≡ out.old.items ++ journal_text tree.now journal.now) }
     ensures err { IfErr result (λ e. (e ≡ Failure.Memory)

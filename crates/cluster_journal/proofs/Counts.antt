@@ -3,10 +3,10 @@ use Rattle.std.proofs.Common.{◌≡◌, ◌≢◌, ◌⊎◌, ◌∙◌, ap, sy
 use Rattle.std.proofs.lemmas.List.Elements.{All-head, All-tail}
 use Rattle.std.proofs.lemmas.List.{length-set}
 use Rattle.std.proofs.lemmas.List.Sums.{count_by-le-length, get_or-le-sum_by, sum_by-cons, sum_by-set, sum_by_push}
-use Rattle.tree_model.specs.declared.names.ProcessId.{ProcessId}
-use Rattle.tree_model.specs.contracts.names.ProcessIdPartialEq.TheImpl as processes
-use Rattle.tree_model.specs.Names.{same_process}
-use Rattle.tree_model.specs.NameLaws.{same_process_tells}
+use Rattle.protocol.specs.declared.names.ProcessId.{ProcessId}
+use Rattle.protocol.specs.contracts.names.ProcessIdPartialEq.TheImpl as processes
+use Rattle.protocol.specs.Names.{same_process}
+use Rattle.protocol.specs.NameLaws.{same_process_tells}
 use Rattle.cluster_journal.specs.Marks.{one_if}
 
 -- Tests.

@@ -3,17 +3,17 @@ use Rattle.std.proofs.Common.{IfNone, IfSome, ◌≡◌, ◌⊎◌, ◌∙◌, a
 use Rattle.std.specs.Prelude.{slice_get}
 use Rattle.std.proofs.lemmas.List.{append-nil, append_assoc, length-set, take_more}
 use Rattle.std.proofs.lemmas.List.Elements.{All-head, All-tail}
-use Rattle.tree_model.specs.declared.names.ProcessId.{ProcessId}
-use Rattle.tree_model.specs.declared.messages.Envelope.{Envelope}
-use Rattle.tree_model.specs.declared.events.Entry.{Entry}
-use Rattle.tree_model.specs.declared.events.Happening.{Happening}
-use Rattle.tree_model.specs.declared.events.Happening.TheVariants.{Input as Handles, Restart, Trim}
-use Rattle.tree_model.specs.declared.events.Input.TheVariants.{Act as ActInput, Message as MessageInput}
-use Rattle.tree_cut.specs.Cuts.{net_of}
+use Rattle.protocol.specs.declared.names.ProcessId.{ProcessId}
+use Rattle.protocol.specs.declared.messages.Envelope.{Envelope}
+use Rattle.protocol.specs.declared.events.JournalEntry.{JournalEntry}
+use Rattle.protocol.specs.declared.events.Happening.{Happening}
+use Rattle.protocol.specs.declared.events.Happening.TheVariants.{Input as Handles, Restart, Trim}
+use Rattle.protocol.specs.declared.events.Input.TheVariants.{Act as ActInput, Message as MessageInput}
+use Rattle.tree_state.specs.Cuts.{net_of}
 use Rattle.cluster_journal.specs.declared.marks.Claim.{Claim}
-use Rattle.cluster_journal.specs.declared.marks.Mark.{Mark}
-use Rattle.cluster_journal.specs.declared.marks.Mark.TheVariants.{Open, Claimed, Delivered}
-use Rattle.cluster_journal.specs.declared.marks.Marked.{Marked}
+use Rattle.cluster_journal.specs.declared.marks.Delivery.{Delivery}
+use Rattle.cluster_journal.specs.declared.marks.Delivery.TheVariants.{Open, Claimed, Delivered}
+use Rattle.cluster_journal.specs.declared.marks.MarkedMessage.{MarkedMessage}
 use Rattle.cluster_journal.specs.Journals.{AllDelivered, AreDelivered, IsDelivered, entries_of, marked_by, marked_by_all}
 use Rattle.cluster_journal.specs.Marks.{AreAllDelivered, given_back, marked, marked_at, reopened, reopened_from, sent_to}
 
@@ -42,7 +42,7 @@ get_last : {A : Type 0} (xs : List A) (x : A) → slice_get (xs ++ x ∷ []) (le
 get_last [] x = refl
 get_last (y ∷ xs) x = get_last xs x
 
-still : (xs ys : List (ℕ × Entry)) (n : ℕ) → IsDelivered xs n → IsDelivered (xs ++ ys) n
+still : (xs ys : List (ℕ × JournalEntry)) (n : ℕ) → IsDelivered xs n → IsDelivered (xs ++ ys) n
 still xs ys n h = record {
   place = h.place;
   caller = h.caller;
@@ -52,19 +52,19 @@ still xs ys n h = record {
   happens = h.happens;
 }
 
-all_still : (ms : List Marked) (xs ys : List (ℕ × Entry)) → AreDelivered ms xs → AreDelivered ms (xs ++ ys)
+all_still : (ms : List MarkedMessage) (xs ys : List (ℕ × JournalEntry)) → AreDelivered ms xs → AreDelivered ms (xs ++ ys)
 all_still ms xs ys h k to is = still xs ys (suc k) (h k to is)
 
 -- the marks once it is entered
-pub entered : (ms : List Marked) (xs : List (ℕ × Entry)) (caller : ℕ) (x : Entry) (h : Happening)
+pub entered : (ms : List MarkedMessage) (xs : List (ℕ × JournalEntry)) (caller : ℕ) (x : JournalEntry) (h : Happening)
     → x.step.happening ≡ h → AreDelivered ms xs → AreDelivered (marked_by h ms) (xs ++ (caller, x) ∷ [])
 entered ms xs caller x (Handles (MessageInput zero m)) is so = all_still ms xs ((caller, x) ∷ []) so
 entered ms xs caller x (Handles (MessageInput (suc p) m)) is so = by_old (slice_get ms p)
   where
-    by_old : (o : Option Marked) → AreDelivered (marked_at ms p o Delivered) (xs ++ (caller, x) ∷ [])
+    by_old : (o : Option MarkedMessage) → AreDelivered (marked_at ms p o Delivered) (xs ++ (caller, x) ∷ [])
     by_old None = all_still ms xs ((caller, x) ∷ []) so
     by_old (Some old) = λ k to at.
-        let now : Marked = record { to = old.to; mark = Delivered } in
+        let now : MarkedMessage = record { to = old.to; mark = Delivered } in
         elim (set_get ms p k now (record { to = to; mark = Delivered }) at) [
           | inl before ↦ still xs ((caller, x) ∷ []) (suc k) (so k to before)
           | inr (here, same) ↦ record {
@@ -81,7 +81,7 @@ entered ms xs caller x (Restart k) is so = all_still ms xs ((caller, x) ∷ []) 
 entered ms xs caller x Trim is so = all_still ms xs ((caller, x) ∷ []) so
 
 -- the marks once the entries of a turn are entered
-pub entered_all : (ms : List Marked) (xs made : List (ℕ × Entry)) → AreDelivered ms xs
+pub entered_all : (ms : List MarkedMessage) (xs made : List (ℕ × JournalEntry)) → AreDelivered ms xs
     → AreDelivered (marked_by_all made ms) (xs ++ made)
 entered_all ms xs [] so = subst (λ l. AreDelivered ms l) (sym (append-nil xs)) so
 entered_all ms xs (z ∷ made) so =
@@ -90,25 +90,25 @@ entered_all ms xs (z ∷ made) so =
     (entered ms xs z.0 z.1 z.1.step.happening refl so))
 
 -- as many marks as before
-pub as_many : (h : Happening) (ms : List Marked) → length (marked_by h ms) ≡ length ms
+pub as_many : (h : Happening) (ms : List MarkedMessage) → length (marked_by h ms) ≡ length ms
 as_many (Handles (MessageInput zero m)) ms = refl
 as_many (Handles (MessageInput (suc p) m)) ms = by_old (slice_get ms p)
   where
-    by_old : (o : Option Marked) → length (marked_at ms p o Delivered) ≡ length ms
+    by_old : (o : Option MarkedMessage) → length (marked_at ms p o Delivered) ≡ length ms
     by_old None = refl
     by_old (Some old) = length-set ms p (record { to = old.to; mark = Delivered })
 as_many (Handles (ActInput a)) ms = refl
 as_many (Restart k) ms = refl
 as_many Trim ms = refl
 
-pub as_many_all : (made : List (ℕ × Entry)) (ms : List Marked) → length (marked_by_all made ms) ≡ length ms
+pub as_many_all : (made : List (ℕ × JournalEntry)) (ms : List MarkedMessage) → length (marked_by_all made ms) ≡ length ms
 as_many_all [] ms = refl
 as_many_all (z ∷ made) ms =
     as_many_all made (marked_by z.1.step.happening ms) ∙ as_many z.1.step.happening ms
 
 -- Marks of another kind.
 
-set_other : (ms : List Marked) (xs : List (ℕ × Entry)) (p : ℕ) (to : ProcessId) (mark : Mark) → (mark ≡ Delivered → ⊥)
+set_other : (ms : List MarkedMessage) (xs : List (ℕ × JournalEntry)) (p : ℕ) (to : ProcessId) (mark : Delivery) → (mark ≡ Delivered → ⊥)
     → AreDelivered ms xs → AreDelivered (slice_set ms p (record { to = to; mark = mark })) xs
 set_other ms xs p to mark other so k q at =
     elim (set_get ms p k (record { to = to; mark = mark }) (record { to = q; mark = Delivered }) at) [
@@ -116,51 +116,51 @@ set_other ms xs p to mark other so k q at =
       | inr (here, same) ↦ absurd (other (sym (ap (λ m. m.mark) same)))
     ]
 
-pub claimed_so : (ms : List Marked) (xs : List (ℕ × Entry)) (number : ℕ) → AreDelivered ms xs
+pub claimed_so : (ms : List MarkedMessage) (xs : List (ℕ × JournalEntry)) (number : ℕ) → AreDelivered ms xs
     → AreDelivered (marked ms number Claimed) xs
 claimed_so ms xs zero so = so
 claimed_so ms xs (suc p) so = by_old (slice_get ms p)
   where
-    by_old : (o : Option Marked) → AreDelivered (marked_at ms p o Claimed) xs
+    by_old : (o : Option MarkedMessage) → AreDelivered (marked_at ms p o Claimed) xs
     by_old None = so
     by_old (Some old) = set_other ms xs p old.to Claimed (λ e. absurd (cc)) so
 
 -- a message is claimed, or nothing is otherwise
-pub claimed_or_not : (o : Option Claim) (A B : Claim → Type 0) (C : Type 0) (ms new : List Marked)
-    (xs : List (ℕ × Entry)) → IfSome o (λ c. A c × B c × (new ≡ marked ms c.number Claimed))
+pub claimed_or_not : (o : Option Claim) (A B : Claim → Type 0) (C : Type 0) (ms new : List MarkedMessage)
+    (xs : List (ℕ × JournalEntry)) → IfSome o (λ c. A c × B c × (new ≡ marked ms c.number Claimed))
     → IfNone o (C × (new ≡ ms)) → AreDelivered ms xs → AreDelivered new xs
 claimed_or_not None A B C ms new xs some none so = subst (λ l. AreDelivered l xs) (sym none.1) so
 claimed_or_not (Some c) A B C ms new xs some none so =
     subst (λ l. AreDelivered l xs) (sym some.2) (claimed_so ms xs c.number so)
 
-pub given_back_so : (ms : List Marked) (xs : List (ℕ × Entry)) (number : ℕ) → AreDelivered ms xs
+pub given_back_so : (ms : List MarkedMessage) (xs : List (ℕ × JournalEntry)) (number : ℕ) → AreDelivered ms xs
     → AreDelivered (given_back ms number) xs
 given_back_so ms xs zero so = so
 given_back_so ms xs (suc p) so = by_old (slice_get ms p)
   where
-    by_mark : (to : ProcessId) (mark : Mark) → AreDelivered (reopened_from ms p to mark) xs
+    by_mark : (to : ProcessId) (mark : Delivery) → AreDelivered (reopened_from ms p to mark) xs
     by_mark to Open = so
     by_mark to Claimed = set_other ms xs p to Open (λ e. absurd (cc)) so
     by_mark to Delivered = so
 
-    by_old : (o : Option Marked) → AreDelivered (reopened ms p o) xs
+    by_old : (o : Option MarkedMessage) → AreDelivered (reopened ms p o) xs
     by_old None = so
     by_old (Some old) = by_mark old.to old.mark
 
 -- Messages more.
 
-get_sent : (ms : List Marked) (ls : List Envelope) (k : ℕ) (o : Marked) → slice_get (ms ++ map sent_to ls) k ≡ Some o
+get_sent : (ms : List MarkedMessage) (ls : List Envelope) (k : ℕ) (o : MarkedMessage) → slice_get (ms ++ map sent_to ls) k ≡ Some o
     → (slice_get ms k ≡ Some o) ⊎ (o.mark ≡ Open)
 get_sent [] [] k o h = inl h
 get_sent [] (l ∷ ls) zero o h = inr (mark_is (sent_to l) o h refl)
   where
-    mark_is : (a b : Marked) → Some a ≡ Some b → a.mark ≡ Open → b.mark ≡ Open
+    mark_is : (a b : MarkedMessage) → Some a ≡ Some b → a.mark ≡ Open → b.mark ≡ Open
     mark_is a b same is = cc
 get_sent [] (l ∷ ls) (suc k) o h = get_sent [] ls k o h
 get_sent (m ∷ ms) ls zero o h = inl h
 get_sent (m ∷ ms) ls (suc k) o h = get_sent ms ls k o h
 
-pub sent_so : (ms : List Marked) (ls : List Envelope) (xs : List (ℕ × Entry)) → AreDelivered ms xs
+pub sent_so : (ms : List MarkedMessage) (ls : List Envelope) (xs : List (ℕ × JournalEntry)) → AreDelivered ms xs
     → AreDelivered (ms ++ map sent_to ls) xs
 sent_so ms ls xs so k to at = elim (get_sent ms ls k (record { to = to; mark = Delivered }) at) [
   | inl before ↦ so k to before
@@ -169,7 +169,7 @@ sent_so ms ls xs so k to at = elim (get_sent ms ls k (record { to = to; mark = D
 
 -- All of them.
 
-at_all : (ms : List Marked) (k : ℕ) → k < length ms → AreAllDelivered ms
+at_all : (ms : List MarkedMessage) (k : ℕ) → k < length ms → AreAllDelivered ms
     → (to : ProcessId) × (slice_get ms k ≡ Some (record { to = to; mark = Delivered }))
 at_all [] k lt all = absurd (omega (arith, lt))
 at_all (m ∷ ms) zero lt all =
@@ -177,19 +177,19 @@ at_all (m ∷ ms) zero lt all =
     (m.to, ap (λ x. Some (record { to = m.to; mark = x })) is)
 at_all (m ∷ ms) (suc k) lt all = at_all ms k (omega (arith, lt)) (All-tail (λ x. x.mark ≡ Delivered) m ms all)
 
-pub all_in : (ms : List Marked) (xs : List (ℕ × Entry)) → AreAllDelivered ms
+pub all_in : (ms : List MarkedMessage) (xs : List (ℕ × JournalEntry)) → AreAllDelivered ms
     → length ms ≡ length (net_of (entries_of xs)) → AreDelivered ms xs → AllDelivered xs
 all_in ms xs all long so k lt =
     let at = at_all ms k (omega (arith, lt, long)) all in
     so k at.0 at.1
 
 -- the marks after one entry more
-marked_more : (xs : List (ℕ × Entry)) (x : ℕ × Entry) (ms : List Marked)
+marked_more : (xs : List (ℕ × JournalEntry)) (x : ℕ × JournalEntry) (ms : List MarkedMessage)
     → marked_by_all (xs ++ x ∷ []) ms ≡ marked_by x.1.step.happening (marked_by_all xs ms)
 marked_more [] x ms = refl
 marked_more (y ∷ xs) x ms = marked_more xs x (marked_by y.1.step.happening ms)
 
-pub noted_more : (xs : List (ℕ × Entry)) (i : ℕ) (d : ℕ × Entry) (first now new : List Marked) → i < length xs
+pub noted_more : (xs : List (ℕ × JournalEntry)) (i : ℕ) (d : ℕ × JournalEntry) (first now new : List MarkedMessage) → i < length xs
     → now ≡ marked_by_all (take i xs) first → new ≡ marked_by (get_or xs i d).1.step.happening now
     → new ≡ marked_by_all (take (i + 1) xs) first
 noted_more xs i d first now new lt so noted =

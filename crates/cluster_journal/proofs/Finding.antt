@@ -4,14 +4,14 @@ use Rattle.std.proofs.Common.{add-one}
 use Rattle.std.proofs.Math.Seq.{drop-cons}
 use Rattle.std.specs.Prelude.{slice_get}
 use Rattle.std.specs.Global.{Vec}
-use Rattle.tree_model.specs.declared.events.Entry.{Entry}
-use Rattle.tree_model.specs.declared.messages.Envelope.{Envelope}
-use Rattle.tree_model.specs.Plays.{sent_as}
-use Rattle.tree_cut.specs.Cuts.{net_of}
+use Rattle.protocol.specs.declared.events.JournalEntry.{JournalEntry}
+use Rattle.protocol.specs.declared.messages.Envelope.{Envelope}
+use Rattle.protocol.specs.Plays.{sent_as}
+use Rattle.tree_state.specs.Cuts.{net_of}
 use Rattle.cluster_journal.specs.declared.spots.Spot.{Spot}
 use Rattle.cluster_journal.specs.Journals.{entries_of}
-use Rattle.journal_turns.specs.Turns.{all_of}
-use Rattle.journal_turns.proofs.Gathered.{all_more}
+use Rattle.cluster_turns.specs.Turns.{all_of}
+use Rattle.cluster_turns.proofs.Gathered.{all_more}
 use Rattle.cluster_journal.specs.Spots.{AreFound, entry_of, first_of, message_in, message_of, spots_at, spots_in, spots_of}
 
 -- Lists.
@@ -75,7 +75,7 @@ less_or k m = grind arith
 -- Spots of one turn.
 
 -- the message by its spot in a turn, if there is one
-abbrev pub by_spot : ℕ → List (ℕ × Entry) → Option Spot → Option Envelope
+abbrev pub by_spot : ℕ → List (ℕ × JournalEntry) → Option Spot → Option Envelope
 by_spot n xs None = None
 by_spot n xs (Some s) = message_of (slice_get xs (s.entry - n)) s.message
 
@@ -84,7 +84,7 @@ record StandsIn (t n : ℕ) (s : Spot) : Type 0 where
   pub turn : s.turn ≡ t
   pub later : n ≤ s.entry
 
-stands_in : (t n : ℕ) (xs : List (ℕ × Entry)) (k : ℕ) (s : Spot) → slice_get (spots_in t n xs) k ≡ Some s
+stands_in : (t n : ℕ) (xs : List (ℕ × JournalEntry)) (k : ℕ) (s : Spot) → slice_get (spots_in t n xs) k ≡ Some s
     → StandsIn t n s
 stands_in t n [] k s h = absurd (cc)
 stands_in t n (x ∷ xs) k s h =
@@ -116,7 +116,7 @@ stands_in t n (x ∷ xs) k s h =
     some_turn a b e = cc
 
 -- an entry more at the front
-shifted : (n : ℕ) (x : ℕ × Entry) (xs : List (ℕ × Entry)) (o : Option Spot)
+shifted : (n : ℕ) (x : ℕ × JournalEntry) (xs : List (ℕ × JournalEntry)) (o : Option Spot)
     → ((s : Spot) → o ≡ Some s → suc n ≤ s.entry) → by_spot (suc n) xs o ≡ by_spot n (x ∷ xs) o
 shifted n x xs None low = refl
 shifted n x xs (Some s) low =
@@ -125,7 +125,7 @@ shifted n x xs (Some s) low =
     ap (λ i. message_of (slice_get (x ∷ xs) i) s.message) (sym at)
 
 -- a message of a turn is found by its spot
-found_in : (t n : ℕ) (xs : List (ℕ × Entry)) (k : ℕ)
+found_in : (t n : ℕ) (xs : List (ℕ × JournalEntry)) (k : ℕ)
     → slice_get (net_of (entries_of xs)) k ≡ by_spot n xs (slice_get (spots_in t n xs) k)
 found_in t n [] k = refl
 found_in t n (x ∷ xs) k =
@@ -154,7 +154,7 @@ found_in t n (x ∷ xs) k =
     ]
 
 -- a turn has as many spots as messages
-length_in : (t n : ℕ) (xs : List (ℕ × Entry)) → length (spots_in t n xs) ≡ length (net_of (entries_of xs))
+length_in : (t n : ℕ) (xs : List (ℕ × JournalEntry)) → length (spots_in t n xs) ≡ length (net_of (entries_of xs))
 length_in t n [] = refl
 length_in t n (x ∷ xs) =
     let m = length x.1.reaction.messages in
@@ -167,12 +167,12 @@ length_in t n (x ∷ xs) =
 -- Spots of turns.
 
 -- the message by its spot, if there is one
-abbrev pub by_turn : ℕ → List (Vec (ℕ × Entry)) → Option Spot → Option Envelope
+abbrev pub by_turn : ℕ → List (Vec (ℕ × JournalEntry)) → Option Spot → Option Envelope
 by_turn t es None = None
 by_turn t es (Some s) = message_of (entry_of (slice_get es (s.turn - t)) s.entry) s.message
 
 -- the messages of more entries
-pub net_both : (xs ys : List (ℕ × Entry))
+pub net_both : (xs ys : List (ℕ × JournalEntry))
     → net_of (entries_of (xs ++ ys)) ≡ net_of (entries_of xs) ++ net_of (entries_of ys)
 net_both [] ys = refl
 net_both (x ∷ xs) ys =
@@ -180,7 +180,7 @@ net_both (x ∷ xs) ys =
     ∙ sym (append_assoc x.1.reaction.messages (net_of (entries_of xs)) (net_of (entries_of ys)))
 
 -- no spot of later turns names an earlier one
-later_turn : (t : ℕ) (es : List (Vec (ℕ × Entry))) (k : ℕ) (s : Spot) → slice_get (spots_of t es) k ≡ Some s
+later_turn : (t : ℕ) (es : List (Vec (ℕ × JournalEntry))) (k : ℕ) (s : Spot) → slice_get (spots_of t es) k ≡ Some s
     → t ≤ s.turn
 later_turn t [] k s h = absurd (cc)
 later_turn t (e ∷ es) k s h =
@@ -198,7 +198,7 @@ later_turn t (e ∷ es) k s h =
     ]
 
 -- a turn more at the front
-turn_shifted : (t : ℕ) (e : Vec (ℕ × Entry)) (es : List (Vec (ℕ × Entry))) (o : Option Spot)
+turn_shifted : (t : ℕ) (e : Vec (ℕ × JournalEntry)) (es : List (Vec (ℕ × JournalEntry))) (o : Option Spot)
     → ((s : Spot) → o ≡ Some s → suc t ≤ s.turn) → by_turn (suc t) es o ≡ by_turn t (e ∷ es) o
 turn_shifted t e es None low = refl
 turn_shifted t e es (Some s) low =
@@ -207,7 +207,7 @@ turn_shifted t e es (Some s) low =
     ap (λ i. message_of (entry_of (slice_get (e ∷ es) i) s.entry) s.message) (sym at)
 
 -- the spot is of the first turn
-in_first : (t : ℕ) (e : Vec (ℕ × Entry)) (es : List (Vec (ℕ × Entry))) (o : Option Spot)
+in_first : (t : ℕ) (e : Vec (ℕ × JournalEntry)) (es : List (Vec (ℕ × JournalEntry))) (o : Option Spot)
     → ((s : Spot) → o ≡ Some s → s.turn ≡ t) → by_spot 0 e.items o ≡ by_turn t (e ∷ es) o
 in_first t e es None is = refl
 in_first t e es (Some s) is =
@@ -218,7 +218,7 @@ in_first t e es (Some s) is =
     ∙ ap (λ i. message_of (entry_of (slice_get (e ∷ es) i) s.entry) s.message) (sym none)
 
 -- a message of the net is found by its spot
-found_by : (t : ℕ) (es : List (Vec (ℕ × Entry))) (k : ℕ)
+found_by : (t : ℕ) (es : List (Vec (ℕ × JournalEntry))) (k : ℕ)
     → slice_get (net_of (entries_of (all_of es))) k ≡ by_turn t es (slice_get (spots_of t es) k)
 found_by t [] k = refl
 found_by t (e ∷ es) k =
@@ -245,17 +245,17 @@ found_by t (e ∷ es) k =
     ]
 
 -- the message with a number, by the spot before it
-abbrev pub message_by : List (Vec (ℕ × Entry)) → Option Spot → Option Envelope
+abbrev pub message_by : List (Vec (ℕ × JournalEntry)) → Option Spot → Option Envelope
 message_by es None = None
 message_by es (Some s) = message_in es s
 
-zeroed : (es : List (Vec (ℕ × Entry))) (o : Option Spot) → by_turn 0 es o ≡ message_by es o
+zeroed : (es : List (Vec (ℕ × JournalEntry))) (o : Option Spot) → by_turn 0 es o ≡ message_by es o
 zeroed es None = refl
 zeroed es (Some s) =
     let z : s.turn - 0 ≡ s.turn = omega arith in
     ap (λ i. message_of (entry_of (slice_get es i) s.entry) s.message) z
 
-pub found : (es : List (Vec (ℕ × Entry))) (number : ℕ) → 0 < number
+pub found : (es : List (Vec (ℕ × JournalEntry))) (number : ℕ) → 0 < number
     → sent_as (net_of (entries_of (all_of es))) number ≡ message_by es (slice_get (spots_of 0 es) (number - 1))
 found es zero lt = absurd (omega arith)
 found es (suc k) lt =
@@ -264,7 +264,7 @@ found es (suc k) lt =
     ∙ ap (λ i. message_by es (slice_get (spots_of 0 es) i)) (sym one)
 
 -- there are as many spots as messages
-pub spots_sent : (t : ℕ) (es : List (Vec (ℕ × Entry)))
+pub spots_sent : (t : ℕ) (es : List (Vec (ℕ × JournalEntry)))
     → length (spots_of t es) ≡ length (net_of (entries_of (all_of es)))
 spots_sent t [] = refl
 spots_sent t (e ∷ es) =
@@ -277,7 +277,7 @@ spots_sent t (e ∷ es) =
 
 -- One turn more.
 
-more_turns : (t : ℕ) (es : List (Vec (ℕ × Entry))) (e : Vec (ℕ × Entry))
+more_turns : (t : ℕ) (es : List (Vec (ℕ × JournalEntry))) (e : Vec (ℕ × JournalEntry))
     → spots_of t es ++ spots_in (t + length es) 0 e.items ≡ spots_of t (es ++ e ∷ [])
 more_turns t [] e =
     ap (λ k. spots_in k 0 e.items) (let z : t + 0 ≡ t = omega arith in z) ∙ sym (append-nil (spots_in t 0 e.items))
@@ -289,7 +289,7 @@ more_turns t (f ∷ es) e =
     (let s : t + length (f ∷ es) ≡ suc t + length es = omega arith in s) ∙ more_turns (suc t) es e)
 
 -- the spots of one turn more
-last_turn : (es : List (Vec (ℕ × Entry))) (e : Vec (ℕ × Entry))
+last_turn : (es : List (Vec (ℕ × JournalEntry))) (e : Vec (ℕ × JournalEntry))
     → spots_of 0 es ++ spots_in (length es) 0 e.items ≡ spots_of 0 (es ++ e ∷ [])
 last_turn es e =
     let z : length es ≡ 0 + length es = omega arith in
@@ -301,19 +301,19 @@ drop_none [] (suc n) h = refl
 drop_none (x ∷ xs) n h = absurd (cc)
 
 -- if no turn is late all are found
-none_late : (placed late : List (Vec (ℕ × Entry))) (n : ℕ) (spots : List Spot) → AreFound placed late n spots
+none_late : (placed late : List (Vec (ℕ × JournalEntry))) (n : ℕ) (spots : List Spot) → AreFound placed late n spots
     → first_of late ≡ [] → take 1 late ≡ [] → spots ≡ spots_of 0 placed
 none_late placed late n spots h none front =
     sym (append-nil spots)
     ∙ ap (λ l. spots ++ spots_in (length placed) n l) (sym (drop_none (first_of late) n none))
     ∙ h.all ∙ ap (λ l. spots_of 0 (placed ++ l)) front ∙ ap (spots_of 0) (append-nil placed)
 
-pub all_found : (placed late : List (Vec (ℕ × Entry))) (n : ℕ) (spots : List Spot)
+pub all_found : (placed late : List (Vec (ℕ × JournalEntry))) (n : ℕ) (spots : List Spot)
     → AreFound placed late n spots → late ≡ [] → spots ≡ spots_of 0 placed
 all_found placed late n spots h none = none_late placed late n spots h (ap first_of none) (ap (take 1) none)
 
 -- the next turn is found whole, and placed
-pub turn_found : (placed rest : List (Vec (ℕ × Entry))) (e : Vec (ℕ × Entry)) (xs : List (ℕ × Entry)) (found : ℕ)
+pub turn_found : (placed rest : List (Vec (ℕ × JournalEntry))) (e : Vec (ℕ × JournalEntry)) (xs : List (ℕ × JournalEntry)) (found : ℕ)
     (spots : List Spot) → xs ≡ e.items → found ≡ length xs
     → spots ++ spots_in (length placed) found (drop found xs) ≡ spots_of 0 (placed ++ e ∷ [])
     → AreFound (placed ++ e ∷ []) rest 0 spots
@@ -323,13 +323,13 @@ turn_found placed rest e xs found spots same is all =
     sym (append-nil spots) ∙ ap (λ l. spots ++ spots_in (length placed) found l) (sym past) ∙ all in
     next rest are
   where
-    drop_all : (ys : List (ℕ × Entry)) (n : ℕ) → n ≡ length ys → drop n ys ≡ []
+    drop_all : (ys : List (ℕ × JournalEntry)) (n : ℕ) → n ≡ length ys → drop n ys ≡ []
     drop_all [] zero h = refl
     drop_all [] (suc n) h = refl
     drop_all (y ∷ ys) zero h = absurd (omega (arith, h))
     drop_all (y ∷ ys) (suc n) h = drop_all ys n (omega (arith, h))
 
-    next : (rest : List (Vec (ℕ × Entry))) → spots ≡ spots_of 0 (placed ++ e ∷ [])
+    next : (rest : List (Vec (ℕ × JournalEntry))) → spots ≡ spots_of 0 (placed ++ e ∷ [])
         → AreFound (placed ++ e ∷ []) rest 0 spots
     next [] are = record {
       within = omega arith;
@@ -341,7 +341,7 @@ turn_found placed rest e xs found spots same is all =
     }
 
 -- so it is once the first late turn's entries are found
-pub next_turn : (placed late rest : List (Vec (ℕ × Entry))) (e : Vec (ℕ × Entry)) (xs : List (ℕ × Entry)) (n m : ℕ)
+pub next_turn : (placed late rest : List (Vec (ℕ × JournalEntry))) (e : Vec (ℕ × JournalEntry)) (xs : List (ℕ × JournalEntry)) (n m : ℕ)
     (old new : List Spot) → late ≡ e ∷ rest → xs ≡ e.items → AreFound placed late n old → m ≡ length xs
     → new ++ spots_in (length placed) m (drop m xs) ≡ old ++ spots_in (length placed) n (drop n xs)
     → AreFound (placed ++ e ∷ []) rest 0 new
@@ -351,7 +351,7 @@ next_turn placed late rest e xs n m old new late_is same h whole all =
     ∙ (subst (λ l. AreFound placed l n old) late_is h).all)
 
 -- a turn more is late
-pub still_found : (placed late : List (Vec (ℕ × Entry))) (e : Vec (ℕ × Entry)) (found : ℕ) (spots : List Spot)
+pub still_found : (placed late : List (Vec (ℕ × JournalEntry))) (e : Vec (ℕ × JournalEntry)) (found : ℕ) (spots : List Spot)
     → AreFound placed late found spots → AreFound placed (late ++ e ∷ []) found spots
 still_found placed [] e found spots h =
     let low = h.within in
@@ -365,11 +365,11 @@ still_found placed (f ∷ fs) e found spots h = record { within = h.within; all 
 
 -- One entry more is found.
 
-dropped_at : (xs : List (ℕ × Entry)) (i : ℕ) (d : ℕ × Entry) → i < length xs
+dropped_at : (xs : List (ℕ × JournalEntry)) (i : ℕ) (d : ℕ × JournalEntry) → i < length xs
     → drop i xs ≡ get_or xs i d ∷ drop (i + 1) xs
 dropped_at xs i d within = rw add-one (drop-cons xs i d within)
 
-pub found_more : (t : ℕ) (old new total : List Spot) (xs : List (ℕ × Entry)) (i m : ℕ) (d : ℕ × Entry)
+pub found_more : (t : ℕ) (old new total : List Spot) (xs : List (ℕ × JournalEntry)) (i m : ℕ) (d : ℕ × JournalEntry)
     → i < length xs → m ≡ length (get_or xs i d).1.reaction.messages → new ≡ old ++ spots_at t i m
     → old ++ spots_in t i (drop i xs) ≡ total → new ++ spots_in t (i + 1) (drop (i + 1) xs) ≡ total
 found_more t old new total xs i m d lt count added all =
@@ -383,7 +383,7 @@ found_more t old new total xs i m d lt count added all =
     ∙ all
 
 -- the entries stay where the next turn is placed
-pub all_moved : (placed rest : List (Vec (ℕ × Entry))) (e : Vec (ℕ × Entry))
+pub all_moved : (placed rest : List (Vec (ℕ × JournalEntry))) (e : Vec (ℕ × JournalEntry))
     → all_of (placed ++ e ∷ []) ++ all_of rest ≡ all_of placed ++ all_of (e ∷ rest)
 all_moved placed rest e =
     ap (λ l. l ++ all_of rest) (all_more placed e) ∙ append_assoc (all_of placed) e.items (all_of rest)

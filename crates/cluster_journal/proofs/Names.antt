@@ -5,8 +5,8 @@ use Rattle.std.specs.Prelude.{◌||◌, HoldsAt, slice_get}
 use Rattle.std.proofs.lemmas.List.Elements.{All-cons, All-nil}
 use Rattle.std.proofs.lemmas.List.Quantifiers.{position-Some}
 use Rattle.std.proofs.lemmas.Option.{slice_get-get_or}
-use Rattle.tree_model.specs.declared.names.ProcessId.{ProcessId}
-use Rattle.tree_model.specs.contracts.names.ProcessIdPartialEq.TheImpl as processes
+use Rattle.protocol.specs.declared.names.ProcessId.{ProcessId}
+use Rattle.protocol.specs.contracts.names.ProcessIdPartialEq.TheImpl as processes
 use Rattle.cluster_journal.specs.declared.queues.Receiver.{Receiver}
 use Rattle.cluster_journal.specs.Marks.{processes_of}
 use Rattle.cluster_journal.proofs.Counts.{is_itself, is_the_one, process_equality}

@@ -5,11 +5,11 @@ use Rattle.std.proofs.lemmas.List.{get_or-set_other, get_or-set_same, length-set
 use Rattle.std.proofs.lemmas.List.Elements.{All-set}
 use Rattle.std.proofs.lemmas.Bool.Decides.{nat_tests}
 use Rattle.std.proofs.lemmas.Option.{slice_get-get_or}
-use Rattle.tree_model.specs.declared.names.ProcessId.{ProcessId}
-use Rattle.tree_model.specs.Names.{same_process}
-use Rattle.cluster_journal.specs.declared.marks.Mark.{Mark}
-use Rattle.cluster_journal.specs.declared.marks.Mark.TheVariants.{Open}
-use Rattle.cluster_journal.specs.declared.marks.Marked.{Marked}
+use Rattle.protocol.specs.declared.names.ProcessId.{ProcessId}
+use Rattle.protocol.specs.Names.{same_process}
+use Rattle.cluster_journal.specs.declared.marks.Delivery.{Delivery}
+use Rattle.cluster_journal.specs.declared.marks.Delivery.TheVariants.{Open}
+use Rattle.cluster_journal.specs.declared.marks.MarkedMessage.{MarkedMessage}
 use Rattle.cluster_journal.specs.declared.queues.Link.{Link}
 use Rattle.cluster_journal.specs.declared.queues.Queues.{Queues}
 use Rattle.cluster_journal.specs.declared.queues.Receiver.{Receiver}
@@ -51,7 +51,7 @@ apart_set rs at s e lt same apart i j d f il jl one =
     apart i j d f (omega (arith, il, long)) (omega (arith, jl, long))
     (sym (name_set rs at i s d e lt same) ∙ one ∙ name_set rs at j s f e lt same)
 
-pub linked_set : (q : ProcessId) (ms : List Marked) (k : ℕ) (rs : List Receiver) (l : Link) (at : ℕ) (s e : Receiver)
+pub linked_set : (q : ProcessId) (ms : List MarkedMessage) (k : ℕ) (rs : List Receiver) (l : Link) (at : ℕ) (s e : Receiver)
     → at < length rs → s.process ≡ (get_or rs at e).process → IsLinked q ms k rs l
     → IsLinked q ms k (slice_set rs at s) l
 linked_set q ms k rs l at s e lt same h = record {
@@ -61,7 +61,7 @@ linked_set q ms k rs l at s e lt same h = record {
 }
 
 -- the link of a message
-pub linked_at : (ms : List Marked) (q : Queues) (p : ℕ) (m : Marked) (l : Link) → p < length ms → m ≡ get_or ms p m
+pub linked_at : (ms : List MarkedMessage) (q : Queues) (p : ℕ) (m : MarkedMessage) (l : Link) → p < length ms → m ≡ get_or ms p m
     → l ≡ get_or q.links.items p l → AreQueued ms q → IsLinked m.to ms p q.receivers.items l
 linked_at ms q p m l lt at there h =
     subst (λ x. IsLinked x.to ms p q.receivers.items l) (sym at)
@@ -70,18 +70,18 @@ linked_at ms q p m l lt at there h =
 -- A mark that is set.
 
 -- what is at each place is sent to whom it was
-to_at : (ms : List Marked) (p k : ℕ) (m y d : Marked) → slice_get ms p ≡ Some m → y.to ≡ m.to
+to_at : (ms : List MarkedMessage) (p k : ℕ) (m y d : MarkedMessage) → slice_get ms p ≡ Some m → y.to ≡ m.to
     → (get_or (slice_set ms p y) k d).to ≡ (get_or ms k d).to
 to_at [] p k m y d at same = refl
 to_at (x ∷ ms) zero zero m y d at same = same ∙ sym (some_to x m at)
   where
-    some_to : (a b : Marked) → Some a ≡ Some b → a.to ≡ b.to
+    some_to : (a b : MarkedMessage) → Some a ≡ Some b → a.to ≡ b.to
     some_to a b h = cc
 to_at (x ∷ ms) zero (suc k) m y d at same = refl
 to_at (x ∷ ms) (suc p) zero m y d at same = refl
 to_at (x ∷ ms) (suc p) (suc k) m y d at same = to_at ms p k m y d at same
 
-linked_mark : (ms : List Marked) (p : ℕ) (m y : Marked) (rs : List Receiver) (ls : List Link) → slice_get ms p ≡ Some m
+linked_mark : (ms : List MarkedMessage) (p : ℕ) (m y : MarkedMessage) (rs : List Receiver) (ls : List Link) → slice_get ms p ≡ Some m
     → y.to ≡ m.to → AreLinked ms rs ls → AreLinked (slice_set ms p y) rs ls
 linked_mark ms p m y rs ls at same h k d e lt =
     let long = length-set ms p y in
@@ -94,7 +94,7 @@ linked_mark ms p m y rs ls at same h k d e lt =
     })
 
 -- the receivers once one of them tells of a message that is marked so
-told_all : (ms : List Marked) (p : ℕ) (m d : Marked) (mark : Mark) (rs : List Receiver) (at : ℕ) (s e : Receiver)
+told_all : (ms : List MarkedMessage) (p : ℕ) (m d : MarkedMessage) (mark : Delivery) (rs : List Receiver) (at : ℕ) (s e : Receiver)
     → p < length ms → m ≡ get_or ms p d → at < length rs → (get_or rs at e).process ≡ m.to → AreApart rs
     → IsTold (marked ms (p + 1) mark) s → All (IsTold ms) rs → All (IsTold (marked ms (p + 1) mark)) (slice_set rs at s)
 told_all ms p m d mark rs at s e lt is less to apart told all k f kl = elim (three k at) [
@@ -114,7 +114,7 @@ told_all ms p m d mark rs at s e lt is less to apart told all k f kl = elim (thr
         (λ one. other (apart k at f e kr less (one ∙ sym to))) (all k f kr))
 
 -- the queues once a message is marked so
-pub queued_mark : (ms : List Marked) (p : ℕ) (m d : Marked) (mark : Mark) (q new : Queues) (at : ℕ) (s e : Receiver)
+pub queued_mark : (ms : List MarkedMessage) (p : ℕ) (m d : MarkedMessage) (mark : Delivery) (q new : Queues) (at : ℕ) (s e : Receiver)
     → p < length ms → m ≡ get_or ms p d → AreQueued ms q → at < length q.receivers.items
     → (get_or q.receivers.items at e).process ≡ m.to → s.process ≡ (get_or q.receivers.items at e).process
     → IsTold (marked ms (p + 1) mark) s → new.links ≡ q.links → new.receivers.items ≡ slice_set q.receivers.items at s
@@ -122,7 +122,7 @@ pub queued_mark : (ms : List Marked) (p : ℕ) (m d : Marked) (mark : Mark) (q n
     → new.undelivered ≡ count_by is_undelivered (slice_set ms p (record { to = m.to; mark = mark }))
     → AreQueued (slice_set ms p (record { to = m.to; mark = mark })) new
 queued_mark ms p m d mark q new at s e lt is h less to same told links receivers free undelivered =
-    let y : Marked = record { to = m.to; mark = mark } in
+    let y : MarkedMessage = record { to = m.to; mark = mark } in
     let here = slice_get-get_or ms p d lt ∙ ap Some (sym is) in
     let rs = q.receivers.items in
     record {
@@ -141,7 +141,7 @@ queued_mark ms p m d mark q new at s e lt is h less to same told links receivers
 
 -- A queue begins at another place.
 
-pub queued_begin : (ms : List Marked) (q new : Queues) (at : ℕ) (s e : Receiver) → AreQueued ms q
+pub queued_begin : (ms : List MarkedMessage) (q new : Queues) (at : ℕ) (s e : Receiver) → AreQueued ms q
     → at < length q.receivers.items → s.process ≡ (get_or q.receivers.items at e).process → IsTold ms s
     → new.links ≡ q.links → new.receivers.items ≡ slice_set q.receivers.items at s
     → new.free ≡ count_by is_free new.receivers.items → new.undelivered ≡ q.undelivered → AreQueued ms new
@@ -161,7 +161,7 @@ queued_begin ms q new at s e h less same told links receivers free undelivered =
 
 -- Room alone changes nothing.
 
-pub queued_same : (ms : List Marked) (q new : Queues) → AreQueued ms q → new.links.items ≡ q.links.items
+pub queued_same : (ms : List MarkedMessage) (q new : Queues) → AreQueued ms q → new.links.items ≡ q.links.items
     → new.receivers.items ≡ q.receivers.items → new.free ≡ q.free → new.undelivered ≡ q.undelivered → AreQueued ms new
 queued_same ms q new h links receivers free undelivered = record {
   long = ap length links ∙ h.long;
@@ -176,7 +176,7 @@ queued_same ms q new h links receivers free undelivered = record {
 -- What is open.
 
 -- a receiver with messages that are open has one
-pub has_open : (ms : List Marked) (r : Receiver) → IsTold ms r → 0 < r.waiting → NoneOpen r.process ms 0 (length ms) → ⊥
+pub has_open : (ms : List MarkedMessage) (r : Receiver) → IsTold ms r → 0 < r.waiting → NoneOpen r.process ms 0 (length ms) → ⊥
 has_open ms r h some none =
     let count = count_none (is_open_to r.process) ms
     (λ k d lt. ap (is_open_by r.process) (sym (slice_get-get_or ms k d lt)) ∙ none k (omega arith) lt) in
@@ -187,7 +187,7 @@ pub not_free : (r : Receiver) → is_free r ≡ false → IsNotFree r
 not_free r h = grind (arith, nat_tests)
 
 -- nothing is to be claimed if no receiver is free
-pub none_free : (ms : List Marked) (q : Queues) → AreQueued ms q → All IsNotFree q.receivers.items → NoneToClaim ms
+pub none_free : (ms : List MarkedMessage) (q : Queues) → AreQueued ms q → All IsNotFree q.receivers.items → NoneToClaim ms
 none_free ms q h busy p = elim (count_some (is_open_to p) ms) [
   | inl none ↦ inl (first_is_none p 1 ms (none_open ms none))
   | inr (m, so, (k, lt, at)) ↦
@@ -202,9 +202,9 @@ none_free ms q h busy p = elim (count_some (is_open_to p) ms) [
       (busy (get_or q.links.items k l).receiver e link.within) (omega (arith, some, one))
 ]
   where
-    none_open : (xs : List Marked) → open_to p xs ≡ 0 → NoneOpen p xs 0 (length xs)
+    none_open : (xs : List MarkedMessage) → open_to p xs ≡ 0 → NoneOpen p xs 0 (length xs)
     none_open xs none k low lt =
-        let d : Marked = record { to = p; mark = Open } in
+        let d : MarkedMessage = record { to = p; mark = Open } in
         ap (is_open_by p) (slice_get-get_or xs k d lt) ∙ none_at (is_open_to p) xs k (get_or xs k d) d lt refl none
 
     by_receiver : (r : Receiver) → r.process ≡ p → IsTold ms r → IsNotFree r → 0 < open_to p ms

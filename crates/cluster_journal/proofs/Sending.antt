@@ -5,11 +5,11 @@ use Rattle.std.proofs.Math.Seq.{get_or-append_seam}
 use Rattle.std.proofs.lemmas.List.{get_or-set_other, get_or-set_same, get_or_append_left, length-append, length-set}
 use Rattle.std.proofs.lemmas.List.Elements.{All-push, All-weaker}
 use Rattle.std.proofs.lemmas.Option.{slice_get-get_or}
-use Rattle.tree_model.specs.declared.names.ProcessId.{ProcessId}
-use Rattle.tree_model.specs.Names.{same_process}
-use Rattle.cluster_journal.specs.declared.marks.Mark.{Mark}
-use Rattle.cluster_journal.specs.declared.marks.Mark.TheVariants.{Open}
-use Rattle.cluster_journal.specs.declared.marks.Marked.{Marked}
+use Rattle.protocol.specs.declared.names.ProcessId.{ProcessId}
+use Rattle.protocol.specs.Names.{same_process}
+use Rattle.cluster_journal.specs.declared.marks.Delivery.{Delivery}
+use Rattle.cluster_journal.specs.declared.marks.Delivery.TheVariants.{Open}
+use Rattle.cluster_journal.specs.declared.marks.MarkedMessage.{MarkedMessage}
 use Rattle.cluster_journal.specs.declared.queues.Link.{Link}
 use Rattle.cluster_journal.specs.declared.queues.Queues.{Queues}
 use Rattle.cluster_journal.specs.declared.queues.Receiver.{Receiver}
@@ -33,7 +33,7 @@ receiver_until r n = record { process = r.process; first = r.first; last = n; wa
 -- A message more.
 
 -- no message was sent to a process that is no receiver
-none_sent : (ms : List Marked) (to : ProcessId) (q : Queues) → AreQueued ms q
+none_sent : (ms : List MarkedMessage) (to : ProcessId) (q : Queues) → AreQueued ms q
     → All (λ r. r.process ≢ to) q.receivers.items → All (λ m. m.to ≢ to) ms
 none_sent ms to q h fresh k d lt one =
     let l : Link = record { receiver = 0; next = None } in
@@ -41,19 +41,19 @@ none_sent ms to q h fresh k d lt one =
     let r : Receiver = record { process = to; first = 0; last = 0; waiting = 0; claimed = 0 } in
     fresh (get_or q.links.items k l).receiver r link.within (link.named r ∙ one)
 
-none_to : (ms : List Marked) (to : ProcessId) → All (λ m. m.to ≢ to) ms → NoneTo to ms 0 (length ms)
+none_to : (ms : List MarkedMessage) (to : ProcessId) → All (λ m. m.to ≢ to) ms → NoneTo to ms 0 (length ms)
 none_to ms to none k low less =
-    let d : Marked = record { to = to; mark = Open } in
+    let d : MarkedMessage = record { to = to; mark = Open } in
     ap (is_to to) (slice_get-get_or ms k d less) ∙ is_other to (get_or ms k d).to (λ e. none k d less (sym e))
 
-counts_none : (f : Mark → Bool) (ms : List Marked) (to : ProcessId) → All (λ m. m.to ≢ to) ms
+counts_none : (f : Delivery → Bool) (ms : List MarkedMessage) (to : ProcessId) → All (λ m. m.to ≢ to) ms
     → count_by (λ m. f m.mark && same_process to m.to) ms ≡ 0
 counts_none f ms to none = count_none (λ m. f m.mark && same_process to m.to) ms (All-weaker (λ m. m.to ≢ to)
     (λ m. f m.mark && same_process to m.to ≡ false)
     (λ m other. and_false (f m.mark) (same_process to m.to) (is_other to m.to (λ e. other (sym e)))) ms none)
 
 -- the first message to a process
-pub queued_first : (ms : List Marked) (to : ProcessId) (q new : Queues) (s : Receiver) → AreQueued ms q
+pub queued_first : (ms : List MarkedMessage) (to : ProcessId) (q new : Queues) (s : Receiver) → AreQueued ms q
     → All (λ r. r.process ≢ to) q.receivers.items
     → s ≡ record { process = to; first = length ms; last = length ms; waiting = 1; claimed = 0 }
     → new.links.items ≡ q.links.items ++ record { receiver = length q.receivers.items; next = None } ∷ []
@@ -81,7 +81,7 @@ queued_first ms to q new s h fresh is links receivers free undelivered =
       undelivered = undelivered;
     }
   where
-    y : Marked
+    y : MarkedMessage
     y = record { to = to; mark = Open }
 
     l : Link
@@ -161,7 +161,7 @@ queued_first ms to q new s h fresh is links receivers free undelivered =
         by (inr (ir, ip)) (inr (jr, jp)) = ir ∙ sym jr
 
 -- a message more to a receiver
-pub queued_next : (ms : List Marked) (to : ProcessId) (q new : Queues) (at : ℕ) (r s : Receiver) → AreQueued ms q
+pub queued_next : (ms : List MarkedMessage) (to : ProcessId) (q new : Queues) (at : ℕ) (r s : Receiver) → AreQueued ms q
     → at < length q.receivers.items → r ≡ get_or q.receivers.items at r → r.process ≡ to
     → s ≡ record { process = r.process; first = r.first; last = length ms; waiting = r.waiting + 1; claimed = r.claimed }
     → new.links.items ≡ slice_set q.links.items r.last (record { receiver = at; next = Some (length ms) })
@@ -186,7 +186,7 @@ queued_next ms to q new at r s h less here named is links receivers free undeliv
       undelivered = undelivered;
     }
   where
-    y : Marked
+    y : MarkedMessage
     y = record { to = to; mark = Open }
 
     before_it : Link
@@ -243,13 +243,13 @@ queued_next ms to q new at r s h less here named is links receivers free undeliv
     none_after : NoneTo to ms (suc r.last) (length ms)
     none_after = subst (λ x. NoneTo x ms (suc r.last) (length ms)) named was.last
 
-    sent_to_it : (k : ℕ) (d : Marked) → k < length ms → is_to (get_or ms k d).to (slice_get ms k) ≡ true
+    sent_to_it : (k : ℕ) (d : MarkedMessage) → k < length ms → is_to (get_or ms k d).to (slice_get ms k) ≡ true
     sent_to_it k d lt =
         ap (is_to (get_or ms k d).to) (slice_get-get_or ms k d lt)
         ∙ is_itself (get_or ms k d).to (get_or ms k d).to refl
 
     -- the link of an earlier message
-    linked_before : (k : ℕ) (d : Marked) (e : Link) → k < length ms
+    linked_before : (k : ℕ) (d : MarkedMessage) (e : Link) → k < length ms
         → IsLinked (get_or ms k d).to (ms ++ y ∷ []) k (slice_set rs at s) (get_or (slice_set ls r.last before_it) k e)
     linked_before k d e lt = elim (three k r.last) [
       | inl before ↦ others (λ x. absurd (omega (arith, before, x)))

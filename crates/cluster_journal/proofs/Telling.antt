@@ -4,11 +4,11 @@ use Rattle.std.specs.Prelude.{slice_get}
 use Rattle.std.proofs.lemmas.List.{length-append, length-set}
 use Rattle.std.proofs.lemmas.List.Sums.{count_by-le-length}
 use Rattle.std.proofs.lemmas.Option.{slice_get-get_or}
-use Rattle.tree_model.specs.declared.names.ProcessId.{ProcessId}
-use Rattle.tree_model.specs.Names.{same_process}
-use Rattle.cluster_journal.specs.declared.marks.Mark.{Mark}
-use Rattle.cluster_journal.specs.declared.marks.Mark.TheVariants.{Open}
-use Rattle.cluster_journal.specs.declared.marks.Marked.{Marked}
+use Rattle.protocol.specs.declared.names.ProcessId.{ProcessId}
+use Rattle.protocol.specs.Names.{same_process}
+use Rattle.cluster_journal.specs.declared.marks.Delivery.{Delivery}
+use Rattle.cluster_journal.specs.declared.marks.Delivery.TheVariants.{Open}
+use Rattle.cluster_journal.specs.declared.marks.MarkedMessage.{MarkedMessage}
 use Rattle.cluster_journal.specs.declared.queues.Receiver.{Receiver}
 use Rattle.cluster_journal.specs.Marks.{IsTold, NoneOpen, NoneTo, claimed_to, is_claimed, is_claimed_to, is_open, is_open_to, is_to, marked, one_if, open_to}
 use Rattle.cluster_journal.proofs.Chains.{before_set, closed_set, get_last, none_open_push, not_open, none_to_other, none_to_set, to_push, to_set, within}
@@ -18,7 +18,7 @@ use Rattle.cluster_journal.proofs.Numbers.{closed_to, marks_it}
 -- A mark that is set.
 
 -- what its receiver counts, by this test of marks
-counts : (f : Mark → Bool) (q : ProcessId) (ms : List Marked) (p : ℕ) (m d y : Marked) → p < length ms → m ≡ get_or ms p d
+counts : (f : Delivery → Bool) (q : ProcessId) (ms : List MarkedMessage) (p : ℕ) (m d y : MarkedMessage) → p < length ms → m ≡ get_or ms p d
     → same_process q m.to ≡ true → y.to ≡ m.to
     → count_by (λ x. f x.mark && same_process q x.to) (slice_set ms p y) + one_if (f m.mark)
     ≡ count_by (λ x. f x.mark && same_process q x.to) ms + one_if (f y.mark)
@@ -31,7 +31,7 @@ counts f q ms p m d y lt at mine same =
     omega (arith, moved, was, is)
 
 -- another counts as many
-counts_other : (f : Mark → Bool) (q : ProcessId) (ms : List Marked) (p : ℕ) (m d y : Marked) → p < length ms
+counts_other : (f : Delivery → Bool) (q : ProcessId) (ms : List MarkedMessage) (p : ℕ) (m d y : MarkedMessage) → p < length ms
     → m ≡ get_or ms p d → same_process q m.to ≡ false → y.to ≡ m.to
     → count_by (λ x. f x.mark && same_process q x.to) (slice_set ms p y)
     ≡ count_by (λ x. f x.mark && same_process q x.to) ms
@@ -44,7 +44,7 @@ counts_other f q ms p m d y lt at other same =
     omega (arith, moved, was, is)
 
 -- where its queue begins, none is open before
-begins_after : (b : Bool) (q : ProcessId) (ms : List Marked) (p first new : ℕ) (y : Marked) → is_open y.mark ≡ b
+begins_after : (b : Bool) (q : ProcessId) (ms : List MarkedMessage) (p first new : ℕ) (y : MarkedMessage) → is_open y.mark ≡ b
     → new ≤ first → (is_open y.mark ≡ true → new ≤ p) → NoneOpen q ms 0 first → NoneOpen q (slice_set ms p y) 0 new
 begins_after true q ms p first new y is le opened none =
     before_set q ms p 0 new y (opened is) (λ k low less. none k low (omega (arith, less, le)))
@@ -52,13 +52,13 @@ begins_after false q ms p first new y is le opened none =
     closed_set q ms p 0 new y (closed_to q y is) (λ k low less. none k low (omega (arith, less, le)))
 
 -- the message is to this receiver
-to_it : (q : ProcessId) (ms : List Marked) (p : ℕ) (m d : Marked) → p < length ms → m ≡ get_or ms p d
+to_it : (q : ProcessId) (ms : List MarkedMessage) (p : ℕ) (m d : MarkedMessage) → p < length ms → m ≡ get_or ms p d
     → is_to q (slice_get ms p) ≡ true → same_process q m.to ≡ true
 to_it q ms p m d lt at mine =
     ap (λ x. same_process q x.to) at ∙ sym (ap (is_to q) (slice_get-get_or ms p d lt)) ∙ mine
 
 -- what its receiver tells
-pub told_same : (ms : List Marked) (p : ℕ) (m d : Marked) (mark : Mark) (r s : Receiver) → p < length ms → m ≡ get_or ms p d
+pub told_same : (ms : List MarkedMessage) (p : ℕ) (m d : MarkedMessage) (mark : Delivery) (r s : Receiver) → p < length ms → m ≡ get_or ms p d
     → is_to r.process (slice_get ms p) ≡ true → IsTold ms r → s.process ≡ r.process → s.last ≡ r.last
     → (s.first ≡ r.first) ⊎ (s.first ≡ p) → s.first ≤ r.first → (is_open mark ≡ true → s.first ≤ p)
     → (a b : Bool) → a ≡ is_open m.mark → b ≡ is_open mark → s.waiting + one_if a ≡ r.waiting + one_if b
@@ -66,7 +66,7 @@ pub told_same : (ms : List Marked) (p : ℕ) (m d : Marked) (mark : Mark) (r s :
     → IsTold (marked ms (p + 1) mark) s
 told_same ms p m d mark r s lt at to h same last either le opened a b a_is b_is waiting e f e_is f_is claimed =
     let q = r.process in
-    let y : Marked = record { to = m.to; mark = mark } in
+    let y : MarkedMessage = record { to = m.to; mark = mark } in
     let mine = to_it q ms p m d lt at to in
     let here = slice_get-get_or ms p d lt ∙ ap Some (sym at) in
     let begins : is_to q (slice_get ms s.first) ≡ true = elim either [
@@ -100,11 +100,11 @@ told_same ms p m d mark r s lt at to h same last either le opened a b a_is b_is 
     })
 
 -- what another tells stays
-pub told_other : (ms : List Marked) (p : ℕ) (m d : Marked) (mark : Mark) (r : Receiver) → p < length ms
+pub told_other : (ms : List MarkedMessage) (p : ℕ) (m d : MarkedMessage) (mark : Delivery) (r : Receiver) → p < length ms
     → m ≡ get_or ms p d → r.process ≢ m.to → IsTold ms r → IsTold (marked ms (p + 1) mark) r
 told_other ms p m d mark r lt at other h =
     let q = r.process in
-    let y : Marked = record { to = m.to; mark = mark } in
+    let y : MarkedMessage = record { to = m.to; mark = mark } in
     let not_so : same_process q m.to ≡ false = is_other q m.to other in
     let here = slice_get-get_or ms p d lt ∙ ap Some (sym at) in
     subst (λ l. IsTold l r) (marks_it ms (p + 1) p m d m.to mark refl lt at refl)
@@ -119,12 +119,12 @@ told_other ms p m d mark r lt at other h =
     })
 
 -- what its receiver counts fits
-fits : (f : Mark → Bool) (q : ProcessId) (ms : List Marked) (p : ℕ) (m d : Marked) (mark : Mark) (c : ℕ) → p < length ms
+fits : (f : Delivery → Bool) (q : ProcessId) (ms : List MarkedMessage) (p : ℕ) (m d : MarkedMessage) (mark : Delivery) (c : ℕ) → p < length ms
     → m ≡ get_or ms p d → is_to q (slice_get ms p) ≡ true → c ≡ count_by (λ x. f x.mark && same_process q x.to) ms
     → (n : ℕ) (a b : Bool) → n ≡ length ms → a ≡ f m.mark → b ≡ f mark
     → (one_if a ≤ c) × (c + one_if b ≤ n + one_if a)
 fits f q ms p m d mark c lt at to is n a b all a_is b_is =
-    let y : Marked = record { to = m.to; mark = mark } in
+    let y : MarkedMessage = record { to = m.to; mark = mark } in
     let mine = to_it q ms p m d lt at to in
     let moved = counts f q ms p m d y lt at mine refl in
     let low = count_at (λ x. f x.mark && same_process q x.to) ms p m d lt at in
@@ -136,13 +136,13 @@ fits f q ms p m d mark c lt at to is n a b all a_is b_is =
     let other = ap one_if b_is in
     (omega (arith, low, was, is, one), omega (arith, moved, most, long, is, one, other, all))
 
-pub fits_open : (ms : List Marked) (p : ℕ) (m d : Marked) (mark : Mark) (r : Receiver) → p < length ms → m ≡ get_or ms p d
+pub fits_open : (ms : List MarkedMessage) (p : ℕ) (m d : MarkedMessage) (mark : Delivery) (r : Receiver) → p < length ms → m ≡ get_or ms p d
     → is_to r.process (slice_get ms p) ≡ true → IsTold ms r
     → (n : ℕ) (a b : Bool) → n ≡ length ms → a ≡ is_open m.mark → b ≡ is_open mark
     → (one_if a ≤ r.waiting) × (r.waiting + one_if b ≤ n + one_if a)
 fits_open ms p m d mark r lt at to h = fits is_open r.process ms p m d mark r.waiting lt at to h.waiting
 
-pub fits_claimed : (ms : List Marked) (p : ℕ) (m d : Marked) (mark : Mark) (r : Receiver) → p < length ms
+pub fits_claimed : (ms : List MarkedMessage) (p : ℕ) (m d : MarkedMessage) (mark : Delivery) (r : Receiver) → p < length ms
     → m ≡ get_or ms p d → is_to r.process (slice_get ms p) ≡ true → IsTold ms r
     → (n : ℕ) (a b : Bool) → n ≡ length ms → a ≡ is_claimed m.mark → b ≡ is_claimed mark
     → (one_if a ≤ r.claimed) × (r.claimed + one_if b ≤ n + one_if a)
@@ -150,7 +150,7 @@ fits_claimed ms p m d mark r lt at to h = fits is_claimed r.process ms p m d mar
 
 -- A queue begins at another place.
 
-pub told_here : (ms : List Marked) (p : ℕ) (r s : Receiver) → IsTold ms r → s.process ≡ r.process → s.first ≡ p
+pub told_here : (ms : List MarkedMessage) (p : ℕ) (r s : Receiver) → IsTold ms r → s.process ≡ r.process → s.first ≡ p
     → s.last ≡ r.last → s.waiting ≡ r.waiting → s.claimed ≡ r.claimed → is_to r.process (slice_get ms p) ≡ true
     → NoneOpen r.process ms 0 p → IsTold ms s
 told_here ms p r s h same place last waiting claimed begins none = record {
@@ -168,12 +168,12 @@ told_here ms p r s h same place last waiting claimed begins none = record {
 -- A message more.
 
 -- its receiver tells one more
-pub told_more : (ms : List Marked) (r s : Receiver) (to : ProcessId) → IsTold ms r → s.process ≡ r.process
+pub told_more : (ms : List MarkedMessage) (r s : Receiver) (to : ProcessId) → IsTold ms r → s.process ≡ r.process
     → s.first ≡ r.first → s.last ≡ length ms → s.waiting ≡ r.waiting + 1 → s.claimed ≡ r.claimed → r.process ≡ to
     → IsTold (ms ++ record { to = to; mark = Open } ∷ []) s
 told_more ms r s to h same first last waiting claimed is_to_it =
     let q = r.process in
-    let y : Marked = record { to = to; mark = Open } in
+    let y : MarkedMessage = record { to = to; mark = Open } in
     let mine : same_process q to ≡ true = is_itself q to is_to_it in
     let lt = within q ms r.first h.begins in
     record {
@@ -198,11 +198,11 @@ told_more ms r s to h same first last waiting claimed is_to_it =
     }
 
 -- another tells as many
-pub told_still : (ms : List Marked) (r : Receiver) (to : ProcessId) → IsTold ms r → r.process ≢ to
+pub told_still : (ms : List MarkedMessage) (r : Receiver) (to : ProcessId) → IsTold ms r → r.process ≢ to
     → IsTold (ms ++ record { to = to; mark = Open } ∷ []) r
 told_still ms r to h other =
     let q = r.process in
-    let y : Marked = record { to = to; mark = Open } in
+    let y : MarkedMessage = record { to = to; mark = Open } in
     let not_so : same_process q to ≡ false = is_other q to other in
     let lt = within q ms r.first h.begins in
     record {
@@ -223,11 +223,11 @@ told_still ms r to h other =
     }
 
 -- the first message to a process
-pub told_first : (ms : List Marked) (to : ProcessId) (s : Receiver) → NoneTo to ms 0 (length ms) → open_to to ms ≡ 0
+pub told_first : (ms : List MarkedMessage) (to : ProcessId) (s : Receiver) → NoneTo to ms 0 (length ms) → open_to to ms ≡ 0
     → claimed_to to ms ≡ 0 → s.process ≡ to → s.first ≡ length ms → s.last ≡ length ms → s.waiting ≡ 1 → s.claimed ≡ 0
     → IsTold (ms ++ record { to = to; mark = Open } ∷ []) s
 told_first ms to s none opens claims same first last waiting claimed =
-    let y : Marked = record { to = to; mark = Open } in
+    let y : MarkedMessage = record { to = to; mark = Open } in
     let mine : same_process to to ≡ true = is_itself to to refl in
     record {
       begins = subst (λ x. is_to x (slice_get (ms ++ y ∷ []) s.first) ≡ true) (sym same)

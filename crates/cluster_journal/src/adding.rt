@@ -11,16 +11,16 @@ ghost use Rattle.cluster_journal.specs.Marks.{
   processes_of,
   sent_to,
 };
-ghost use Rattle.cluster_journal.specs.declared.marks.Mark.TheVariants as kinds;
+ghost use Rattle.cluster_journal.specs.declared.marks.Delivery.TheVariants as kinds;
 
-use crate::marks::{Mark, Marked};
+use crate::marks::{Delivery, MarkedMessage};
 use crate::queues::{Link, Queues, Receiver, put_receiver};
 use indexmap::IndexSet;
-use tree_model::{Envelope, ProcessId};
+use protocol::{Envelope, ProcessId};
 
 /// A mark more for each of these messages, where there is room for them and for their receivers.
 pub(crate) fn add_all(
-    marks: &mut Vec<Marked>,
+    marks: &mut Vec<MarkedMessage>,
     names: &mut IndexSet<ProcessId>,
     queues: &mut Queues,
     messages: &[Envelope],
@@ -39,7 +39,7 @@ pub(crate) fn add_all(
 
 /// An open message to this process more, where there is room for it and for a receiver.
 fn add_message(
-    marks: &mut Vec<Marked>,
+    marks: &mut Vec<MarkedMessage>,
     names: &mut IndexSet<ProcessId>,
     queues: &mut Queues,
     to: ProcessId,
@@ -63,7 +63,7 @@ fn add_message(
 }
 
 /// An open message to a process to which none was sent before.
-fn add_first(marks: &mut Vec<Marked>, queues: &mut Queues, to: ProcessId)
+fn add_first(marks: &mut Vec<MarkedMessage>, queues: &mut Queues, to: ProcessId)
     requires room { HasRoom marks.old queues.old 1 }
     requires queued { AreQueued marks.old.items queues.old }
     requires fresh { All (λ r. r.process ≢ to) queues.old.receivers.items }
@@ -87,7 +87,7 @@ fn add_first(marks: &mut Vec<Marked>, queues: &mut Queues, to: ProcessId)
 }
 
 /// An open message more to the receiver at this place.
-fn add_next(marks: &mut Vec<Marked>, queues: &mut Queues, at: usize, to: ProcessId)
+fn add_next(marks: &mut Vec<MarkedMessage>, queues: &mut Queues, at: usize, to: ProcessId)
     requires room { HasRoom marks.old queues.old 1 }
     requires queued { AreQueued marks.old.items queues.old }
     requires at { (at < length queues.old.receivers.items) × HoldsAt (λ r. r.process ≡ to) queues.old.receivers.items at }
@@ -117,7 +117,7 @@ fn add_next(marks: &mut Vec<Marked>, queues: &mut Queues, at: usize, to: Process
 }
 
 /// An open message more, the last one to the receiver at this place.
-fn push_message(marks: &mut Vec<Marked>, queues: &mut Queues, at: usize, to: ProcessId)
+fn push_message(marks: &mut Vec<MarkedMessage>, queues: &mut Queues, at: usize, to: ProcessId)
     requires room { (vec_len marks.old + 1 ≤ vec_capacity marks.old)
         × (vec_len queues.old.links + 1 ≤ vec_capacity queues.old.links) }
     requires undelivered { queues.old.undelivered ≡ count_by is_undelivered marks.old.items }
@@ -136,8 +136,8 @@ fn push_message(marks: &mut Vec<Marked>, queues: &mut Queues, at: usize, to: Pro
         receiver: at,
         next: None,
     });
-    marks.push_reserved(Marked {
+    marks.push_reserved(MarkedMessage {
         to,
-        mark: Mark::Open,
+        mark: Delivery::Open,
     });
 }

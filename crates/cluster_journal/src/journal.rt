@@ -2,22 +2,22 @@
 
 ghost use Rattle.std.specs.Prelude.{◌≡◌, ◌+◌, ◌-◌, ◌++◌, [], IsTrue, OnOk, OnErr, IfSome, IfNone, None, Some, length};
 ghost use Rattle.std.specs.Option.{option_copied};
-ghost use Rattle.tree_model.specs.Plays.{sent_as};
-ghost use Rattle.journal_turns.specs.Turns.{all_of};
-ghost use Rattle.tree_cut.specs.Cuts.{net_of};
+ghost use Rattle.protocol.specs.Plays.{sent_as};
+ghost use Rattle.cluster_turns.specs.Turns.{all_of};
+ghost use Rattle.tree_state.specs.Cuts.{net_of};
 ghost use Rattle.cluster_journal.specs.Journals.{AllDelivered, entries_of, marked_by_all};
 ghost use Rattle.cluster_journal.specs.Marks.{IsNextOpen, NoneToClaim, claimed_to, first_open, given_back, marked};
 ghost use Rattle.cluster_journal.specs.Spots.{message_in};
-ghost use Rattle.cluster_journal.specs.declared.marks.Mark.TheVariants as kinds;
+ghost use Rattle.cluster_journal.specs.declared.marks.Delivery.TheVariants as kinds;
 
-use crate::marks::{Claim, Marks};
+use crate::marks::{Claim, Deliveries};
 use crate::spots::{Spot, find_rest, spot_at};
-use journal_turns::{Entries, Turn};
+use cluster_turns::{Entries, Turn};
+use protocol::{Envelope, JournalEntry, ProcessId};
 use std::alloc::{AllocError, Global};
 use std::collections::LinkedList;
 use std::marker::Model;
 use std::sync::Wait;
-use tree_model::{Entry, Envelope, ProcessId};
 
 /// Every entry with its caller's number, and what became of each message. It is a list of turns, of which no entry moves.
 #[derive(Drop)]
@@ -33,12 +33,12 @@ pub struct ClusterJournal {
     /// Of N entries of that turn the messages were found.
     found: usize,
     /// What became of each of these messages.
-    marks: Marks,
+    marks: Deliveries,
 }
 
 impl Model for ClusterJournal {
     ghost use Rattle.std.specs.Prelude.{◌≡◌, ◌++◌, length};
-    ghost use Rattle.journal_turns.specs.Turns.{all_of};
+    ghost use Rattle.cluster_turns.specs.Turns.{all_of};
     ghost use Rattle.cluster_journal.specs.Journals.{AreDelivered, ClusterState};
     ghost use Rattle.cluster_journal.specs.Spots.{AreFound};
 
@@ -70,7 +70,7 @@ fn counted<R: Wait>(rt: &R, count: usize, made: usize) -> usize
 }
 
 /// The messages that these entries deliver are marked so.
-fn note(marks: &mut Marks, made: &[(u64, Entry)])
+fn note(marks: &mut Deliveries, made: &[(u64, JournalEntry)])
     ensures { marks.new ≡ marked_by_all made.now marks.old }
 {
     for (_, entry) in made {
@@ -90,7 +90,7 @@ impl ClusterJournal {
             count: 0,
             spots: Vec::new(alloc),
             found: 0,
-            marks: Marks::new(alloc),
+            marks: Deliveries::new(alloc),
         }
     }
 

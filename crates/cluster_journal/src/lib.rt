@@ -21,4 +21,4 @@ mod queues;
 mod spots;
 
 pub use journal::ClusterJournal;
-pub use marks::{Claim, Mark, Marked};
+pub use marks::{Claim, Delivery, MarkedMessage};

@@ -14,18 +14,18 @@ ghost use Rattle.cluster_journal.specs.Marks.{
   marked,
   sent_to,
 };
-ghost use Rattle.cluster_journal.specs.declared.marks.Mark.TheVariants as kinds;
+ghost use Rattle.cluster_journal.specs.declared.marks.Delivery.TheVariants as kinds;
 
 use crate::adding::add_all;
 use crate::queues::{Queues, claim_for, is_claimed, open_from, picked, set_mark};
 use indexmap::IndexSet;
+use protocol::{Envelope, Happening, Input, ProcessId};
 use std::alloc::{AllocError, Global};
 use std::marker::Model;
-use tree_model::{Envelope, Happening, Input, ProcessId};
 
 /// What became of a message.
 #[derive(Clone, Copy, PartialEq, Eq)]
-pub enum Mark {
+pub enum Delivery {
     /// Nobody delivers it.
     Open,
     /// Somebody delivers it now.
@@ -36,11 +36,11 @@ pub enum Mark {
 
 /// A message's receiver, and what became of the message.
 #[derive(Clone, Copy)]
-pub struct Marked {
+pub struct MarkedMessage {
     /// Its receiver.
     pub to: ProcessId,
     /// What became of it.
-    pub mark: Mark,
+    pub mark: Delivery,
 }
 
 /// A message that somebody delivers now.
@@ -54,16 +54,16 @@ pub struct Claim {
 
 /// A mark for each message in order of sending, and a queue for each process. Contracts see the list of marks.
 #[derive(Drop)]
-pub(crate) struct Marks {
-    pub(crate) marks: Vec<Marked>,
+pub(crate) struct Deliveries {
+    pub(crate) marks: Vec<MarkedMessage>,
     /// The receivers' names, each at its receiver's place.
     pub(crate) names: IndexSet<ProcessId>,
     pub(crate) queues: Queues,
 }
 
-impl Model for Marks {
+impl Model for Deliveries {
     ghost use Rattle.std.specs.Prelude.{◌≡◌, List};
-    ghost use Rattle.cluster_journal.specs.declared.marks.Marked.{Marked as AnyMarked};
+    ghost use Rattle.cluster_journal.specs.declared.marks.MarkedMessage.{MarkedMessage as AnyMarked};
     ghost use Rattle.cluster_journal.specs.Marks.{AreQueued, processes_of};
 
     ghost Value = { List AnyMarked };
@@ -74,12 +74,12 @@ impl Model for Marks {
         × (m.names.keys ≡ processes_of m.queues.receivers.items) };
 }
 
-impl Marks {
+impl Deliveries {
     /// No marks. It takes no memory.
-    pub(crate) fn new(alloc: Global) -> Marks
+    pub(crate) fn new(alloc: Global) -> Deliveries
         ensures { result ≡ [] }
     {
-        Marks {
+        Deliveries {
             marks: Vec::new(alloc),
             names: IndexSet::new(alloc),
             queues: Queues::new(alloc),
@@ -167,7 +167,12 @@ impl Marks {
         ensures { self.new ≡ marked self.old number kinds.Delivered }
     {
         if let Some(place) = place_of(number, self.marks.len()) {
-            set_mark(&mut self.marks, &mut self.queues, place, Mark::Delivered);
+            set_mark(
+                &mut self.marks,
+                &mut self.queues,
+                place,
+                Delivery::Delivered,
+            );
         }
     }
 
@@ -186,7 +191,7 @@ impl Marks {
     {
         if let Some(place) = place_of(number, self.marks.len()) {
             if is_claimed(self.marks[place].mark) {
-                set_mark(&mut self.marks, &mut self.queues, place, Mark::Open);
+                set_mark(&mut self.marks, &mut self.queues, place, Delivery::Open);
             }
         }
     }

@@ -25,11 +25,11 @@ ghost use Rattle.cluster_journal.specs.Marks.{
   one_if,
   processes_of,
 };
-ghost use Rattle.cluster_journal.specs.declared.marks.Mark.TheVariants as kinds;
+ghost use Rattle.cluster_journal.specs.declared.marks.Delivery.TheVariants as kinds;
 
-use crate::marks::{Claim, Mark, Marked};
+use crate::marks::{Claim, Delivery, MarkedMessage};
+use protocol::ProcessId;
 use std::alloc::{AllocError, Global};
-use tree_model::ProcessId;
 
 /// Where a message is among those to its receiver.
 #[derive(Clone, Copy)]
@@ -100,7 +100,7 @@ impl Queues {
 }
 
 /// Claims the first open message of the receiver at this place, to which nobody delivers. Its queue begins there now.
-pub(crate) fn claim_for(marks: &mut Vec<Marked>, queues: &mut Queues, place: usize) -> Claim
+pub(crate) fn claim_for(marks: &mut Vec<MarkedMessage>, queues: &mut Queues, place: usize) -> Claim
     requires queued { (place < length queues.old.receivers.items) × AreQueued marks.old.items queues.old }
     requires free { HoldsAt IsFree queues.old.receivers.items place }
     ensures queued { AreQueued marks.new.items queues.new }
@@ -124,7 +124,7 @@ pub(crate) fn claim_for(marks: &mut Vec<Marked>, queues: &mut Queues, place: usi
             claimed: receiver.claimed,
         },
     );
-    set_mark(marks, queues, found, Mark::Claimed);
+    set_mark(marks, queues, found, Delivery::Claimed);
     Claim {
         number: found as u64 + 1,
         to: receiver.process,
@@ -134,7 +134,7 @@ pub(crate) fn claim_for(marks: &mut Vec<Marked>, queues: &mut Queues, place: usi
 /// The place of the first open message to this process that is not before the lowest place, where its chain is
 /// gone along from a message to it, and none between the two places is open.
 pub(crate) fn open_from(
-    marks: &[Marked],
+    marks: &[MarkedMessage],
     queues: &Queues,
     start: usize,
     lowest: usize,
@@ -192,7 +192,12 @@ fn fullest(receivers: &[Receiver]) -> Option<usize>
 }
 
 /// The message at this place is marked so, and its receiver's queue follows.
-pub(crate) fn set_mark(marks: &mut Vec<Marked>, queues: &mut Queues, place: usize, mark: Mark)
+pub(crate) fn set_mark(
+    marks: &mut Vec<MarkedMessage>,
+    queues: &mut Queues,
+    place: usize,
+    mark: Delivery,
+)
     requires { (place < length marks.old.items) × AreQueued marks.old.items queues.old }
     ensures queued { AreQueued marks.new.items queues.new }
     ensures names { processes_of queues.new.receivers.items ≡ processes_of queues.old.receivers.items }
@@ -208,14 +213,14 @@ pub(crate) fn set_mark(marks: &mut Vec<Marked>, queues: &mut Queues, place: usiz
         !is_delivered(message.mark),
         !is_delivered(mark),
     );
-    marks[place] = Marked {
+    marks[place] = MarkedMessage {
         to: message.to,
         mark,
     };
 }
 
 /// What the receiver of the message at this place tells once it is marked so.
-fn told(marks: &[Marked], receiver: Receiver, place: usize, mark: Mark) -> Receiver
+fn told(marks: &[MarkedMessage], receiver: Receiver, place: usize, mark: Delivery) -> Receiver
     requires place { place < length marks.now }
     requires told { IsTold marks.now receiver }
     requires mine { is_to receiver.process (slice_get marks.now place) ≡ true }
@@ -234,7 +239,7 @@ fn told(marks: &[Marked], receiver: Receiver, place: usize, mark: Mark) -> Recei
 }
 
 /// Where a queue begins that began at the first place, once the message at the second one is marked so.
-fn first_after(first: usize, place: usize, mark: Mark) -> usize
+fn first_after(first: usize, place: usize, mark: Delivery) -> usize
     ensures either { (result ≡ first) ⊎ (result ≡ place) }
     ensures less { result ≤ first }
     ensures opened { is_open mark ≡ true → result ≤ place }
@@ -299,29 +304,29 @@ fn free_waiting(receiver: Receiver) -> usize {
 }
 
 /// Whether this message is open, and is sent to this process.
-fn is_open_to(to: ProcessId, message: Marked) -> bool
+fn is_open_to(to: ProcessId, message: MarkedMessage) -> bool
     ensures { result ≡ is_open_to to message }
 {
     is_open(message.mark) && to.0 == message.to.0
 }
 
 /// Whether this says that nobody delivers the message.
-fn is_open(mark: Mark) -> bool
+fn is_open(mark: Delivery) -> bool
     ensures { result ≡ is_open mark }
 {
-    matches!(mark, Mark::Open)
+    matches!(mark, Delivery::Open)
 }
 
 /// Whether this says that somebody delivers the message now.
-pub(crate) fn is_claimed(mark: Mark) -> bool
+pub(crate) fn is_claimed(mark: Delivery) -> bool
     ensures { result ≡ is_claimed mark }
 {
-    matches!(mark, Mark::Claimed)
+    matches!(mark, Delivery::Claimed)
 }
 
 /// Whether this says that the message was delivered.
-fn is_delivered(mark: Mark) -> bool
+fn is_delivered(mark: Delivery) -> bool
     ensures { result ≡ is_delivered mark }
 {
-    matches!(mark, Mark::Delivered)
+    matches!(mark, Delivery::Delivered)
 }

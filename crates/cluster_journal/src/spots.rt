@@ -2,14 +2,14 @@
 
 ghost use Rattle.std.specs.Prelude.{◌≡◌, ◌+◌, ◌≤◌, ◌++◌, OnErr, OnOk, drop, length, map, slice_get};
 ghost use Rattle.std.specs.Vec.{vec_capacity, vec_len};
-ghost use Rattle.tree_model.specs.declared.events.Entry.{Entry as AnyEntry};
+ghost use Rattle.protocol.specs.declared.events.JournalEntry.{JournalEntry as AnyEntry};
 ghost use Rattle.cluster_journal.specs.Journals.{KeepsDelivered};
 ghost use Rattle.cluster_journal.specs.Marks.{sent_to};
 ghost use Rattle.cluster_journal.specs.Spots.{spots_at, spots_in};
 
-use crate::marks::Marks;
+use crate::marks::Deliveries;
+use protocol::{Envelope, JournalEntry};
 use std::alloc::AllocError;
-use tree_model::{Entry, Envelope};
 
 /// Where a message stands: the place of its turn, the place of its entry in that turn, and its place among that entry's
 /// messages, each from 0.
@@ -50,7 +50,7 @@ fn add_spots(spots: &mut Vec<Spot>, turn: usize, entry: usize, count: usize)
 /// Adds the places and the marks of the messages of one entry. Memory: a growth was refused, and none is added.
 fn find_one(
     spots: &mut Vec<Spot>,
-    marks: &mut Marks,
+    marks: &mut Deliveries,
     turn: usize,
     entry: usize,
     messages: &[Envelope],
@@ -70,10 +70,10 @@ fn find_one(
 /// counts these. Memory: a growth was refused, and those of some entries are not added.
 pub(crate) fn find_rest(
     spots: &mut Vec<Spot>,
-    marks: &mut Marks,
+    marks: &mut Deliveries,
     found: &mut usize,
     turn: usize,
-    entries: &[(u64, Entry)],
+    entries: &[(u64, JournalEntry)],
 ) -> Result<(), AllocError>
     requires within { found.old ≤ length entries.now }
     requires long { length marks.old ≡ length spots.old.items }

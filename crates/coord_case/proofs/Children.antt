@@ -2,14 +2,14 @@
 use Rattle.std.proofs.Common.{◌≡◌, ℕ, suc, ◌+◌, ◌≤◌, length, Bool, true, false, not, ◌&&◌, ◌||◌, cond, Option, None, Some, List, [], ◌∷◌, ◌++◌, filter, find, map, option_map, replicate, if◌then◌else◌, set, get_or, refl, sym, ap, ◌∙◌, arith}
 use Rattle.std.specs.List.{cons_option, list_all, list_any, position_or_len}
 use Rattle.std.proofs.lemmas.Grind.{common_steps}
-use Rattle.tree_model.specs.declared.names.ProcessId.{ProcessId}
-use Rattle.tree_model.specs.declared.names.Ticket.{Ticket}
-use Rattle.tree_model.specs.declared.standings.Vote.{Vote}
-use Rattle.tree_model.specs.declared.standings.Vote.TheVariants.{Yes, No, Read}
-use Rattle.tree_model.specs.Names.{same_process, same_ticket}
-use Rattle.tree_model.specs.Records.{in_list}
-use Rattle.tree_model.specs.Memory.{all_voted, has_child, has_voted, is_counted, same_vote, undecided_of, voted_so, yes_of}
-use Rattle.tree_model.proofs.NameTests.{ticket_tells}
+use Rattle.protocol.specs.declared.names.ProcessId.{ProcessId}
+use Rattle.protocol.specs.declared.names.Ticket.{Ticket}
+use Rattle.protocol.specs.declared.standings.Vote.{Vote}
+use Rattle.protocol.specs.declared.standings.Vote.TheVariants.{Yes, No, Read}
+use Rattle.protocol.specs.Names.{same_process, same_ticket}
+use Rattle.protocol.specs.Records.{in_list}
+use Rattle.protocol.specs.Memory.{all_voted, has_child, has_voted, is_counted, same_vote, undecided_of, voted_so, yes_of}
+use Rattle.protocol.proofs.NameTests.{ticket_tells}
 use Rattle.coord_case.specs.declared.child.Child.{Child}
 use Rattle.coord_case.specs.Lives.{accepted_in, are_distinct, awaits_vote, casts, changing, is_cast, is_missing, is_undecided, is_vote, vote_in, vote_of, votes_in, voting, works_in}
 

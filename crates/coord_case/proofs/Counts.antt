@@ -3,11 +3,11 @@ use Rattle.std.proofs.Common.{◌≡◌, ◌≤◌, ℕ, ◌+◌, ◌==◌, leng
 use Rattle.std.proofs.lemmas.Grind.{common_steps}
 use Rattle.std.proofs.lemmas.List.Sums.{count_by-le-length, sum_by-cons, sum_by_push}
 use Rattle.std.specs.List.{count_by, list_all}
-use Rattle.tree_model.specs.declared.names.Ticket.{Ticket}
-use Rattle.tree_model.specs.declared.standings.Vote.{Vote}
-use Rattle.tree_model.specs.declared.standings.Vote.TheVariants.{Yes}
-use Rattle.tree_model.specs.Names.{same_ticket}
-use Rattle.tree_model.specs.Records.{in_list, none_of}
+use Rattle.protocol.specs.declared.names.Ticket.{Ticket}
+use Rattle.protocol.specs.declared.standings.Vote.{Vote}
+use Rattle.protocol.specs.declared.standings.Vote.TheVariants.{Yes}
+use Rattle.protocol.specs.Names.{same_ticket}
+use Rattle.protocol.specs.Records.{in_list, none_of}
 use Rattle.coord_case.specs.declared.child.Child.{Child}
 use Rattle.coord_case.specs.Lives.{accepted_in, casts, changing, is_cast, is_missing, is_vote, missing_in, sending, vote_found, voting, yes_by, yes_in}
 use Rattle.coord_case.proofs.Children.{second_false}

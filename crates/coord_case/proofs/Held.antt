@@ -1,16 +1,16 @@
 -- What the view of a live case becomes where its children change.
 use Rattle.std.proofs.Common.{◌≡◌, ℕ, ◌+◌, Bool, true, false, not, ◌&&◌, ◌||◌, None, Some, List, [], ◌∷◌, ◌++◌, map, if◌then◌else◌, refl, sym, ap, ◌∙◌}
 use Rattle.std.specs.List.{cons_option}
-use Rattle.tree_model.specs.declared.messages.Finding.{Finding}
-use Rattle.tree_model.specs.declared.names.Ticket.{Ticket}
-use Rattle.tree_model.specs.declared.messages.Message.TheVariants.{Prepare}
-use Rattle.tree_model.specs.declared.standings.Standing.{Standing}
-use Rattle.tree_model.specs.declared.standings.Vote.{Vote}
-use Rattle.tree_model.specs.Names.{child_case, same_ticket}
-use Rattle.tree_model.specs.Records.{in_list}
-use Rattle.tree_model.specs.Memory.{is_counted, same_vote, voted_so, works_of}
-use Rattle.tree_model.specs.CoordinatorRows.{Seat, post, prepares}
-use Rattle.tree_model.specs.SameViews.{SameView}
+use Rattle.protocol.specs.declared.messages.Finding.{Finding}
+use Rattle.protocol.specs.declared.names.Ticket.{Ticket}
+use Rattle.protocol.specs.declared.messages.Message.TheVariants.{Prepare}
+use Rattle.protocol.specs.declared.standings.Standing.{Standing}
+use Rattle.protocol.specs.declared.standings.Vote.{Vote}
+use Rattle.protocol.specs.Names.{child_case, same_ticket}
+use Rattle.protocol.specs.Records.{in_list}
+use Rattle.protocol.specs.Memory.{is_counted, same_vote, voted_so, works_of}
+use Rattle.protocol.specs.CoordinatorRows.{Seat, post, prepares}
+use Rattle.protocol.specs.SameViews.{SameView}
 use Rattle.coord_case.specs.declared.child.Child.{Child}
 use Rattle.coord_case.specs.Lives.{Uncounts, accepted_in, are_distinct, changing, is_vote, meant, sending, vote_of, votes_in, voting, works_in}
 use Rattle.coord_case.proofs.Children.{accepted-changing, accepted_in-push, each_two, casts-unvoting, casts-voting, counted_is, map_each, voted-casts, voted_so-push, votes_in-push, works-voting, works_in-push}

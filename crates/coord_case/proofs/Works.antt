@@ -1,10 +1,10 @@
 -- What the children say of works.
 use Rattle.std.proofs.Common.{◌≡◌, ℕ, zero, suc, ◌+◌, Bool, true, false, ◌||◌, cond, Some, List, [], ◌∷◌, ◌++◌, find, replicate, if◌then◌else◌, refl, sym, ap, ◌∙◌, arith}
 use Rattle.std.proofs.lemmas.Grind.{common_steps}
-use Rattle.tree_model.specs.declared.names.Ticket.{Ticket}
-use Rattle.tree_model.specs.Names.{same_ticket}
-use Rattle.tree_model.specs.Records.{in_list}
-use Rattle.tree_model.specs.Memory.{has_child, works_of}
+use Rattle.protocol.specs.declared.names.Ticket.{Ticket}
+use Rattle.protocol.specs.Names.{same_ticket}
+use Rattle.protocol.specs.Records.{in_list}
+use Rattle.protocol.specs.Memory.{has_child, works_of}
 use Rattle.coord_case.specs.declared.child.Child.{Child}
 use Rattle.coord_case.specs.Lives.{accepted_in, are_distinct, changing, sending, works_found, works_in}
 use Rattle.coord_case.proofs.Children.{Each, and_first, and_second, each_differs, each_two, first_false, of_not, same_process-sym, same_ticket-is, same_ticket-refl, second_false, ticket_child}

@@ -1,14 +1,14 @@
 -- What the code keeps of a live case, and the view that it stands for.
 use Rattle.std.specs.Prelude.{◌≡◌, ℕ, Bool, true, false, not, ◌&&◌, cond, Option, Some, None, List, [], ◌∷◌, map, filter_map, replicate, if◌then◌else◌}
 use Rattle.std.specs.List.{count_by, flat_map, list_any}
-use Rattle.tree_model.specs.declared.messages.Finding.{Finding}
-use Rattle.tree_model.specs.declared.names.Ticket.{Ticket}
-use Rattle.tree_model.specs.declared.standings.Standing.{Standing}
-use Rattle.tree_model.specs.declared.standings.Vote.{Vote}
-use Rattle.tree_model.specs.declared.standings.Vote.TheVariants.{Yes, No, Read}
-use Rattle.tree_model.specs.Names.{same_ticket}
-use Rattle.tree_model.specs.Memory.{has_child, same_vote, voted_so}
-use Rattle.tree_model.specs.Standings.{CoordinatorView}
+use Rattle.protocol.specs.declared.messages.Finding.{Finding}
+use Rattle.protocol.specs.declared.names.Ticket.{Ticket}
+use Rattle.protocol.specs.declared.standings.Standing.{Standing}
+use Rattle.protocol.specs.declared.standings.Vote.{Vote}
+use Rattle.protocol.specs.declared.standings.Vote.TheVariants.{Yes, No, Read}
+use Rattle.protocol.specs.Names.{same_ticket}
+use Rattle.protocol.specs.Memory.{has_child, same_vote, voted_so}
+use Rattle.protocol.specs.Standings.{CoordinatorView}
 use Rattle.coord_case.specs.declared.child.Child.{Child}
 
 -- Children as lists of tickets.

@@ -1,6 +1,6 @@
 //! An accepted child of a case.
 
-use tree_model::{ProcessId, Ticket, Vote};
+use protocol::{ProcessId, Ticket, Vote};
 
 /// An accepted child: its ticket, how many works were sent to it, and its first vote.
 #[derive(Clone, Copy, PartialEq, Eq)]

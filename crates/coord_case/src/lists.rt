@@ -2,21 +2,21 @@
 
 ghost use Rattle.std.specs.Prelude.{◌≡◌, ◌||◌, Some, not, filter, find, option_map, position, IfOk, option_copied};
 ghost use Rattle.std.specs.List.{list_all, list_any};
-ghost use Rattle.tree_model.specs.Names.{same_process, same_ticket};
-ghost use Rattle.tree_model.specs.Records.{in_list as is_in, none_of as is_none_of};
-ghost use Rattle.tree_model.specs.CoordinatorRows.{other_tickets as others_in};
+ghost use Rattle.protocol.specs.Names.{same_process, same_ticket};
+ghost use Rattle.protocol.specs.Records.{in_list as is_in, none_of as is_none_of};
+ghost use Rattle.protocol.specs.CoordinatorRows.{other_tickets as others_in};
 ghost use Rattle.coord_case.specs.Lives.{accepted_in, awaits_vote, changing, is_undecided as is_undecided_vote, is_vote, sending, vote_found, voting, works_found, yes_by};
 
 use crate::child::Child;
+use protocol::{ProcessId, Ticket, Vote};
 use smallvec::SmallVec;
 use std::alloc::{AllocError, Global};
-use tree_model::{ProcessId, Ticket, Vote};
 
 /// The accepted children, in order of acceptance: mostly one or two.
 pub(crate) type Children = SmallVec<Child, 2>;
 
 /// Whether there is no ticket.
-#[tactic(auto, unfolding(tree_model::specs::Records::none_of))]
+#[tactic(auto, unfolding(protocol::specs::Records::none_of))]
 pub fn none_of(tickets: &[Ticket]) -> bool
     ensures { result ≡ is_none_of tickets.now }
 {
@@ -27,7 +27,7 @@ pub fn none_of(tickets: &[Ticket]) -> bool
 }
 
 /// Whether the ticket is among these.
-#[tactic(auto, unfolding(tree_model::specs::Records::in_list))]
+#[tactic(auto, unfolding(protocol::specs::Records::in_list))]
 pub(crate) fn in_list(tickets: &[Ticket], ticket: &Ticket) -> bool
     ensures { result ≡ is_in tickets.now ticket.now }
 {
@@ -53,7 +53,7 @@ pub(crate) fn all_are(tickets: &[Ticket], ticket: &Ticket) -> bool
 }
 
 /// The first child of the process.
-#[tactic(auto, unfolding(tree_model::specs::Names::same_process))]
+#[tactic(auto, unfolding(protocol::specs::Names::same_process))]
 fn find_child(children: &[Child], child: ProcessId) -> Option<&Child>
     ensures { option_copied result ≡ find (λ c. same_process c.ticket.child child) children.now }
 {
@@ -72,7 +72,7 @@ pub(crate) fn ticket_of(children: &[Child], child: ProcessId) -> Option<Ticket>
 }
 
 /// Whether there is no child.
-#[tactic(auto, unfolding(tree_model::specs::Records::none_of))]
+#[tactic(auto, unfolding(protocol::specs::Records::none_of))]
 pub(crate) fn is_alone(children: &[Child]) -> bool
     ensures { result ≡ is_none_of (accepted_in children.now) }
 {
@@ -83,7 +83,7 @@ pub(crate) fn is_alone(children: &[Child]) -> bool
 }
 
 /// Whether a child of the process is among these.
-#[tactic(auto, unfolding(tree_model::specs::Names::same_process))]
+#[tactic(auto, unfolding(protocol::specs::Names::same_process))]
 pub(crate) fn has_child(children: &[Child], child: ProcessId) -> bool
     ensures { result ≡ list_any (λ c. same_process c.ticket.child child) children.now }
 {

@@ -1,7 +1,7 @@
 //! A live case of a coordinator.
 
 ghost use Rattle.std.specs.Prelude.{◌≡◌, ◌+◌, ◌<◌, ◌^◌, ◌++◌, ◌∷◌, ◌||◌, [], false, true, None, Some, IfOk, IfSome, IsTrue, OnOk, OnErr, map};
-ghost use Rattle.tree_model.specs.Memory.{
+ghost use Rattle.protocol.specs.Memory.{
   all_voted as all_have_voted,
   has_child as has_child_in,
   is_counted as counts_in,
@@ -10,12 +10,12 @@ ghost use Rattle.tree_model.specs.Memory.{
   works_of as works_in_list,
   yes_of as yes_in,
 };
-ghost use Rattle.tree_model.specs.Records.{in_list as is_in, none_of as is_none_of};
-ghost use Rattle.tree_model.specs.CoordinatorRows.{awaits as awaits_view, other_tickets as others_in, post, prepares as prepares_to};
-ghost use Rattle.tree_model.specs.Standings.{unknown_view};
+ghost use Rattle.protocol.specs.Records.{in_list as is_in, none_of as is_none_of};
+ghost use Rattle.protocol.specs.CoordinatorRows.{awaits as awaits_view, other_tickets as others_in, post, prepares as prepares_to};
+ghost use Rattle.protocol.specs.Standings.{unknown_view};
 ghost use Rattle.coord_case.specs.Lives.{Uncounts, meant};
-ghost use Rattle.tree_model.specs.Names.{child_case as case_of, root_case};
-ghost use Rattle.tree_model.specs.SameViews.{SameView, open_view};
+ghost use Rattle.protocol.specs.Names.{child_case as case_of, root_case};
+ghost use Rattle.protocol.specs.SameViews.{SameView, open_view};
 
 use crate::child::Child;
 use crate::lists::{
@@ -23,12 +23,12 @@ use crate::lists::{
     set_works, strike, ticket_of, tickets_of, undecided_of, vote_of, works_sent, yes_in_vote,
     yes_of,
 };
+use protocol::{
+    Case, Envelope, Envelopes, Finding, Message, ProcessId, Sequence, Standing, Ticket, Txn, Vote,
+};
 use smallvec::SmallVec;
 use std::alloc::{AllocError, Global};
 use std::marker::Model;
-use tree_model::{
-    Case, Envelope, Envelopes, Finding, Message, ProcessId, Sequence, Standing, Ticket, Txn, Vote,
-};
 
 /// Where a live case stands: its accepted children, how many of them have not voted and how many voted YES,
 /// the tickets that its promise and its other records name, those that owe an acknowledgement, and what those
@@ -46,7 +46,7 @@ pub struct Live {
 }
 
 impl Model for Live {
-    ghost use Rattle.tree_model.specs.Standings.{CoordinatorView};
+    ghost use Rattle.protocol.specs.Standings.{CoordinatorView};
 
     ghost Value = { CoordinatorView };
 

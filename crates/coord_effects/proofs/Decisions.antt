@@ -1,9 +1,9 @@
 -- What the record of a decision names.
 use Rattle.std.proofs.Common.{◌≡◌, List, refl}
-use Rattle.tree_model.specs.declared.names.Case.{Case}
-use Rattle.tree_model.specs.declared.names.Outcome.{Outcome}
-use Rattle.tree_model.specs.declared.names.Outcome.TheVariants.{Committed, Aborted}
-use Rattle.tree_model.specs.declared.names.Ticket.{Ticket}
+use Rattle.protocol.specs.declared.names.Case.{Case}
+use Rattle.protocol.specs.declared.names.Outcome.{Outcome}
+use Rattle.protocol.specs.declared.names.Outcome.TheVariants.{Committed, Aborted}
+use Rattle.protocol.specs.declared.names.Ticket.{Ticket}
 use Rattle.coord_effects.specs.Rows.{decision, decision_names}
 
 pub names_decided : (c : Case) (o : Outcome) (ts : List Ticket) → decision_names (decision c o ts) ≡ ts

@@ -1,15 +1,15 @@
 //! A record that a row writes, and where the case is left after it.
 
 ghost use Rattle.std.specs.Prelude.{◌≡◌, ◌∷◌, [], true, IfErr, IfOk, OnErr, OnOk};
-ghost use Rattle.tree_model.specs.CoordinatorRows.{awaits as awaits_view};
-ghost use Rattle.tree_model.specs.Standings.{unknown_view};
+ghost use Rattle.protocol.specs.CoordinatorRows.{awaits as awaits_view};
+ghost use Rattle.protocol.specs.Standings.{unknown_view};
 ghost use Rattle.coord_effects.specs.Rows.{NotWritten, ShowsRecord, decision as decision_of, decision_names, meant, waits as waits_for};
 
-use crate::effect::{RowEffect, Written};
-use crate::seat::Seat;
+use crate::effect::{RowEffect, RowRecord};
+use crate::seat::OwnCase;
 use coord_case::Live;
+use protocol::{Case, Envelopes, Outcome, Record, Sequence, Standing, StepError, Ticket, Told};
 use std::alloc::Global;
-use tree_model::{Case, Envelopes, Outcome, Record, Sequence, Standing, StepError, Ticket, Told};
 
 /// Commit of the case, with these names.
 fn commit_record(case: Case, named: Sequence<Ticket>) -> Record
@@ -61,7 +61,7 @@ fn waits(outcome: Outcome) -> Standing
 #[tactic(auto, using(crate::proofs::Decisions::names_decided))]
 pub fn decides_owed(
     alloc: Global,
-    seat: Seat,
+    seat: OwnCase,
     outcome: Outcome,
     owed: Vec<Ticket>,
     told: Option<Told>,
@@ -75,7 +75,7 @@ pub fn decides_owed(
     ensures unwritten { IfErr result (NotWritten seat.parent
         (record { entry = decision_of seat.case outcome owed.items; is_forced = true } ∷ [])) }
 {
-    let written = Written::forced(decision(seat.case, outcome, Sequence::from_vec(owed)));
+    let written = RowRecord::forced(decision(seat.case, outcome, Sequence::from_vec(owed)));
     let effect = RowEffect::writes(alloc, &seat, &written, told, messages)?;
     live.awaits(waits(outcome), names(alloc, written.entry))?;
     Ok(effect)
@@ -84,8 +84,8 @@ pub fn decides_owed(
 /// A record after which nobody owes anything: the case is forgotten. The errors are those of `decides_owed`.
 pub fn forgets_behind(
     alloc: Global,
-    seat: Seat,
-    written: &Written,
+    seat: OwnCase,
+    written: &RowRecord,
     told: Option<Told>,
     messages: Envelopes,
     live: &mut Live,

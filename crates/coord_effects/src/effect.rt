@@ -1,66 +1,66 @@
 //! What a row of the reaction table does.
 
 ghost use Rattle.std.specs.Prelude.{◌≡◌, ◌∷◌, [], false, true, IfErr, IfOk};
-ghost use Rattle.tree_model.specs.Nodes.{logged_of};
+ghost use Rattle.protocol.specs.Nodes.{logged_of};
 ghost use Rattle.coord_effects.specs.Rows.{Frames, NotWritten, Shows, ShowsRecord, meant, reaction_by};
 
-use crate::seat::Seat;
-use core_log::coordinator_frame;
+use crate::seat::OwnCase;
 use log_text::Frame;
+use log_writing::coordinator_frame;
+use protocol::{Envelopes, Reaction, Record, Sequence, ShownRecord, StepError, Told};
 use std::alloc::Global;
-use tree_model::{Envelopes, Logged, Reaction, Record, Sequence, StepError, Told};
 
 /// A record that a row writes, as it is in the log, and whether it is forced.
 #[derive(Drop)]
-pub struct Framed {
+pub struct RowFrame {
     pub frame: Frame,
     pub forced: bool,
 }
 
 /// A record that a row writes, and whether it is forced.
 #[derive(Drop)]
-pub struct Written {
+pub struct RowRecord {
     pub entry: Record,
     pub forced: bool,
 }
 
-impl Written {
+impl RowRecord {
     /// A record that is forced.
-    pub fn forced(entry: Record) -> Written
+    pub fn forced(entry: Record) -> RowRecord
         ensures { result ≡ record { entry = entry; forced = true } }
     {
-        Written {
+        RowRecord {
             entry,
             forced: true,
         }
     }
 
     /// A record that may be lost.
-    pub fn plain(entry: Record) -> Written
+    pub fn plain(entry: Record) -> RowRecord
         ensures { result ≡ record { entry = entry; forced = false } }
     {
-        Written {
+        RowRecord {
             entry,
             forced: false,
         }
     }
 
     /// The record as it is in the log of this coordinator. Exhausted: no log holds it.
-    fn framed(&self, alloc: Global, seat: &Seat) -> Result<Framed, StepError>
+    fn framed(&self, alloc: Global, seat: &OwnCase) -> Result<RowFrame, StepError>
         ensures ok { IfOk result (λ framed. Frames seat.now.parent framed self.now) }
         ensures unwritten { IfErr result (NotWritten seat.now.parent (meant self.now ∷ [])) }
     {
-        Ok(Framed {
+        Ok(RowFrame {
             frame: coordinator_frame(&self.entry, seat.parent, alloc)?,
             forced: self.forced,
         })
     }
 
     /// How a reaction shows it.
-    fn shown(&self) -> Logged
+    fn shown(&self) -> ShownRecord
         ensures { result ≡ logged_of (meant self.now) }
     {
-        Logged {
+        ShownRecord {
             kind: self.entry.kind(),
             subject: self.entry.subject(),
             forced: self.forced,
@@ -71,8 +71,8 @@ impl Written {
 /// What a row does: at most one record, with how a reaction shows it; what is told, and the messages.
 #[derive(Drop)]
 pub struct RowEffect {
-    pub written: Option<Framed>,
-    pub shown: Sequence<Logged>,
+    pub written: Option<RowFrame>,
+    pub shown: Sequence<ShownRecord>,
     pub told: Option<Told>,
     pub messages: Envelopes,
 }
@@ -107,8 +107,8 @@ impl RowEffect {
     /// A record is written, this is told, and these messages go out. Exhausted: no log holds the record.
     pub fn writes(
         alloc: Global,
-        seat: &Seat,
-        written: &Written,
+        seat: &OwnCase,
+        written: &RowRecord,
         told: Option<Told>,
         messages: Envelopes,
     ) -> Result<RowEffect, StepError>

@@ -20,10 +20,10 @@ mod resuming;
 mod seat;
 
 pub use deciding::{decides_owed, forgets_behind};
-pub use effect::{Framed, RowEffect, Written};
+pub use effect::{RowEffect, RowFrame, RowRecord};
 pub use prepared::{prepared_abort, prepared_ask, prepared_commit, prepared_prepare};
 pub use resuming::resume;
 pub use seat::{
-    Reason, Seat, acknowledge_abort, acknowledge_unknown_abort, acknowledge_unknown_commit,
+    OwnCase, Reason, acknowledge_abort, acknowledge_unknown_abort, acknowledge_unknown_commit,
     heard_above, outcome_message, tell_each, up,
 };

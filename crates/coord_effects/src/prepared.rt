@@ -1,28 +1,32 @@
 //! Rows of the reaction table for a case that promised, below the root (R*).
 
 ghost use Rattle.std.specs.Prelude.{◌≡◌, IfErr, IfOk, OnErr};
-ghost use Rattle.tree_model.specs.CoordinatorRows.{
+ghost use Rattle.protocol.specs.CoordinatorRows.{
   prepared_abort as abort_row,
   prepared_ask as ask_row,
   prepared_commit as commit_row,
   prepared_prepare as prepare_row,
 };
-ghost use Rattle.tree_model.specs.SameViews.{SameView};
-ghost use Rattle.core_model.specs.Turns.{this_version};
-ghost use Rattle.coord_effects.specs.Rows.{Does, NotWritten, seat as seat_meant};
+ghost use Rattle.protocol.specs.SameViews.{SameView};
+ghost use Rattle.process_state.specs.Turns.{this_version};
+ghost use Rattle.coord_effects.specs.Rows.{DoesRow, NotWritten, seat_meant};
 
 use crate::deciding::{decides_owed, forgets_behind};
-use crate::effect::{RowEffect, Written};
-use crate::seat::{Seat, tell_each, up};
+use crate::effect::{RowEffect, RowRecord};
+use crate::seat::{OwnCase, tell_each, up};
 use coord_case::Live;
+use protocol::{Message, Outcome, Presumption, Record, Sequence, StepError};
 use std::alloc::{AllocError, Global};
-use tree_model::{Message, Outcome, Presumption, Record, Sequence, StepError};
 
 /// Prepared, COMMIT: the promised are told. Under Presumed Abort the decision is forced and names those that
 /// owe an acknowledgement; it is acknowledged itself after the last of theirs. Under Presumed Commit nobody
 /// owes one. Memory, Exhausted: nothing changed.
-pub fn prepared_commit(alloc: Global, seat: Seat, live: &mut Live) -> Result<RowEffect, StepError>
-    ensures ok { IfOk result (λ effect. Does seat
+pub fn prepared_commit(
+    alloc: Global,
+    seat: OwnCase,
+    live: &mut Live,
+) -> Result<RowEffect, StepError>
+    ensures ok { IfOk result (λ effect. DoesRow seat
         (commit_row this_version (seat_meant seat) live.old) effect live.new) }
     ensures err { OnErr result (live.new ≡ live.old) }
     ensures unwritten { IfErr result (NotWritten seat.parent
@@ -44,7 +48,7 @@ pub fn prepared_commit(alloc: Global, seat: Seat, live: &mut Live) -> Result<Row
             )
         }
         Presumption::PresumeCommit => {
-            let written = Written::plain(Record::Commit(seat.case, Sequence::new(alloc)));
+            let written = RowRecord::plain(Record::Commit(seat.case, Sequence::new(alloc)));
             forgets_behind(alloc, seat, &written, None, messages, live)
         }
     }
@@ -53,8 +57,8 @@ pub fn prepared_commit(alloc: Global, seat: Seat, live: &mut Live) -> Result<Row
 /// Prepared, ABORT: the promised are told. Under Presumed Commit the abort is forced and names those that owe
 /// an acknowledgement, as above; under Presumed Abort nobody owes one. Memory, Exhausted:
 /// nothing changed.
-pub fn prepared_abort(alloc: Global, seat: Seat, live: &mut Live) -> Result<RowEffect, StepError>
-    ensures ok { IfOk result (λ effect. Does seat
+pub fn prepared_abort(alloc: Global, seat: OwnCase, live: &mut Live) -> Result<RowEffect, StepError>
+    ensures ok { IfOk result (λ effect. DoesRow seat
         (abort_row this_version (seat_meant seat) live.old) effect live.new) }
     ensures err { OnErr result (live.new ≡ live.old) }
     ensures unwritten { IfErr result (NotWritten seat.parent
@@ -65,7 +69,7 @@ pub fn prepared_abort(alloc: Global, seat: Seat, live: &mut Live) -> Result<RowE
     tell_each(&mut messages, seat, Outcome::Aborted, &promised)?;
     match seat.case.txn.presumption {
         Presumption::PresumeAbort => {
-            let written = Written::plain(Record::Abort(seat.case, Sequence::new(alloc)));
+            let written = RowRecord::plain(Record::Abort(seat.case, Sequence::new(alloc)));
             forgets_behind(alloc, seat, &written, None, messages, live)
         }
         Presumption::PresumeCommit => {
@@ -83,16 +87,16 @@ pub fn prepared_abort(alloc: Global, seat: Seat, live: &mut Live) -> Result<RowE
 }
 
 /// Prepared, PREPARE again: YES again.
-pub fn prepared_prepare(alloc: Global, seat: Seat, live: &Live) -> Result<RowEffect, AllocError>
-    ensures { IfOk result (λ effect. Does seat (prepare_row (seat_meant seat) live.now) effect live.now) }
+pub fn prepared_prepare(alloc: Global, seat: OwnCase, live: &Live) -> Result<RowEffect, AllocError>
+    ensures { IfOk result (λ effect. DoesRow seat (prepare_row (seat_meant seat) live.now) effect live.now) }
 {
     let messages = up(alloc, seat, Message::Yes(seat.case))?;
     Ok(RowEffect::sends(alloc, messages))
 }
 
 /// Prepared, the ask act: the case asks its parent.
-pub fn prepared_ask(alloc: Global, seat: Seat, live: &Live) -> Result<RowEffect, AllocError>
-    ensures { IfOk result (λ effect. Does seat (ask_row (seat_meant seat) live.now) effect live.now) }
+pub fn prepared_ask(alloc: Global, seat: OwnCase, live: &Live) -> Result<RowEffect, AllocError>
+    ensures { IfOk result (λ effect. DoesRow seat (ask_row (seat_meant seat) live.now) effect live.now) }
 {
     let messages = up(alloc, seat, Message::Inquire(seat.case))?;
     Ok(RowEffect::sends(alloc, messages))

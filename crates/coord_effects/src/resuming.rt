@@ -1,17 +1,17 @@
 //! What a case sends as its coordinator restarts.
 
 ghost use Rattle.std.specs.Prelude.{◌≡◌, ◌++◌, OnOk};
-ghost use Rattle.tree_model.specs.CoordinatorRows.{up as up_of};
-ghost use Rattle.tree_model.specs.Restarts.{resumes_by};
-ghost use Rattle.coord_effects.specs.Rows.{seat as seat_meant};
+ghost use Rattle.protocol.specs.CoordinatorRows.{up as up_of};
+ghost use Rattle.protocol.specs.Restarts.{resumes_by};
+ghost use Rattle.coord_effects.specs.Rows.{seat_meant};
 
-use crate::seat::{Seat, tell_each};
+use crate::seat::{OwnCase, tell_each};
 use coord_case::Live;
+use protocol::{Envelope, Envelopes, Message, Outcome, Standing};
 use std::alloc::AllocError;
-use tree_model::{Envelope, Envelopes, Message, Outcome, Standing};
 
 /// After these messages an inquiry to the parent, if there is one.
-fn inquire(messages: &mut Envelopes, seat: Seat) -> Result<(), AllocError>
+fn inquire(messages: &mut Envelopes, seat: OwnCase) -> Result<(), AllocError>
     ensures { OnOk result (messages.new ≡ messages.old
         ++ up_of (seat_meant seat) (Message.Inquire seat.case)) }
 {
@@ -27,7 +27,7 @@ fn inquire(messages: &mut Envelopes, seat: Seat) -> Result<(), AllocError>
 
 /// After these messages what the case sends again: a decision goes to each that owes an acknowledgement,
 /// and a case in doubt asks its parent.
-pub fn resume(messages: &mut Envelopes, seat: Seat, live: &Live) -> Result<(), AllocError>
+pub fn resume(messages: &mut Envelopes, seat: OwnCase, live: &Live) -> Result<(), AllocError>
     ensures { OnOk result (messages.new ≡ messages.old
         ++ resumes_by (seat_meant seat) live.now live.now.standing) }
 {

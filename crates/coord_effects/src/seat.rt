@@ -1,23 +1,23 @@
 //! A coordinator in one of its cases, and the messages that it sends from there.
 
 ghost use Rattle.std.specs.Prelude.{◌≡◌, ◌++◌, IfOk, OnOk};
-ghost use Rattle.tree_model.specs.CoordinatorRows.{abort_heard_above, acknowledges_abort, each, tells, tells_outcome, to_child, unknown_abort, unknown_commit, up as up_of};
-ghost use Rattle.tree_model.specs.Reactions.{told_of};
-ghost use Rattle.tree_model.specs.Standings.{CoordinatorView, unknown_findings as findings_unknown};
-ghost use Rattle.core_model.specs.Turns.{this_version};
-ghost use Rattle.coord_effects.specs.Rows.{reason as reason_meant, seat as seat_meant};
+ghost use Rattle.protocol.specs.CoordinatorRows.{abort_heard_above, acknowledges_abort, each, tells, tells_outcome, to_child, unknown_abort, unknown_commit, up as up_of};
+ghost use Rattle.protocol.specs.Reactions.{told_of};
+ghost use Rattle.protocol.specs.Standings.{CoordinatorView, unknown_findings as findings_unknown};
+ghost use Rattle.process_state.specs.Turns.{this_version};
+ghost use Rattle.coord_effects.specs.Rows.{reason_meant, seat_meant};
 
 use coord_case::none_of;
-use core_model::{one_message, unknown_findings};
-use std::alloc::{AllocError, Global};
-use tree_model::{
+use process_state::{one_message, unknown_findings};
+use protocol::{
     Case, Conclusion, Envelope, Envelopes, Message, Outcome, Presumption, ProcessId, Sequence,
     Ticket, Told,
 };
+use std::alloc::{AllocError, Global};
 
 /// A coordinator in one of its cases; the root has no parent.
 #[derive(Clone, Copy, PartialEq, Eq)]
-pub struct Seat {
+pub struct OwnCase {
     pub me: ProcessId,
     pub parent: Option<ProcessId>,
     pub case: Case,
@@ -31,7 +31,7 @@ pub enum Reason {
     Abort,
 }
 
-impl Seat {
+impl OwnCase {
     /// The child's case of the transaction.
     pub fn child_case(self, ticket: Ticket) -> Case
         ensures { result ≡ record { txn = self.case.txn; ticket = Some ticket } }
@@ -57,7 +57,7 @@ impl Seat {
 }
 
 /// The message to the parent, if there is one.
-pub fn up(alloc: Global, seat: Seat, message: Message) -> Result<Envelopes, AllocError>
+pub fn up(alloc: Global, seat: OwnCase, message: Message) -> Result<Envelopes, AllocError>
     ensures { IfOk result (λ messages. messages ≡ up_of (seat_meant seat) message) }
 {
     match seat.parent {
@@ -67,7 +67,7 @@ pub fn up(alloc: Global, seat: Seat, message: Message) -> Result<Envelopes, Allo
 }
 
 /// An abort under Presumed Commit is acknowledged; under Presumed Abort nothing is said.
-pub fn acknowledge_abort(alloc: Global, seat: Seat) -> Result<Envelopes, AllocError>
+pub fn acknowledge_abort(alloc: Global, seat: OwnCase) -> Result<Envelopes, AllocError>
     ensures { IfOk result (λ messages. messages
         ≡ acknowledges_abort (seat_meant seat) seat.case.txn.presumption) }
 {
@@ -84,7 +84,11 @@ pub fn acknowledge_abort(alloc: Global, seat: Seat) -> Result<Envelopes, AllocEr
 }
 
 /// The outcome of a case of which nothing is known is acknowledged, as unreported.
-fn acknowledge_unknown(alloc: Global, seat: Seat, outcome: Outcome) -> Result<Envelopes, AllocError>
+fn acknowledge_unknown(
+    alloc: Global,
+    seat: OwnCase,
+    outcome: Outcome,
+) -> Result<Envelopes, AllocError>
     ensures { IfOk result (λ messages. messages ≡ up_of (seat_meant seat)
         (Message.Ack seat.case outcome (findings_unknown this_version seat.case))) }
 {
@@ -94,7 +98,7 @@ fn acknowledge_unknown(alloc: Global, seat: Seat, outcome: Outcome) -> Result<En
 
 /// A commit of a case of which nothing is known is acknowledged under Presumed Abort; under Presumed Commit
 /// nothing is said.
-pub fn acknowledge_unknown_commit(alloc: Global, seat: Seat) -> Result<Envelopes, AllocError>
+pub fn acknowledge_unknown_commit(alloc: Global, seat: OwnCase) -> Result<Envelopes, AllocError>
     ensures { IfOk result (λ messages. (view : CoordinatorView) → messages
         ≡ (unknown_commit this_version (seat_meant seat) view).messages) }
 {
@@ -106,7 +110,7 @@ pub fn acknowledge_unknown_commit(alloc: Global, seat: Seat) -> Result<Envelopes
 
 /// An abort of a case of which nothing is known is acknowledged under Presumed Commit; under Presumed Abort
 /// nothing is said.
-pub fn acknowledge_unknown_abort(alloc: Global, seat: Seat) -> Result<Envelopes, AllocError>
+pub fn acknowledge_unknown_abort(alloc: Global, seat: OwnCase) -> Result<Envelopes, AllocError>
     ensures { IfOk result (λ messages. (view : CoordinatorView) → messages
         ≡ (unknown_abort this_version (seat_meant seat) view).messages) }
 {
@@ -120,7 +124,7 @@ pub fn acknowledge_unknown_abort(alloc: Global, seat: Seat) -> Result<Envelopes,
 /// acknowledgement below.
 pub fn heard_above(
     alloc: Global,
-    seat: Seat,
+    seat: OwnCase,
     reason: Reason,
     told: &[Ticket],
 ) -> Result<Envelopes, AllocError>
@@ -135,7 +139,7 @@ pub fn heard_above(
 }
 
 /// The outcome to the ticket's child.
-pub fn outcome_message(seat: Seat, outcome: Outcome, ticket: Ticket) -> Envelope
+pub fn outcome_message(seat: OwnCase, outcome: Outcome, ticket: Ticket) -> Envelope
     ensures { result ≡ to_child (seat_meant seat) (tells_outcome outcome) ticket }
 {
     let case = seat.child_case(ticket);
@@ -152,7 +156,7 @@ pub fn outcome_message(seat: Seat, outcome: Outcome, ticket: Ticket) -> Envelope
 /// After these messages the outcome to each of the children.
 pub fn tell_each(
     messages: &mut Envelopes,
-    seat: Seat,
+    seat: OwnCase,
     outcome: Outcome,
     tickets: &[Ticket],
 ) -> Result<(), AllocError>

@@ -1,22 +1,22 @@
 -- A vote that counts, and one that is taken back.
 use Rattle.std.proofs.Common.{◌≡◌, Bool, true, false, not, ◌&&◌, ◌||◌, List, [], ◌∷◌, ◌++◌, refl, subst, sym, ap, ◌∙◌}
-use Rattle.tree_model.specs.declared.names.Ticket.{Ticket}
-use Rattle.tree_model.specs.declared.events.StepError.{StepError}
-use Rattle.tree_model.specs.declared.standings.Vote.{Vote}
-use Rattle.tree_model.specs.declared.standings.Vote.TheVariants.{Yes, No, Read}
-use Rattle.tree_model.specs.Names.{same_ticket}
-use Rattle.tree_model.specs.Nodes.{reaction_of}
-use Rattle.tree_model.specs.Records.{in_list}
-use Rattle.tree_model.specs.Memory.{has_voted, is_counted, same_vote, voted_so, works_of}
-use Rattle.tree_model.specs.Standings.{CoordinatorView}
-use Rattle.tree_model.specs.CoordinatorRows.{Row, collecting_after, collecting_vote}
-use Rattle.tree_model.specs.SameViews.{SameRow, SameView}
-use Rattle.tree_model.proofs.NameTests.{ticket_tells}
-use Rattle.core_model.proofs.Alike.{collecting_after-same, has_voted-so, row_effect-same}
+use Rattle.protocol.specs.declared.names.Ticket.{Ticket}
+use Rattle.protocol.specs.declared.events.StepError.{StepError}
+use Rattle.protocol.specs.declared.standings.Vote.{Vote}
+use Rattle.protocol.specs.declared.standings.Vote.TheVariants.{Yes, No, Read}
+use Rattle.protocol.specs.Names.{same_ticket}
+use Rattle.protocol.specs.Nodes.{reaction_of}
+use Rattle.protocol.specs.Records.{in_list}
+use Rattle.protocol.specs.Memory.{has_voted, is_counted, same_vote, voted_so, works_of}
+use Rattle.protocol.specs.Standings.{CoordinatorView}
+use Rattle.protocol.specs.CoordinatorRows.{Row, collecting_after, collecting_vote}
+use Rattle.protocol.specs.SameViews.{SameRow, SameView}
+use Rattle.protocol.proofs.NameTests.{ticket_tells}
+use Rattle.process_state.proofs.Alike.{collecting_after-same, has_voted-so, row_effect-same}
 use Rattle.coord_effects.specs.declared.effect.RowEffect.{RowEffect}
-use Rattle.coord_effects.specs.declared.seat.Seat.{Seat}
+use Rattle.coord_effects.specs.declared.seat.OwnCase.{OwnCase}
 use Rattle.coord_case.specs.Lives.{Uncounts}
-use Rattle.coord_effects.specs.Rows.{Does, NotWritten, seat}
+use Rattle.coord_effects.specs.Rows.{DoesRow, NotWritten, seat_meant}
 use Rattle.coord_case.proofs.Children.{voted_so-push}
 
 so_few : (y n r : Bool) → (y || (n || r)) ≡ false → (y ≡ false) × (n ≡ false) × (r ≡ false)
@@ -84,8 +84,8 @@ same_view-trans u v w a b =
     }
 
 -- an effect that does a row does the same row
-does_same : (s : Seat) (r q : Row) (effect : RowEffect) (view : CoordinatorView) → SameRow r q
-    → Does s r effect view → Does s q effect view
+does_same : (s : OwnCase) (r q : Row) (effect : RowEffect) (view : CoordinatorView) → SameRow r q
+    → DoesRow s r effect view → DoesRow s q effect view
 does_same s r q effect view same does =
     record {
       written = does.written ∙ same.written;
@@ -95,16 +95,16 @@ does_same s r q effect view same does =
     }
 
 -- the row after a vote that counts is the row of the vote
-pub does_vote : (s : Seat) (t : Ticket) (w : Vote) (old mid new : CoordinatorView) (effect : RowEffect)
+pub does_vote : (s : OwnCase) (t : Ticket) (w : Vote) (old mid new : CoordinatorView) (effect : RowEffect)
     → is_counted old.accepted old.votes t ≡ true
     → SameView mid (record old { votes = old.votes ++ (t, w) ∷ [] })
-    → Does s (collecting_after (seat s) mid w) effect new
-    → Does s (collecting_vote (seat s) t w old) effect new
+    → DoesRow s (collecting_after (seat_meant s) mid w) effect new
+    → DoesRow s (collecting_vote (seat_meant s) t w old) effect new
 does_vote s t w old mid new effect counted counts does =
     let after = record old { votes = old.votes ++ (t, w) ∷ [] } in
-    let same : SameRow (collecting_after (seat s) mid w) (collecting_after (seat s) after w) =
-    collecting_after-same mid after counts (seat s) w in
-    let done : Does s (collecting_after (seat s) after w) effect new = does_same s _ _ effect new same does in
+    let same : SameRow (collecting_after (seat_meant s) mid w) (collecting_after (seat_meant s) after w) =
+    collecting_after-same mid after counts (seat_meant s) w in
+    let done : DoesRow s (collecting_after (seat_meant s) after w) effect new = does_same s _ _ effect new same does in
     rw counted (record {
       written = done.written;
       framed = done.framed;
@@ -113,13 +113,13 @@ does_vote s t w old mid new effect counted counts does =
     })
 
 -- what that row does not write, the row of the vote does not
-pub unwritten_vote : (s : Seat) (t : Ticket) (w : Vote) (old mid : CoordinatorView) (e : StepError)
+pub unwritten_vote : (s : OwnCase) (t : Ticket) (w : Vote) (old mid : CoordinatorView) (e : StepError)
     → is_counted old.accepted old.votes t ≡ true
     → SameView mid (record old { votes = old.votes ++ (t, w) ∷ [] })
-    → NotWritten s.parent (collecting_after (seat s) mid w).written e
-    → NotWritten s.parent (collecting_vote (seat s) t w old).written e
+    → NotWritten s.parent (collecting_after (seat_meant s) mid w).written e
+    → NotWritten s.parent (collecting_vote (seat_meant s) t w old).written e
 unwritten_vote s t w old mid e counted counts h =
     let after = record old { votes = old.votes ++ (t, w) ∷ [] } in
-    let same : SameRow (collecting_after (seat s) mid w) (collecting_after (seat s) after w) =
-    collecting_after-same mid after counts (seat s) w in
+    let same : SameRow (collecting_after (seat_meant s) mid w) (collecting_after (seat_meant s) after w) =
+    collecting_after-same mid after counts (seat_meant s) w in
     rw counted (subst (λ ws. NotWritten s.parent ws e) same.written h)

@@ -1,24 +1,24 @@
 -- The End after the last acknowledgement that is owed.
 use Rattle.std.proofs.Common.{◌≡◌, ◌∙◌, true, false, if◌then◌else◌, None, Some, List, [], ◌∷◌, Result, Ok, Err, IfOk, OnOk, ap, refl, subst, sym}
-use Rattle.tree_model.specs.declared.names.Outcome.{Outcome}
-use Rattle.tree_model.specs.declared.names.ProcessId.{ProcessId}
-use Rattle.tree_model.specs.declared.names.Ticket.{Ticket}
-use Rattle.tree_model.specs.declared.messages.Envelope.{Envelope}
-use Rattle.tree_model.specs.declared.messages.Finding.{Finding}
-use Rattle.tree_model.specs.declared.messages.Message.TheVariants.{Ack}
-use Rattle.tree_model.specs.declared.records.Record.TheVariants.{End as EndRecord}
-use Rattle.tree_model.specs.Records.{in_list, in_order, none_of}
-use Rattle.tree_model.specs.Standings.{CoordinatorView, unknown_view}
-use Rattle.tree_model.specs.CoordinatorRows.{Row, Seat as CaseSeat, decided_ack, decided_ack_by, end_reports, other_tickets, posted_up, quiet, up}
-use Rattle.core_model.specs.Turns.{this_version}
-use Rattle.core_model.proofs.Alike.{same_view}
+use Rattle.protocol.specs.declared.names.Outcome.{Outcome}
+use Rattle.protocol.specs.declared.names.ProcessId.{ProcessId}
+use Rattle.protocol.specs.declared.names.Ticket.{Ticket}
+use Rattle.protocol.specs.declared.messages.Envelope.{Envelope}
+use Rattle.protocol.specs.declared.messages.Finding.{Finding}
+use Rattle.protocol.specs.declared.messages.Message.TheVariants.{Ack}
+use Rattle.protocol.specs.declared.records.Record.TheVariants.{End as EndRecord}
+use Rattle.protocol.specs.Records.{in_list, in_order, none_of}
+use Rattle.protocol.specs.Standings.{CoordinatorView, unknown_view}
+use Rattle.protocol.specs.CoordinatorRows.{Row, Seat as CaseSeat, decided_ack, decided_ack_by, end_reports, other_tickets, posted_up, quiet, up}
+use Rattle.process_state.specs.Turns.{this_version}
+use Rattle.process_state.proofs.Alike.{same_view}
 use Rattle.coord_effects.specs.declared.effect.RowEffect.{RowEffect}
-use Rattle.coord_effects.specs.declared.effect.Written.{Written}
-use Rattle.coord_effects.specs.declared.seat.Seat.{Seat}
-use Rattle.coord_effects.specs.Rows.{Does, ShowsRecord, end_written, meant, seat}
+use Rattle.coord_effects.specs.declared.effect.RowRecord.{RowRecord}
+use Rattle.coord_effects.specs.declared.seat.OwnCase.{OwnCase}
+use Rattle.coord_effects.specs.Rows.{DoesRow, ShowsRecord, end_written, meant, seat_meant}
 
 -- the row that writes this record, sends this, and leaves nothing of the case
-abbrev pub ending : Written → List Envelope → Row
+abbrev pub ending : RowRecord → List Envelope → Row
 ending w ms =
     record {
       written = meant w ∷ [];
@@ -29,8 +29,8 @@ ending w ms =
       view = unknown_view;
     }
 
-does_shown : (s : Seat) (w : Written) (ms : List Envelope) (effect : RowEffect) (view : CoordinatorView)
-    → ShowsRecord s.parent effect w None ms → view ≡ unknown_view → Does s (ending w ms) effect view
+does_shown : (s : OwnCase) (w : RowRecord) (ms : List Envelope) (effect : RowEffect) (view : CoordinatorView)
+    → ShowsRecord s.parent effect w None ms → view ≡ unknown_view → DoesRow s (ending w ms) effect view
 does_shown s w ms effect view shows gone =
     record {
       written = shows.record_is;
@@ -40,17 +40,17 @@ does_shown s w ms effect view shows gone =
     }
 
 -- what shows this record and leaves nothing of the case does the row that says so
-pub does_ending : {E : Type 0} (s : Seat) (w : Written) (ms : List Envelope) (row : Row) (view : CoordinatorView)
+pub does_ending : {E : Type 0} (s : OwnCase) (w : RowRecord) (ms : List Envelope) (row : Row) (view : CoordinatorView)
     (made : Result RowEffect E) → row ≡ ending w ms
     → IfOk made (λ effect. ShowsRecord s.parent effect w None ms) → OnOk made (view ≡ unknown_view)
-    → IfOk made (λ effect. Does s row effect view)
+    → IfOk made (λ effect. DoesRow s row effect view)
 does_ending s w ms row view (Ok effect) is shows gone =
-    subst (λ r. Does s r effect view) (sym is) (does_shown s w ms effect view shows gone)
+    subst (λ r. DoesRow s r effect view) (sym is) (does_shown s w ms effect view shows gone)
 does_ending s w ms row view (Err e) is shows gone = shows
 
 -- at the root the End reports what was found
-pub root_ending : (s : Seat) (o : Outcome) (fs : List Finding) (v : CoordinatorView) → s.parent ≡ None
-    → decided_ack_by this_version (seat s) o [] fs v
+pub root_ending : (s : OwnCase) (o : Outcome) (fs : List Finding) (v : CoordinatorView) → s.parent ≡ None
+    → decided_ack_by this_version (seat_meant s) o [] fs v
     ≡ ending (end_written s.case (end_reports this_version None fs)) []
 unfolding none_of
 root_ending s o fs v root =
@@ -58,14 +58,14 @@ root_ending s o fs v root =
     (posted_up s.me p (Ack s.case o (in_order fs)))) root
 
 -- below the root it reports nothing, and what was found goes up
-pub ending_below : (s : Seat) (p : ProcessId) (o : Outcome) (fs : List Finding) (v : CoordinatorView)
+pub ending_below : (s : OwnCase) (p : ProcessId) (o : Outcome) (fs : List Finding) (v : CoordinatorView)
     → s.parent ≡ Some p
-    → decided_ack_by this_version (seat s) o [] fs v
-    ≡ ending (record { entry = EndRecord s.case None; forced = false }) (up (seat s) (Ack s.case o (in_order fs)))
+    → decided_ack_by this_version (seat_meant s) o [] fs v
+    ≡ ending (record { entry = EndRecord s.case None; forced = false }) (up (seat_meant s) (Ack s.case o (in_order fs)))
 unfolding none_of
 ending_below s p o fs v below =
     ap (λ q. ending (end_written s.case (end_reports this_version q fs))
-    (up (seat s) (Ack s.case o (in_order fs)))) below
+    (up (seat_meant s) (Ack s.case o (in_order fs)))) below
 
 no_others : (s : CaseSeat) (o : Outcome) (us : List Ticket) (fs : List Finding) (v : CoordinatorView)
     → none_of us ≡ true → decided_ack_by this_version s o us fs v ≡ decided_ack_by this_version s o [] fs v

@@ -1,8 +1,8 @@
 -- The tickets that findings report, one finding after the other.
 use Rattle.std.proofs.Common.{◌≡◌, List, [], ◌∷◌, filter_map, refl, ap}
-use Rattle.tree_model.specs.declared.messages.Finding.{Finding}
-use Rattle.tree_model.specs.declared.messages.Finding.TheVariants.{Mixed, Unreported}
-use Rattle.tree_model.specs.Records.{mixed_of, unreported_of}
+use Rattle.protocol.specs.declared.messages.Finding.{Finding}
+use Rattle.protocol.specs.declared.messages.Finding.TheVariants.{Mixed, Unreported}
+use Rattle.protocol.specs.Records.{mixed_of, unreported_of}
 use Rattle.coord_rows.specs.Findings.{mixed_ticket, unreported_ticket}
 
 pub mixed_are : (fs : List Finding) → filter_map mixed_ticket fs ≡ mixed_of fs

@@ -1,8 +1,8 @@
 -- The ticket of a finding, by what the finding tells of it.
 use Rattle.std.specs.Prelude.{Option, Some, None}
-use Rattle.tree_model.specs.declared.messages.Finding.{Finding}
-use Rattle.tree_model.specs.declared.messages.Finding.TheVariants.{Mixed, Unreported}
-use Rattle.tree_model.specs.declared.names.Ticket.{Ticket}
+use Rattle.protocol.specs.declared.messages.Finding.{Finding}
+use Rattle.protocol.specs.declared.messages.Finding.TheVariants.{Mixed, Unreported}
+use Rattle.protocol.specs.declared.names.Ticket.{Ticket}
 
 -- the ticket, if the finding reports it as mixed
 abbrev pub mixed_ticket : Finding → Option Ticket

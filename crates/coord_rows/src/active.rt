@@ -1,8 +1,8 @@
 //! Rows of the reaction table for a case that takes children and work (R*).
 
 ghost use Rattle.std.specs.Prelude.{◌≡◌, ◌≤◌, ◌+◌, ◌^◌, true, IfErr, IfOk, OnErr};
-ghost use Rattle.tree_model.specs.Records.{in_list as is_in};
-ghost use Rattle.tree_model.specs.CoordinatorRows.{
+ghost use Rattle.protocol.specs.Records.{in_list as is_in};
+ghost use Rattle.protocol.specs.CoordinatorRows.{
   active_abort as abort_row,
   active_commit as commit_row,
   active_commit_with as commit_with_row,
@@ -10,27 +10,27 @@ ghost use Rattle.tree_model.specs.CoordinatorRows.{
   active_joined as joined_row,
   active_work as work_row,
 };
-ghost use Rattle.tree_model.specs.Memory.{works_of};
-ghost use Rattle.tree_model.specs.SameViews.{SameView};
-ghost use Rattle.coord_effects.specs.Rows.{Does, NotWritten, seat as seat_meant};
+ghost use Rattle.protocol.specs.Memory.{works_of};
+ghost use Rattle.protocol.specs.SameViews.{SameView};
+ghost use Rattle.coord_effects.specs.Rows.{DoesRow, NotWritten, seat_meant};
 ghost use Rattle.coord_rows.specs.Works.{NotSent};
 
 use coord_case::Live;
-use coord_effects::{RowEffect, Seat, Written, acknowledge_abort, tell_each, up};
-use core_model::one_message;
-use std::alloc::{AllocError, Global};
-use tree_model::{
+use coord_effects::{OwnCase, RowEffect, RowRecord, acknowledge_abort, tell_each, up};
+use process_state::one_message;
+use protocol::{
     Conclusion, Message, Op, Outcome, Presumption, ProcessId, Record, Sequence, StepError, Ticket,
 };
+use std::alloc::{AllocError, Global};
 
 /// Active, the join act: a child that is not accepted is invited.
 pub fn active_join(
     alloc: Global,
-    seat: Seat,
+    seat: OwnCase,
     child: ProcessId,
     live: &Live,
 ) -> Result<RowEffect, AllocError>
-    ensures { IfOk result (λ effect. Does seat (join_row (seat_meant seat) child live.now) effect live.now) }
+    ensures { IfOk result (λ effect. DoesRow seat (join_row (seat_meant seat) child live.now) effect live.now) }
 {
     if live.has_child(child) {
         return Ok(RowEffect::quiet(alloc));
@@ -42,11 +42,11 @@ pub fn active_join(
 /// Active, JOINED: the first ticket of a child is accepted. Memory: nothing changed.
 pub fn active_joined(
     alloc: Global,
-    seat: Seat,
+    seat: OwnCase,
     ticket: Ticket,
     live: &mut Live,
 ) -> Result<RowEffect, AllocError>
-    ensures ok { IfOk result (λ effect. Does seat (joined_row ticket live.old) effect live.new) }
+    ensures ok { IfOk result (λ effect. DoesRow seat (joined_row ticket live.old) effect live.new) }
     ensures err { OnErr result (live.new ≡ live.old) }
 {
     if !live.has_child(ticket.child) {
@@ -59,13 +59,13 @@ pub fn active_joined(
 /// sent to the child: nothing changed.
 pub fn active_work(
     alloc: Global,
-    seat: Seat,
+    seat: OwnCase,
     ticket: Ticket,
     op: &Op,
     live: &mut Live,
 ) -> Result<RowEffect, StepError>
     requires { is_in live.old.accepted ticket ≡ true }
-    ensures ok { IfOk result (λ effect. Does seat
+    ensures ok { IfOk result (λ effect. DoesRow seat
         (work_row (seat_meant seat) ticket op.now live.old) effect live.new) }
     ensures err { OnErr result (live.new ≡ live.old) }
     ensures unsent { IfErr result (NotSent (works_of live.old.works ticket + 1)) }
@@ -82,8 +82,8 @@ pub fn active_work(
 
 /// Active, the commit act or PREPARE: where nobody takes part the case has read only, else each child is
 /// asked for its vote. Memory, Exhausted: nothing changed.
-pub fn active_commit(alloc: Global, seat: Seat, live: &mut Live) -> Result<RowEffect, StepError>
-    ensures ok { IfOk result (λ effect. Does seat (commit_row (seat_meant seat) live.old) effect live.new) }
+pub fn active_commit(alloc: Global, seat: OwnCase, live: &mut Live) -> Result<RowEffect, StepError>
+    ensures ok { IfOk result (λ effect. DoesRow seat (commit_row (seat_meant seat) live.old) effect live.new) }
     ensures err { OnErr result (live.new ≡ live.old) }
     ensures unwritten { IfErr result (NotWritten seat.parent (commit_row (seat_meant seat) live.old).written) }
 {
@@ -96,8 +96,8 @@ pub fn active_commit(alloc: Global, seat: Seat, live: &mut Live) -> Result<RowEf
 }
 
 /// Under Presumed Commit the children are named in a forced record before they are asked.
-fn active_commit_with(alloc: Global, seat: Seat, live: &mut Live) -> Result<RowEffect, StepError>
-    ensures ok { IfOk result (λ effect. Does seat
+fn active_commit_with(alloc: Global, seat: OwnCase, live: &mut Live) -> Result<RowEffect, StepError>
+    ensures ok { IfOk result (λ effect. DoesRow seat
         (commit_with_row (seat_meant seat) live.old seat.case.txn.presumption) effect live.new) }
     ensures err { OnErr result (live.new ≡ live.old) }
     ensures unwritten { IfErr result (NotWritten seat.parent
@@ -112,7 +112,7 @@ fn active_commit_with(alloc: Global, seat: Seat, live: &mut Live) -> Result<RowE
         Presumption::PresumeCommit => {
             let tickets = live.tickets(alloc)?;
             let named = Sequence::from_vec(Vec::from_slice(alloc, &tickets)?);
-            let written = Written::forced(Record::Collecting(seat.case, named));
+            let written = RowRecord::forced(Record::Collecting(seat.case, named));
             let effect = RowEffect::writes(alloc, &seat, &written, None, messages)?;
             live.collect_named(&tickets)?;
             Ok(effect)
@@ -122,8 +122,8 @@ fn active_commit_with(alloc: Global, seat: Seat, live: &mut Live) -> Result<RowE
 
 /// Active, the abort act or ABORT: the children are told, and nothing is written, since none can have
 /// promised. Memory: nothing changed.
-pub fn active_abort(alloc: Global, seat: Seat, live: &mut Live) -> Result<RowEffect, AllocError>
-    ensures ok { IfOk result (λ effect. Does seat (abort_row (seat_meant seat) live.old) effect live.new) }
+pub fn active_abort(alloc: Global, seat: OwnCase, live: &mut Live) -> Result<RowEffect, AllocError>
+    ensures ok { IfOk result (λ effect. DoesRow seat (abort_row (seat_meant seat) live.old) effect live.new) }
     ensures err { OnErr result (live.new ≡ live.old) }
 {
     let tickets = live.tickets(alloc)?;

@@ -1,7 +1,7 @@
 //! Rows of the reaction table for a case that collects votes (R*).
 
 ghost use Rattle.std.specs.Prelude.{◌≡◌, IfErr, IfOk, OnErr};
-ghost use Rattle.tree_model.specs.CoordinatorRows.{
+ghost use Rattle.protocol.specs.CoordinatorRows.{
   cascaded_prepares as promises_row,
   collecting_abort as abort_row,
   collecting_abort_by as abort_by_row,
@@ -11,27 +11,27 @@ ghost use Rattle.tree_model.specs.CoordinatorRows.{
   collecting_vote as vote_row,
   root_commits as commits_row,
 };
-ghost use Rattle.tree_model.specs.SameViews.{SameView};
-ghost use Rattle.coord_effects.specs.Rows.{Does, NotWritten, reason as reason_meant, seat as seat_meant};
+ghost use Rattle.protocol.specs.SameViews.{SameView};
+ghost use Rattle.coord_effects.specs.Rows.{DoesRow, NotWritten, reason_meant, seat_meant};
 
 use coord_case::Live;
 use coord_effects::{
-    Reason, RowEffect, Seat, Written, decides_owed, forgets_behind, heard_above, tell_each, up,
+    OwnCase, Reason, RowEffect, RowRecord, decides_owed, forgets_behind, heard_above, tell_each, up,
 };
-use std::alloc::Global;
-use tree_model::{
+use protocol::{
     Conclusion, Message, Outcome, Presumption, Record, Sequence, StepError, Ticket, Told, Vote,
 };
+use std::alloc::Global;
 
 /// Collecting, a vote: the first of an accepted ticket counts. Memory, Exhausted: nothing changed.
 pub fn collecting_vote(
     alloc: Global,
-    seat: Seat,
+    seat: OwnCase,
     ticket: Ticket,
     vote: Vote,
     live: &mut Live,
 ) -> Result<RowEffect, StepError>
-    ensures ok { IfOk result (λ effect. Does seat
+    ensures ok { IfOk result (λ effect. DoesRow seat
         (vote_row (seat_meant seat) ticket vote live.old) effect live.new) }
     ensures err { OnErr result (SameView live.new live.old) }
     ensures unwritten { IfErr result (NotWritten seat.parent
@@ -53,11 +53,11 @@ pub fn collecting_vote(
 /// The vote was counted: a NO aborts, and the last vote decides.
 fn collecting_after(
     alloc: Global,
-    seat: Seat,
+    seat: OwnCase,
     vote: Vote,
     live: &mut Live,
 ) -> Result<RowEffect, StepError>
-    ensures ok { IfOk result (λ effect. Does seat
+    ensures ok { IfOk result (λ effect. DoesRow seat
         (after_row (seat_meant seat) live.old vote) effect live.new) }
     ensures err { OnErr result (live.new ≡ live.old) }
     ensures unwritten { IfErr result (NotWritten seat.parent
@@ -79,11 +79,11 @@ fn collecting_after(
 /// may have promised. Memory, Exhausted: nothing changed.
 pub fn collecting_abort(
     alloc: Global,
-    seat: Seat,
+    seat: OwnCase,
     reason: Reason,
     live: &mut Live,
 ) -> Result<RowEffect, StepError>
-    ensures ok { IfOk result (λ effect. Does seat
+    ensures ok { IfOk result (λ effect. DoesRow seat
         (abort_row (seat_meant seat) (reason_meant reason) live.old) effect live.new) }
     ensures err { OnErr result (live.new ≡ live.old) }
     ensures unwritten { IfErr result (NotWritten seat.parent
@@ -95,12 +95,12 @@ pub fn collecting_abort(
 
 fn abort_undecided(
     alloc: Global,
-    seat: Seat,
+    seat: OwnCase,
     reason: Reason,
     undecided: Vec<Ticket>,
     live: &mut Live,
 ) -> Result<RowEffect, StepError>
-    ensures ok { IfOk result (λ effect. Does seat (abort_by_row (seat_meant seat) (reason_meant reason)
+    ensures ok { IfOk result (λ effect. DoesRow seat (abort_by_row (seat_meant seat) (reason_meant reason)
         live.old undecided.items seat.case.txn.presumption) effect live.new) }
     ensures err { OnErr result (live.new ≡ live.old) }
     ensures unwritten { IfErr result (NotWritten seat.parent
@@ -111,7 +111,7 @@ fn abort_undecided(
     let told = seat.told(Conclusion::Aborted);
     match seat.case.txn.presumption {
         Presumption::PresumeAbort => {
-            let written = Written::plain(Record::Abort(seat.case, Sequence::new(alloc)));
+            let written = RowRecord::plain(Record::Abort(seat.case, Sequence::new(alloc)));
             forgets_behind(alloc, seat, &written, told, messages, live)
         }
         Presumption::PresumeCommit => {
@@ -123,8 +123,8 @@ fn abort_undecided(
 
 /// The last vote, and none was NO: with nobody that promised the case has read only; else the root commits,
 /// and a coordinator below it promises.
-fn collecting_full(alloc: Global, seat: Seat, live: &mut Live) -> Result<RowEffect, StepError>
-    ensures ok { IfOk result (λ effect. Does seat (full_row (seat_meant seat) live.old) effect live.new) }
+fn collecting_full(alloc: Global, seat: OwnCase, live: &mut Live) -> Result<RowEffect, StepError>
+    ensures ok { IfOk result (λ effect. DoesRow seat (full_row (seat_meant seat) live.old) effect live.new) }
     ensures err { OnErr result (live.new ≡ live.old) }
     ensures unwritten { IfErr result (NotWritten seat.parent (full_row (seat_meant seat) live.old).written) }
 {
@@ -139,8 +139,12 @@ fn collecting_full(alloc: Global, seat: Seat, live: &mut Live) -> Result<RowEffe
 }
 
 /// All read only: nothing is decided. Under Presumed Commit the record of the votes' collection is ended.
-fn collecting_read_only(alloc: Global, seat: Seat, live: &mut Live) -> Result<RowEffect, StepError>
-    ensures ok { IfOk result (λ effect. Does seat (read_only_row (seat_meant seat)) effect live.new) }
+fn collecting_read_only(
+    alloc: Global,
+    seat: OwnCase,
+    live: &mut Live,
+) -> Result<RowEffect, StepError>
+    ensures ok { IfOk result (λ effect. DoesRow seat (read_only_row (seat_meant seat)) effect live.new) }
     ensures err { OnErr result (live.new ≡ live.old) }
     ensures unwritten { IfErr result (NotWritten seat.parent (read_only_row (seat_meant seat)).written) }
 {
@@ -152,7 +156,7 @@ fn collecting_read_only(alloc: Global, seat: Seat, live: &mut Live) -> Result<Ro
             Ok(RowEffect::tells(alloc, told, messages))
         }
         Presumption::PresumeCommit => {
-            let written = Written::plain(Record::End(seat.case, None));
+            let written = RowRecord::plain(Record::End(seat.case, None));
             forgets_behind(alloc, seat, &written, told, messages, live)
         }
     }
@@ -162,11 +166,11 @@ fn collecting_read_only(alloc: Global, seat: Seat, live: &mut Live) -> Result<Ro
 /// under Presumed Commit nobody owes one, and the case is forgotten.
 fn root_commits(
     alloc: Global,
-    seat: Seat,
+    seat: OwnCase,
     yes: Vec<Ticket>,
     live: &mut Live,
 ) -> Result<RowEffect, StepError>
-    ensures ok { IfOk result (λ effect. Does seat
+    ensures ok { IfOk result (λ effect. DoesRow seat
         (commits_row (seat_meant seat) live.old yes.items seat.case.txn.presumption) effect live.new) }
     ensures err { OnErr result (live.new ≡ live.old) }
     ensures unwritten { IfErr result (NotWritten seat.parent
@@ -183,7 +187,7 @@ fn root_commits(
             decides_owed(alloc, seat, Outcome::Committed, yes, told, messages, live)
         }
         Presumption::PresumeCommit => {
-            let written = Written::forced(Record::Commit(seat.case, Sequence::new(alloc)));
+            let written = RowRecord::forced(Record::Commit(seat.case, Sequence::new(alloc)));
             forgets_behind(alloc, seat, &written, told, messages, live)
         }
     }
@@ -192,11 +196,11 @@ fn root_commits(
 /// The promise of a coordinator below the root: a forced Prepare that names these, and YES to the parent.
 fn cascaded_prepares(
     alloc: Global,
-    seat: Seat,
+    seat: OwnCase,
     yes: &[Ticket],
     live: &mut Live,
 ) -> Result<RowEffect, StepError>
-    ensures ok { IfOk result (λ effect. Does seat
+    ensures ok { IfOk result (λ effect. DoesRow seat
         (promises_row (seat_meant seat) live.old yes.now) effect live.new) }
     ensures err { OnErr result (live.new ≡ live.old) }
     ensures unwritten { IfErr result (NotWritten seat.parent
@@ -204,7 +208,7 @@ fn cascaded_prepares(
 {
     let messages = up(alloc, seat, Message::Yes(seat.case))?;
     let named = Sequence::from_vec(Vec::from_slice(alloc, yes)?);
-    let written = Written::forced(Record::Prepare(seat.case, named));
+    let written = RowRecord::forced(Record::Prepare(seat.case, named));
     let effect = RowEffect::writes(alloc, &seat, &written, None, messages)?;
     live.promise(alloc, yes)?;
     Ok(effect)

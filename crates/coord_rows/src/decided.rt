@@ -1,8 +1,8 @@
 //! Rows of the reaction table for a case that was decided, and for one of which nothing is known (R*).
 
 ghost use Rattle.std.specs.Prelude.{◌≡◌, ◌++◌, [], IfErr, IfOk, None, OnErr};
-ghost use Rattle.tree_model.specs.Standings.{CoordinatorView};
-ghost use Rattle.tree_model.specs.CoordinatorRows.{
+ghost use Rattle.protocol.specs.Standings.{CoordinatorView};
+ghost use Rattle.protocol.specs.CoordinatorRows.{
   aborting_abort as abort_again_row,
   aborting_prepare as late_prepare_row,
   committing_commit as commit_again_row,
@@ -16,28 +16,28 @@ ghost use Rattle.tree_model.specs.CoordinatorRows.{
   unknown_inquiry as presumed_row,
   unknown_prepare as prepare_row,
 };
-ghost use Rattle.tree_model.specs.SameViews.{SameView};
-ghost use Rattle.core_model.specs.Turns.{this_version};
-ghost use Rattle.coord_effects.specs.declared.seat.Seat.{Seat as AnySeat};
-ghost use Rattle.coord_effects.specs.Rows.{Does, NotWritten, end_written, seat as seat_meant};
+ghost use Rattle.protocol.specs.SameViews.{SameView};
+ghost use Rattle.process_state.specs.Turns.{this_version};
+ghost use Rattle.coord_effects.specs.declared.seat.OwnCase.{OwnCase as AnySeat};
+ghost use Rattle.coord_effects.specs.Rows.{DoesRow, NotWritten, end_written, seat_meant};
 
 use crate::found::{in_order, reports_of};
 use coord_case::Live;
 use coord_effects::{
-    RowEffect, Seat, Written, acknowledge_unknown_abort, acknowledge_unknown_commit,
+    OwnCase, RowEffect, RowRecord, acknowledge_unknown_abort, acknowledge_unknown_commit,
     forgets_behind, outcome_message, up,
 };
-use inquire_core::presumed;
+use coord_records::presumed;
+use protocol::{Case, Finding, Message, Outcome, Record, Sequence, StepError, Ticket};
 use std::alloc::{AllocError, Global};
-use tree_model::{Case, Finding, Message, Outcome, Record, Sequence, StepError, Ticket};
 
 /// The root's End: plain if nothing was found; else with what was found, forced.
-fn root_end(alloc: Global, case: Case, found: &[Finding]) -> Result<Written, AllocError>
+fn root_end(alloc: Global, case: Case, found: &[Finding]) -> Result<RowRecord, AllocError>
     ensures { IfOk result (λ written. written ≡ end_written case (end_reports this_version None found.now)) }
 {
     Ok(match found {
-        [] => Written::plain(Record::End(case, None)),
-        [_, ..] => Written::forced(Record::End(case, Some(reports_of(alloc, found)?))),
+        [] => RowRecord::plain(Record::End(case, None)),
+        [_, ..] => RowRecord::forced(Record::End(case, Some(reports_of(alloc, found)?))),
     })
 }
 
@@ -45,12 +45,12 @@ fn root_end(alloc: Global, case: Case, found: &[Finding]) -> Result<Written, All
 /// turn, with what was found. Memory, Exhausted: nothing changed.
 fn ends(
     alloc: Global,
-    seat: Seat,
+    seat: OwnCase,
     outcome: Outcome,
     found: Vec<Finding>,
     live: &mut Live,
 ) -> Result<RowEffect, StepError>
-    ensures ok { IfOk result (λ effect. Does seat
+    ensures ok { IfOk result (λ effect. DoesRow seat
         (ends_row this_version (seat_meant seat) outcome [] found.items live.old) effect live.new) }
     ensures err { OnErr result (live.new ≡ live.old) }
     ensures unwritten { IfErr result (NotWritten seat.parent
@@ -62,7 +62,7 @@ fn ends(
             forgets_behind(alloc, seat, &written, None, Sequence::new(alloc), live)
         }
         Some(_) => {
-            let written = Written::plain(Record::End(seat.case, None));
+            let written = RowRecord::plain(Record::End(seat.case, None));
             let findings = in_order(alloc, &found)?;
             let messages = up(alloc, seat, Message::Ack(seat.case, outcome, findings))?;
             forgets_behind(alloc, seat, &written, None, messages, live)
@@ -75,13 +75,13 @@ fn ends(
 /// changed.
 pub fn decided_ack(
     alloc: Global,
-    seat: Seat,
+    seat: OwnCase,
     outcome: Outcome,
     ticket: Ticket,
     findings: &[Finding],
     live: &mut Live,
 ) -> Result<RowEffect, StepError>
-    ensures ok { IfOk result (λ effect. Does seat
+    ensures ok { IfOk result (λ effect. DoesRow seat
         (ack_row this_version (seat_meant seat) outcome ticket (live.old.found ++ findings.now) live.old)
         effect live.new) }
     ensures err { OnErr result (live.new ≡ live.old) }
@@ -102,27 +102,27 @@ pub fn decided_ack(
 /// The outcome to one child.
 fn tell_one(
     alloc: Global,
-    seat: Seat,
+    seat: OwnCase,
     outcome: Outcome,
     ticket: Ticket,
 ) -> Result<RowEffect, AllocError>
     ensures { IfOk result (λ effect. (view : CoordinatorView)
-        → Does seat (inquiry_row (seat_meant seat) outcome ticket view) effect view) }
+        → DoesRow seat (inquiry_row (seat_meant seat) outcome ticket view) effect view) }
 {
     let mut messages = Sequence::new(alloc);
     messages.push(outcome_message(seat, outcome, ticket))?;
     Ok(RowEffect::sends(alloc, messages))
 }
 
-/// INQUIRE of a child of a case that has an answer (`inquire_core`, `answer`): the child is told it.
+/// INQUIRE of a child of a case that has an answer (`coord_records`, `answer`): the child is told it.
 pub fn decided_inquiry(
     alloc: Global,
-    seat: Seat,
+    seat: OwnCase,
     outcome: Outcome,
     ticket: Ticket,
 ) -> Result<RowEffect, AllocError>
     ensures { IfOk result (λ effect. (view : CoordinatorView)
-        → Does seat (inquiry_row (seat_meant seat) outcome ticket view) effect view) }
+        → DoesRow seat (inquiry_row (seat_meant seat) outcome ticket view) effect view) }
 {
     tell_one(alloc, seat, outcome, ticket)
 }
@@ -130,7 +130,7 @@ pub fn decided_inquiry(
 /// Committing, COMMIT again: nothing, until the last acknowledgement from below.
 pub fn committing_commit(alloc: Global) -> RowEffect
     ensures { (seat : AnySeat) (view : CoordinatorView)
-        → Does seat (commit_again_row this_version (seat_meant seat) view) result view }
+        → DoesRow seat (commit_again_row this_version (seat_meant seat) view) result view }
 {
     RowEffect::quiet(alloc)
 }
@@ -138,15 +138,15 @@ pub fn committing_commit(alloc: Global) -> RowEffect
 /// Aborting, ABORT again: likewise.
 pub fn aborting_abort(alloc: Global) -> RowEffect
     ensures { (seat : AnySeat) (view : CoordinatorView)
-        → Does seat (abort_again_row this_version (seat_meant seat) view) result view }
+        → DoesRow seat (abort_again_row this_version (seat_meant seat) view) result view }
 {
     RowEffect::quiet(alloc)
 }
 
 /// Aborting, PREPARE: NO.
-pub fn aborting_prepare(alloc: Global, seat: Seat) -> Result<RowEffect, AllocError>
+pub fn aborting_prepare(alloc: Global, seat: OwnCase) -> Result<RowEffect, AllocError>
     ensures { IfOk result (λ effect. (view : CoordinatorView)
-        → Does seat (late_prepare_row (seat_meant seat) view) effect view) }
+        → DoesRow seat (late_prepare_row (seat_meant seat) view) effect view) }
 {
     let messages = up(alloc, seat, Message::No(seat.case))?;
     Ok(RowEffect::sends(alloc, messages))
@@ -154,47 +154,51 @@ pub fn aborting_prepare(alloc: Global, seat: Seat) -> Result<RowEffect, AllocErr
 
 /// Unknown, at the root, where what was found is reported: it is cleared, forced. Exhausted: no
 /// log holds the record.
-pub fn clears(alloc: Global, seat: Seat) -> Result<RowEffect, StepError>
+pub fn clears(alloc: Global, seat: OwnCase) -> Result<RowEffect, StepError>
     ensures ok { IfOk result (λ effect. (view : CoordinatorView)
-        → Does seat (clears_row (seat_meant seat) view) effect view) }
+        → DoesRow seat (clears_row (seat_meant seat) view) effect view) }
     ensures unwritten { IfErr result (λ e. (view : CoordinatorView)
         → NotWritten seat.parent (clears_row (seat_meant seat) view).written e) }
 {
-    let written = Written::forced(Record::Cleared(seat.case));
+    let written = RowRecord::forced(Record::Cleared(seat.case));
     RowEffect::writes(alloc, &seat, &written, None, Sequence::new(alloc))
 }
 
 /// PREPARE of a case of which nothing is known: NO.
-pub fn unknown_prepare(alloc: Global, seat: Seat) -> Result<RowEffect, AllocError>
+pub fn unknown_prepare(alloc: Global, seat: OwnCase) -> Result<RowEffect, AllocError>
     ensures { IfOk result (λ effect. (view : CoordinatorView)
-        → Does seat (prepare_row (seat_meant seat) view) effect view) }
+        → DoesRow seat (prepare_row (seat_meant seat) view) effect view) }
 {
     let messages = up(alloc, seat, Message::No(seat.case))?;
     Ok(RowEffect::sends(alloc, messages))
 }
 
 /// COMMIT of a case of which nothing is known: acknowledged under Presumed Abort, else nothing.
-pub fn unknown_commit(alloc: Global, seat: Seat) -> Result<RowEffect, AllocError>
+pub fn unknown_commit(alloc: Global, seat: OwnCase) -> Result<RowEffect, AllocError>
     ensures { IfOk result (λ effect. (view : CoordinatorView)
-        → Does seat (commit_row this_version (seat_meant seat) view) effect view) }
+        → DoesRow seat (commit_row this_version (seat_meant seat) view) effect view) }
 {
     let messages = acknowledge_unknown_commit(alloc, seat)?;
     Ok(RowEffect::sends(alloc, messages))
 }
 
 /// ABORT of a case of which nothing is known: acknowledged under Presumed Commit, else nothing.
-pub fn unknown_abort(alloc: Global, seat: Seat) -> Result<RowEffect, AllocError>
+pub fn unknown_abort(alloc: Global, seat: OwnCase) -> Result<RowEffect, AllocError>
     ensures { IfOk result (λ effect. (view : CoordinatorView)
-        → Does seat (abort_row this_version (seat_meant seat) view) effect view) }
+        → DoesRow seat (abort_row this_version (seat_meant seat) view) effect view) }
 {
     let messages = acknowledge_unknown_abort(alloc, seat)?;
     Ok(RowEffect::sends(alloc, messages))
 }
 
 /// INQUIRE of a child of which nothing is known: it gets what is presumed.
-pub fn unknown_inquiry(alloc: Global, seat: Seat, ticket: Ticket) -> Result<RowEffect, AllocError>
+pub fn unknown_inquiry(
+    alloc: Global,
+    seat: OwnCase,
+    ticket: Ticket,
+) -> Result<RowEffect, AllocError>
     ensures { IfOk result (λ effect. (view : CoordinatorView)
-        → Does seat (presumed_row (seat_meant seat) ticket view) effect view) }
+        → DoesRow seat (presumed_row (seat_meant seat) ticket view) effect view) }
 {
     tell_one(alloc, seat, presumed(seat.case.txn.presumption), ticket)
 }

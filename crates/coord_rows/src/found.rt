@@ -1,12 +1,12 @@
 //! What acknowledgements found, as a report and an acknowledgement have it.
 
 ghost use Rattle.std.specs.Prelude.{◌≡◌, IfOk};
-ghost use Rattle.tree_model.specs.Records.{in_order as ordered_so, mixed_of as mixed_in, unreported_of as unreported_in};
-ghost use Rattle.tree_model.specs.CoordinatorRows.{reports_of as reports_in};
+ghost use Rattle.protocol.specs.Records.{in_order as ordered_so, mixed_of as mixed_in, unreported_of as unreported_in};
+ghost use Rattle.protocol.specs.CoordinatorRows.{reports_of as reports_in};
 ghost use Rattle.coord_rows.specs.Findings.{mixed_ticket, unreported_ticket};
 
+use protocol::{Finding, Findings, Reports, Sequence, Ticket};
 use std::alloc::{AllocError, Global};
-use tree_model::{Finding, Findings, Reports, Sequence, Ticket};
 
 /// The ticket, if the finding reports it as mixed.
 fn mixed(finding: &Finding) -> Option<Ticket>

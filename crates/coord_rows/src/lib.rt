@@ -48,7 +48,7 @@ mod outcomes;
 pub use active::{active_abort, active_commit, active_join, active_joined, active_work};
 pub use collecting::{collecting_abort, collecting_vote};
 pub use coord_effects::{
-    Framed, Reason, RowEffect, Seat, prepared_abort, prepared_ask, prepared_commit,
+    OwnCase, Reason, RowEffect, RowFrame, prepared_abort, prepared_ask, prepared_commit,
     prepared_prepare, resume,
 };
 pub use decided::{

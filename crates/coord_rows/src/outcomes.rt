@@ -2,21 +2,21 @@
 //! contradicts stays as it is.
 
 ghost use Rattle.std.specs.Prelude.{◌≡◌, IfErr, IfOk, OnErr};
-ghost use Rattle.tree_model.specs.CoordinatorRows.{on_abort as abort_row, on_commit as commit_row};
-ghost use Rattle.core_model.specs.Turns.{this_version};
-ghost use Rattle.coord_effects.specs.Rows.{Does, NotWritten, seat as seat_meant};
+ghost use Rattle.protocol.specs.CoordinatorRows.{on_abort as abort_row, on_commit as commit_row};
+ghost use Rattle.process_state.specs.Turns.{this_version};
+ghost use Rattle.coord_effects.specs.Rows.{DoesRow, NotWritten, seat_meant};
 
 use crate::active::active_abort;
 use crate::collecting::collecting_abort;
 use crate::decided::{aborting_abort, committing_commit, unknown_abort, unknown_commit};
 use coord_case::Live;
-use coord_effects::{Reason, RowEffect, Seat, prepared_abort, prepared_commit};
+use coord_effects::{OwnCase, Reason, RowEffect, prepared_abort, prepared_commit};
+use protocol::{Standing, StepError};
 use std::alloc::Global;
-use tree_model::{Standing, StepError};
 
 /// COMMIT of the parent. Memory, Exhausted: nothing changed.
-pub fn on_commit(alloc: Global, seat: Seat, live: &mut Live) -> Result<RowEffect, StepError>
-    ensures ok { IfOk result (λ effect. Does seat
+pub fn on_commit(alloc: Global, seat: OwnCase, live: &mut Live) -> Result<RowEffect, StepError>
+    ensures ok { IfOk result (λ effect. DoesRow seat
         (commit_row this_version (seat_meant seat) live.old live.old.standing) effect live.new) }
     ensures err { OnErr result (live.new ≡ live.old) }
     ensures unwritten { IfErr result (NotWritten seat.parent
@@ -31,8 +31,8 @@ pub fn on_commit(alloc: Global, seat: Seat, live: &mut Live) -> Result<RowEffect
 }
 
 /// ABORT of the parent. Memory, Exhausted: nothing changed.
-pub fn on_abort(alloc: Global, seat: Seat, live: &mut Live) -> Result<RowEffect, StepError>
-    ensures ok { IfOk result (λ effect. Does seat
+pub fn on_abort(alloc: Global, seat: OwnCase, live: &mut Live) -> Result<RowEffect, StepError>
+    ensures ok { IfOk result (λ effect. DoesRow seat
         (abort_row this_version (seat_meant seat) live.old live.old.standing) effect live.new) }
     ensures err { OnErr result (live.new ≡ live.old) }
     ensures unwritten { IfErr result (NotWritten seat.parent

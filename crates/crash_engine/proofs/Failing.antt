@@ -2,16 +2,16 @@
 use Rattle.std.proofs.Common.{◌≡◌, ◌∙◌, ◌⊎◌, ap, subst, sym, ℕ, ◌<◌, is_some, false, Option, Some, None, Result, Ok, Err, IfErr, List, [], ◌∷◌, ◌++◌, length, take, inl, inr, refl}
 use Rattle.std.specs.Prelude.{Contains}
 use Rattle.std.specs.Result.{IsErrAnd}
-use Rattle.tree_model.specs.declared.events.Event.{Event}
-use Rattle.tree_model.specs.declared.events.Event.TheVariants.{Settle}
-use Rattle.tree_model.specs.declared.trees.TreeEntry.{TreeEntry}
-use Rattle.core_law.specs.worlds.Refusals.{Refusal}
-use Rattle.core_law.specs.worlds.Worlds.{WorldState}
+use Rattle.protocol.specs.declared.events.Event.{Event}
+use Rattle.protocol.specs.declared.events.Event.TheVariants.{Settle}
+use Rattle.protocol.specs.declared.trees.TreeProcess.{TreeProcess}
+use Rattle.proof_runs.specs.worlds.Refusals.{Refusal}
+use Rattle.tree_state.specs.Worlds.{WorldState}
 use Rattle.report_io.specs.declared.streams.Failure.{Failure}
 use Rattle.report_io.specs.declared.streams.Failure.TheVariants.{Exhausted, Memory}
-use Rattle.tree_audit.specs.declared.report.Report.{Report}
+use Rattle.audit_tree.specs.declared.report.Report.{Report}
 use Rattle.tree_engine.specs.Failures.{CannotMake}
-use Rattle.logs_script.specs.declared.line.ProcessLog.{ProcessLog}
+use Rattle.log_script.specs.declared.line.ProcessLog.{ProcessLog}
 use Rattle.reopen_script.specs.Inputs.{IsReopenScript}
 use Rattle.tree_world.specs.Worlds.{state}
 use Rattle.tree_world.proofs.Handling.{passed_on}
@@ -79,7 +79,7 @@ crash_breaks o events crash p first why opens of_crash cannot =
     (subst (λ (es : List Event). CannotMake (state first.world) (events ++ es) why) of_crash cannot))
 
 -- the state that such a run came from
-starts_at : (tree : List TreeEntry) (logs : Option (List ProcessLog)) (first : Run) (now : WorldState)
+starts_at : (tree : List TreeProcess) (logs : Option (List ProcessLog)) (first : Run) (now : WorldState)
     (given : List Event) (refusal : Refusal) (n : ℕ) (begins : BeginsBy tree logs first)
     (come : ComesTo (state first.world) given refusal n now)
     → start_by tree logs given refusal now (ran_by tree logs first now given refusal n begins come) ≡ state first.world
@@ -163,7 +163,7 @@ pub on_breaks : (o : Origin) (events : List Event) (n : ℕ) (why : Failure) →
 on_breaks o events n why within cannot = record { before = n; within = within; cannot = cannot }
 
 -- nothing is written of a script
-pub script_breaks : (input : List ℕ) (tree : List TreeEntry) (logs : Option (List ProcessLog)) (events : List Event)
+pub script_breaks : (input : List ℕ) (tree : List TreeProcess) (logs : Option (List ProcessLog)) (events : List Event)
     (why : Failure) → IsReopenScript input tree logs events
     → CannotTry (record { tree = tree; logs = logs }) events why → CannotReport input why
 script_breaks input tree logs events why script cannot =

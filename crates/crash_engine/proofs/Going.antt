@@ -2,11 +2,11 @@
 use Rattle.std.proofs.lemmas.List.{take_more}
 use Rattle.std.proofs.lemmas.Option.{slice_get-get_or}
 use Rattle.std.proofs.Common.{◌≡◌, ◌≢◌, ◌∙◌, inl, inr, ap, sym, subst, ℕ, zero, suc, pred, ◌+◌, ◌<◌, is_some, true, false, true≢false, Result, Ok, Err, IfOk, Some, None, List, [], ◌∷◌, ◌++◌, length, drop, get_or, take, arith, refl}
-use Rattle.tree_model.specs.declared.events.Event.{Event}
-use Rattle.tree_model.specs.declared.events.Event.TheVariants.{Act, Deliver, Restart, Settle, Trim}
-use Rattle.core_law.specs.worlds.Refusals.{Refusal}
+use Rattle.protocol.specs.declared.events.Event.{Event}
+use Rattle.protocol.specs.declared.events.Event.TheVariants.{Act, Deliver, Restart, Settle, Trim}
+use Rattle.proof_runs.specs.worlds.Refusals.{Refusal}
 use Rattle.crash_engine.specs.declared.origin.Origin.{Origin}
-use Rattle.crash_engine.specs.declared.points.Place.{Place}
+use Rattle.crash_engine.specs.declared.points.CrashPlace.{CrashPlace}
 use Rattle.crash_engine.specs.declared.trials.Trial.{Trial}
 use Rattle.tree_world.specs.Worlds.{state}
 use Rattle.tree_engine.specs.declared.run.Run.{Run}
@@ -22,7 +22,7 @@ use Rattle.crash_engine.specs.Settles.{SettlesBy, deliveries_in}
 use Rattle.crash_engine.specs.Trials.{Adds, GoesDown, GoesOn, GoesWithin, Known, after_event, within_event}
 
 -- one delivery more
-pub one_delivery_more : (o : Origin) (known : Known) (number : ℕ) (events deliveries : List Event) (d : ℕ) (at : Place)
+pub one_delivery_more : (o : Origin) (known : Known) (number : ℕ) (events deliveries : List Event) (d : ℕ) (at : CrashPlace)
     (front : List Event) (refusal : Refusal) (old middle new : List Trial)
     → at ≡ within_event number (suc d) → front ≡ events ++ take (suc d) deliveries
     → Adds o known at front refusal middle new
@@ -137,7 +137,7 @@ goes_within o known number events deliveries (Trim q) old new has goes =
     subst (λ ds. GoesDown o known number events ds (pred (length ds)) old new) (has.other (λ is. absurd (cc))) goes
 
 -- an event was gone through, within and after it
-pub gone_on : (o : Origin) (known : Known) (events deliveries : List Event) (n number : ℕ) (at : Event) (place : Place)
+pub gone_on : (o : Origin) (known : Known) (events deliveries : List Event) (n number : ℕ) (at : Event) (place : CrashPlace)
     (front : List Event) (run : Run) (r : Result Refusal Failure) (old middle new : List Trial) → n < length events
     → at ≡ get_or events n at → number ≡ suc n → place ≡ after_event (suc n) → front ≡ take (suc n) events
     → HasDelivered o (take n events) deliveries at

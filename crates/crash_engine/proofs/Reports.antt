@@ -1,18 +1,18 @@
 -- What is written of a script.
 use Rattle.std.proofs.Common.{◌≡◌, sym, subst, ℕ, suc, ◌+◌, ◌<◌, ◌≤◌, ◌&&◌, Bool, true, false, is_some, if◌then◌else◌, Option, Some, None, List, length, arith}
-use Rattle.tree_model.specs.declared.events.Event.{Event}
-use Rattle.tree_model.specs.declared.trees.TreeEntry.{TreeEntry}
-use Rattle.logs_script.specs.declared.line.ProcessLog.{ProcessLog}
+use Rattle.protocol.specs.declared.events.Event.{Event}
+use Rattle.protocol.specs.declared.trees.TreeProcess.{TreeProcess}
+use Rattle.log_script.specs.declared.line.ProcessLog.{ProcessLog}
 use Rattle.reopen_script.specs.Inputs.{IsReopenScript}
-use Rattle.core_law.specs.worlds.Refusals.{Refusal}
+use Rattle.proof_runs.specs.worlds.Refusals.{Refusal}
 use Rattle.crash_engine.specs.Trials.{EndsAlone, GoesOn, GoesOver, GoesThrough, Known, known_of}
 use Rattle.crash_engine.specs.declared.origin.Origin.{Origin}
-use Rattle.crash_engine.specs.declared.trial.Found.{Found}
+use Rattle.crash_engine.specs.declared.trial.CrashEnd.{CrashEnd}
 use Rattle.crash_engine.specs.declared.trials.Trial.{Trial}
 use Rattle.crash_engine.specs.Crashes.{IsCrashReport, TriesFrom, TriesScript}
 use Rattle.crash_engine.specs.Texts.{are_clean, crashes_text, ending_by, is_clean}
-use Rattle.crash_engine.specs.declared.ending.Ending.{Ending}
-use Rattle.crash_engine.specs.declared.ending.Ending.TheVariants as ending
+use Rattle.crash_engine.specs.declared.ending.CrashStatus.{CrashStatus}
+use Rattle.crash_engine.specs.declared.ending.CrashStatus.TheVariants as ending
 
 -- one event more is gone through
 pub one_event_more : (o : Origin) (known : Known) (events : List Event) (n : ℕ) (refusal : Refusal)
@@ -49,11 +49,11 @@ never_by : (clean : Bool) → ending.Refused ≡ (if clean then ending.Clean els
 never_by true is = absurd (cc)
 never_by false is = absurd (cc)
 
-never : (alone : Found) (ts : List Trial) (refusal : Refusal) → ending.Refused ≡ ending_by alone ts refusal → ⊥
+never : (alone : CrashEnd) (ts : List Trial) (refusal : Refusal) → ending.Refused ≡ ending_by alone ts refusal → ⊥
 never alone ts None is = never_by (is_clean alone && are_clean ts) is
 never alone ts (Some r) is = absurd (cc)
 
-ends_so : (e : Ending) (input text : List ℕ) (alone : Found) (ts : List Trial) (refusal : Refusal)
+ends_so : (e : CrashStatus) (input text : List ℕ) (alone : CrashEnd) (ts : List Trial) (refusal : Refusal)
     → e ≡ ending_by alone ts refusal → TriesScript e input text
     → IsCrashReport e input text
 ends_so ending.Clean input text alone ts refusal is tries = tries
@@ -62,7 +62,7 @@ ends_so ending.Finds input text alone ts refusal is tries = tries
 ends_so ending.Refused input text alone ts refusal is tries = absurd (never alone ts refusal is)
 
 -- crashes were tried
-pub tried_from : (o : Origin) (e : Ending) (text : List ℕ) (events : List Event) (alone : Found) (known : Known)
+pub tried_from : (o : Origin) (e : CrashStatus) (text : List ℕ) (events : List Event) (alone : CrashEnd) (known : Known)
     (ts : List Trial) (refusal : Refusal) → EndsAlone o events alone → known ≡ known_of alone
     → GoesOver o known events refusal ts → e ≡ ending_by alone ts refusal → text ≡ crashes_text alone ts refusal
     → TriesFrom o events e text
@@ -77,7 +77,7 @@ tried_from o e text events alone known ts refusal so left goes ends is = record 
 }
 
 -- the report of a script
-pub reported : (e : Ending) (input text : List ℕ) (tree : List TreeEntry) (logs : Option (List ProcessLog))
+pub reported : (e : CrashStatus) (input text : List ℕ) (tree : List TreeProcess) (logs : Option (List ProcessLog))
     (events : List Event) → IsReopenScript input tree logs events
     → TriesFrom (record { tree = tree; logs = logs }) events e text → IsCrashReport e input text
 reported e input text tree logs events script tries =

@@ -1,33 +1,33 @@
 -- Trials one after another.
 use Rattle.std.proofs.Common.{◌≡◌, ◌∙◌, inl, inr, ap, sym, subst, ℕ, ◌+◌, ◌<◌, ◌≤◌, true, false, is_some, Option, Some, None, List, [], ◌∷◌, ◌++◌, length, get_or, take, refl, append_assoc}
 use Rattle.std.proofs.lemmas.List.{append-nil, take_all, take_more}
-use Rattle.tree_model.specs.declared.events.Event.{Event}
-use Rattle.tree_model.specs.declared.trees.TreeEntry.{TreeEntry}
-use Rattle.tree_model.specs.declared.events.Event.TheVariants.{Settle}
-use Rattle.tree_model.specs.declared.events.StepError.{StepError}
-use Rattle.tree_model.specs.Trees.{IsTree}
-use Rattle.core_law.specs.worlds.Refusals.{Refusal}
-use Rattle.core_law.specs.worlds.Worlds.{WorldState}
+use Rattle.protocol.specs.declared.events.Event.{Event}
+use Rattle.protocol.specs.declared.trees.TreeProcess.{TreeProcess}
+use Rattle.protocol.specs.declared.events.Event.TheVariants.{Settle}
+use Rattle.protocol.specs.declared.events.StepError.{StepError}
+use Rattle.protocol.specs.Trees.{IsTree}
+use Rattle.proof_runs.specs.worlds.Refusals.{Refusal}
+use Rattle.tree_state.specs.Worlds.{WorldState}
 use Rattle.log_store.specs.declared.memory.MemoryStore.{MemoryStore}
 use Rattle.tree_world.specs.Worlds.{WorldValue, state}
-use Rattle.tree_audit.specs.declared.report.Report.{Report}
+use Rattle.audit_tree.specs.declared.report.Report.{Report}
 use Rattle.tree_engine.specs.declared.run.Run.{Run}
-use Rattle.crash_engine.specs.declared.trial.Found.{Found}
-use Rattle.crash_engine.specs.declared.trial.Found.TheVariants as found
+use Rattle.crash_engine.specs.declared.trial.CrashEnd.{CrashEnd}
+use Rattle.crash_engine.specs.declared.trial.CrashEnd.TheVariants as found
 use Rattle.crash_engine.specs.Audits.{Audits, IsDamagedThen, asks_by}
-use Rattle.logs_script.specs.declared.line.ProcessLog.{ProcessLog}
-use Rattle.tree_model.specs.declared.names.ProcessId.{ProcessId}
+use Rattle.log_script.specs.declared.line.ProcessLog.{ProcessLog}
+use Rattle.protocol.specs.declared.names.ProcessId.{ProcessId}
 use Rattle.tree_engine.specs.Reopened.{PlaysBy}
 use Rattle.tree_engine.specs.Runs.{BeginsBy, HasCome}
 use Rattle.tree_engine.proofs.TreeReports.{begun_by, ran_by}
 use Rattle.crash_engine.specs.declared.origin.Origin.{Origin}
 use Rattle.crash_engine.specs.Origins.{Opens, PlaysFrom}
-use Rattle.crash_engine.specs.declared.points.Place.{Place}
+use Rattle.crash_engine.specs.declared.points.CrashPlace.{CrashPlace}
 use Rattle.crash_engine.specs.declared.points.Point.{Point}
 use Rattle.crash_engine.specs.declared.trials.Trial.{Trial}
 use Rattle.crash_engine.specs.Points.{crash_of, points_in}
 use Rattle.tree_engine.specs.Trees.{Plays}
-use Rattle.crash_engine.specs.Trials.{Adds, AddsTrials, AreTried, Asked, Broken, Early, EndsWith, Finds, Known, Leaves, Tries}
+use Rattle.crash_engine.specs.Trials.{Adds, AddsTrials, AreTried, Asked, Broken, Early, EndsWith, Finds, Known, CrashLeaves, Tries}
 
 -- what a run comes to is a run from where it began
 pub comes_to : (o : Origin) (first run : Run) (given : List Event) → Opens o first
@@ -35,12 +35,12 @@ pub comes_to : (o : Origin) (first run : Run) (given : List Event) → Opens o f
 comes_to o first run given opens h =
     ran_by o.tree o.logs first (state run.world) given run.refusal run.made opens h
 
-plays_tree : (tree : List TreeEntry) (logs : Option (List ProcessLog)) (events : List Event) (refusal : Refusal)
+plays_tree : (tree : List TreeProcess) (logs : Option (List ProcessLog)) (events : List Event) (refusal : Refusal)
     (end : WorldState) → PlaysBy tree logs events refusal end → end.tree ≡ tree
 plays_tree tree None events refusal end plays = plays.run.tree_is
 plays_tree tree (Some logs) events refusal end plays = plays.tree_is
 
-opens_tree : (tree : List TreeEntry) (logs : Option (List ProcessLog)) (first : Run) → BeginsBy tree logs first
+opens_tree : (tree : List TreeProcess) (logs : Option (List ProcessLog)) (first : Run) → BeginsBy tree logs first
     → IsTree tree
 opens_tree tree None first begins = begins.is_tree
 opens_tree tree (Some logs) first begins = begins.is_tree
@@ -81,11 +81,11 @@ stopped_early o known events p crash first run refused opens come of_crash some 
     })
 
 -- a log is damaged: of no tree that opened over empty ones
-damaged_by : (tree : List TreeEntry) (logs : Option (List ProcessLog)) (known : Known) (events : List Event)
+damaged_by : (tree : List TreeProcess) (logs : Option (List ProcessLog)) (known : Known) (events : List Event)
     (p : Option Point) (middle : WorldState) (process : ProcessId) (place : ℕ)
     → PlaysBy tree logs (events ++ crash_of p) None middle
     → IsDamagedThen middle process place
-    → ((tree : List TreeEntry) (given : List Event) → Plays tree given None middle → ⊥)
+    → ((tree : List TreeProcess) (given : List Event) → Plays tree given None middle → ⊥)
     → Tries (record { tree = tree; logs = logs }) known events p (found.Damaged process place)
 damaged_by tree None known events p middle process place plays damage never =
     absurd (never tree (events ++ crash_of p) plays)
@@ -100,17 +100,17 @@ damaged_by tree (Some logs) known events p middle process place plays damage nev
 
 -- what holds of one state holds of the same state
 pub no_run : {v w : WorldValue MemoryStore} → v ≡ w
-    → ((tree : List TreeEntry) (given : List Event) → Plays tree given None (state v) → ⊥)
-    → (tree : List TreeEntry) (given : List Event) → Plays tree given None (state w) → ⊥
+    → ((tree : List TreeProcess) (given : List Event) → Plays tree given None (state v) → ⊥)
+    → (tree : List TreeProcess) (given : List Event) → Plays tree given None (state w) → ⊥
 no_run is never =
-    subst (λ (x : WorldValue MemoryStore). (tree : List TreeEntry) (given : List Event)
+    subst (λ (x : WorldValue MemoryStore). (tree : List TreeProcess) (given : List Event)
     → Plays tree given None (state x) → ⊥) is never
 
 pub stopped_damaged : (o : Origin) (known : Known) (events : List Event) (p : Option Point) (crash : List Event)
     (first run : Run) (process : ProcessId) (place : ℕ) → Opens o first
     → HasCome (state first.world) (events ++ crash) run → crash ≡ crash_of p → run.refusal ≡ None
     → IsDamagedThen (state run.world) process place
-    → ((tree : List TreeEntry) (given : List Event) → Plays tree given None (state run.world) → ⊥)
+    → ((tree : List TreeProcess) (given : List Event) → Plays tree given None (state run.world) → ⊥)
     → Tries o known events p (found.Damaged process place)
 stopped_damaged o known events p crash first run process place opens come of_crash none damage never =
     damaged_by o.tree o.logs known events p (state run.world) process place
@@ -118,18 +118,18 @@ stopped_damaged o known events p crash first run process place opens come of_cra
     (comes_behind o first run events crash p opens come of_crash)) damage never
 
 -- what an audit finds in the end
-pub found_leaves : (o : Origin) (known : Known) (w : WorldState) (r : Report) (f : Found) → Audits w r
-    → Leaves known r f → EndsWith o known w None f
+pub found_leaves : (o : Origin) (known : Known) (w : WorldState) (r : Report) (f : CrashEnd) → Audits w r
+    → CrashLeaves known r f → EndsWith o known w None f
 found_leaves o known w r f audits leaves = by_logs o.logs
   where
     by_logs : (logs : Option (List ProcessLog)) → Finds logs known w f
     by_logs None = (r, audits, leaves)
     by_logs (Some logs) = inl (r, audits, leaves)
 
-found_damaged_by : (tree : List TreeEntry) (logs : Option (List ProcessLog)) (known : Known) (w : WorldState)
+found_damaged_by : (tree : List TreeProcess) (logs : Option (List ProcessLog)) (known : Known) (w : WorldState)
     (events : List Event) (process : ProcessId) (place : ℕ) → PlaysBy tree logs events None w
     → IsDamagedThen w process place
-    → ((tree : List TreeEntry) (given : List Event) → Plays tree given None w → ⊥)
+    → ((tree : List TreeProcess) (given : List Event) → Plays tree given None w → ⊥)
     → Finds logs known w (found.Damaged process place)
 found_damaged_by tree None known w events process place plays damage never = absurd (never tree events plays)
 found_damaged_by tree (Some logs) known w events process place plays damage never =
@@ -137,14 +137,14 @@ found_damaged_by tree (Some logs) known w events process place plays damage neve
 
 pub found_damaged : (o : Origin) (known : Known) (w : WorldState) (events : List Event) (process : ProcessId)
     (place : ℕ) → PlaysFrom o events None w → IsDamagedThen w process place
-    → ((tree : List TreeEntry) (given : List Event) → Plays tree given None w → ⊥)
+    → ((tree : List TreeProcess) (given : List Event) → Plays tree given None w → ⊥)
     → EndsWith o known w None (found.Damaged process place)
 found_damaged o known w events process place plays damage never =
     found_damaged_by o.tree o.logs known w events process place plays damage never
 
 -- a crash was tried
 pub tried_so : (o : Origin) (known : Known) (events : List Event) (p : Option Point) (r : Report)
-    (crash asks : List Event) (first middle end : Run) (f : Found) → Opens o first
+    (crash asks : List Event) (first middle end : Run) (f : CrashEnd) → Opens o first
     → HasCome (state first.world) (events ++ crash) middle → crash ≡ crash_of p → middle.refusal ≡ None
     → Audits (state middle.world) r → asks ≡ asks_by r
     → HasCome (state first.world) (((events ++ crash) ++ asks) ++ Settle ∷ []) end
@@ -167,7 +167,7 @@ tried_so o known events p r crash asks first middle end f opens crashes of_crash
       ends = found _ ran;
     })
 
-one_more : (o : Origin) (known : Known) (at : Place) (events : List Event) (ps : List Point) (ts : List Trial) (p : Point)
+one_more : (o : Origin) (known : Known) (at : CrashPlace) (events : List Event) (ps : List Point) (ts : List Trial) (p : Point)
     (t : Trial) → AreTried o known at events ps ts
     → t.place ≡ at → t.point ≡ p → Tries o known events (Some p) t.found
     → AreTried o known at events (ps ++ p ∷ []) (ts ++ t ∷ [])
@@ -177,11 +177,11 @@ one_more o known at events (q ∷ ps) [] p t are there is tries = absurd are
 one_more o known at events (q ∷ ps) (u ∷ ts) p t are there is tries =
     (are.0, are.1, are.2, one_more o known at events ps ts p t are.3 there is tries)
 
-pub none_tried : (o : Origin) (known : Known) (at : Place) (events : List Event) (old : List Trial)
+pub none_tried : (o : Origin) (known : Known) (at : CrashPlace) (events : List Event) (old : List Trial)
     → AddsTrials o known at events [] old old
 none_tried o known at events old = ([], sym (append-nil old), tt)
 
-pub tried_more : (o : Origin) (known : Known) (at : Place) (events : List Event) (ps : List Point) (i : ℕ) (p : Point)
+pub tried_more : (o : Origin) (known : Known) (at : CrashPlace) (events : List Event) (ps : List Point) (i : ℕ) (p : Point)
     (t : Trial) (old mid new : List Trial)
     → i < length ps → p ≡ get_or ps i p → new ≡ mid ++ t ∷ [] → t.place ≡ at → t.point ≡ p
     → Tries o known events (Some p) t.found
@@ -195,7 +195,7 @@ tried_more o known at events ps i p t old mid new within is pushed there point t
 )
 
 -- all points after these events were tried
-pub all_tried : (o : Origin) (known : Known) (at : Place) (events : List Event) (now : WorldState) (refusal : Refusal)
+pub all_tried : (o : Origin) (known : Known) (at : CrashPlace) (events : List Event) (now : WorldState) (refusal : Refusal)
     (ps : List Point) (old new : List Trial)
     → is_some refusal ≡ false → PlaysFrom o events refusal now → ps ≡ points_in now
     → AddsTrials o known at events ps old new → Adds o known at events None old new
@@ -211,14 +211,14 @@ all_tried o known at events now None ps old new is ran points tried = (
 )
 
 -- an event was refused
-pub refused_adds : (o : Origin) (known : Known) (at : Place) (events : List Event) (now : WorldState)
+pub refused_adds : (o : Origin) (known : Known) (at : CrashPlace) (events : List Event) (now : WorldState)
     (refusal : Refusal) (old : List Trial)
     → is_some refusal ≡ true → PlaysFrom o events refusal now → Adds o known at events refusal old old
 refused_adds o known at events now None old is ran = absurd (cc)
 refused_adds o known at events now (Some r) old is ran = (refl, (now, ran))
 
 -- all of these points were
-pub all_points : (o : Origin) (known : Known) (at : Place) (events : List Event) (ps : List Point) (i : ℕ)
+pub all_points : (o : Origin) (known : Known) (at : CrashPlace) (events : List Event) (ps : List Point) (i : ℕ)
     (old new : List Trial) → length ps ≤ i
     → AddsTrials o known at events (take i ps) old new → AddsTrials o known at events ps old new
 all_points o known at events ps i old new past tried =

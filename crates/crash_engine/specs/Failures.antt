@@ -1,12 +1,12 @@
 -- Why crashes are not all tried, where memory was not refused and neither reading nor writing failed.
 use Rattle.std.specs.Prelude.{◌≡◌, ◌⊎◌, ◌<◌, ℕ, suc, Option, Some, None, List, ◌++◌, length, take, Contains}
-use Rattle.tree_model.specs.declared.events.Event.{Event}
-use Rattle.tree_model.specs.declared.trees.TreeEntry.{TreeEntry}
-use Rattle.tree_audit.specs.declared.report.Report.{Report}
-use Rattle.logs_script.specs.declared.line.ProcessLog.{ProcessLog}
+use Rattle.protocol.specs.declared.events.Event.{Event}
+use Rattle.protocol.specs.declared.trees.TreeProcess.{TreeProcess}
+use Rattle.audit_tree.specs.declared.report.Report.{Report}
+use Rattle.log_script.specs.declared.line.ProcessLog.{ProcessLog}
 use Rattle.reopen_script.specs.Inputs.{IsReopenScript}
-use Rattle.core_law.specs.worlds.Refusals.{Refusal}
-use Rattle.core_law.specs.worlds.Worlds.{WorldState}
+use Rattle.proof_runs.specs.worlds.Refusals.{Refusal}
+use Rattle.tree_state.specs.Worlds.{WorldState}
 use Rattle.report_io.specs.declared.streams.Failure.{Failure}
 use Rattle.report_io.specs.declared.streams.Failure.TheVariants.{Exhausted}
 use Rattle.tree_engine.specs.Failures.{CannotMake}
@@ -101,7 +101,7 @@ CannotTry o events why = CannotEndAlone o events why ⊎ CannotGoOver o events w
 
 -- the input is a script, whose crashes cannot all be tried for this reason
 pub record CannotReport (input : List ℕ) (why : Failure) : Type 0 where
-  pub tree : List TreeEntry
+  pub tree : List TreeProcess
   pub logs : Option (List ProcessLog)
   pub events : List Event
   pub script : IsReopenScript input tree logs events

@@ -1,11 +1,11 @@
 -- What each run of a script begins with.
 use Rattle.std.specs.Prelude.{◌≡◌, ℕ, Option, Some, None, List}
-use Rattle.tree_model.specs.declared.events.Event.{Event}
-use Rattle.tree_model.specs.declared.names.ProcessId.{ProcessId}
-use Rattle.tree_model.specs.declared.trees.TreeEntry.{TreeEntry}
-use Rattle.core_law.specs.worlds.Refusals.{Refusal}
-use Rattle.core_law.specs.worlds.Worlds.{WorldState}
-use Rattle.logs_script.specs.declared.line.ProcessLog.{ProcessLog}
+use Rattle.protocol.specs.declared.events.Event.{Event}
+use Rattle.protocol.specs.declared.names.ProcessId.{ProcessId}
+use Rattle.protocol.specs.declared.trees.TreeProcess.{TreeProcess}
+use Rattle.proof_runs.specs.worlds.Refusals.{Refusal}
+use Rattle.tree_state.specs.Worlds.{WorldState}
+use Rattle.log_script.specs.declared.line.ProcessLog.{ProcessLog}
 use Rattle.report_io.specs.declared.streams.Failure.{Failure}
 use Rattle.report_io.specs.declared.streams.Failure.TheVariants.{Device}
 use Rattle.tree_engine.specs.declared.run.Run.{Run}
@@ -26,7 +26,7 @@ abbrev pub PlaysFrom : Origin → List Event → Refusal → WorldState → Type
 PlaysFrom o events refusal end = PlaysBy o.tree o.logs events refusal end
 
 -- the state from which they led it
-abbrev pub start_by : (tree : List TreeEntry) (logs : Option (List ProcessLog)) (events : List Event)
+abbrev pub start_by : (tree : List TreeProcess) (logs : Option (List ProcessLog)) (events : List Event)
     (refusal : Refusal) (end : WorldState) → PlaysBy tree logs events refusal end → WorldState
 start_by tree None events refusal end plays = plays.start
 start_by tree (Some logs) events refusal end plays = plays.start

@@ -1,12 +1,12 @@
 -- Where crashes are tried.
 use Rattle.std.specs.Prelude.{ℕ, ◌+◌, ◌≤◌, ◌^◌, Option, None, Some, List, [], ◌∷◌, map, sum, Contains}
 use Rattle.std.specs.List.{flat_map}
-use Rattle.tree_model.specs.declared.names.ProcessId.{ProcessId}
-use Rattle.tree_model.specs.declared.events.Event.{Event}
-use Rattle.tree_model.specs.declared.events.Event.TheVariants.{Restart, Settle}
-use Rattle.tree_model.specs.declared.trees.TreeEntry.{TreeEntry}
-use Rattle.rec_log.specs.Sights.{record_size}
-use Rattle.core_law.specs.worlds.Worlds.{WorldState}
+use Rattle.protocol.specs.declared.names.ProcessId.{ProcessId}
+use Rattle.protocol.specs.declared.events.Event.{Event}
+use Rattle.protocol.specs.declared.events.Event.TheVariants.{Restart, Settle}
+use Rattle.protocol.specs.declared.trees.TreeProcess.{TreeProcess}
+use Rattle.log_records.specs.Sights.{record_size}
+use Rattle.tree_state.specs.Worlds.{WorldState}
 use Rattle.tree_world.specs.Unforced.{unforced_by}
 use Rattle.crash_engine.specs.declared.points.Point.{Point}
 
@@ -30,7 +30,7 @@ sizes_at w q = map record_size (unforced_by (w.node_at q))
 
 -- the unforced records of a process of the tree take 2^64 bytes or more
 pub record AreTooLong (w : WorldState) : Type 0 where
-  pub entry : TreeEntry
+  pub entry : TreeProcess
   pub listed : Contains w.tree entry
   pub long : 2 ^ 64 ≤ sum (sizes_at w entry.id)
 

@@ -1,13 +1,13 @@
 -- The deliveries of a settle.
 use Rattle.std.specs.Prelude.{◌≡◌, None, List, [], ◌∷◌, ◌++◌, drop, length}
 use Rattle.std.specs.List.{flat_map}
-use Rattle.tree_model.specs.declared.events.Entry.{Entry}
-use Rattle.tree_model.specs.declared.events.Event.{Event}
-use Rattle.tree_model.specs.declared.events.Event.TheVariants.{Deliver, Settle}
-use Rattle.tree_model.specs.declared.events.Happening.{Happening}
-use Rattle.tree_model.specs.declared.events.Happening.TheVariants.{Input as InputOf}
-use Rattle.tree_model.specs.declared.events.Input.TheVariants.{Message as MessageInput}
-use Rattle.core_law.specs.worlds.Worlds.{WorldState}
+use Rattle.protocol.specs.declared.events.JournalEntry.{JournalEntry}
+use Rattle.protocol.specs.declared.events.Event.{Event}
+use Rattle.protocol.specs.declared.events.Event.TheVariants.{Deliver, Settle}
+use Rattle.protocol.specs.declared.events.Happening.{Happening}
+use Rattle.protocol.specs.declared.events.Happening.TheVariants.{Input as InputOf}
+use Rattle.protocol.specs.declared.events.Input.TheVariants.{Message as MessageInput}
+use Rattle.tree_state.specs.Worlds.{WorldState}
 use Rattle.crash_engine.specs.Origins.{PlaysFrom}
 use Rattle.crash_engine.specs.declared.origin.Origin.{Origin}
 
@@ -17,7 +17,7 @@ delivery_by (InputOf (MessageInput number message)) = Deliver number ∷ []
 delivery_by happening = []
 
 -- the deliveries among these steps, in order
-abbrev pub deliveries_in : List Entry → List Event
+abbrev pub deliveries_in : List JournalEntry → List Event
 deliveries_in entries = flat_map (λ e. delivery_by e.step.happening) entries
 
 -- after these events a settle was made, and these are its deliveries

@@ -3,37 +3,37 @@
 ghost use Rattle.std.specs.Prelude.{◌≡◌, [], IfErr, IfOk, List, None};
 ghost use Rattle.std.specs.List.{list_any};
 ghost use Rattle.tree_engine.specs.Trees.{Plays};
-ghost use Rattle.tree_model.specs.declared.events.Event.{Event as AnyEvent};
-ghost use Rattle.tree_model.specs.declared.trees.TreeEntry.{TreeEntry};
-ghost use Rattle.tree_model.specs.Names.{same_case};
-ghost use Rattle.tree_model.specs.Trees.{IsTree};
+ghost use Rattle.protocol.specs.declared.events.Event.{Event as AnyEvent};
+ghost use Rattle.protocol.specs.declared.trees.TreeProcess.{TreeProcess};
+ghost use Rattle.protocol.specs.Names.{same_case};
+ghost use Rattle.protocol.specs.Trees.{IsTree};
 ghost use Rattle.tree_world.specs.Worlds.{state};
 ghost use Rattle.crash_engine.specs.Audits.{Audits, IsDamagedThen, asks_by, asks_for as asks_of_cases, beyond, doubts_in, mismatched_in, stands_in_doubt};
 
 use audit_cases::Own;
-use left_logs::law::left_logs_are_read;
+use audit_tree::{AuditError, Report, ReportLine, audit};
 use log_store::MemoryStore;
+use proof_left_logs::law::left_logs_are_read;
+use protocol::{Act, Case, Event, ProcessId};
 use report_io::Failure;
 use std::alloc::{AllocError, Global};
-use tree_audit::{AuditError, Line, Report, audit};
-use tree_model::{Act, Case, Event, ProcessId};
 use tree_world::{World, logs_left};
 
 /// The cases that an audit shows in doubt, and those that it shows decided otherwise, in the order of its
 /// lines.
 #[derive(Drop)]
-pub struct Left {
+pub struct Leftover {
     pub in_doubt: Vec<Case>,
     pub mismatches: Vec<Case>,
 }
 
-impl Left {
+impl Leftover {
     /// No case.
-    pub(crate) fn nothing(alloc: Global) -> Left
+    pub(crate) fn nothing(alloc: Global) -> Leftover
         ensures in_doubt { result.in_doubt.items ≡ [] }
         ensures mismatches { result.mismatches.items ≡ [] }
     {
-        Left {
+        Leftover {
             in_doubt: Vec::new(alloc),
             mismatches: Vec::new(alloc),
         }
@@ -49,7 +49,7 @@ pub(crate) fn audit_of(
     requires { IsTree (state world.now).tree }
     ensures audits { IfOk result (λ audited. IfOk audited (Audits (state world.now))) }
     ensures damaged { IfOk result (λ audited. IfErr audited (λ d. IsDamagedThen (state world.now) d.0 d.1)) }
-    ensures never { IfOk result (λ audited. IfErr audited (λ _. (tree : List TreeEntry) (events : List AnyEvent)
+    ensures never { IfOk result (λ audited. IfErr audited (λ _. (tree : List TreeProcess) (events : List AnyEvent)
         → Plays tree events None (state world.now) → ⊥)) }
     ensures memory { IfErr result (λ e. e ≡ Failure.Memory) }
 {
@@ -62,14 +62,14 @@ pub(crate) fn audit_of(
     }
 }
 
-fn is_in_doubt(line: &Line) -> bool
+fn is_in_doubt(line: &ReportLine) -> bool
     ensures { result ≡ stands_in_doubt line.now.own }
 {
     matches!(line.own, Own::InDoubt)
 }
 
 /// The cases in doubt.
-pub(crate) fn doubts_of(alloc: Global, lines: &[Line]) -> Result<Vec<Case>, AllocError>
+pub(crate) fn doubts_of(alloc: Global, lines: &[ReportLine]) -> Result<Vec<Case>, AllocError>
     ensures { IfOk result (λ cases. cases.items ≡ doubts_in lines.now) }
 {
     lines
@@ -80,7 +80,7 @@ pub(crate) fn doubts_of(alloc: Global, lines: &[Line]) -> Result<Vec<Case>, Allo
 }
 
 /// The cases that show a mismatch.
-pub(crate) fn mismatches_of(alloc: Global, lines: &[Line]) -> Result<Vec<Case>, AllocError>
+pub(crate) fn mismatches_of(alloc: Global, lines: &[ReportLine]) -> Result<Vec<Case>, AllocError>
     ensures { IfOk result (λ cases. cases.items ≡ mismatched_in lines.now) }
 {
     lines

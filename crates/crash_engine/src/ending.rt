@@ -5,7 +5,7 @@ ghost use Rattle.crash_engine.specs.Texts.{ending_number};
 
 /// How a run over all crashes of a script ended.
 #[derive(Clone, Copy, PartialEq, Eq)]
-pub enum Ending {
+pub enum CrashStatus {
     /// Every event was made, and every crash ends with no case in doubt and no mismatch.
     Clean,
     /// The script was refused.
@@ -17,16 +17,16 @@ pub enum Ending {
     Finds,
 }
 
-impl Ending {
+impl CrashStatus {
     /// The exit status.
     pub fn number(self) -> u8
         ensures { result ≡ ending_number self }
     {
         match self {
-            Ending::Clean => 0,
-            Ending::Refused => 1,
-            Ending::Stopped => 2,
-            Ending::Finds => 3,
+            CrashStatus::Clean => 0,
+            CrashStatus::Refused => 1,
+            CrashStatus::Stopped => 2,
+            CrashStatus::Finds => 3,
         }
     }
 }

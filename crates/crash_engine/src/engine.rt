@@ -2,30 +2,30 @@
 
 ghost use Rattle.std.specs.Prelude.{◌≡◌, ◌⊎◌, ℕ, List, IfErr, IfOk};
 ghost use Rattle.std.specs.Io.KnownBytes.{Appends, Keeps};
-ghost use Rattle.tree_model.specs.Trees.{IsTree};
+ghost use Rattle.protocol.specs.Trees.{IsTree};
 ghost use Rattle.report_io.specs.Streams.{IsInput, IsOfRun, WritesFront};
 ghost use Rattle.tree_engine.specs.Failures.{IsStop};
-ghost use Rattle.tree_engine.specs.Trees.{IsNumbered};
+ghost use Rattle.tree_engine.specs.Trees.{IsNumberedRefusal};
 ghost use Rattle.crash_engine.specs.Trials.{GoesOver, known_by};
 ghost use Rattle.crash_engine.specs.Failures.{CannotGoOver, CannotReport, CannotTry};
 ghost use Rattle.crash_engine.specs.Crashes.{IsCrashReport, TriesFrom};
 ghost use Rattle.crash_engine.specs.Texts.{ending_by};
-ghost use Rattle.crash_engine.specs.declared.ending.Ending.{Ending as AnyEnding};
+ghost use Rattle.crash_engine.specs.declared.ending.CrashStatus.{CrashStatus as AnyEnding};
 
-use crate::auditing::Left;
-use crate::ending::Ending;
+use crate::auditing::Leftover;
+use crate::ending::CrashStatus;
 use crate::lines::{are_clean, is_clean, text_of};
 use crate::origin::{Origin, damage_of};
-use crate::trial::{Found, left_alone, try_alone};
+use crate::trial::{CrashEnd, left_alone, try_alone};
 use crate::trials::{Trial, try_event};
-use link_script::ScriptError;
-use logs_script::damaged;
+use log_script::damaged;
+use protocol::Event;
 use reopen_script::read_reopen;
 use report_io::{Failure, read_all, write_all};
 use std::alloc::Global;
 use std::io::{Read, Write};
 use tree_engine::{Refusal, refusal};
-use tree_model::Event;
+use tree_script::ScriptError;
 
 /// How many percent of the events N are.
 fn percent(made: usize, events: usize) -> u64 {
@@ -57,13 +57,13 @@ fn show<P: Write>(
 fn try_events<P: Write>(
     alloc: Global,
     origin: &Origin,
-    known: &Left,
+    known: &Leftover,
     events: &[Event],
     progress: &mut P,
 ) -> Result<(Vec<Trial>, Refusal), Failure>
     requires { IsTree origin.now.tree }
     ensures goes { IfOk result (λ r. GoesOver origin.now (known_by known.now) events.now r.1 r.0.items) }
-    ensures numbered { IfOk result (λ r. IsNumbered r.1) }
+    ensures numbered { IfOk result (λ r. IsNumberedRefusal r.1) }
     ensures err { IfErr result (λ why. (why ≡ Failure.Memory) ⊎ CannotGoOver origin.now events.now why) }
     ensures why { IfErr result IsOfRun }
 {
@@ -79,13 +79,13 @@ fn try_events<P: Write>(
 }
 
 /// How it ends.
-fn ending_of(alone: &Found, trials: &[Trial], refusal: Refusal) -> Ending
+fn ending_of(alone: &CrashEnd, trials: &[Trial], refusal: Refusal) -> CrashStatus
     ensures { result ≡ ending_by alone.now trials.now refusal }
 {
     match refusal {
-        Some(_) => Ending::Stopped,
-        None if is_clean(alone) && are_clean(trials) => Ending::Clean,
-        None => Ending::Finds,
+        Some(_) => CrashStatus::Stopped,
+        None if is_clean(alone) && are_clean(trials) => CrashStatus::Clean,
+        None => CrashStatus::Finds,
     }
 }
 
@@ -95,7 +95,7 @@ fn crashes<P: Write>(
     origin: &Origin,
     events: &[Event],
     progress: &mut P,
-) -> Result<(Vec<u8>, Ending), Failure>
+) -> Result<(Vec<u8>, CrashStatus), Failure>
     requires { IsTree origin.now.tree }
     ensures tries { IfOk result (λ r. TriesFrom origin.now events.now r.1 r.0.items) }
     ensures err { IfErr result (λ why. (why ≡ Failure.Memory) ⊎ CannotTry origin.now events.now why) }
@@ -113,19 +113,19 @@ fn answer<P: Write>(
     alloc: Global,
     input: &[u8],
     progress: &mut P,
-) -> Result<(Vec<u8>, Ending), Failure>
+) -> Result<(Vec<u8>, CrashStatus), Failure>
     ensures report { IfOk result (λ r. IsCrashReport r.1 input.now r.0.items) }
     ensures err { IfErr result (λ why. (why ≡ Failure.Memory) ⊎ CannotReport input.now why) }
     ensures why { IfErr result IsOfRun }
 {
     let (tree, logs, events) = match read_reopen(alloc, input) {
         Ok(script) => script,
-        Err(ScriptError::Fault(fault)) => return Ok((refusal(alloc, fault)?, Ending::Refused)),
+        Err(ScriptError::Fault(fault)) => return Ok((refusal(alloc, fault)?, CrashStatus::Refused)),
         Err(ScriptError::Memory) => return Err(Failure::Memory),
     };
     let origin = Origin { tree, logs };
     match damage_of(alloc, &origin)? {
-        Some((process, place)) => Ok((damaged(alloc, process, place)?, Ending::Refused)),
+        Some((process, place)) => Ok((damaged(alloc, process, place)?, CrashStatus::Refused)),
         None => crashes(alloc, &origin, &events, progress),
     }
 }
@@ -151,7 +151,7 @@ pub fn run_crash<R: Read, W: Write, P: Write>(
     reader: &mut R,
     writer: &mut W,
     progress: &mut P,
-) -> Result<Ending, Failure>
+) -> Result<CrashStatus, Failure>
     ensures written { IfOk result (λ ending. (input : List ℕ) × (text : List ℕ)
         × IsInput (R.remaining reader.old) input × IsCrashReport ending input text
         × Appends (W.contents writer.old) (W.contents writer.new) text) }

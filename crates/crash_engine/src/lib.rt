@@ -13,5 +13,5 @@ mod settles;
 mod trial;
 mod trials;
 
-pub use ending::Ending;
+pub use ending::CrashStatus;
 pub use engine::run_crash;

@@ -1,7 +1,7 @@
 //! The lines of crashes.
 
 ghost use Rattle.std.specs.Prelude.{◌≡◌, ◌++◌, IfOk, OnOk};
-ghost use Rattle.tree_engine.specs.Trees.{IsNumbered};
+ghost use Rattle.tree_engine.specs.Trees.{IsNumberedRefusal};
 ghost use Rattle.crash_engine.specs.Texts.{
   alone_text,
   are_clean as all_clean,
@@ -24,14 +24,14 @@ ghost use Rattle.crash_engine.specs.Texts.{
 ghost use Rattle.std.specs.List.{flat_map};
 ghost use Rattle.trace_lines.specs.Trace.{case_word, number_word};
 
-use crate::auditing::Left;
-use crate::points::{Place, Point};
-use crate::trial::Found;
+use crate::auditing::Leftover;
+use crate::points::{CrashPlace, Point};
+use crate::trial::CrashEnd;
 use crate::trials::Trial;
+use protocol::Case;
 use std::alloc::{AllocError, Global};
 use trace_lines::{push, push_case_word, push_number_word};
 use tree_engine::{Refusal, push_refused};
-use tree_model::Case;
 
 /// Each of these cases.
 fn push_each(out: &mut Vec<u8>, cases: &[Case]) -> Result<(), AllocError>
@@ -56,7 +56,7 @@ fn push_cases(out: &mut Vec<u8>, word: &str, cases: &[Case]) -> Result<(), Alloc
 }
 
 #[tactic(auto, unfolding(crate::specs::Texts::left_text))]
-fn push_left(out: &mut Vec<u8>, left: &Left) -> Result<(), AllocError>
+fn push_left(out: &mut Vec<u8>, left: &Leftover) -> Result<(), AllocError>
     ensures { OnOk result (out.new.items ≡ out.old.items ++ left_text left.now) }
 {
     push_cases(out, " in-doubt", &left.in_doubt)?;
@@ -75,46 +75,46 @@ fn push_two(out: &mut Vec<u8>, word: &str, one: u64, other: u64) -> Result<(), A
 
 /// What a crash ends with.
 #[tactic(auto, unfolding(crate::specs::Texts::found_text))]
-fn push_found(out: &mut Vec<u8>, found: &Found) -> Result<(), AllocError>
+fn push_found(out: &mut Vec<u8>, found: &CrashEnd) -> Result<(), AllocError>
     ensures { OnOk result (out.new.items ≡ out.old.items ++ found_text found.now) }
 {
     match found {
-        Found::Ended(left) => push_left(out, left),
-        Found::Refused(event, refusal) => {
+        CrashEnd::Ended(left) => push_left(out, left),
+        CrashEnd::Refused(event, refusal) => {
             push_two(out, " refused", *event, u64::from(refusal.number()))
         }
-        Found::Damaged(process, place) => {
+        CrashEnd::Damaged(process, place) => {
             push_two(out, " damaged", u64::from(process.0), *place as u64)
         }
     }
 }
 
 /// Whether nothing is left.
-pub(crate) fn is_clean(found: &Found) -> bool
+pub(crate) fn is_clean(found: &CrashEnd) -> bool
     ensures { result ≡ clean_by found.now }
 {
     match found {
-        Found::Ended(left) => left.in_doubt.len() == 0 && left.mismatches.len() == 0,
+        CrashEnd::Ended(left) => left.in_doubt.len() == 0 && left.mismatches.len() == 0,
         _ => false,
     }
 }
 
 /// Whether a case is left in doubt.
-fn has_doubt(found: &Found) -> bool
+fn has_doubt(found: &CrashEnd) -> bool
     ensures { result ≡ doubt_in found.now }
 {
     match found {
-        Found::Ended(left) => left.in_doubt.len() != 0,
+        CrashEnd::Ended(left) => left.in_doubt.len() != 0,
         _ => false,
     }
 }
 
 /// Whether a mismatch is left.
-fn has_mismatch(found: &Found) -> bool
+fn has_mismatch(found: &CrashEnd) -> bool
     ensures { result ≡ mismatch_in found.now }
 {
     match found {
-        Found::Ended(left) => left.mismatches.len() != 0,
+        CrashEnd::Ended(left) => left.mismatches.len() != 0,
         _ => false,
     }
 }
@@ -132,7 +132,7 @@ fn push_delivery(out: &mut Vec<u8>, delivery: usize) -> Result<(), AllocError>
 
 /// After which event, or within which.
 #[tactic(auto, unfolding(crate::specs::Texts::place_text))]
-fn push_place(out: &mut Vec<u8>, place: Place) -> Result<(), AllocError>
+fn push_place(out: &mut Vec<u8>, place: CrashPlace) -> Result<(), AllocError>
     ensures { OnOk result (out.new.items ≡ out.old.items ++ place_text place) }
 {
     push(out, "event")?;
@@ -142,7 +142,7 @@ fn push_place(out: &mut Vec<u8>, place: Place) -> Result<(), AllocError>
 
 /// Where the crash is.
 #[tactic(auto, unfolding(crate::specs::Texts::point_text))]
-fn push_point(out: &mut Vec<u8>, place: Place, point: Point) -> Result<(), AllocError>
+fn push_point(out: &mut Vec<u8>, place: CrashPlace, point: Point) -> Result<(), AllocError>
     ensures { OnOk result (out.new.items ≡ out.old.items ++ point_text place point) }
 {
     push_place(out, place)?;
@@ -222,7 +222,7 @@ fn push_trials(out: &mut Vec<u8>, trials: &[Trial]) -> Result<(), AllocError>
 
 /// The line of the refused event, if one was refused.
 fn push_refusal(alloc: Global, out: &mut Vec<u8>, refusal: Refusal) -> Result<(), AllocError>
-    requires { IsNumbered refusal }
+    requires { IsNumberedRefusal refusal }
     ensures { OnOk result (out.new.items ≡ out.old.items ++ refusal_text refusal) }
 {
     match refusal {
@@ -233,7 +233,7 @@ fn push_refusal(alloc: Global, out: &mut Vec<u8>, refusal: Refusal) -> Result<()
 
 /// The line of what is left without any crash, where something is.
 #[tactic(auto, unfolding(crate::specs::Texts::alone_text))]
-fn push_alone(out: &mut Vec<u8>, alone: &Found) -> Result<(), AllocError>
+fn push_alone(out: &mut Vec<u8>, alone: &CrashEnd) -> Result<(), AllocError>
     ensures { OnOk result (out.new.items ≡ out.old.items ++ alone_text alone.now) }
 {
     if is_clean(alone) {
@@ -248,11 +248,11 @@ fn push_alone(out: &mut Vec<u8>, alone: &Found) -> Result<(), AllocError>
 /// refused, if one was.
 pub fn text_of(
     alloc: Global,
-    alone: &Found,
+    alone: &CrashEnd,
     trials: &[Trial],
     refusal: Refusal,
 ) -> Result<Vec<u8>, AllocError>
-    requires { IsNumbered refusal }
+    requires { IsNumberedRefusal refusal }
     ensures { IfOk result (λ text. text.items ≡ crashes_text alone.now trials.now refusal) }
 {
     let mut out = Vec::new(alloc);

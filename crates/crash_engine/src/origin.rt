@@ -2,14 +2,14 @@
 
 ghost use Rattle.std.specs.Prelude.{◌≡◌, ◌⊎◌, IfErr, IfOk, IfSome};
 ghost use Rattle.report_io.specs.Streams.{IsOfRun};
-ghost use Rattle.tree_model.specs.Trees.{IsTree};
+ghost use Rattle.protocol.specs.Trees.{IsTree};
 ghost use Rattle.crash_engine.specs.Origins.{IsDamagedAt, Opens, OpensNot};
 
-use logs_script::ProcessLogs;
+use log_script::ProcessLogs;
+use protocol::{ProcessId, Tree};
 use report_io::Failure;
 use std::alloc::Global;
 use tree_engine::Run;
-use tree_model::{ProcessId, Tree};
 use tree_world::copied_tree;
 
 /// A tree, and the logs over which it opens, where the script begins its events with them; else it opens over empty ones.

@@ -5,14 +5,14 @@ ghost use Rattle.tree_world.specs.Worlds.{state};
 ghost use Rattle.crash_engine.specs.Points.{AreTooLong, crash_of, points_at, points_in};
 
 use log_store::MemoryStore;
+use protocol::{Event, ProcessId};
 use report_io::Failure;
 use std::alloc::{AllocError, Global};
-use tree_model::{Event, ProcessId};
 use tree_world::World;
 
 /// Where in a script a crash is tried.
 #[derive(Clone, Copy, PartialEq, Eq)]
-pub struct Place {
+pub struct CrashPlace {
     /// The event after which it is, or within which, by its number from 1.
     pub event: usize,
     /// Within a settle, after how many of its deliveries; 0 is after the whole event.

@@ -5,8 +5,8 @@ ghost use Rattle.tree_world.specs.Worlds.{state};
 ghost use Rattle.crash_engine.specs.Settles.{deliveries_in, delivery_by};
 
 use log_store::MemoryStore;
+use protocol::{Event, Happening, Input, JournalEntry};
 use std::alloc::{AllocError, Global};
-use tree_model::{Entry, Event, Happening, Input};
 use tree_world::World;
 
 /// Adds the delivery by which this happened, if it was one.
@@ -23,7 +23,7 @@ fn push_delivery(events: &mut Vec<Event>, happening: &Happening) -> Result<(), A
 }
 
 /// The deliveries among these steps, in order.
-fn deliveries_among(alloc: Global, steps: &[Entry]) -> Result<Vec<Event>, AllocError>
+fn deliveries_among(alloc: Global, steps: &[JournalEntry]) -> Result<Vec<Event>, AllocError>
     ensures { IfOk result (λ events. events.items ≡ deliveries_in steps.now) }
 {
     let mut events = Vec::new(alloc);

@@ -1,32 +1,32 @@
 //! A crash, tried.
 
 ghost use Rattle.std.specs.Prelude.{◌≡◌, ◌⊎◌, IfErr, IfOk, List, take};
-ghost use Rattle.tree_model.specs.declared.events.Event.{Event as AnyEvent};
-ghost use Rattle.core_law.specs.worlds.Refusals.{Refusal as AnyRefusal};
-ghost use Rattle.core_law.specs.worlds.Worlds.{WorldState};
-ghost use Rattle.tree_engine.specs.Trees.{IsNumbered};
-ghost use Rattle.tree_model.specs.Trees.{IsTree};
+ghost use Rattle.protocol.specs.declared.events.Event.{Event as AnyEvent};
+ghost use Rattle.proof_runs.specs.worlds.Refusals.{Refusal as AnyRefusal};
+ghost use Rattle.tree_state.specs.Worlds.{WorldState};
+ghost use Rattle.tree_engine.specs.Trees.{IsNumberedRefusal};
+ghost use Rattle.protocol.specs.Trees.{IsTree};
 ghost use Rattle.tree_world.specs.Worlds.{state};
 ghost use Rattle.report_io.specs.Streams.{IsOfRun};
 ghost use Rattle.crash_engine.specs.declared.origin.Origin.{Origin as AnyOrigin};
 ghost use Rattle.crash_engine.specs.Origins.{Opens, PlaysFrom};
 ghost use Rattle.crash_engine.specs.Failures.{CannotEndAlone, RunBreaksOff, TrialBreaksOff};
-ghost use Rattle.crash_engine.specs.Trials.{EndsAlone, EndsWith, Leaves, Tries, known_by, known_of, left_beyond, made_by, nothing_known};
+ghost use Rattle.crash_engine.specs.Trials.{EndsAlone, EndsWith, CrashLeaves, Tries, known_by, known_of, left_beyond, made_by, nothing_known};
 
-use crate::auditing::{Left, asks_of, audit_of, cases_beyond, doubts_of, mismatches_of};
+use crate::auditing::{Leftover, asks_of, audit_of, cases_beyond, doubts_of, mismatches_of};
 use crate::origin::{Origin, opened};
 use crate::points::{Point, crash_events};
+use audit_tree::{Report, ReportLine};
+use protocol::{Event, ProcessId, StepError};
 use report_io::Failure;
 use std::alloc::{AllocError, Global};
-use tree_audit::{Line, Report};
 use tree_engine::Run;
-use tree_model::{Event, ProcessId, StepError};
 
 /// What a crash ends with.
 #[derive(Drop)]
-pub enum Found {
+pub enum CrashEnd {
     /// The run went to its end, and leaves these.
-    Ended(Left),
+    Ended(Leftover),
     /// The event with this number, from 1, of its run was refused.
     Refused(u64, StepError),
     /// The log of this process, of a tree that was opened over logs, is damaged there: no run leaves logs that come to
@@ -35,38 +35,42 @@ pub enum Found {
 }
 
 /// The cases of an audit's lines that are in doubt or show a mismatch, beyond the known ones.
-fn left_beyond(alloc: Global, known: &Left, lines: &[Line]) -> Result<Left, AllocError>
+fn left_beyond(
+    alloc: Global,
+    known: &Leftover,
+    lines: &[ReportLine],
+) -> Result<Leftover, AllocError>
     ensures { IfOk result (λ left. known_by left ≡ left_beyond (known_by known.now) lines.now) }
 {
     let in_doubt = doubts_of(alloc, lines)?;
     let mismatches = mismatches_of(alloc, lines)?;
-    Ok(Left {
+    Ok(Leftover {
         in_doubt: cases_beyond(alloc, &known.in_doubt, &in_doubt)?,
         mismatches: cases_beyond(alloc, &known.mismatches, &mismatches)?,
     })
 }
 
 /// What an audit leaves beyond what is known.
-fn found_by(alloc: Global, known: &Left, report: &Report) -> Result<Found, AllocError>
-    ensures { IfOk result (λ found. Leaves (known_by known.now) report.now found) }
+fn found_by(alloc: Global, known: &Leftover, report: &Report) -> Result<CrashEnd, AllocError>
+    ensures { IfOk result (λ found. CrashLeaves (known_by known.now) report.now found) }
 {
-    Ok(Found::Ended(left_beyond(alloc, known, &report.lines)?))
+    Ok(CrashEnd::Ended(left_beyond(alloc, known, &report.lines)?))
 }
 
 /// What a run ends with, beyond what is known.
-fn found_of(alloc: Global, known: &Left, run: &Run) -> Result<Found, Failure>
+fn found_of(alloc: Global, known: &Leftover, run: &Run) -> Result<CrashEnd, Failure>
     requires is_tree { IsTree (state run.now.world).tree }
-    requires numbered { IsNumbered run.now.refusal }
+    requires numbered { IsNumberedRefusal run.now.refusal }
     ensures ends { IfOk result (λ found. (origin : AnyOrigin) (events : List AnyEvent)
         → PlaysFrom origin events run.now.refusal (state run.now.world)
         → EndsWith origin (known_by known.now) (state run.now.world) run.now.refusal found) }
     ensures memory { IfErr result (λ e. e ≡ Failure.Memory) }
 {
     match run.refusal() {
-        Some((made, refusal)) => Ok(Found::Refused(made as u64 + 1, refusal)),
+        Some((made, refusal)) => Ok(CrashEnd::Refused(made as u64 + 1, refusal)),
         None => match audit_of(alloc, run.world())? {
             Ok(report) => Ok(found_by(alloc, known, &report)?),
-            Err((process, place)) => Ok(Found::Damaged(process, place)),
+            Err((process, place)) => Ok(CrashEnd::Damaged(process, place)),
         },
     }
 }
@@ -77,11 +81,11 @@ fn found_of(alloc: Global, known: &Left, run: &Run) -> Result<Found, Failure>
 /// made for that.
 fn crash(
     alloc: Global,
-    known: &Left,
+    known: &Leftover,
     run: &mut Run,
     events: &[Event],
     point: Option<Point>,
-) -> Result<Found, Failure>
+) -> Result<CrashEnd, Failure>
     requires { (origin : AnyOrigin) × Opens origin run.old }
     ensures tries { IfOk result (λ found. (origin : AnyOrigin) → Opens origin run.old
         → Tries origin (known_by known.now) events.now point found) }
@@ -92,11 +96,11 @@ fn crash(
     run.make_all(alloc, events)?;
     run.make_all(alloc, &crash_events(alloc, point)?)?;
     if let Some((made, refusal)) = run.refusal() {
-        return Ok(Found::Refused(made as u64 + 1, refusal));
+        return Ok(CrashEnd::Refused(made as u64 + 1, refusal));
     }
     let report = match audit_of(alloc, run.world())? {
         Ok(report) => report,
-        Err((process, place)) => return Ok(Found::Damaged(process, place)),
+        Err((process, place)) => return Ok(CrashEnd::Damaged(process, place)),
     };
     run.make_all(alloc, &asks_of(alloc, &report)?)?;
     run.make_all(alloc, &[Event::Settle])?;
@@ -108,10 +112,10 @@ fn crash(
 pub fn try_point(
     alloc: Global,
     origin: &Origin,
-    known: &Left,
+    known: &Leftover,
     events: &[Event],
     point: Option<Point>,
-) -> Result<Found, Failure>
+) -> Result<CrashEnd, Failure>
     requires { IsTree origin.now.tree }
     ensures tries { IfOk result (λ found. Tries origin.now (known_by known.now) events.now point found) }
     ensures err { IfErr result (λ why. (why ≡ Failure.Memory)
@@ -146,14 +150,14 @@ fn made_of(alloc: Global, origin: &Origin, events: &[Event]) -> Result<usize, Fa
 
 /// What the events of a script leave without any crash: those that a run of them makes, up to the first that
 /// is refused. Memory; Device, Exhausted: the run of the events breaks off for that, or the trial of none.
-pub fn try_alone(alloc: Global, origin: &Origin, events: &[Event]) -> Result<Found, Failure>
+pub fn try_alone(alloc: Global, origin: &Origin, events: &[Event]) -> Result<CrashEnd, Failure>
     requires { IsTree origin.now.tree }
     ensures ends { IfOk result (λ found. EndsAlone origin.now events.now found) }
     ensures err { IfErr result (λ why. (why ≡ Failure.Memory) ⊎ CannotEndAlone origin.now events.now why) }
     ensures why { IfErr result IsOfRun }
 {
     let made = made_of(alloc, origin, events)?;
-    let nothing = Left::nothing(alloc);
+    let nothing = Leftover::nothing(alloc);
     try_point(alloc, origin, &nothing, front(events, made), None)
 }
 
@@ -169,14 +173,14 @@ fn front(events: &[Event], count: usize) -> &[Event]
 }
 
 /// What is known of crashes after a run that ends so.
-pub fn left_alone(alloc: Global, found: &Found) -> Result<Left, AllocError>
+pub fn left_alone(alloc: Global, found: &CrashEnd) -> Result<Leftover, AllocError>
     ensures { IfOk result (λ left. known_by left ≡ known_of found.now) }
 {
     match found {
-        Found::Ended(left) => Ok(Left {
+        CrashEnd::Ended(left) => Ok(Leftover {
             in_doubt: Vec::from_slice(alloc, &left.in_doubt)?,
             mismatches: Vec::from_slice(alloc, &left.mismatches)?,
         }),
-        Found::Refused(_, _) | Found::Damaged(_, _) => Ok(Left::nothing(alloc)),
+        CrashEnd::Refused(_, _) | CrashEnd::Damaged(_, _) => Ok(Leftover::nothing(alloc)),
     }
 }

@@ -1,42 +1,42 @@
 //! Every crash of a script, tried.
 
 ghost use Rattle.std.specs.Prelude.{◌≡◌, ◌≢◌, ◌⊎◌, ◌<◌, ◌++◌, ◌∷◌, [], ℕ, suc, pred, IfErr, IfOk, OnOk, drop, length, take};
-ghost use Rattle.core_law.specs.worlds.Refusals.{Refusal as AnyRefusal};
+ghost use Rattle.proof_runs.specs.worlds.Refusals.{Refusal as AnyRefusal};
 ghost use Rattle.report_io.specs.Streams.{IsOfRun};
 ghost use Rattle.tree_engine.specs.Runs.{HasCome};
-ghost use Rattle.tree_engine.specs.Trees.{IsNumbered};
+ghost use Rattle.tree_engine.specs.Trees.{IsNumberedRefusal};
 ghost use Rattle.tree_engine.specs.declared.run.Run.{Run as AnyRun};
-ghost use Rattle.tree_model.specs.Trees.{IsTree};
+ghost use Rattle.protocol.specs.Trees.{IsTree};
 ghost use Rattle.tree_world.specs.Worlds.{state};
 ghost use Rattle.crash_engine.specs.Failures.{CannotGoDown, CannotGoOn, CannotTryAll, PointBreaksOff};
 ghost use Rattle.crash_engine.specs.Origins.{Opens};
 ghost use Rattle.crash_engine.specs.Settles.{deliveries_in};
 ghost use Rattle.crash_engine.specs.Trials.{Adds, AddsTrials, GoesDown, GoesOn, known_by, trial_of};
 
-use crate::auditing::Left;
+use crate::auditing::Leftover;
 use crate::origin::{Origin, opened};
-use crate::points::{Place, Point, points_of};
+use crate::points::{CrashPlace, Point, points_of};
 use crate::settles::deliveries_after;
-use crate::trial::{Found, try_point};
+use crate::trial::{CrashEnd, try_point};
+use protocol::Event;
 use report_io::Failure;
 use std::alloc::{AllocError, Global};
 use tree_engine::{Refusal, Run};
-use tree_model::Event;
 
 /// A crash at a place of a script, and what it ends with.
 #[derive(Drop)]
 pub struct Trial {
-    pub place: Place,
+    pub place: CrashPlace,
     pub point: Point,
-    pub found: Found,
+    pub found: CrashEnd,
 }
 
 /// Adds a crash that was tried.
 fn push_trial(
     trials: &mut Vec<Trial>,
-    place: Place,
+    place: CrashPlace,
     point: Point,
-    found: Found,
+    found: CrashEnd,
 ) -> Result<(), AllocError>
     ensures { OnOk result (trials.new.items ≡ trials.old.items ++ trial_of place point found ∷ []) }
 {
@@ -52,8 +52,8 @@ fn push_trial(
 fn try_points(
     alloc: Global,
     origin: &Origin,
-    known: &Left,
-    place: Place,
+    known: &Leftover,
+    place: CrashPlace,
     events: &[Event],
     points: &[Point],
     trials: &mut Vec<Trial>,
@@ -77,8 +77,8 @@ fn try_points(
 fn try_here(
     alloc: Global,
     origin: &Origin,
-    known: &Left,
-    place: Place,
+    known: &Leftover,
+    place: CrashPlace,
     run: &Run,
     events: &[Event],
     trials: &mut Vec<Trial>,
@@ -104,8 +104,8 @@ fn try_here(
 fn try_run(
     alloc: Global,
     origin: &Origin,
-    known: &Left,
-    place: Place,
+    known: &Leftover,
+    place: CrashPlace,
     run: &mut Run,
     events: &[Event],
     trials: &mut Vec<Trial>,
@@ -127,8 +127,8 @@ fn try_run(
 fn try_after(
     alloc: Global,
     origin: &Origin,
-    known: &Left,
-    place: Place,
+    known: &Leftover,
+    place: CrashPlace,
     events: &[Event],
     trials: &mut Vec<Trial>,
 ) -> Result<(), Failure>
@@ -169,7 +169,7 @@ fn joined(alloc: Global, events: &[Event], deliveries: &[Event]) -> Result<Vec<E
 fn try_within(
     alloc: Global,
     origin: &Origin,
-    known: &Left,
+    known: &Leftover,
     number: usize,
     events: &[Event],
     deliveries: &[Event],
@@ -183,7 +183,7 @@ fn try_within(
     ensures why { IfErr result IsOfRun }
 {
     for made in 0..deliveries.len().saturating_sub(1) {
-        let place = Place {
+        let place = CrashPlace {
             event: number,
             delivery: made + 1,
         };
@@ -215,7 +215,7 @@ fn deliveries_of(
 fn try_last(
     alloc: Global,
     origin: &Origin,
-    known: &Left,
+    known: &Leftover,
     run: &mut Run,
     events: &[Event],
     made: usize,
@@ -225,7 +225,7 @@ fn try_last(
     requires within { made < length events.now }
     ensures goes { IfOk result (λ refusal. GoesOn origin.now (known_by known.now) events.now made refusal
         trials.old.items trials.new.items) }
-    ensures numbered { IfOk result IsNumbered }
+    ensures numbered { IfOk result IsNumberedRefusal }
     ensures err { IfErr result (λ why. (why ≡ Failure.Memory) ⊎ CannotGoOn origin.now events.now made why) }
     ensures why { IfErr result IsOfRun }
 {
@@ -242,7 +242,7 @@ fn try_last(
     }
     let deliveries = deliveries_of(alloc, run, event, steps)?;
     try_within(alloc, origin, known, made + 1, front, &deliveries, trials)?;
-    let place = Place {
+    let place = CrashPlace {
         event: made + 1,
         delivery: 0,
     };
@@ -263,7 +263,7 @@ fn try_last(
 pub fn try_event(
     alloc: Global,
     origin: &Origin,
-    known: &Left,
+    known: &Leftover,
     events: &[Event],
     made: usize,
     trials: &mut Vec<Trial>,
@@ -272,7 +272,7 @@ pub fn try_event(
     requires within { made < length events.now }
     ensures goes { IfOk result (λ refusal. GoesOn origin.now (known_by known.now) events.now made refusal
         trials.old.items trials.new.items) }
-    ensures numbered { IfOk result IsNumbered }
+    ensures numbered { IfOk result IsNumberedRefusal }
     ensures err { IfErr result (λ why. (why ≡ Failure.Memory) ⊎ CannotGoOn origin.now events.now made why) }
     ensures why { IfErr result IsOfRun }
 {

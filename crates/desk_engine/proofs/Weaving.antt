@@ -8,10 +8,10 @@ use Rattle.std.proofs.lemmas.List.{append-nil, length-take-le, nil_from_length, 
 use Rattle.std.proofs.lemmas.Bool.Decides.{nat_tests}
 use Rattle.std.proofs.lemmas.Grind.{flat_map-append}
 use Rattle.report_io.specs.Streams.{WritesFront}
-use Rattle.tree_model.specs.declared.names.Case.{Case}
-use Rattle.tree_model.specs.declared.events.Reaction.{Reaction}
+use Rattle.protocol.specs.declared.names.Case.{Case}
+use Rattle.protocol.specs.declared.events.Reaction.{Reaction}
 use Rattle.script_words.specs.Steps.{same}
-use Rattle.input_lines.specs.Lines.{Piece, Reads, bytes_of, feed, is_none_left, longest}
+use Rattle.input_lines.specs.Lines.{Piece, ReadsLine, bytes_of, feed, is_none_left, longest}
 use Rattle.node_lines.specs.Asked.{end_word}
 use Rattle.node_desk.specs.declared.watch.Ways.{Ways}
 use Rattle.node_desk.specs.Words.{ask_line, messages_in, trim_line}
@@ -243,7 +243,7 @@ gathers_still w first old left at now told g took = record {
 }
 
 module _ (w : Ways) (first old : NodeState) (left at now : Known) (told kept : List ℕ) (fed : Bool)
-    (reads : Reads at now kept fed) (g : Gathers w first old left at told) where
+    (reads : ReadsLine at now kept fed) (g : Gathers w first old left at told) where
   given_is : given_by kept fed ≡ given reads.piece
   given_is = given_kept reads.piece kept fed reads.keeps.front reads.keeps.fed
 

@@ -6,7 +6,7 @@ use Rattle.script_words.specs.Steps.{same}
 use Rattle.input_lines.specs.Lines.{Piece, bytes_of}
 use Rattle.node_lines.specs.Asked.{end_word}
 use Rattle.node_desk.specs.declared.watch.Ways.{Ways}
-use Rattle.tree_node.specs.Nodes.{HoldsLog}
+use Rattle.tree_process.specs.Nodes.{HoldsLog}
 use Rattle.node_engine.specs.declared.failure.NodeFailure.{NodeFailure}
 use Rattle.node_engine.specs.declared.run.Ended.{Ended}
 use Rattle.node_engine.specs.declared.run.Ended.TheVariants.{Input, Asked}
@@ -17,8 +17,8 @@ use Rattle.desk_engine.specs.Turns.{Leaves, Turn, given}
 use Rattle.desk_engine.specs.Weaves.{Weaves, bytes_taken}
 
 -- what is to be told of the lines of a group
-abbrev pub group_told : Group → List ℕ
-group_told g = g.told.items
+abbrev pub told_in : Group → List ℕ
+told_in g = g.told.items
 
 -- From the one state to the other the node was given the next lines of the input, and this is to be told of them.
 pub record Gathers (w : Ways) (old new : NodeState) (left now : Known) (told : List ℕ) : Type 0 where

@@ -3,15 +3,15 @@ use Rattle.std.specs.Prelude.{◌≡◌, ◌≢◌, ◌⊎◌, ⊤, ℕ, Bool, t
 use Rattle.std.specs.Io.BufRead.{strip_last}
 use Rattle.std.specs.Io.KnownBytes.{Appends}
 use Rattle.report_io.specs.Streams.{WritesFront}
-use Rattle.tree_model.specs.declared.names.Case.{Case}
-use Rattle.log_news.specs.Doubts.{decisions_in, doubts_in}
+use Rattle.protocol.specs.declared.names.Case.{Case}
+use Rattle.log_outcomes.specs.Doubts.{decisions_in, doubts_in}
 use Rattle.script_words.specs.Steps.{same}
 use Rattle.input_lines.specs.Lines.{Piece, beyond}
 use Rattle.node_lines.specs.Asked.{end_word}
 use Rattle.node_answers.specs.Texts.{ok_text}
 use Rattle.node_desk.specs.declared.joining.Joining.{Joining}
 use Rattle.node_desk.specs.declared.watch.Ways.{Ways}
-use Rattle.node_desk.specs.Words.{Joins, ask_line, join_line, joined_line, messages_in, takes, trim_line}
+use Rattle.node_desk.specs.Words.{JoinsByLine, ask_line, join_line, joined_line, messages_in, takes, trim_line}
 use Rattle.node_engine.specs.declared.failure.NodeFailure.{NodeFailure}
 use Rattle.node_engine.specs.declared.failure.NodeFailure.TheVariants.{Memory, Write, Device}
 use Rattle.node_engine.specs.Answers.{AnswersLine, NodeState, TakesLine, records_at}
@@ -37,7 +37,7 @@ given p = given_by p.front p.fed
 
 -- who has joined, by a line, if that is told
 abbrev pub NamesAt : Bool → Ways → List ℕ → Option Joining → Type 0
-NamesAt true w line j = Joins w.root line j
+NamesAt true w line j = JoinsByLine w.root line j
 NamesAt false w line j = j ≡ None
 
 abbrev pub Names : Ways → List ℕ → Option Joining → Type 0
@@ -61,9 +61,9 @@ pub record Probes (w : Ways) (line : List ℕ) (old new : NodeState) (j : Option
   pub taken : j ≡ taken_by named text
 
 -- what is told of an answer: before the `ok` to a line by which this child joins, that it has
-abbrev pub told_of : Option Joining → List ℕ → List ℕ
-told_of None text = text
-told_of (Some j) text = if same text ok_text then joined_line j ++ text else text
+abbrev pub told_by : Option Joining → List ℕ → List ℕ
+told_by None text = text
+told_by (Some j) text = if same text ok_text then joined_line j ++ text else text
 
 -- a line is answered, and this is told
 pub record TellsLine (w : Ways) (line : List ℕ) (old new : NodeState) (told : List ℕ) : Type 0 where
@@ -72,7 +72,7 @@ pub record TellsLine (w : Ways) (line : List ℕ) (old new : NodeState) (told : 
   pub probes : Probes w line old mid joining
   pub text : List ℕ
   pub answers : AnswersLine line mid new text
-  pub told_is : told ≡ told_of joining text
+  pub told_is : told ≡ told_by joining text
 
 -- Lines of the desk's own.
 

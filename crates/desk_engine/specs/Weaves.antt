@@ -3,7 +3,7 @@ use Rattle.std.specs.Prelude.{◌≡◌, ◌⊎◌, ℕ, true, List, [], ◌∷�
 use Rattle.std.specs.List.{flat_map}
 use Rattle.std.specs.Io.KnownBytes.{Appends, Consumes}
 use Rattle.report_io.specs.Streams.{WritesFront}
-use Rattle.tree_model.specs.declared.events.Reaction.{Reaction}
+use Rattle.protocol.specs.declared.events.Reaction.{Reaction}
 use Rattle.script_words.specs.Steps.{same}
 use Rattle.input_lines.specs.Lines.{Piece, bytes_of}
 use Rattle.node_lines.specs.Asked.{end_word}

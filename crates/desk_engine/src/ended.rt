@@ -9,10 +9,10 @@ ghost use Rattle.node_engine.specs.Runs.{ClosesLog, end_text};
 use crate::telling::{secure, write_text};
 use log_store::LogStore;
 use node_engine::{Ended, Nobody, NodeFailure, Serving, Witness, run_node};
+use protocol::{Reaction, Sequence};
 use staged_store::Backing;
 use std::alloc::Global;
 use std::io::Write;
-use tree_model::{Reaction, Sequence};
 
 /// A reaction with nothing in it.
 fn nothing(alloc: Global) -> Reaction

@@ -10,7 +10,7 @@ ghost use Rattle.desk_engine.specs.Groups.{
   GatherBreaks,
   Gathers,
   GathersTo,
-  group_told as told_in,
+  told_in,
 };
 ghost use Rattle.desk_engine.specs.Turns.{IsHeldBack};
 

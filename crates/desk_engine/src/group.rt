@@ -3,14 +3,14 @@
 ghost use Rattle.std.specs.Prelude.{◌≡◌, ◌++◌, ◌≤◌, [], length, take, OnErr, OnOk};
 
 use crate::line::seen_of;
-use input_lines::Line;
+use input_lines::InputLine;
 use node_engine::Witness;
 use std::alloc::{AllocError, Global};
 
 /// A line, and where what is told of it ends.
 #[derive(Drop)]
 struct Heard {
-    line: Line,
+    line: InputLine,
     end: usize,
 }
 
@@ -25,7 +25,7 @@ pub(crate) struct Group {
 }
 
 impl Group {
-    ghost use Rattle.desk_engine.specs.Groups.{group_told as told_in};
+    ghost use Rattle.desk_engine.specs.Groups.{told_in};
 
     /// No line.
     pub(crate) fn new(alloc: Global) -> Group
@@ -39,7 +39,12 @@ impl Group {
     }
 
     /// Adds a line and what is told of it, and whether all that was made up to it is safe.
-    pub(crate) fn push(&mut self, line: Line, told: &[u8], is_safe: bool) -> Result<(), AllocError>
+    pub(crate) fn push(
+        &mut self,
+        line: InputLine,
+        told: &[u8],
+        is_safe: bool,
+    ) -> Result<(), AllocError>
         ensures ok { OnOk result (told_in self.new ≡ told_in self.old ++ told.now) }
         ensures err { OnErr result (told_in self.new ≡ told_in self.old) }
     {

@@ -2,7 +2,7 @@
 
 ghost use Rattle.std.specs.Prelude.{◌≡◌, ℕ, List, IfErr, IfOk};
 ghost use Rattle.std.specs.Io.BufRead.{strip_last};
-ghost use Rattle.input_lines.specs.Lines.{Reads};
+ghost use Rattle.input_lines.specs.Lines.{ReadsLine};
 ghost use Rattle.node_engine.specs.Answers.{state_of};
 ghost use Rattle.desk_engine.specs.Turns.{
   Asked,
@@ -15,10 +15,10 @@ ghost use Rattle.desk_engine.specs.Turns.{
   given_by,
   line_in,
   taken_by,
-  told_of as told_by,
+  told_by,
 };
 
-use input_lines::{Line, LineFault, read_line};
+use input_lines::{InputLine, InputLineFault, read_line};
 use log_store::LogStore;
 use node_desk::{Joining, Ways, joining_in, takes};
 use node_engine::{NodeFailure, Serving};
@@ -26,16 +26,16 @@ use std::alloc::{AllocError, Global};
 use std::io::BufRead;
 
 /// Why no line was read.
-fn failure_of(fault: LineFault) -> NodeFailure {
+fn failure_of(fault: InputLineFault) -> NodeFailure {
     match fault {
-        LineFault::Read => NodeFailure::Read,
-        LineFault::Memory => NodeFailure::Memory,
+        InputLineFault::Read => NodeFailure::Read,
+        InputLineFault::Memory => NodeFailure::Memory,
     }
 }
 
 /// Reads the next line of the input.
-pub(crate) fn next_line<R: BufRead>(alloc: Global, reader: &mut R) -> Result<Line, NodeFailure>
-    ensures { IfOk result (λ line. Reads (R.remaining reader.old) (R.remaining reader.new)
+pub(crate) fn next_line<R: BufRead>(alloc: Global, reader: &mut R) -> Result<InputLine, NodeFailure>
+    ensures { IfOk result (λ line. ReadsLine (R.remaining reader.old) (R.remaining reader.new)
         line.kept.items line.is_fed) }
 {
     match read_line(alloc, reader) {
@@ -58,7 +58,7 @@ fn without_return(line: &[u8]) -> &[u8]
 }
 
 /// What was kept of a line, without a carriage return before its line feed.
-fn words_of(line: &Line) -> &[u8]
+fn words_of(line: &InputLine) -> &[u8]
     ensures { result.now ≡ line_in line.now.kept.items line.now.is_fed }
 {
     if line.is_fed {
@@ -69,7 +69,7 @@ fn words_of(line: &Line) -> &[u8]
 }
 
 /// What a node is given of a line.
-pub(crate) fn given_of(line: &Line) -> &[u8]
+pub(crate) fn given_of(line: &InputLine) -> &[u8]
     ensures { result.now ≡ given_by line.now.kept.items line.now.is_fed }
 {
     if line.is_too_long() {
@@ -80,7 +80,7 @@ pub(crate) fn given_of(line: &Line) -> &[u8]
 }
 
 /// What a witness sees of a line: of one that is too long what was kept of it.
-pub(crate) fn seen_of(line: &Line) -> &[u8] {
+pub(crate) fn seen_of(line: &InputLine) -> &[u8] {
     if line.is_too_long() {
         &line.kept
     } else {

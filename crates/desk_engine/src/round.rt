@@ -6,17 +6,17 @@ ghost use Rattle.node_desk.specs.Words.{ask_line as ask_line_of, messages_in as 
 ghost use Rattle.desk_engine.specs.Turns.{AskedAbout, LeavesOwn, RoundBreaks, cases_at};
 
 use crate::telling::tell;
-use log_news::{Decision, decisions_of, doubts_of};
+use log_outcomes::{LoggedDecision, decisions_of, doubts_of};
 use log_store::LogStore;
 use node_desk::{TRIM, ask_line, messages_in};
 use node_engine::{NodeFailure, Serving};
+use protocol::Case;
 use staged_store::Backing;
 use std::alloc::{AllocError, Global};
 use std::io::Write;
-use tree_model::Case;
 
 /// Adds the cases that an operator decided.
-fn push_decided(cases: &mut Vec<Case>, decisions: &[Decision]) -> Result<(), AllocError>
+fn push_decided(cases: &mut Vec<Case>, decisions: &[LoggedDecision]) -> Result<(), AllocError>
     ensures { OnOk result (cases.new.items ≡ cases.old.items ++ map (λ d. d.case) decisions.now) }
 {
     for decision in decisions {

@@ -1,7 +1,7 @@
 //! A node whose lines come from a desk, turn after turn.
 
 ghost use Rattle.std.specs.Prelude.{◌≡◌, ◌⊎◌, true, length, IfErr, IfOk, OnOk};
-ghost use Rattle.tree_model.specs.declared.events.Reaction.{Reaction as AnyReaction};
+ghost use Rattle.protocol.specs.declared.events.Reaction.{Reaction as AnyReaction};
 ghost use Rattle.node_engine.specs.Answers.{state_of};
 ghost use Rattle.node_engine.specs.Runs.{Known, Stand, stand};
 ghost use Rattle.node_desk.specs.declared.watch.Ways.{Ways as AnyWays};
@@ -15,10 +15,10 @@ use crate::telling::{bring_up, write_text};
 use log_store::LogStore;
 use node_desk::{Next, Waits, Watch, Ways};
 use node_engine::{Ended, NodeFailure, Serving, Witness};
+use protocol::Reaction;
 use staged_store::Backing;
 use std::alloc::Global;
 use std::io::{BufRead, Write};
-use tree_model::Reaction;
 
 /// Takes the next line of the input, and those that are at hand after it, up to one that asks the node to end. Then
 /// what they rest on is made safe, and all of them are told of. Says so where the input ends.

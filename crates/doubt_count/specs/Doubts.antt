@@ -1,15 +1,15 @@
 -- How many cases of a tree are in doubt, by the logs of its processes.
 use Rattle.std.specs.Prelude.{◌≡◌, ◌⊎◌, ℕ, zero, suc, Bool, true, false, nat_eq, nat_lt, ◌&&◌, if◌then◌else◌, None, Some, List, count_by}
-use Rattle.tree_model.specs.declared.names.ProcessId.{ProcessId}
-use Rattle.tree_model.specs.declared.trees.TreeEntry.{TreeEntry}
-use Rattle.link_script.specs.declared.script.ScriptFault.{ScriptFault}
-use Rattle.logs_script.specs.declared.line.ProcessLog.{ProcessLog}
-use Rattle.logs_script.specs.Faults.{first_damage}
-use Rattle.logs_script.specs.Logs.{IsLogsFault, IsLogsText}
+use Rattle.protocol.specs.declared.names.ProcessId.{ProcessId}
+use Rattle.protocol.specs.declared.trees.TreeProcess.{TreeProcess}
+use Rattle.tree_script.specs.declared.script.ScriptFault.{ScriptFault}
+use Rattle.log_script.specs.declared.line.ProcessLog.{ProcessLog}
+use Rattle.log_script.specs.Faults.{first_damage}
+use Rattle.log_script.specs.Logs.{IsLogsFault, IsLogsText}
 use Rattle.audit_cases.specs.declared.kinds.Own.{Own}
 use Rattle.audit_cases.specs.declared.kinds.Own.TheVariants as own
-use Rattle.tree_audit.specs.Reports.{kept_lists, lines_of}
-use Rattle.tree_audit.specs.declared.report.Line.{Line}
+use Rattle.audit_tree.specs.Reports.{kept_lists, lines_of}
+use Rattle.audit_tree.specs.declared.report.ReportLine.{ReportLine}
 
 -- a case that stands so is in doubt: its process promised, and knows no outcome
 abbrev pub is_doubt : Own → Bool
@@ -17,12 +17,12 @@ is_doubt own.InDoubt = true
 is_doubt _ = false
 
 -- how many of these lines of an audit are of a case in doubt
-abbrev pub doubts_of : List Line → ℕ
+abbrev pub doubts_of : List ReportLine → ℕ
 doubts_of ls = count_by (λ l. is_doubt l.own) ls
 
 -- the input says a tree and its logs, none of which is damaged, and an audit of them has this number of lines of cases in doubt
 pub record CountsDoubts (input : List ℕ) (count : ℕ) : Type 0 where
-  pub tree : List TreeEntry
+  pub tree : List TreeProcess
   pub logs : List ProcessLog
   pub says : IsLogsText input tree logs
   pub sound : first_damage tree logs ≡ None
@@ -30,7 +30,7 @@ pub record CountsDoubts (input : List ℕ) (count : ℕ) : Type 0 where
 
 -- the input says a tree and its logs, and this log is damaged there
 pub record HasDamage (input : List ℕ) : Type 0 where
-  pub tree : List TreeEntry
+  pub tree : List TreeProcess
   pub logs : List ProcessLog
   pub says : IsLogsText input tree logs
   pub process : ProcessId

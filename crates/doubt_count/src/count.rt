@@ -3,10 +3,10 @@
 ghost use Rattle.std.specs.Prelude.{◌≡◌, IfNone, IfOk, IfSome};
 ghost use Rattle.doubt_count.specs.Doubts.{CountsDoubts, HasNoCount, doubts_of as doubts_in_lines, is_doubt as stands_in_doubt};
 
-use link_script::ScriptError;
-use logs_script::read_logs;
+use audit_tree::{AuditError, Own, ReportLine, audit};
+use log_script::read_logs;
 use std::alloc::{AllocError, Global};
-use tree_audit::{AuditError, Line, Own, audit};
+use tree_script::ScriptError;
 
 /// Whether a case is in doubt: its process promised, and knows no outcome.
 fn is_doubt(own: Own) -> bool
@@ -19,7 +19,7 @@ fn is_doubt(own: Own) -> bool
 }
 
 /// How many of these lines are of a case in doubt.
-fn doubts_of(lines: &[Line]) -> usize
+fn doubts_of(lines: &[ReportLine]) -> usize
     ensures { result ≡ doubts_in_lines lines.now }
 {
     lines.iter().filter(|line| is_doubt(line.own)).count()

@@ -1,9 +1,9 @@
 -- Events that are told, one after another.
 use Rattle.std.proofs.Common.{◌≡◌, ◌∙◌, ap, sym, subst, ℕ, zero, suc, ◌+◌, Some, List, [], ◌∷◌, ◌++◌, drop, length, take, refl, arith}
 use Rattle.std.specs.Prelude.{slice_get}
-use Rattle.tree_model.specs.declared.events.Event.{Event}
-use Rattle.tree_model.specs.declared.events.StepError.{StepError}
-use Rattle.core_law.specs.worlds.Worlds.{Applies, Stops, WorldState}
+use Rattle.protocol.specs.declared.events.Event.{Event}
+use Rattle.protocol.specs.declared.events.StepError.{StepError}
+use Rattle.tree_state.specs.Worlds.{Applies, Stops, WorldState}
 use Rattle.tree_engine.specs.Runs.{IsOwn}
 use Rattle.event_trace.specs.Numbered.{numbered, sent_after, steps_text}
 use Rattle.event_trace.specs.Told.{Tells, TellsUntil, one_more}

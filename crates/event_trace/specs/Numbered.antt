@@ -1,9 +1,9 @@
 -- Lines with a number before them, and the lines of steps.
 use Rattle.std.specs.Prelude.{ℕ, Bool, true, false, ◌==◌, ◌+◌, List, [], ◌∷◌, ◌++◌, codes, drop, length}
 use Rattle.std.specs.Fmt.{decimal}
-use Rattle.tree_model.specs.declared.events.Entry.{Entry}
+use Rattle.protocol.specs.declared.events.JournalEntry.{JournalEntry}
 use Rattle.trace_lines.specs.Trace.{entries_text}
-use Rattle.core_law.specs.worlds.Worlds.{WorldState}
+use Rattle.tree_state.specs.Worlds.{WorldState}
 
 -- what is before a line with this number
 abbrev pub number_text : ℕ → List ℕ
@@ -24,7 +24,7 @@ abbrev pub numbered : ℕ → List ℕ → List ℕ
 numbered n lines = numbered_on true n lines
 
 -- how many messages are sent after these steps, if N were before
-unfoldable pub sent_after : ℕ → List Entry → ℕ
+unfoldable pub sent_after : ℕ → List JournalEntry → ℕ
 sent_after n [] = n
 sent_after n (e ∷ es) = sent_after (n + length e.reaction.messages) es
 

@@ -1,17 +1,17 @@
 -- The trace of a script by its events.
 use Rattle.std.specs.Prelude.{◌≡◌, ◌⊎◌, ℕ, Bool, ◌+◌, Option, Some, None, List, [], ◌∷◌, ◌++◌, drop, is_some, length, slice_get, take}
-use Rattle.tree_model.specs.declared.events.Event.{Event}
-use Rattle.tree_model.specs.declared.events.StepError.{StepError}
-use Rattle.tree_model.specs.declared.names.ProcessId.{ProcessId}
-use Rattle.tree_model.specs.declared.trees.TreeEntry.{TreeEntry}
-use Rattle.link_script.specs.declared.script.ScriptError.TheVariants.{Fault}
-use Rattle.link_script.specs.declared.script.ScriptFault.{ScriptFault}
-use Rattle.logs_script.specs.declared.line.ProcessLog.{ProcessLog}
+use Rattle.protocol.specs.declared.events.Event.{Event}
+use Rattle.protocol.specs.declared.events.StepError.{StepError}
+use Rattle.protocol.specs.declared.names.ProcessId.{ProcessId}
+use Rattle.protocol.specs.declared.trees.TreeProcess.{TreeProcess}
+use Rattle.tree_script.specs.declared.script.ScriptError.TheVariants.{Fault}
+use Rattle.tree_script.specs.declared.script.ScriptFault.{ScriptFault}
+use Rattle.log_script.specs.declared.line.ProcessLog.{ProcessLog}
 use Rattle.reopen_script.specs.Inputs.{IsReopenError, IsReopenScript}
-use Rattle.core_law.specs.worlds.Worlds.{Applies, Stops, WorldState}
+use Rattle.tree_state.specs.Worlds.{Applies, Stops, WorldState}
 use Rattle.report_io.specs.declared.status.Status.{Status}
 use Rattle.tree_world.specs.Worlds.{state}
-use Rattle.core_law.specs.worlds.Refusals.{Refusal}
+use Rattle.proof_runs.specs.worlds.Refusals.{Refusal}
 use Rattle.tree_engine.specs.Runs.{BeginsBy, IsDamageBy, IsOwn}
 use Rattle.tree_engine.specs.Trees.{ending, last_line, trace_by}
 use Rattle.tree_engine.specs.declared.run.Run.{Run}
@@ -59,7 +59,7 @@ pub record TellsFrom (over : Bool) (start : WorldState) (events : List Event) (s
 
 -- the input is a script of a tree, over logs or over empty ones, and this is its trace by its events
 pub record TellsScript (input : List ℕ) (status : Status) (text : List ℕ) : Type 0 where
-  pub tree : List TreeEntry
+  pub tree : List TreeProcess
   pub logs : Option (List ProcessLog)
   pub events : List Event
   pub script : IsReopenScript input tree logs events
@@ -69,7 +69,7 @@ pub record TellsScript (input : List ℕ) (status : Status) (text : List ℕ) : 
 
 -- the input is a script of a tree and of logs, one of which is damaged there
 pub record HasDamage (input : List ℕ) : Type 0 where
-  pub tree : List TreeEntry
+  pub tree : List TreeProcess
   pub logs : Option (List ProcessLog)
   pub events : List Event
   pub script : IsReopenScript input tree logs events

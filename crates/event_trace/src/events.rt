@@ -1,7 +1,7 @@
 //! Events that are made one after another, with the lines of the steps of each.
 
 ghost use Rattle.std.specs.Prelude.{◌≡◌, ◌++◌, IfErr, IfOk, OnOk, drop, length};
-ghost use Rattle.core_law.specs.worlds.Worlds.{Applies, Stops};
+ghost use Rattle.tree_state.specs.Worlds.{Applies, Stops};
 ghost use Rattle.tree_engine.specs.Runs.{IsOwn};
 ghost use Rattle.tree_world.specs.Worlds.{state};
 ghost use Rattle.event_trace.specs.Numbered.{numbered, sent_after, steps_text};
@@ -10,10 +10,10 @@ ghost use Rattle.event_trace.specs.Told.{TellsTo};
 use crate::lines::push_numbered;
 use crate::steps::push_steps;
 use log_store::MemoryStore;
+use protocol::{Event, StepError};
 use report_io::Failure;
 use std::alloc::Global;
 use tree_engine::{Refusal, own_refusal};
-use tree_model::{Event, StepError};
 use tree_world::World;
 
 /// Makes an event, and adds the lines of its steps, each with this number before it; N messages were sent before.

@@ -1,7 +1,7 @@
 //! The trace of a script, by its events.
 
 ghost use Rattle.std.specs.Prelude.{◌≡◌, ◌++◌, IfNone, IfOk, IfSome, OnOk};
-ghost use Rattle.tree_engine.specs.Trees.{IsNumbered, ending, last_line, trace_by};
+ghost use Rattle.tree_engine.specs.Trees.{IsNumberedRefusal, ending, last_line, trace_by};
 ghost use Rattle.tree_world.specs.Worlds.{state};
 ghost use Rattle.event_trace.specs.Numbered.{numbered, sent_after};
 ghost use Rattle.event_trace.specs.Told.{HasNoTrace, TellsFrom, TellsScript};
@@ -9,13 +9,13 @@ ghost use Rattle.event_trace.specs.Told.{HasNoTrace, TellsFrom, TellsScript};
 use crate::events::make_events;
 use crate::lines::push_numbered;
 use crate::steps::push_steps;
-use link_script::ScriptError;
 use log_store::MemoryStore;
+use protocol::Event;
 use reopen_script::read_reopen;
 use report_io::{Failure, Status};
 use std::alloc::{AllocError, Global};
 use tree_engine::{Refusal, opened, push_opened, push_refused};
-use tree_model::Event;
+use tree_script::ScriptError;
 use tree_world::World;
 
 /// Adds the trace of a tree that has just opened, each line with 0 before it. Tells how many messages were sent.
@@ -39,7 +39,7 @@ fn push_opening(
 
 /// Adds the last line of a trace. It is of no event, and has no number.
 fn push_last(alloc: Global, out: &mut Vec<u8>, refusal: Refusal) -> Result<Status, AllocError>
-    requires { IsNumbered refusal }
+    requires { IsNumberedRefusal refusal }
     ensures text { OnOk result (out.new.items ≡ out.old.items ++ last_line refusal) }
     ensures status { IfOk result (λ status. status ≡ ending refusal) }
 {

@@ -5,8 +5,8 @@ ghost use Rattle.expand_engine.specs.Expansions.{IsExpansion};
 
 use crate::expander::{Expander, Line};
 use crate::words::{said, words_of};
-use link_script::{ScriptError, ScriptFault, read_front};
-use logs_script::ProcessLogs;
+use log_script::ProcessLogs;
+use protocol::{ProcessId, Tree};
 use reopen_script::{leading, open_reopen, read_reopen};
 use report_io::Failure;
 use script_words::says_nothing;
@@ -14,7 +14,7 @@ use std::alloc::Global;
 use std::str;
 use thiserror::Error;
 use tree_engine::Run;
-use tree_model::{ProcessId, Tree};
+use tree_script::{ScriptError, ScriptFault, read_front};
 
 /// Why a script cannot be expanded.
 #[derive(Clone, Copy, Debug, Error)]

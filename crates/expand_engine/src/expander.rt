@@ -3,11 +3,11 @@
 use crate::net::Net;
 use crate::wanted::Wanted;
 use crate::words::joined;
-use link_script::event_of;
+use protocol::{Event, ProcessId};
 use report_io::Failure;
 use std::alloc::{AllocError, Global};
 use tree_engine::Run;
-use tree_model::{Event, ProcessId};
+use tree_script::event_of;
 
 /// The most deliveries of a settle.
 const MOST_DELIVERIES: usize = 10_000;

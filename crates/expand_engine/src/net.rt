@@ -2,8 +2,8 @@
 
 use crate::wanted::{Kind, Wanted};
 use log_store::MemoryStore;
+use protocol::{Happening, Input, JournalEntry, ProcessId};
 use std::alloc::{AllocError, Global};
-use tree_model::{Entry, Happening, Input, ProcessId};
 use tree_world::World;
 
 /// What becomes of a message.
@@ -39,7 +39,7 @@ pub(crate) struct Net {
 }
 
 /// The number of the message that a step delivered, if it delivered one.
-fn delivered_in(entry: &Entry) -> Option<u64> {
+fn delivered_in(entry: &JournalEntry) -> Option<u64> {
     match entry.step.happening {
         Happening::Input(Input::Message(number, _)) => Some(number),
         _ => None,
@@ -80,7 +80,7 @@ impl Net {
     }
 
     /// Notes what a step sent and delivered.
-    fn note_step(&mut self, entry: &Entry) -> Result<(), AllocError> {
+    fn note_step(&mut self, entry: &JournalEntry) -> Result<(), AllocError> {
         if let Some(number) = delivered_in(entry) {
             self.last = Some(number);
             if let Some(sent) = self.sent.get_mut(place_of(number)) {

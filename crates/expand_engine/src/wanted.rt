@@ -1,9 +1,9 @@
 //! Which message a line asks for.
 
-use link_script::process_of;
+use protocol::{Message, ProcessId};
 use spellings::numeral::number_of;
 use spellings::word::cut;
-use tree_model::{Message, ProcessId};
+use tree_script::process_of;
 
 /// What a message is.
 #[derive(Clone, Copy, PartialEq, Eq)]

@@ -46,7 +46,7 @@ BlocksGoBehind = (number place : ℕ) (ps : List (List ℕ)) (p : List ℕ)
 
 -- What a crash leaves of a file to which a block was being written: what was on the disk, the file of the first blocks,
 -- and of that block any front, none and all of it included.
-pub record IsLeft (number : ℕ) (first : List ℕ) (others : List (List ℕ)) (p bytes : List ℕ) : Type 0 where
+pub record IsFileLeft (number : ℕ) (first : List ℕ) (others : List (List ℕ)) (p bytes : List ℕ) : Type 0 where
   pub keep : ℕ
   pub safe : length (file_text number (first ∷ others)) ≤ keep
   pub is : bytes ≡ take keep (file_text number (first ∷ (others ++ p ∷ [])))
@@ -55,7 +55,7 @@ pub record IsLeft (number : ℕ) (first : List ℕ) (others : List (List ℕ)) (
 abbrev pub FilesKeepWhatWasForced : Type 0
 FilesKeepWhatWasForced = (number : ℕ) (first : List ℕ) (others : List (List ℕ)) (p bytes : List ℕ) → number < 2 ^ 64
     → length (file_text number (first ∷ (others ++ p ∷ []))) < 2 ^ 64
-    → IsLeft number first others p bytes
+    → IsFileLeft number first others p bytes
     → (IsDamaged bytes (file_number bytes) → ⊥)
     × ((m : ℕ) (held : List ℕ) → m < 2 ^ 64 → Holds bytes m held
     → (held ≡ concat (first ∷ others)) ⊎ (held ≡ concat (first ∷ others) ++ p))

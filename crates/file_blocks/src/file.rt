@@ -25,7 +25,7 @@ pub struct FileText {
 
 /// Why the bytes of a file were not read.
 #[derive(Clone, Copy, Debug, PartialEq, Eq, Error)]
-pub enum ReadFault {
+pub enum FileReadFault {
     /// There was no memory.
     #[error("no memory")]
     Memory,
@@ -34,14 +34,14 @@ pub enum ReadFault {
     Damaged,
 }
 
-impl From<AllocError> for ReadFault {
+impl From<AllocError> for FileReadFault {
     ghost use Rattle.std.specs.Prelude.{◌≡◌};
-    ghost use Rattle.file_blocks.specs.declared.file.ReadFault.TheVariants.{Memory};
+    ghost use Rattle.file_blocks.specs.declared.file.FileReadFault.TheVariants.{Memory};
 
     ghost from_gives = { λ _ e. e ≡ Memory };
 
-    fn from(_error: AllocError) -> ReadFault {
-        ReadFault::Memory
+    fn from(_error: AllocError) -> FileReadFault {
+        FileReadFault::Memory
     }
 }
 
@@ -88,16 +88,16 @@ pub fn file_number(bytes: &[u8]) -> Option<u64>
 /// What is in a file of these bytes: up to the first block that is not whole, which a cut of power may
 /// have left. Damaged: it is no file of a log; or its first block is not whole, which was on the disk before the
 /// file had its name; or another block was begun after one that is not whole.
-pub fn read_file(alloc: Global, bytes: &[u8]) -> Result<FileText, ReadFault>
+pub fn read_file(alloc: Global, bytes: &[u8]) -> Result<FileText, FileReadFault>
     ensures ok { IfOk result (λ found. Holds bytes.now found.number found.bytes.items) }
-    ensures err { IfErr result (λ e. e ≡ ReadFault.Damaged → IsDamaged bytes.now (file_number bytes.now)) }
+    ensures err { IfErr result (λ e. e ≡ FileReadFault.Damaged → IsDamaged bytes.now (file_number bytes.now)) }
 {
     let Some(number) = file_number(bytes) else {
-        return Err(ReadFault::Damaged);
+        return Err(FileReadFault::Damaged);
     };
     let (_, blocks) = bytes.split_at(FILE_HEAD);
     let Some((first, mut rest)) = first_block(number, FILE_HEAD as u64, blocks) else {
-        return Err(ReadFault::Damaged);
+        return Err(FileReadFault::Damaged);
     };
     let mut held = Vec::with_capacity(alloc, blocks.len())?;
     held.extend_from_slice(first)?;
@@ -110,7 +110,7 @@ pub fn read_file(alloc: Global, bytes: &[u8]) -> Result<FileText, ReadFault>
         rest = after;
     }
     if is_damaged(number, (bytes.len() - rest.len()) as u64, rest) {
-        return Err(ReadFault::Damaged);
+        return Err(FileReadFault::Damaged);
     }
     Ok(FileText {
         number,

@@ -28,4 +28,4 @@ mod file;
 pub mod law;
 
 pub use block::{HEAD, first_block, has_head, head_of, is_damaged};
-pub use file::{FILE_HEAD, FileText, ReadFault, file_head, file_number, file_start, read_file};
+pub use file::{FILE_HEAD, FileReadFault, FileText, file_head, file_number, file_start, read_file};

@@ -2,7 +2,7 @@
 
 /// A call that a store asks of its file.
 #[derive(Drop)]
-pub enum Call {
+pub enum FileCall {
     /// These bytes are to be written at this place of the file.
     Write(u64, Vec<u8>),
     /// What was written is to be on the disk.

@@ -1,6 +1,6 @@
 //! The calls that a store asked of its file, in order, shared by the file and by whoever makes them.
 
-use crate::call::{Call, CallKind};
+use crate::call::{CallKind, FileCall};
 use std::alloc::{AllocError, Global};
 use std::cell::Cell;
 use std::rc::Rc;
@@ -9,7 +9,7 @@ use std::rc::Rc;
 #[derive(Drop)]
 pub struct Calls {
     alloc: Global,
-    left: Rc<Cell<Vec<Call>>, Global>,
+    left: Rc<Cell<Vec<FileCall>>, Global>,
 }
 
 /// The call that is to be made next.
@@ -33,19 +33,19 @@ fn copy_into(bytes: &[u8], room: &mut [u8]) -> usize {
 }
 
 /// A call, with its bytes copied to the front of a room if they fit.
-fn shown(call: &Call, room: &mut [u8]) -> NextCall {
+fn shown(call: &FileCall, room: &mut [u8]) -> NextCall {
     match call {
-        Call::Write(place, bytes) => NextCall {
+        FileCall::Write(place, bytes) => NextCall {
             kind: CallKind::Write,
             place: *place,
             size: copy_into(bytes, room),
         },
-        Call::Sync => NextCall {
+        FileCall::Sync => NextCall {
             kind: CallKind::Sync,
             place: 0,
             size: 0,
         },
-        Call::Replace(bytes) => NextCall {
+        FileCall::Replace(bytes) => NextCall {
             kind: CallKind::Replace,
             place: 0,
             size: copy_into(bytes, room),
@@ -79,7 +79,7 @@ impl Calls {
     }
 
     /// Asks for one more call, after the others. Err: it is not asked for.
-    pub(crate) fn ask(&self, call: Call) -> Result<(), AllocError> {
+    pub(crate) fn ask(&self, call: FileCall) -> Result<(), AllocError> {
         let mut left = self.left.replace(Vec::new(self.alloc));
         let asked = match left.push(call) {
             Ok(()) => Ok(()),

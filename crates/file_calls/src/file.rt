@@ -1,8 +1,8 @@
 //! A log's file whose calls somebody else makes, before anybody is told of what rests on them.
 
-use crate::call::Call;
+use crate::call::FileCall;
 use crate::calls::Calls;
-use file_store::LogFile;
+use log_file::LogFile;
 use std::alloc::{AllocError, Global};
 use std::io::{self, ErrorKind};
 
@@ -40,7 +40,7 @@ impl CalledFile {
     }
 
     /// Asks for a call.
-    fn ask(&self, call: Call) -> io::Result<()> {
+    fn ask(&self, call: FileCall) -> io::Result<()> {
         match self.calls.ask(call) {
             Ok(()) => Ok(()),
             Err(_) => Err(no_memory()),
@@ -51,18 +51,18 @@ impl CalledFile {
 impl LogFile for CalledFile {
     fn write(&mut self, place: u64, head: &[u8], more: &[u8]) -> io::Result<()> {
         match joined(self.alloc, head, more) {
-            Ok(bytes) => self.ask(Call::Write(place, bytes)),
+            Ok(bytes) => self.ask(FileCall::Write(place, bytes)),
             Err(_) => Err(no_memory()),
         }
     }
 
     fn sync(&mut self) -> io::Result<()> {
-        self.ask(Call::Sync)
+        self.ask(FileCall::Sync)
     }
 
     fn replace(&mut self, head: &[u8], more: &[u8]) -> io::Result<()> {
         match joined(self.alloc, head, more) {
-            Ok(bytes) => self.ask(Call::Replace(bytes)),
+            Ok(bytes) => self.ask(FileCall::Replace(bytes)),
             Err(_) => Err(no_memory()),
         }
     }

@@ -31,8 +31,8 @@ abbrev pub laid : Ptr → Val → Val
 laid p handle = vstruct (vcons (ptr_val p) (vcons handle vnil))
 
 module _ (R A : RattleType) (LA : Laws A) (g : Ghosts A.Denot) where
-  abbrev pub Row : RattleType
-  Row = loose.the_row R A g
+  abbrev pub HeldRow : RattleType
+  HeldRow = loose.the_row R A g
 
   abbrev pub heap : Al
   heap = record { row = A; laws = LA; g = g; d = impl [] tnil dnil; drops = impl [] tnil dnil }
@@ -44,12 +44,12 @@ module _ (R A : RattleType) (LA : Laws A) (g : Ghosts A.Denot) where
 
   module _ {M : Type 1} {𝓤 : Ura M} {𝓛 : Logic 𝓤} {K : Type 0} {Γ : List (Item 𝓤)} {G : Goal 𝓤 𝓛.H} where
     -- what the holder of a `Loose` has: what a box at its pointer owns, which is not null, and the handle
-    pub take_apart : K → (l : Row.Denot) (vs : List Val)
+    pub take_apart : K → (l : HeldRow.Denot) (vs : List Val)
         → ((b o : ℕ) (handle : Val) → l.at ≡ block_ptr b o → vs ≡ laid (block_ptr b o) handle ∷ []
         → Good (layout A) handle
         → Seq K 𝓛 (‵ (box_owns (g.dealloc_token l.alloc) R (block_ptr b o) l.value) ∷ ‵ (A.own_val l.alloc
         (handle ∷ [])) ∷ Γ) G)
-        → Seq K 𝓛 (‵ (Row.own_val l vs) ∷ Γ) G
+        → Seq K 𝓛 (‵ (HeldRow.own_val l vs) ∷ Γ) G
     take_apart t l vs goes =
         fsplit t $ fpick t (λ parts. fsplit t $ feq_l t (λ whole. fsplit t $ feq_l t (λ at_is. fsplit t $
         handle_tells heap t l.alloc parts.1.0 (λ handle handle_is good. move t (1 ∷ []) $ drop t $
@@ -64,7 +64,7 @@ module _ (R A : RattleType) (LA : Laws A) (g : Ghosts A.Denot) where
 
     -- and the way back
     pub put_together : K → (b o : ℕ) (handle : Val) (a : A.Denot) (x : R.Denot)
-        → Step K 𝓛 (‵ (Row.own_val (record { at = block_ptr b o; alloc = a; value = x }) (laid (block_ptr b
+        → Step K 𝓛 (‵ (HeldRow.own_val (record { at = block_ptr b o; alloc = a; value = x }) (laid (block_ptr b
         o) handle ∷ [])) ∷ Γ) G
         (‵ (box_owns (g.dealloc_token a) R (block_ptr b o) x) ∷ ‵ (A.own_val a (handle ∷ [])) ∷ Γ) G
     put_together t b o handle a x = step (λ rest.

@@ -6,7 +6,7 @@ use Rattle.std.proofs.KnownBytes.{Consumes-trans}
 use Rattle.std.specs.Io.KnownBytes.{Consumes, IsAtEnd}
 use Rattle.input_lines.specs.declared.reading.Reach.{Reach}
 use Rattle.input_lines.specs.declared.reading.Reach.TheVariants.{Within, Feed, End}
-use Rattle.input_lines.specs.Lines.{Reads, longest}
+use Rattle.input_lines.specs.Lines.{ReadsLine, longest}
 use Rattle.input_lines.specs.Steps.{ReadsOn, ending}
 
 -- a front of two lists is one of the first, and one of the second as far as there is room
@@ -57,7 +57,7 @@ module _ (a b c : Option (List ℕ)) (part before after : List ℕ) (room : ℕ)
   )
 
   -- a line feed ended it
-  pub fed : ReadsOn b c before after room Feed → Reads a c after true
+  pub fed : ReadsOn b c before after room Feed → ReadsLine a c after true
   fed h = record {
     piece = record { front = part ++ h.part; fed = true };
     next = record {
@@ -70,7 +70,7 @@ module _ (a b c : Option (List ℕ)) (part before after : List ℕ) (room : ℕ)
   }
 
   -- the input ended it
-  pub ended : ReadsOn b c before after room End → Reads a c after false
+  pub ended : ReadsOn b c before after room End → ReadsLine a c after false
   ended h = record {
     piece = record { front = part ++ h.part; fed = false };
     next = record {

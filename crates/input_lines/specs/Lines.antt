@@ -41,7 +41,7 @@ pub record Keeps (kept : List ℕ) (is_fed : Bool) (p : Piece) : Type 0 where
   pub fed : is_fed ≡ p.fed
 
 -- this is kept of the next line of a reader
-pub record Reads (old new : Option (List ℕ)) (kept : List ℕ) (is_fed : Bool) : Type 0 where
+pub record ReadsLine (old new : Option (List ℕ)) (kept : List ℕ) (is_fed : Bool) : Type 0 where
   pub piece : Piece
   pub next : IsNext old new piece
   pub keeps : Keeps kept is_fed piece

@@ -6,5 +6,5 @@
 mod line;
 mod reading;
 
-pub use line::{LONGEST, Line, LineFault};
+pub use line::{InputLine, InputLineFault, LONGEST};
 pub use reading::read_line;

@@ -11,14 +11,14 @@ pub const LONGEST: usize = 4096;
 
 /// A line of an input.
 #[derive(Debug, Drop)]
-pub struct Line {
+pub struct InputLine {
     /// What comes before its line feed; of one that is too long `LONGEST` bytes and one more.
     pub kept: Vec<u8>,
     /// Whether a line feed ends it; else it ends with the input.
     pub is_fed: bool,
 }
 
-impl Line {
+impl InputLine {
     /// Whether it has more than `LONGEST` bytes before its line feed.
     pub fn is_too_long(&self) -> bool
         ensures { result ≡ beyond self.now.kept.items }
@@ -36,7 +36,7 @@ impl Line {
 
 /// Why no line was read.
 #[derive(Clone, Copy, Debug, PartialEq, Eq, Error)]
-pub enum LineFault {
+pub enum InputLineFault {
     /// A read failed, or would have been the 2^64th.
     #[error("reading failed")]
     Read,
@@ -45,24 +45,24 @@ pub enum LineFault {
     Memory,
 }
 
-impl From<AllocError> for LineFault {
-    ghost use Rattle.input_lines.specs.declared.line.LineFault.TheVariants.{Memory};
+impl From<AllocError> for InputLineFault {
+    ghost use Rattle.input_lines.specs.declared.line.InputLineFault.TheVariants.{Memory};
     ghost use Rattle.std.specs.Prelude.{◌≡◌};
 
     ghost from_gives = { λ _ e. e ≡ Memory };
 
-    fn from(_e: AllocError) -> LineFault {
-        LineFault::Memory
+    fn from(_e: AllocError) -> InputLineFault {
+        InputLineFault::Memory
     }
 }
 
-impl<T: Drop> From<AllocFailed<T>> for LineFault {
-    ghost use Rattle.input_lines.specs.declared.line.LineFault.TheVariants.{Memory};
+impl<T: Drop> From<AllocFailed<T>> for InputLineFault {
+    ghost use Rattle.input_lines.specs.declared.line.InputLineFault.TheVariants.{Memory};
     ghost use Rattle.std.specs.Prelude.{◌≡◌};
 
     ghost from_gives = { λ _ e. e ≡ Memory };
 
-    fn from(_e: AllocFailed<T>) -> LineFault {
-        LineFault::Memory
+    fn from(_e: AllocFailed<T>) -> InputLineFault {
+        InputLineFault::Memory
     }
 }

@@ -1,10 +1,10 @@
 //! Reading a line. It is read through its line feed, however long it is, and its front is kept.
 
 ghost use Rattle.std.specs.Prelude.{◌≡◌, ◌≢◌, ◌≤◌, ◌<◌, ◌+◌, All, IfOk, length, take, get_or};
-ghost use Rattle.input_lines.specs.Lines.{Reads};
+ghost use Rattle.input_lines.specs.Lines.{ReadsLine};
 ghost use Rattle.input_lines.specs.Steps.{ReadsOn, ending};
 
-use crate::line::{LONGEST, Line, LineFault};
+use crate::line::{InputLine, InputLineFault, LONGEST};
 use std::alloc::Global;
 use std::io::{BufRead, ErrorKind};
 
@@ -64,7 +64,11 @@ fn front_of(bytes: &[u8], room: usize) -> &[u8]
 }
 
 /// Reads on in a line, as far as bytes are at hand, and keeps as many of them as there is room for.
-fn read_on<R: BufRead>(reader: &mut R, kept: &mut Vec<u8>, room: usize) -> Result<Reach, LineFault>
+fn read_on<R: BufRead>(
+    reader: &mut R,
+    kept: &mut Vec<u8>,
+    room: usize,
+) -> Result<Reach, InputLineFault>
     ensures { IfOk result (λ reach. ReadsOn (R.remaining reader.old) (R.remaining reader.new)
         kept.old.items kept.new.items room reach) }
 {
@@ -74,7 +78,7 @@ fn read_on<R: BufRead>(reader: &mut R, kept: &mut Vec<u8>, room: usize) -> Resul
             return if error.kind() == ErrorKind::Interrupted {
                 Ok(Reach::Within)
             } else {
-                Err(LineFault::Read)
+                Err(InputLineFault::Read)
             };
         }
     };
@@ -87,8 +91,8 @@ fn read_on<R: BufRead>(reader: &mut R, kept: &mut Vec<u8>, room: usize) -> Resul
 
 /// Reads the next line through its line feed, and keeps at most `LONGEST` bytes and one of it. Without a line any
 /// more nothing is kept, and no line feed ends it.
-pub fn read_line<R: BufRead>(alloc: Global, reader: &mut R) -> Result<Line, LineFault>
-    ensures { IfOk result (λ line. Reads (R.remaining reader.old) (R.remaining reader.new)
+pub fn read_line<R: BufRead>(alloc: Global, reader: &mut R) -> Result<InputLine, InputLineFault>
+    ensures { IfOk result (λ line. ReadsLine (R.remaining reader.old) (R.remaining reader.new)
         line.kept.items line.is_fed) }
 {
     let mut kept = Vec::new(alloc);
@@ -96,12 +100,12 @@ pub fn read_line<R: BufRead>(alloc: Global, reader: &mut R) -> Result<Line, Line
         let room = (LONGEST + 1).saturating_sub(kept.len());
         match read_on(reader, &mut kept, room)? {
             Reach::Within => {}
-            Reach::Feed => return Ok(Line { kept, is_fed: true }),
-            Reach::End => return Ok(Line {
+            Reach::Feed => return Ok(InputLine { kept, is_fed: true }),
+            Reach::End => return Ok(InputLine {
                 kept,
                 is_fed: false,
             }),
         }
     }
-    Err(LineFault::Read)
+    Err(InputLineFault::Read)
 }

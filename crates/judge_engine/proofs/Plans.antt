@@ -3,19 +3,19 @@ use Rattle.std.proofs.Common.{◌≡◌, ◌∙◌, ℕ, ◌+◌, List, [], ◌�
 use Rattle.std.specs.List.{flat_map}
 use Rattle.std.proofs.lemmas.Grind.{flat_map-append}
 use Rattle.std.proofs.lemmas.List.{append-nil, length-append}
-use Rattle.judge_rules.specs.declared.calls.Call.{Call}
+use Rattle.judge_rules.specs.declared.calls.JudgedCall.{JudgedCall}
 use Rattle.judge_engine.specs.Plans.{IsPlan, OpensFirst, call_line}
 
 pub plan_none : (seed : ℕ) → IsPlan seed 0 []
 plan_none seed = record { calls = []; long = refl; opens = tt; lines = refl }
 
-opens_more : (cs : List Call) (c : Call) → (length cs ≡ 0 → OpensFirst (c ∷ [])) → OpensFirst cs
+opens_more : (cs : List JudgedCall) (c : JudgedCall) → (length cs ≡ 0 → OpensFirst (c ∷ [])) → OpensFirst cs
     → OpensFirst (cs ++ c ∷ [])
 opens_more [] c first h = first refl
 opens_more (d ∷ cs) c first h = h
 
 -- one more call, which opens the manager if it is the first
-pub plan_more : (seed n : ℕ) (old new : List ℕ) (c : Call) → IsPlan seed n old → (n ≡ 0 → OpensFirst (c ∷ []))
+pub plan_more : (seed n : ℕ) (old new : List ℕ) (c : JudgedCall) → IsPlan seed n old → (n ≡ 0 → OpensFirst (c ∷ []))
     → new ≡ old ++ call_line seed c → IsPlan seed (n + 1) new
 plan_more seed n old new c p first is = record {
   calls = p.calls ++ c ∷ [];

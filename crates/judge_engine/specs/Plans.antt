@@ -6,8 +6,8 @@ use Rattle.std.specs.List.{flat_map}
 use Rattle.hex.specs.Hex.{encode_lower}
 use Rattle.judge_rules.specs.declared.calls.BranchVerb.{BranchVerb}
 use Rattle.judge_rules.specs.declared.calls.BranchVerb.TheVariants as verb
-use Rattle.judge_rules.specs.declared.calls.Call.{Call}
-use Rattle.judge_rules.specs.declared.calls.Call.TheVariants as call
+use Rattle.judge_rules.specs.declared.calls.JudgedCall.{JudgedCall}
+use Rattle.judge_rules.specs.declared.calls.JudgedCall.TheVariants as call
 use Rattle.judge_rules.specs.declared.calls.Function.{Function}
 use Rattle.judge_rules.specs.declared.calls.Function.TheVariants as function
 use Rattle.judge_rules.specs.declared.calls.On.{On}
@@ -97,7 +97,7 @@ abbrev pub get_text : ℕ → ℕ → ℕ → List ℕ
 get_text seed t k = codes "get " ++ decimal t ++ codes " " ++ key_name seed k
 
 -- a call
-abbrev pub call_text : ℕ → Call → List ℕ
+abbrev pub call_text : ℕ → JudgedCall → List ℕ
 call_text seed (call.Function f) = function_text seed f
 call_text seed (call.Get t k) = get_text seed t k
 call_text seed (call.Put t k v) = put_text seed t k v
@@ -107,17 +107,17 @@ call_text seed (call.Disconnect t) = codes "disconnect " ++ decimal t
 call_text seed call.Trim = codes "trim"
 
 -- the line of a call
-abbrev pub call_line : ℕ → Call → List ℕ
+abbrev pub call_line : ℕ → JudgedCall → List ℕ
 call_line seed c = call_text seed c ++ 10 ∷ []
 
 -- the first of these calls opens the manager
-abbrev pub OpensFirst : List Call → Type 0
+abbrev pub OpensFirst : List JudgedCall → Type 0
 OpensFirst [] = Unit {0}
 OpensFirst (c ∷ cs) = c ≡ call.Function (function.Open (record { 0 = 0 }))
 
 -- a text is a plan of this seed and N calls: the lines of as many calls, of which the first opens the manager
 pub record IsPlan (seed count : ℕ) (text : List ℕ) : Type 0 where
-  pub calls : List Call
+  pub calls : List JudgedCall
   pub long : length calls ≡ count
   pub opens : OpensFirst calls
   pub lines : text ≡ flat_map (call_line seed) calls

@@ -7,23 +7,23 @@ use Rattle.judge_script.specs.declared.reading.Transcript.{Transcript}
 use Rattle.judge_script.specs.Transcripts.{IsBadLine, IsTranscript}
 use Rattle.judge_state.specs.Sights.{first_sight}
 use Rattle.judge_rules.specs.Histories.{IsLegal}
-use Rattle.judge_set.specs.Sets.{IsFirstFault, IsTooMuch}
+use Rattle.judge_set.specs.Sets.{IsFirstIllegal, IsTooMuch}
 use Rattle.judge_engine.specs.declared.judging.Extent.{Extent}
 use Rattle.judge_engine.specs.declared.judging.Extent.TheVariants.{First, All}
-use Rattle.judge_engine.specs.declared.judging.Fault.{Fault}
-use Rattle.judge_engine.specs.declared.run.Ending.{Ending}
-use Rattle.judge_engine.specs.declared.run.Ending.TheVariants.{Conforms, Refused, Faulty}
+use Rattle.judge_engine.specs.declared.judging.JudgeFault.{JudgeFault}
+use Rattle.judge_engine.specs.declared.run.JudgeStatus.{JudgeStatus}
+use Rattle.judge_engine.specs.declared.run.JudgeStatus.TheVariants.{Conforms, Refused, Faulty}
 use Rattle.judge_engine.specs.declared.run.Refusal.{Refusal}
 use Rattle.judge_engine.specs.declared.run.Refusal.TheVariants as refusal
 use Rattle.judge_engine.specs.Faults.{AreTold, IsOverFor, indices}
 
 -- the index of the first of these faults
-abbrev pub first_index : List Fault → Option ℕ
+abbrev pub first_index : List JudgeFault → Option ℕ
 first_index [] = None
 first_index (f ∷ fs) = Some f.index
 
 -- the exit status
-abbrev pub ending_number : Ending → ℕ
+abbrev pub ending_number : JudgeStatus → ℕ
 ending_number Conforms = 0
 ending_number Refused = 1
 ending_number Faulty = 3
@@ -55,16 +55,16 @@ abbrev pub line_of : Transcript → ℕ → ℕ
 line_of t i = slice_index_or t.lines.items i 0
 
 -- the lines that tell how thread and branch are at a fault, what is admitted, and this rule
-abbrev pub reasons_text : Fault → List ℕ → List ℕ
+abbrev pub reasons_text : JudgeFault → List ℕ → List ℕ
 reasons_text f rule = codes "  state: " ++ f.standing.items ++ 10 ∷ codes "  admitted: " ++ f.admitted.items
     ++ 10 ∷ codes "  rule: " ++ rule ++ 10 ∷ []
 
 -- the lines of a fault
-abbrev pub fault_lines : List (List ℕ) → Transcript → Fault → List ℕ → List ℕ
+abbrev pub fault_lines : List (List ℕ) → Transcript → JudgeFault → List ℕ → List ℕ
 fault_lines ls t f rule = fault_text ls (line_of t f.index) ++ reasons_text f rule
 
 -- a text has the lines of these faults, in order
-abbrev pub TellsFaults : List (List ℕ) → Transcript → List Fault → List ℕ → Type 0
+abbrev pub TellsFaults : List (List ℕ) → Transcript → List JudgeFault → List ℕ → Type 0
 TellsFaults ls t [] text = text ≡ []
 TellsFaults ls t (f ∷ fs) text = (rule : List ℕ) × (rest : List ℕ)
     × (text ≡ fault_lines ls t f rule ++ rest) × TellsFaults ls t fs rest
@@ -79,7 +79,7 @@ IsBetween First text = text ≡ []
 IsBetween All text = Unit {0}
 
 -- a text reports these faults of a transcript with these lines
-pub record IsFaultsText (x : Extent) (ls : List (List ℕ)) (t : Transcript) (fs : List Fault) (text : List ℕ) : Type 0 where
+pub record IsFaultsText (x : Extent) (ls : List (List ℕ)) (t : Transcript) (fs : List JudgeFault) (text : List ℕ) : Type 0 where
   pub told : List ℕ
   pub between : List ℕ
   pub tells : TellsFaults ls t fs told
@@ -88,10 +88,10 @@ pub record IsFaultsText (x : Extent) (ls : List (List ℕ)) (t : Transcript) (fs
 
 -- a text reports the faults of a transcript, of which these are the first, or all
 pub record ReportsFaults (x : Extent) (input : List ℕ) (t : Transcript) (text : List ℕ) : Type 0 where
-  pub faults : List Fault
+  pub faults : List JudgeFault
   pub index : ℕ
   pub first : first_index faults ≡ Some index
-  pub fault : IsFirstFault t.rules t.events.items index
+  pub fault : IsFirstIllegal t.rules t.events.items index
   pub told : AreTold x t.rules t.events.items (indices faults)
   pub few : IsTooMuch t.rules (first_sight ∷ []) t.events.items → ⊥
   pub report : IsFaultsText x (lines input) t faults text
@@ -104,7 +104,7 @@ pub record ReportsNone (t : Transcript) (text : List ℕ) : Type 0 where
 
 -- what is written of an input, by how the run ends: of a transcript, that its history is legal, or its faults; or the
 -- line of the fault for which the input is refused
-abbrev pub IsReport : Extent → Ending → List ℕ → List ℕ → Type 0
+abbrev pub IsReport : Extent → JudgeStatus → List ℕ → List ℕ → Type 0
 IsReport x Conforms input text = IsUtf8 input × ((t : Transcript) × IsTranscript input t × ReportsNone t text)
 IsReport x Faulty input text =
     IsUtf8 input × ((t : Transcript) × IsTranscript input t × ReportsFaults x input t text)

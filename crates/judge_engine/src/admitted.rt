@@ -3,7 +3,9 @@
 ghost use Rattle.std.specs.Prelude.{◌≡◌, ◌++◌, OnOk};
 
 use crate::standing::push_standing;
-use judge_rules::{ALL, Answer, Call, Event, Function, Reply, Rules, StepError, next};
+use judge_rules::{
+    ALL, Function, HistoryEvent, JudgeError, JudgedAnswer, JudgedCall, Reply, Rules, next,
+};
 use judge_script::Names;
 use judge_state::State;
 use std::alloc::{AllocError, Global};
@@ -65,13 +67,13 @@ fn admits(
     alloc: Global,
     rules: Rules,
     state: &State,
-    call: Call,
-    answer: &Answer,
+    call: JudgedCall,
+    answer: &JudgedAnswer,
 ) -> Result<bool, AllocError> {
     match next(alloc, rules, state, call, answer) {
         Ok(after) => Ok(!after.is_empty()),
-        Err(StepError::TooMany) => Ok(true),
-        Err(StepError::Memory) => Err(AllocError),
+        Err(JudgeError::TooMany) => Ok(true),
+        Err(JudgeError::Memory) => Err(AllocError),
     }
 }
 
@@ -80,8 +82,8 @@ fn is_admitted(
     alloc: Global,
     rules: Rules,
     states: &[State],
-    call: Call,
-    answer: &Answer,
+    call: JudgedCall,
+    answer: &JudgedAnswer,
 ) -> Result<bool, AllocError> {
     for state in states {
         if admits(alloc, rules, state, call, answer)? {
@@ -96,11 +98,17 @@ fn push_codes(
     alloc: Global,
     rules: Rules,
     states: &[State],
-    call: Call,
+    call: JudgedCall,
     out: &mut Vec<u8>,
 ) -> Result<(), AllocError> {
     for reply in &ALL {
-        if is_admitted(alloc, rules, states, call, &Answer::Code(code_of(*reply)))? {
+        if is_admitted(
+            alloc,
+            rules,
+            states,
+            call,
+            &JudgedAnswer::Code(code_of(*reply)),
+        )? {
             push_choice(out, name_of(*reply))?;
         }
     }
@@ -113,12 +121,18 @@ fn push_values(
     rules: Rules,
     names: &Names,
     states: &[State],
-    call: Call,
+    call: JudgedCall,
     out: &mut Vec<u8>,
 ) -> Result<(), AllocError> {
     for (number, word) in names.words.iter().enumerate() {
         if number < 1 << 32
-            && is_admitted(alloc, rules, states, call, &Answer::Found(number as u32))?
+            && is_admitted(
+                alloc,
+                rules,
+                states,
+                call,
+                &JudgedAnswer::Found(number as u32),
+            )?
         {
             push_choice(out, "= ")?;
             push(out, word)?;
@@ -212,19 +226,19 @@ fn push_admitted(
     rules: Rules,
     names: &Names,
     states: &[State],
-    call: Call,
+    call: JudgedCall,
     out: &mut Vec<u8>,
 ) -> Result<(), AllocError> {
     push_codes_of(alloc, rules, states, call, out)?;
-    if is_admitted(alloc, rules, states, call, &Answer::Done)? {
+    if is_admitted(alloc, rules, states, call, &JudgedAnswer::Done)? {
         push_choice(out, "done")?;
     }
-    if is_admitted(alloc, rules, states, call, &Answer::Refused)? {
+    if is_admitted(alloc, rules, states, call, &JudgedAnswer::Refused)? {
         push_choice(out, "refused")?;
     }
     match call {
-        Call::Get { .. } => push_values(alloc, rules, names, states, call, out),
-        Call::Function(
+        JudgedCall::Get { .. } => push_values(alloc, rules, names, states, call, out),
+        JudgedCall::Function(
             Function::Recover {
                 thread,
                 count,
@@ -250,11 +264,11 @@ fn push_codes_of(
     alloc: Global,
     rules: Rules,
     states: &[State],
-    call: Call,
+    call: JudgedCall,
     out: &mut Vec<u8>,
 ) -> Result<(), AllocError> {
     match call {
-        Call::Function(_) => push_codes(alloc, rules, states, call, out),
+        JudgedCall::Function(_) => push_codes(alloc, rules, states, call, out),
         _ => Ok(()),
     }
 }
@@ -265,7 +279,7 @@ pub(crate) fn explain(
     rules: Rules,
     names: &Names,
     states: &[State],
-    event: &Event,
+    event: &HistoryEvent,
 ) -> Result<(Vec<u8>, Vec<u8>), AllocError> {
     let told = if states.len() > MOST_TOLD {
         &states[..MOST_TOLD]

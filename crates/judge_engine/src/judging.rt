@@ -8,7 +8,7 @@ ghost use Rattle.judge_engine.specs.Faults.{AreFaults, AreTold, IsAt, IsNext, Is
 ghost use Rattle.judge_engine.specs.Reports.{first_index};
 
 use crate::admitted::explain;
-use judge_rules::{Answer, Event, Rules, StepError};
+use judge_rules::{HistoryEvent, JudgeError, JudgedAnswer, Rules};
 use judge_script::Transcript;
 use judge_set::{Walk, follow_all, judge, resumed};
 use judge_state::State;
@@ -23,7 +23,7 @@ pub enum Extent {
 
 /// An answer that no history admits.
 #[derive(Drop)]
-pub struct Fault {
+pub struct JudgeFault {
     /// The index of its event.
     pub index: usize,
     /// How thread and branch are there.
@@ -33,10 +33,10 @@ pub struct Fault {
 }
 
 /// Whether an event has no answer.
-fn is_hung(event: &Event) -> bool
+fn is_hung(event: &HistoryEvent) -> bool
     ensures { result ≡ not (is_answered event.now.answer) }
 {
-    matches!(event.answer, Answer::Hung)
+    matches!(event.answer, JudgedAnswer::Hung)
 }
 
 /// The fault of an event that none of these states admits.
@@ -45,14 +45,14 @@ fn fault_at(
     transcript: &Transcript,
     states: &[State],
     index: usize,
-) -> Result<Fault, AllocError>
+) -> Result<JudgeFault, AllocError>
     ensures { IfOk result (λ fault. fault.index ≡ index) }
 {
     let (standing, admitted) = match transcript.events.get(index) {
         None => (Vec::new(alloc), Vec::new(alloc)),
         Some(event) => explain(alloc, transcript.rules, &transcript.names, states, event)?,
     };
-    Ok(Fault {
+    Ok(JudgeFault {
         index,
         standing,
         admitted,
@@ -63,14 +63,14 @@ fn fault_at(
 fn next_walk(
     alloc: Global,
     rules: Rules,
-    events: &[Event],
+    events: &[HistoryEvent],
     states: &[State],
     index: usize,
-) -> Result<Option<Walk>, StepError>
+) -> Result<Option<Walk>, JudgeError>
     requires within { index < length events.now }
     requires some { 0 < length states.now }
     ensures next { IfOk result (IsNext rules events.now index states.now) }
-    ensures too_many { IfErr result (λ e. e ≡ StepError.TooMany → IsNextOver rules events.now index states.now) }
+    ensures too_many { IfErr result (λ e. e ≡ JudgeError.TooMany → IsNextOver rules events.now index states.now) }
 {
     let event = &events[index];
     if is_hung(event) {
@@ -85,15 +85,15 @@ fn next_walk(
 fn add_more(
     alloc: Global,
     transcript: &Transcript,
-    found: &mut Vec<Fault>,
+    found: &mut Vec<JudgeFault>,
     states: Vec<State>,
     index: usize,
-) -> Result<(), StepError>
+) -> Result<(), JudgeError>
     requires { IsAt transcript.now.rules transcript.now.events.items (indices found.old.items) index states.items }
     ensures first { OnOk result (first_index found.new.items ≡ first_index found.old.items) }
     ensures all { OnOk result (AreFaults transcript.now.rules transcript.now.events.items
         (indices found.new.items)) }
-    ensures too_many { IfErr result (λ e. e ≡ StepError.TooMany
+    ensures too_many { IfErr result (λ e. e ≡ JudgeError.TooMany
         → IsOver transcript.now.rules transcript.now.events.items) }
 {
     let mut at = index;
@@ -119,12 +119,12 @@ fn faults_from(
     transcript: &Transcript,
     states: Vec<State>,
     index: usize,
-) -> Result<Vec<Fault>, StepError>
+) -> Result<Vec<JudgeFault>, JudgeError>
     requires { IsAt transcript.now.rules transcript.now.events.items (index ∷ []) index states.items }
     ensures first { IfOk result (λ found. first_index found.items ≡ Some index) }
     ensures told { IfOk result (λ found.
         AreTold extent transcript.now.rules transcript.now.events.items (indices found.items)) }
-    ensures too_many { IfErr result (λ e. e ≡ StepError.TooMany
+    ensures too_many { IfErr result (λ e. e ≡ JudgeError.TooMany
         → IsOverFor extent transcript.now.rules transcript.now.events.items) }
 {
     let mut found = Vec::new(alloc);
@@ -143,14 +143,14 @@ pub(crate) fn faults(
     alloc: Global,
     extent: Extent,
     transcript: &Transcript,
-) -> Result<Vec<Fault>, StepError>
+) -> Result<Vec<JudgeFault>, JudgeError>
     ensures verdict { IfOk result (λ found.
         IsVerdict transcript.now.rules transcript.now.events.items (first_index found.items)) }
     ensures told { IfOk result (λ found.
         AreTold extent transcript.now.rules transcript.now.events.items (indices found.items)) }
     ensures few { IfOk result (λ found.
         IsTooMuch transcript.now.rules (first_sight ∷ []) transcript.now.events.items → ⊥) }
-    ensures too_many { IfErr result (λ e. e ≡ StepError.TooMany
+    ensures too_many { IfErr result (λ e. e ≡ JudgeError.TooMany
         → IsOverFor extent transcript.now.rules transcript.now.events.items) }
 {
     let walk = judge(alloc, transcript.rules, &transcript.events)?;

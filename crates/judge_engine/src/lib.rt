@@ -14,6 +14,6 @@ mod script;
 mod sorts;
 mod standing;
 
-pub use judging::{Extent, Fault};
+pub use judging::{Extent, JudgeFault};
 pub use plan::run_plan;
-pub use run::{Ending, run_judge};
+pub use run::{JudgeStatus, run_judge};

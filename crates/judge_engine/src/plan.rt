@@ -11,7 +11,8 @@ ghost use Rattle.judge_engine.specs.Plans.{IsPlan, OpensFirst};
 use crate::random::Random;
 use crate::script::push_call;
 use judge_rules::{
-    Answer, BranchVerb, Call, Function, Lacks, Never, On, Rules, StepError, XidName, XidSort, next,
+    BranchVerb, Function, JudgeError, JudgedAnswer, JudgedCall, Lacks, Never, On, Rules, XidName,
+    XidSort, next,
 };
 use judge_state::State;
 use report_io::{Failure, write_all};
@@ -203,18 +204,18 @@ impl Plan {
     }
 
     /// A call on a branch.
-    fn branch_call(&mut self, verb: BranchVerb) -> Call {
+    fn branch_call(&mut self, verb: BranchVerb) -> JudgedCall {
         let flags = flags_of(&mut self.random, verb);
         let fresh = verb == BranchVerb::Start
             && flags == Flags::TMNOFLAGS
             && self.random.below(8) > 0;
         let thread = self.thread();
         let xid = self.xid(fresh);
-        Call::Function(Function::Branch(verb, On { thread, xid, flags }))
+        JudgedCall::Function(Function::Branch(verb, On { thread, xid, flags }))
     }
 
     /// A recover. A scan that is open mostly goes on.
-    fn recover_call(&mut self) -> Call {
+    fn recover_call(&mut self) -> JudgedCall {
         let thread = self.thread();
         let flags = if self.state.is_scanning(thread) && self.random.below(3) > 0 {
             choice(&mut self.random, &GOING_ON)
@@ -223,7 +224,7 @@ impl Plan {
         };
         let count = self.random.below(4);
         let count = if count == 3 { 99 } else { count };
-        Call::Function(Function::Recover {
+        JudgedCall::Function(Function::Recover {
             thread,
             count,
             flags,
@@ -231,30 +232,30 @@ impl Plan {
     }
 
     /// An operator's decision.
-    fn decision(&mut self) -> Call {
+    fn decision(&mut self) -> JudgedCall {
         let branch = self.xid(false).number;
-        Call::Decide {
+        JudgedCall::Decide {
             branch: branch.max(1),
             commits: self.random.below(2) == 0,
         }
     }
 
     /// A call of a kind, a number below 100, that may be legal or not.
-    fn call_of(&mut self, kind: u32) -> Call {
+    fn call_of(&mut self, kind: u32) -> JudgedCall {
         match kind {
             0..=69 => self.branch_call(verb_of(kind)),
             70..=77 => self.recover_call(),
             78..=91 => self.data_call(),
             92..=95 => self.decision(),
-            96 => Call::Function(Function::Close(choice(&mut self.random, &PLAIN))),
-            97 => Call::Function(Function::Open(choice(&mut self.random, &PLAIN))),
-            98 => Call::Trim,
-            _ => Call::Restart { cut: true },
+            96 => JudgedCall::Function(Function::Close(choice(&mut self.random, &PLAIN))),
+            97 => JudgedCall::Function(Function::Open(choice(&mut self.random, &PLAIN))),
+            98 => JudgedCall::Trim,
+            _ => JudgedCall::Restart { cut: true },
         }
     }
 
     /// A read or a write, mostly by a thread that is active in a branch, of a key of that branch.
-    fn data_call(&mut self) -> Call {
+    fn data_call(&mut self) -> JudgedCall {
         let first = self.thread();
         let thread = if self.state.is_active(first) {
             first
@@ -266,22 +267,22 @@ impl Plan {
             None => self.xid(false).number,
         };
         if self.random.below(3) == 0 {
-            return Call::Get { thread, key };
+            return JudgedCall::Get { thread, key };
         }
         let value = self.random.below(100);
         match self.state.active(thread) {
-            Some(_) => Call::Put { thread, key, value },
-            None => Call::Get { thread, key },
+            Some(_) => JudgedCall::Put { thread, key, value },
+            None => JudgedCall::Get { thread, key },
         }
     }
 
     /// The states after a call that is answered so.
-    fn after(&self, call: Call, answer: &Answer) -> Result<Vec<State>, StepError> {
+    fn after(&self, call: JudgedCall, answer: &JudgedAnswer) -> Result<Vec<State>, JudgeError> {
         next(self.alloc, RULES, &self.state, call, answer)
     }
 
     /// The list that a recover gives, of those that it may give the first ones.
-    fn given(&self, thread: u32, count: u32, flags: Flags) -> Result<Answer, StepError> {
+    fn given(&self, thread: u32, count: u32, flags: Flags) -> Result<JudgedAnswer, JudgeError> {
         let copy = self.state.copied(self.alloc)?;
         let scan = if flags.has(Flags::TMSTARTRSCAN) {
             copy.scan_opened(self.alloc, thread)?
@@ -294,11 +295,15 @@ impl Plan {
                 given.push(branch.name)?;
             }
         }
-        Ok(Answer::Given(given))
+        Ok(JudgedAnswer::Given(given))
     }
 
     /// A state after a call and the first of these answers that is admitted: None, if none is.
-    fn after_first(&self, call: Call, answers: &[Answer]) -> Result<Option<State>, StepError> {
+    fn after_first(
+        &self,
+        call: JudgedCall,
+        answers: &[JudgedAnswer],
+    ) -> Result<Option<State>, JudgeError> {
         for answer in answers {
             let mut states = self.after(call, answer)?;
             if let Some(state) = states.pop() {
@@ -309,9 +314,9 @@ impl Plan {
     }
 
     /// A state after a call that need not be refused: None, if it must be.
-    fn passed(&self, call: Call) -> Result<Option<State>, StepError> {
+    fn passed(&self, call: JudgedCall) -> Result<Option<State>, JudgeError> {
         match call {
-            Call::Function(
+            JudgedCall::Function(
                 Function::Recover {
                     thread,
                     count,
@@ -321,24 +326,24 @@ impl Plan {
                 let list = self.given(thread, count, flags)?;
                 self.after_first(call, &[list])
             }
-            Call::Function(_) => {
+            JudgedCall::Function(_) => {
                 let answers = [
-                    Answer::Code(Code::Ok),
-                    Answer::Code(Code::RbRollback),
-                    Answer::Code(Code::HeurCom),
-                    Answer::Code(Code::HeurRb),
+                    JudgedAnswer::Code(Code::Ok),
+                    JudgedAnswer::Code(Code::RbRollback),
+                    JudgedAnswer::Code(Code::HeurCom),
+                    JudgedAnswer::Code(Code::HeurRb),
                 ];
                 self.after_first(call, &answers)
             }
-            Call::Get { .. } => self.after_first(call, &[Answer::Refused]),
-            _ => self.after_first(call, &[Answer::Done]),
+            JudgedCall::Get { .. } => self.after_first(call, &[JudgedAnswer::Refused]),
+            _ => self.after_first(call, &[JudgedAnswer::Done]),
         }
     }
 
     /// The next call: mostly a legal one of its kind, or of the kinds on a branch that are tried after it.
-    fn chosen(&mut self) -> Result<Call, StepError> {
+    fn chosen(&mut self) -> Result<JudgedCall, JudgeError> {
         if !self.state.is_open() && self.random.below(3) > 0 {
-            return Ok(Call::Function(Function::Open(Flags::TMNOFLAGS)));
+            return Ok(JudgedCall::Function(Function::Open(Flags::TMNOFLAGS)));
         }
         let legal = self.random.below(10) < self.sure;
         let mut kind = self.random.below(100);
@@ -355,18 +360,18 @@ impl Plan {
     }
 
     /// The call at a place: the first opens the manager.
-    fn call_at(&mut self, place: u32) -> Result<Call, StepError>
+    fn call_at(&mut self, place: u32) -> Result<JudgedCall, JudgeError>
         ensures { IfOk result (λ call. place ≡ 0 → OpensFirst (call ∷ [])) }
     {
         if place == 0 {
-            Ok(Call::Function(Function::Open(Flags::TMNOFLAGS)))
+            Ok(JudgedCall::Function(Function::Open(Flags::TMNOFLAGS)))
         } else {
             self.chosen()
         }
     }
 
     /// Goes on to a state that the call may lead to, if it need not be refused.
-    fn follow(&mut self, call: Call) -> Result<(), StepError> {
+    fn follow(&mut self, call: JudgedCall) -> Result<(), JudgeError> {
         if let Some(state) = self.passed(call)? {
             self.state = state;
         }
@@ -374,15 +379,15 @@ impl Plan {
     }
 
     /// Notes that a branch was named.
-    fn note(&mut self, call: Call) {
-        if let Call::Function(Function::Branch(_, on)) = call {
+    fn note(&mut self, call: JudgedCall) {
+        if let JudgedCall::Function(Function::Branch(_, on)) = call {
             self.named = self.named.max(on.xid.number);
         }
     }
 }
 
 /// The calls of a plan, each a line.
-fn script(alloc: Global, seed: u64, count: u32) -> Result<Vec<u8>, StepError>
+fn script(alloc: Global, seed: u64, count: u32) -> Result<Vec<u8>, JudgeError>
     ensures { IfOk result (λ text. IsPlan seed count text.items) }
 {
     let mut random = Random::new(seed);

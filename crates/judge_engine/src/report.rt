@@ -5,7 +5,7 @@ ghost use Rattle.std.specs.Fmt.{decimal};
 ghost use Rattle.judge_engine.specs.Reports.{IsBetween, IsFaultsText, TellsFaults, conforms_text, count_text, fault_lines, line_of, reasons_text};
 
 use crate::admitted::push;
-use crate::judging::{Extent, Fault};
+use crate::judging::{Extent, JudgeFault};
 use crate::rule::rule_of;
 use crate::sorts::{count, sort_of};
 use judge_script::Transcript;
@@ -53,7 +53,7 @@ fn rule_at(transcript: &Transcript, index: usize) -> &'static str {
 }
 
 /// Adds how thread and branch are at a fault, what is admitted, and the rule.
-fn push_reasons(out: &mut Vec<u8>, fault: &Fault, rule: &str) -> Result<(), AllocError>
+fn push_reasons(out: &mut Vec<u8>, fault: &JudgeFault, rule: &str) -> Result<(), AllocError>
     ensures { OnOk result (out.new.items ≡ out.old.items ++ reasons_text fault.now rule.now) }
 {
     push(out, "  state: ")?;
@@ -70,7 +70,7 @@ fn push_fault(
     out: &mut Vec<u8>,
     transcript: &Transcript,
     lines: &[&str],
-    fault: &Fault,
+    fault: &JudgeFault,
 ) -> Result<(), AllocError>
     ensures { OnOk result ((rule : List ℕ) × (out.new.items ≡ out.old.items
         ++ fault_lines (map (λ s. s.now) lines.now) transcript.now fault.now rule)) }
@@ -85,7 +85,7 @@ fn faults_text(
     alloc: Global,
     transcript: &Transcript,
     lines: &[&str],
-    faults: &[Fault],
+    faults: &[JudgeFault],
 ) -> Result<Vec<u8>, AllocError>
     ensures { IfOk result (λ text.
         TellsFaults (map (λ s. s.now) lines.now) transcript.now faults.now text.items) }
@@ -102,7 +102,7 @@ fn all_sorts(
     alloc: Global,
     transcript: &Transcript,
     lines: &[&str],
-    faults: &[Fault],
+    faults: &[JudgeFault],
 ) -> Result<Vec<u8>, AllocError> {
     let mut sorts = Vec::new(alloc);
     for fault in faults {
@@ -126,7 +126,7 @@ fn sorts_text(
     extent: Extent,
     transcript: &Transcript,
     lines: &[&str],
-    faults: &[Fault],
+    faults: &[JudgeFault],
 ) -> Result<Vec<u8>, AllocError>
     ensures { IfOk result (λ text. IsBetween extent text.items) }
 {
@@ -164,7 +164,7 @@ pub(crate) fn faulty(
     extent: Extent,
     transcript: &Transcript,
     lines: &[&str],
-    faults: &[Fault],
+    faults: &[JudgeFault],
 ) -> Result<Vec<u8>, AllocError>
     ensures { IfOk result (λ text.
         IsFaultsText extent (map (λ s. s.now) lines.now) transcript.now faults.now text.items) }

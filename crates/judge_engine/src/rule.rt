@@ -1,6 +1,6 @@
 //! The rules, each in a sentence.
 
-use judge_rules::{BranchVerb, Call, Function};
+use judge_rules::{BranchVerb, Function, JudgedCall};
 
 /// The rule of a function on a branch.
 fn branch_rule(verb: BranchVerb) -> &'static str {
@@ -37,18 +37,19 @@ fn function_rule(function: Function) -> &'static str {
 }
 
 /// The rule by which a call is judged.
-pub(crate) fn rule_of(call: Call) -> &'static str {
+pub(crate) fn rule_of(call: JudgedCall) -> &'static str {
     match call {
-        Call::Function(function) => function_rule(function),
-        Call::Get { .. } => {
+        JudgedCall::Function(function) => function_rule(function),
+        JudgedCall::Get { .. } => {
             "get: a branch reads its own last write, else a value that was committed when it began or since"
         }
-        Call::Put { .. } => "put, del: done, or refused without effect",
-        Call::Decide { .. } => "heur: an operator decides a prepared branch",
-        Call::Restart { .. } => "restart: what is prepared or decided stays, all else is gone",
-        Call::Disconnect { .. } => {
+        JudgedCall::Put { .. } => "put, del: done, or refused without effect",
+        JudgedCall::Decide { .. } => "heur: an operator decides a prepared branch",
+        JudgedCall::Restart { .. } =>
+            "restart: what is prepared or decided stays, all else is gone",
+        JudgedCall::Disconnect { .. } => {
             "disconnect: the associations of the thread are gone, and its branches at work may be"
         }
-        Call::Trim => "trim: changes nothing",
+        JudgedCall::Trim => "trim: changes nothing",
     }
 }

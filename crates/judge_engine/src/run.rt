@@ -5,12 +5,12 @@ ghost use Rattle.std.specs.Io.KnownBytes.{Appends, Keeps};
 ghost use Rattle.std.specs.Str.{IsUtf8};
 ghost use Rattle.report_io.specs.Streams.{IsInput, WritesFront};
 ghost use Rattle.judge_script.specs.Transcripts.{IsTranscript};
-ghost use Rattle.judge_engine.specs.declared.run.Ending.{Ending as AnyEnding};
+ghost use Rattle.judge_engine.specs.declared.run.JudgeStatus.{JudgeStatus as AnyEnding};
 ghost use Rattle.judge_engine.specs.Reports.{IsRefusal, IsReport, ending_number, refusal_text};
 
 use crate::judging::{Extent, faults};
 use crate::report::{conforms, faulty};
-use judge_rules::StepError;
+use judge_rules::JudgeError;
 use judge_script::{Transcript, transcript_of};
 use report_io::{Failure, read_all, write_all};
 use script_words::lines_of;
@@ -21,7 +21,7 @@ use trace_lines::{push, push_number};
 
 /// How a run of the judge ended.
 #[derive(Clone, Copy, PartialEq, Eq)]
-pub enum Ending {
+pub enum JudgeStatus {
     /// The transcript is that of a legal history.
     Conforms,
     /// It was refused.
@@ -30,15 +30,15 @@ pub enum Ending {
     Faulty,
 }
 
-impl Ending {
+impl JudgeStatus {
     /// The exit status.
     pub fn number(self) -> u8
         ensures { result ≡ ending_number self }
     {
         match self {
-            Ending::Conforms => 0,
-            Ending::Refused => 1,
-            Ending::Faulty => 3,
+            JudgeStatus::Conforms => 0,
+            JudgeStatus::Refused => 1,
+            JudgeStatus::Faulty => 3,
         }
     }
 }
@@ -55,9 +55,9 @@ enum Refusal {
 }
 
 /// The line of a refused transcript.
-fn refused(alloc: Global, refusal: Refusal) -> Result<(Vec<u8>, Ending), AllocError>
+fn refused(alloc: Global, refusal: Refusal) -> Result<(Vec<u8>, JudgeStatus), AllocError>
     ensures text { IfOk result (λ r. r.0.items ≡ refusal_text refusal) }
-    ensures ending { IfOk result (λ r. r.1 ≡ Ending.Refused) }
+    ensures ending { IfOk result (λ r. r.1 ≡ JudgeStatus.Refused) }
 {
     let mut out = Vec::new(alloc);
     match refusal {
@@ -69,7 +69,7 @@ fn refused(alloc: Global, refusal: Refusal) -> Result<(Vec<u8>, Ending), AllocEr
             push(&mut out, "\n")?;
         }
     }
-    Ok((out, Ending::Refused))
+    Ok((out, JudgeStatus::Refused))
 }
 
 /// The verdict of a transcript.
@@ -78,28 +78,28 @@ fn verdict(
     extent: Extent,
     transcript: &Transcript,
     text: &str,
-) -> Result<(Vec<u8>, Ending), AllocError>
+) -> Result<(Vec<u8>, JudgeStatus), AllocError>
     requires text { IsUtf8 text.now }
     requires read { IsTranscript text.now transcript.now }
     ensures { IfOk result (λ r. IsReport extent r.1 text.now r.0.items) }
 {
     let lines = lines_of(alloc, text)?;
     match faults(alloc, extent, transcript) {
-        Err(StepError::Memory) => Err(AllocError),
-        Err(StepError::TooMany) => refused(alloc, Refusal::TooMany),
+        Err(JudgeError::Memory) => Err(AllocError),
+        Err(JudgeError::TooMany) => refused(alloc, Refusal::TooMany),
         Ok(found) => {
             if found.is_empty() {
-                Ok((conforms(alloc, transcript)?, Ending::Conforms))
+                Ok((conforms(alloc, transcript)?, JudgeStatus::Conforms))
             } else {
                 let out = faulty(alloc, extent, transcript, &lines, &found)?;
-                Ok((out, Ending::Faulty))
+                Ok((out, JudgeStatus::Faulty))
             }
         }
     }
 }
 
 /// The answer to an input.
-fn report(alloc: Global, extent: Extent, input: &[u8]) -> Result<(Vec<u8>, Ending), AllocError>
+fn report(alloc: Global, extent: Extent, input: &[u8]) -> Result<(Vec<u8>, JudgeStatus), AllocError>
     ensures { IfOk result (λ r. IsReport extent r.1 input.now r.0.items) }
 {
     let Ok(text) = str::from_utf8(input) else {
@@ -119,7 +119,7 @@ pub fn run_judge<R: Read, W: Write>(
     extent: Extent,
     reader: &mut R,
     writer: &mut W,
-) -> Result<Ending, Failure>
+) -> Result<JudgeStatus, Failure>
     ensures written { IfOk result (λ ending. (input : List ℕ) × (text : List ℕ)
         × IsInput (R.remaining reader.old) input × IsReport extent ending input text
         × Appends (W.contents writer.old) (W.contents writer.new) text) }

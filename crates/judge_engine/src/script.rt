@@ -4,7 +4,7 @@ ghost use Rattle.std.specs.Prelude.{◌≡◌, ◌++◌, OnOk, codes};
 ghost use Rattle.std.specs.Fmt.{decimal};
 ghost use Rattle.judge_engine.specs.Plans.{branch_text, call_line, call_text, decision_text, flags_text, function_text, get_text, global_name, key_name, outcome_text, put_text, verb_word, xid_name};
 
-use judge_rules::{BranchVerb, Call, Function, On, XidName, XidSort};
+use judge_rules::{BranchVerb, Function, JudgedCall, On, XidName, XidSort};
 use spellings::hexadecimal::Hexadecimal;
 use std::alloc::{AllocError, Global};
 use trace_lines::{push, push_number};
@@ -209,17 +209,22 @@ fn push_get(
 }
 
 /// Adds a call without the end of its line.
-fn push_words(alloc: Global, out: &mut Vec<u8>, seed: u64, call: Call) -> Result<(), AllocError>
+fn push_words(
+    alloc: Global,
+    out: &mut Vec<u8>,
+    seed: u64,
+    call: JudgedCall,
+) -> Result<(), AllocError>
     ensures { OnOk result (out.new.items ≡ out.old.items ++ call_text seed call) }
 {
     match call {
-        Call::Function(function) => push_function(alloc, out, seed, function),
-        Call::Get { thread, key } => push_get(alloc, out, seed, thread, key),
-        Call::Put { thread, key, value } => push_put(alloc, out, seed, thread, key, value),
-        Call::Decide { branch, commits } => push_decision(alloc, out, seed, branch, commits),
-        Call::Restart { .. } => push(out, "restart 0"),
-        Call::Disconnect { thread } => push_disconnect(out, thread),
-        Call::Trim => push(out, "trim"),
+        JudgedCall::Function(function) => push_function(alloc, out, seed, function),
+        JudgedCall::Get { thread, key } => push_get(alloc, out, seed, thread, key),
+        JudgedCall::Put { thread, key, value } => push_put(alloc, out, seed, thread, key, value),
+        JudgedCall::Decide { branch, commits } => push_decision(alloc, out, seed, branch, commits),
+        JudgedCall::Restart { .. } => push(out, "restart 0"),
+        JudgedCall::Disconnect { thread } => push_disconnect(out, thread),
+        JudgedCall::Trim => push(out, "trim"),
     }
 }
 
@@ -228,7 +233,7 @@ pub(crate) fn push_call(
     alloc: Global,
     out: &mut Vec<u8>,
     seed: u64,
-    call: Call,
+    call: JudgedCall,
 ) -> Result<(), AllocError>
     ensures { OnOk result (out.new.items ≡ out.old.items ++ call_line seed call) }
 {

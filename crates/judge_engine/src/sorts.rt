@@ -1,6 +1,6 @@
 //! Faults by sort.
 
-use crate::judging::Fault;
+use crate::judging::JudgeFault;
 use std::alloc::{AllocError, Global};
 
 /// Faults of one sort: the same call with the same flags, answered alike where thread and branch stand alike.
@@ -27,7 +27,11 @@ fn is_number(word: &str) -> bool {
 }
 
 /// The sort of a fault: the first word of the call and its flags, the first word of the answer, and the standing.
-pub(crate) fn sort_of(alloc: Global, line: &str, fault: &Fault) -> Result<Vec<u8>, AllocError> {
+pub(crate) fn sort_of(
+    alloc: Global,
+    line: &str,
+    fault: &JudgeFault,
+) -> Result<Vec<u8>, AllocError> {
     let mut name = Vec::new(alloc);
     let mut first = true;
     let mut answers = false;

@@ -1,12 +1,12 @@
 //! How thread and branch are in a state, in the words of XA's tables.
 
 use crate::admitted::push;
-use judge_rules::{Call, Function, On};
-use judge_state::{Branch, Stand, State};
+use judge_rules::{Function, JudgedCall, On};
+use judge_state::{JudgedBranch, Stand, State};
 use std::alloc::{AllocError, Global};
 
 /// How a branch stands, by its number in XA's table.
-fn branch_word(state: &State, x: u32, branch: Option<Branch>) -> &'static str {
+fn branch_word(state: &State, x: u32, branch: Option<JudgedBranch>) -> &'static str {
     let Some(branch) = branch else {
         return "S0";
     };
@@ -56,14 +56,14 @@ fn open_word(state: &State) -> &'static str {
 pub(crate) fn push_standing(
     alloc: Global,
     state: &State,
-    call: Call,
+    call: JudgedCall,
     out: &mut Vec<u8>,
 ) -> Result<(), AllocError> {
     let mut text = Vec::new(alloc);
     push(&mut text, open_word(state))?;
     match call {
-        Call::Function(Function::Branch(_, on)) => standing_on(state, on, &mut text)?,
-        Call::Function(Function::Recover { thread, .. }) => {
+        JudgedCall::Function(Function::Branch(_, on)) => standing_on(state, on, &mut text)?,
+        JudgedCall::Function(Function::Recover { thread, .. }) => {
             let word = if state.is_scanning(thread) {
                 " a scan is open"
             } else {
@@ -71,7 +71,7 @@ pub(crate) fn push_standing(
             };
             push(&mut text, word)?;
         }
-        Call::Get { thread, .. } | Call::Put { thread, .. } => {
+        JudgedCall::Get { thread, .. } | JudgedCall::Put { thread, .. } => {
             let word = if state.is_active(thread) {
                 " T1"
             } else {
@@ -79,7 +79,7 @@ pub(crate) fn push_standing(
             };
             push(&mut text, word)?;
         }
-        Call::Decide { branch, .. } => {
+        JudgedCall::Decide { branch, .. } => {
             push(&mut text, " ")?;
             push(&mut text, branch_word(state, branch, state.branch(branch)))?;
         }

@@ -3,12 +3,12 @@ use Rattle.std.proofs.Common.{◌≡◌, ℕ, zero, suc, ◌+◌, ◌<◌, List,
 use Rattle.std.specs.Prelude.{Contains, fold, length}
 use Rattle.std.proofs.lemmas.List.Sums.{fold_more}
 use Rattle.std.proofs.lemmas.List.Elements.{Contains-append_left, Contains-append_right, Contains-append_cases}
-use Rattle.judge_state.specs.declared.parts.Branch.{Branch}
+use Rattle.judge_state.specs.declared.parts.JudgedBranch.{JudgedBranch}
 use Rattle.judge_state.specs.declared.parts.Work.{Work}
 use Rattle.judge_state.specs.Moves.{brought_back, gone, marked}
 use Rattle.judge_state.specs.Sights.{Sight}
 use Rattle.judge_rules.specs.Falls.{maybe_back, maybe_gone}
-use Rattle.judge_rules.specs.Sets.{AreTooMany, IsSetOf}
+use Rattle.judge_rules.specs.Sets.{AreTooManyStates, IsSetOf}
 use Rattle.judge_rules.proofs.Members.{cons_cases, cons_here, cons_there, none_in}
 
 -- what is among these is among those
@@ -41,16 +41,16 @@ sub_append us vs ws xs f g t c = elim (Contains-append_cases us vs t c) [
 ]
 
 -- a step of a fold over branches keeps what there was, and makes no more of fewer
-record Grows (f : List Sight → Branch → List Sight) : Type 0 where
-  keeps : (us : List Sight) (b : Branch) → Sub us (f us b)
-  wider : (us vs : List Sight) (b : Branch) → Sub us vs → Sub (f us b) (f vs b)
+record Grows (f : List Sight → JudgedBranch → List Sight) : Type 0 where
+  keeps : (us : List Sight) (b : JudgedBranch) → Sub us (f us b)
+  wider : (us vs : List Sight) (b : JudgedBranch) → Sub us vs → Sub (f us b) (f vs b)
 
-all_kept : (f : List Sight → Branch → List Sight) → Grows f → (us : List Sight) (bs : List Branch)
+all_kept : (f : List Sight → JudgedBranch → List Sight) → Grows f → (us : List Sight) (bs : List JudgedBranch)
     → Sub us (fold f us bs)
 all_kept f g us [] t c = c
 all_kept f g us (b ∷ bs) t c = all_kept f g (f us b) bs t (g.keeps us b t c)
 
-front_kept : (f : List Sight → Branch → List Sight) → Grows f → (us : List Sight) (bs : List Branch) (i : ℕ)
+front_kept : (f : List Sight → JudgedBranch → List Sight) → Grows f → (us : List Sight) (bs : List JudgedBranch) (i : ℕ)
     → Sub (fold f us (take i bs)) (fold f us bs)
 front_kept f g us [] zero t c = c
 front_kept f g us [] (suc i) t c = c
@@ -58,7 +58,7 @@ front_kept f g us (b ∷ bs) zero t c = all_kept f g us (b ∷ bs) t c
 front_kept f g us (b ∷ bs) (suc i) t c = front_kept f g (f us b) bs i t c
 
 -- the set of one more step
-next_set : (f : List Sight → Branch → List Sight) → Grows f → (us set new : List Sight) (b : Branch) → IsSetOf us set
+next_set : (f : List Sight → JudgedBranch → List Sight) → Grows f → (us set new : List Sight) (b : JudgedBranch) → IsSetOf us set
     → IsSetOf (f set b) new → IsSetOf (f us b) new
 next_set f g us set new b old made = record {
   all = λ t. (
@@ -68,8 +68,8 @@ next_set f g us set new b old made = record {
   apart = made.apart;
 }
 
-fold_set : (f : List Sight → Branch → List Sight) → Grows f → (us set more new : List Sight) (bs : List Branch) (i : ℕ)
-    (d : Branch) → i < length bs → IsSetOf (fold f us (take i bs)) set → more ≡ f set (get_or bs i d)
+fold_set : (f : List Sight → JudgedBranch → List Sight) → Grows f → (us set more new : List Sight) (bs : List JudgedBranch) (i : ℕ)
+    (d : JudgedBranch) → i < length bs → IsSetOf (fold f us (take i bs)) set → more ≡ f set (get_or bs i d)
     → IsSetOf more new → IsSetOf (fold f us (take (i + 1) bs)) new
 fold_set f g us set more new bs i d lt old is made =
     subst (λ (q : List Sight). IsSetOf q new) (sym (fold_more f us bs i d lt))
@@ -77,9 +77,9 @@ fold_set f g us set more new bs i d lt old is made =
     (subst (λ (q : List Sight). IsSetOf q new) is made))
 
 -- too many after some of the branches, and one more, are too many after all
-too_many : (f : List Sight → Branch → List Sight) → Grows f → (us set more : List Sight) (bs : List Branch) (i : ℕ)
-    (d : Branch) → i < length bs → IsSetOf (fold f us (take i bs)) set → more ≡ f set (get_or bs i d)
-    → AreTooMany more → AreTooMany (fold f us bs)
+too_many : (f : List Sight → JudgedBranch → List Sight) → Grows f → (us set more : List Sight) (bs : List JudgedBranch) (i : ℕ)
+    (d : JudgedBranch) → i < length bs → IsSetOf (fold f us (take i bs)) set → more ≡ f set (get_or bs i d)
+    → AreTooManyStates more → AreTooManyStates (fold f us bs)
 too_many f g us set more bs i d lt old is (ts, apart, among, many) =
     let b = get_or bs i d in
     let front = fold f us (take i bs) in
@@ -110,22 +110,22 @@ gone_grow = record {
       (sub_map (marked b.name) us vs sub);
 }
 
-pub back_set : (ws : List Work) (us set more new : List Sight) (bs : List Branch) (i : ℕ) (d : Branch)
+pub back_set : (ws : List Work) (us set more new : List Sight) (bs : List JudgedBranch) (i : ℕ) (d : JudgedBranch)
     → i < length bs → IsSetOf (fold (maybe_back ws) us (take i bs)) set → more ≡ maybe_back ws set (get_or bs i d)
     → IsSetOf more new → IsSetOf (fold (maybe_back ws) us (take (i + 1) bs)) new
 back_set ws = fold_set (maybe_back ws) (back_grow ws)
 
-pub gone_set : (us set more new : List Sight) (bs : List Branch) (i : ℕ) (d : Branch) → i < length bs
+pub gone_set : (us set more new : List Sight) (bs : List JudgedBranch) (i : ℕ) (d : JudgedBranch) → i < length bs
     → IsSetOf (fold maybe_gone us (take i bs)) set → more ≡ maybe_gone set (get_or bs i d) → IsSetOf more new
     → IsSetOf (fold maybe_gone us (take (i + 1) bs)) new
 gone_set = fold_set maybe_gone gone_grow
 
-pub back_many : (ws : List Work) (us set more : List Sight) (bs : List Branch) (i : ℕ) (d : Branch) → i < length bs
+pub back_many : (ws : List Work) (us set more : List Sight) (bs : List JudgedBranch) (i : ℕ) (d : JudgedBranch) → i < length bs
     → IsSetOf (fold (maybe_back ws) us (take i bs)) set → more ≡ maybe_back ws set (get_or bs i d)
-    → AreTooMany more → AreTooMany (fold (maybe_back ws) us bs)
+    → AreTooManyStates more → AreTooManyStates (fold (maybe_back ws) us bs)
 back_many ws = too_many (maybe_back ws) (back_grow ws)
 
-pub gone_many : (us set more : List Sight) (bs : List Branch) (i : ℕ) (d : Branch) → i < length bs
-    → IsSetOf (fold maybe_gone us (take i bs)) set → more ≡ maybe_gone set (get_or bs i d) → AreTooMany more
-    → AreTooMany (fold maybe_gone us bs)
+pub gone_many : (us set more : List Sight) (bs : List JudgedBranch) (i : ℕ) (d : JudgedBranch) → i < length bs
+    → IsSetOf (fold maybe_gone us (take i bs)) set → more ≡ maybe_gone set (get_or bs i d) → AreTooManyStates more
+    → AreTooManyStates (fold maybe_gone us bs)
 gone_many = too_many maybe_gone gone_grow

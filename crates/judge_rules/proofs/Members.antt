@@ -4,7 +4,7 @@ use Rattle.std.specs.Prelude.{◌⊎◌, Contains}
 use Rattle.std.proofs.lemmas.List.{length-append}
 use Rattle.std.proofs.lemmas.List.Elements.{Contains-append_left, Contains-append_right, Contains-push, Contains-push_cases, Contains-append_cases}
 use Rattle.judge_state.specs.Sights.{Sight}
-use Rattle.judge_rules.specs.Sets.{Adds, AreApart, IsSetOf}
+use Rattle.judge_rules.specs.Sets.{Adds, AreApartStates, IsSetOf}
 
 pub none_in : (x : Sight) → Contains [] x → ⊥
 none_in x c = omega (arith, c.1)
@@ -24,7 +24,7 @@ pub cons_there : (y : Sight) (ys : List Sight) (x : Sight) → Contains ys x →
 cons_there y ys x c = Contains-append_right (y ∷ []) ys x c
 
 -- one more, which is not there, keeps them apart
-apart_push : (us : List Sight) (x : Sight) → AreApart us → (Contains us x → ⊥) → AreApart (us ++ x ∷ [])
+apart_push : (us : List Sight) (x : Sight) → AreApartStates us → (Contains us x → ⊥) → AreApartStates (us ++ x ∷ [])
 apart_push [] x a absent = (λ c. none_in x c, tt)
 apart_push (u ∷ us) x (first, rest) absent = (
   λ c. elim (Contains-push_cases us x u c) [
@@ -112,7 +112,7 @@ split (u ∷ us) x c = elim (cons_cases u us x c) [
 ]
 
 -- so many different states are among no fewer
-pub no_more : (ts us : List Sight) → AreApart ts → ((t : Sight) → Contains ts t → Contains us t)
+pub no_more : (ts us : List Sight) → AreApartStates ts → ((t : Sight) → Contains ts t → Contains us t)
     → length ts ≤ length us
 no_more [] us a sub = omega arith
 no_more (t ∷ ts) us (first, rest) sub =

@@ -2,7 +2,7 @@
 -- has several defects, the code of any of them is admitted.
 use Rattle.std.specs.Prelude.{ℕ, Bool, true, false, ◌&&◌, ◌||◌, not, ◌==◌, Option, Some, None, is_some}
 use Rattle.xa_tables.specs.Calls.{async, one_phase, resume, suspend, start_scan, join, migrate}
-use Rattle.judge_state.specs.declared.parts.Branch.{Branch}
+use Rattle.judge_state.specs.declared.parts.JudgedBranch.{JudgedBranch}
 use Rattle.judge_state.specs.declared.parts.Stand.{Stand}
 use Rattle.judge_state.specs.declared.parts.Stand.TheVariants.{Active, Prepared, RollbackOnly, Heuristic}
 use Rattle.judge_state.specs.Parts.{is_at_work, is_in_doubt}
@@ -52,17 +52,17 @@ stands_spoiled Prepared = false
 stands_spoiled (Heuristic d) = false
 
 -- a branch can only be rolled back
-abbrev pub is_spoiled : Branch → Bool
+abbrev pub is_spoiled : JudgedBranch → Bool
 is_spoiled b = stands_spoiled b.stand
 
 -- the branch of a call, where it is known, can only be rolled back
-abbrev pub is_spoiled_at : Option Branch → Bool
+abbrev pub is_spoiled_at : Option JudgedBranch → Bool
 is_spoiled_at None = false
 is_spoiled_at (Some b) = is_spoiled b
 
 -- no row lets this start join or resume: the branch is prepared or decided; the join is by the thread that has
 -- suspended it, or the branch can only be rolled back; nothing is suspended that the resume could take up
-abbrev pub has_no_start : Option Branch → ℕ → Bool → Bool → Bool
+abbrev pub has_no_start : Option JudgedBranch → ℕ → Bool → Bool → Bool
 has_no_start None f two migrated = has f resume
 has_no_start (Some b) f two migrated =
     is_in_doubt b || (has f join && (two || is_spoiled b)) || (has f resume && not (two || migrated))
@@ -153,7 +153,7 @@ decides verb.Rollback = true
 decides _ = false
 
 -- a known branch has no row for such a call
-abbrev pub is_off_row : BranchVerb → ℕ → Option Branch → Bool
+abbrev pub is_off_row : BranchVerb → ℕ → Option JudgedBranch → Bool
 is_off_row v f None = false
 is_off_row v f (Some b) = not (has_row v f b.stand)
 
@@ -171,7 +171,7 @@ finish_defects r v s o =
     }
 
 -- a thread may not end a branch: another began it, and it is at work; or it is at work in another
-abbrev pub is_strange : BranchVerb → ℕ → ℕ → Sight → Option Branch → Bool
+abbrev pub is_strange : BranchVerb → ℕ → ℕ → Sight → Option JudgedBranch → Bool
 is_strange v t x s None = false
 is_strange v t x s (Some b) = (is_at_work b && not (b.owner == t)) || (decides v && is_busy_elsewhere t x s)
 

@@ -1,6 +1,6 @@
 -- Failures, restarts and lost connections.
 use Rattle.std.specs.Prelude.{ℕ, Bool, true, false, ◌&&◌, ◌||◌, not, ◌==◌, List, [], ◌∷◌, ◌++◌, map, filter, is_some, if◌then◌else◌, fold}
-use Rattle.judge_state.specs.declared.parts.Branch.{Branch}
+use Rattle.judge_state.specs.declared.parts.JudgedBranch.{JudgedBranch}
 use Rattle.judge_state.specs.declared.parts.Stand.{Stand}
 use Rattle.judge_state.specs.declared.parts.Stand.TheVariants.{Heuristic}
 use Rattle.judge_state.specs.declared.parts.Work.{Work}
@@ -62,11 +62,11 @@ effects r v s o a =
     if r.never.failures || is_decided v (stand_in (branch_at o.xid.number s)) then [] else effects_rows v s o a
 
 -- a branch that was lost is back in some of the states
-abbrev pub maybe_back : List Work → List Sight → Branch → List Sight
+abbrev pub maybe_back : List Work → List Sight → JudgedBranch → List Sight
 maybe_back ws us b = us ++ map (brought_back b ws) us
 
 -- the branches that were lost, and whose names are free
-abbrev pub may_return : Sight → List Branch → List Branch
+abbrev pub may_return : Sight → List JudgedBranch → List JudgedBranch
 may_return u bs = filter (λ b. not (is_some (branch_at b.name u))) bs
 
 -- the states after a restart: where what ends a branch is not forced, and some is cut off, any branch that left S3
@@ -78,11 +78,11 @@ after_restart r cut s =
     else one (restarted s)
 
 -- a branch at work that hangs on a thread: the thread began it, or is associated with it
-abbrev pub hangs_on : ℕ → Sight → Branch → Bool
+abbrev pub hangs_on : ℕ → Sight → JudgedBranch → Bool
 hangs_on t s b = is_at_work b && (b.owner == t || has_link t b.name s)
 
 -- a branch may stay, be gone, or be one that can only be rolled back
-abbrev pub maybe_gone : List Sight → Branch → List Sight
+abbrev pub maybe_gone : List Sight → JudgedBranch → List Sight
 maybe_gone us b = us ++ map (gone b.name) us ++ map (marked b.name) us
 
 -- the states after the connection of a thread is gone

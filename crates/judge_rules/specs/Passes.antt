@@ -2,8 +2,8 @@
 -- states that may follow; no state, where the answer is not admitted.
 use Rattle.std.specs.Prelude.{ℕ, Bool, true, false, ◌&&◌, ◌||◌, not, List, [], ◌∷◌, ◌++◌, Option, Some, None, if◌then◌else◌}
 use Rattle.xa_tables.specs.Calls.{fail, no_wait, one_phase, resume, suspend, join, migrate}
-use Rattle.judge_state.specs.declared.parts.Branch.{Branch}
-use Rattle.judge_state.specs.declared.parts.Decision.{Decision}
+use Rattle.judge_state.specs.declared.parts.JudgedBranch.{JudgedBranch}
+use Rattle.judge_state.specs.declared.parts.JudgedDecision.{JudgedDecision}
 use Rattle.judge_state.specs.declared.parts.Stand.{Stand}
 use Rattle.judge_state.specs.declared.parts.Stand.TheVariants.{Active, Heuristic}
 use Rattle.judge_state.specs.Sights.{Sight}
@@ -105,7 +105,7 @@ rollback_passes r s x reply.RolledBack = one (rolled x s)
 rollback_passes r s x a = own_decision r s x a
 
 -- a commit or rollback of a branch that was decided: what is known of the decision is told
-abbrev pub decided_passes : Sight → ℕ → Decision → Reply → List Sight
+abbrev pub decided_passes : Sight → ℕ → JudgedDecision → Reply → List Sight
 decided_passes s x d a = one_if (is_heuristic a && agrees d (decision_in a)) (stands x (Heuristic (decision_in a)) s)
 
 -- a forget: the branch is known no longer
@@ -120,7 +120,7 @@ decide_passes r verb.Commit s o _ a = commit_passes r s o a
 decide_passes r v s o _ a = rollback_passes r s o.xid.number a
 
 -- the stand of a branch that is known
-abbrev pub stand_in : Option Branch → Stand
+abbrev pub stand_in : Option JudgedBranch → Stand
 stand_in None = Active
 stand_in (Some b) = b.stand
 

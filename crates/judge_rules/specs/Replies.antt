@@ -5,8 +5,8 @@ use Rattle.xa_codes.specs.declared.code.Code.TheVariants as code
 use Rattle.judge_rules.specs.declared.replies.Reply.{Reply}
 use Rattle.judge_rules.specs.declared.replies.Reply.TheVariants as reply
 use Rattle.judge_rules.specs.declared.defects.Refusals.{Refusals}
-use Rattle.judge_state.specs.declared.parts.Decision.{Decision}
-use Rattle.judge_state.specs.declared.parts.Decision.TheVariants as decision
+use Rattle.judge_state.specs.declared.parts.JudgedDecision.{JudgedDecision}
+use Rattle.judge_state.specs.declared.parts.JudgedDecision.TheVariants as decision
 
 -- what a code is to the rules: XA_RB* are one
 abbrev pub reply_of : Code → Reply
@@ -68,14 +68,14 @@ is_heuristic reply.HeurMix = true
 is_heuristic _ = false
 
 -- what a heuristic answer tells of the decision: XA_HEURHAZ leaves it unknown
-abbrev pub decision_in : Reply → Decision
+abbrev pub decision_in : Reply → JudgedDecision
 decision_in reply.HeurCom = decision.Commit
 decision_in reply.HeurRb = decision.Rollback
 decision_in reply.HeurMix = decision.Mixed
 decision_in _ = decision.Unknown
 
 -- a decision that is known is not contradicted by what is told: what is unknown takes any
-abbrev pub agrees : Decision → Decision → Bool
+abbrev pub agrees : JudgedDecision → JudgedDecision → Bool
 agrees decision.Unknown told = true
 agrees decision.Commit decision.Commit = true
 agrees decision.Rollback decision.Rollback = true

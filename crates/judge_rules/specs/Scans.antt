@@ -2,7 +2,7 @@
 use Rattle.std.specs.Prelude.{ℕ, Bool, ◌&&◌, ◌||◌, not, List, length, Option, Some, None, nat_le, if◌then◌else◌}
 use Rattle.std.specs.List.{list_all}
 use Rattle.xa_tables.specs.Calls.{start_scan, end_scan}
-use Rattle.judge_state.specs.declared.parts.Branch.{Branch}
+use Rattle.judge_state.specs.declared.parts.JudgedBranch.{JudgedBranch}
 use Rattle.judge_state.specs.Sights.{Sight}
 use Rattle.judge_state.specs.Questions.{branch_at}
 use Rattle.judge_state.specs.Moves.{outside, worked, written}
@@ -38,7 +38,7 @@ given_rows r s t count f xs =
     else one_if (may_give_all r t count xs (scan_in t f s)) (scan_after t f xs (scan_in t f s))
 
 -- the number of commits when a branch began; of one that is not known, now
-abbrev pub since_of : Option Branch → Sight → ℕ
+abbrev pub since_of : Option JudgedBranch → Sight → ℕ
 since_of None s = length s.values
 since_of (Some b) s = b.since
 

@@ -53,7 +53,7 @@ pub enum Function {
 
 /// What a line of a transcript asks for.
 #[derive(Clone, Copy, PartialEq, Eq)]
-pub enum Call {
+pub enum JudgedCall {
     Function(Function),
     Get { thread: u32, key: u32 },
     /// The value 0 is none: a deletion.
@@ -69,7 +69,7 @@ pub enum Call {
 
 /// An answer.
 #[derive(Drop)]
-pub enum Answer {
+pub enum JudgedAnswer {
     Code(Code),
     /// The branches that a recover gives.
     Given(Vec<u32>),
@@ -86,7 +86,7 @@ pub enum Answer {
 
 /// A call and its answer.
 #[derive(Drop)]
-pub struct Event {
-    pub call: Call,
-    pub answer: Answer,
+pub struct HistoryEvent {
+    pub call: JudgedCall,
+    pub answer: JudgedAnswer,
 }

@@ -5,11 +5,11 @@ ghost use Rattle.judge_rules.specs.Scans.{may_see, read_rows, reads_in, since_of
 
 use crate::branch::{one, same_if};
 use crate::words::Rules;
-use judge_state::{Branch, State};
+use judge_state::{JudgedBranch, State};
 use std::alloc::{AllocError, Global};
 
 /// The number of commits when a branch began.
-fn since_of(branch: Option<Branch>, state: &State) -> usize
+fn since_of(branch: Option<JudgedBranch>, state: &State) -> usize
     ensures { result ≡ since_of branch state.now }
 {
     match branch {

@@ -8,7 +8,7 @@ pub const MOST_STATES: usize = 20_000;
 
 /// Why the states that may follow are not told.
 #[derive(Clone, Copy, Debug, PartialEq, Eq, Error)]
-pub enum StepError {
+pub enum JudgeError {
     /// Memory was refused.
     #[error("out of memory")]
     Memory,
@@ -17,24 +17,24 @@ pub enum StepError {
     TooMany,
 }
 
-impl From<AllocError> for StepError {
-    ghost use Rattle.judge_rules.specs.declared.errors.StepError.TheVariants.{Memory};
+impl From<AllocError> for JudgeError {
+    ghost use Rattle.judge_rules.specs.declared.errors.JudgeError.TheVariants.{Memory};
     ghost use Rattle.std.specs.Prelude.{◌≡◌};
 
     ghost from_gives = { λ _ e. e ≡ Memory };
 
-    fn from(_e: AllocError) -> StepError {
-        StepError::Memory
+    fn from(_e: AllocError) -> JudgeError {
+        JudgeError::Memory
     }
 }
 
-impl<T: Drop> From<AllocFailed<T>> for StepError {
-    ghost use Rattle.judge_rules.specs.declared.errors.StepError.TheVariants.{Memory};
+impl<T: Drop> From<AllocFailed<T>> for JudgeError {
+    ghost use Rattle.judge_rules.specs.declared.errors.JudgeError.TheVariants.{Memory};
     ghost use Rattle.std.specs.Prelude.{◌≡◌};
 
     ghost from_gives = { λ _ e. e ≡ Memory };
 
-    fn from(_e: AllocFailed<T>) -> StepError {
-        StepError::Memory
+    fn from(_e: AllocFailed<T>) -> JudgeError {
+        JudgeError::Memory
     }
 }

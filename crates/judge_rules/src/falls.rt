@@ -3,16 +3,16 @@
 ghost use Rattle.std.specs.Prelude.{◌≡◌, ◌++◌, IfErr, IfOk, map, filter, fold, Option};
 ghost use Rattle.judge_state.specs.Moves.{brought_back, gone, marked};
 ghost use Rattle.judge_rules.specs.Falls.{after_cut, after_restart, done_failing, effects, effects_rows, failed, failed_rows, half_done, hangs_on, is_decided, may_return, maybe_back, maybe_gone};
-ghost use Rattle.judge_rules.specs.Sets.{AreApart, AreTooMany, IsSetOf};
+ghost use Rattle.judge_rules.specs.Sets.{AreApartStates, AreTooManyStates, IsSetOf};
 
 use crate::branch::{both, one, two};
 use crate::calls::{BranchVerb, On};
-use crate::errors::StepError;
+use crate::errors::JudgeError;
 use crate::passes::stand_in;
 use crate::replies::Reply;
 use crate::sets::each_once;
 use crate::words::Rules;
-use judge_state::{Branch, Stand, State, Work};
+use judge_state::{JudgedBranch, Stand, State, Work};
 use std::alloc::{AllocError, Global};
 
 /// A call fails, and nothing changed.
@@ -145,7 +145,7 @@ pub(crate) fn effects(
 /// These states, with a branch back in each.
 fn all_brought_back(
     alloc: Global,
-    branch: Branch,
+    branch: JudgedBranch,
     works: &[Work],
     states: &[State],
 ) -> Result<Vec<State>, AllocError>
@@ -163,7 +163,7 @@ fn maybe_back(
     alloc: Global,
     works: &[Work],
     states: Vec<State>,
-    branch: Branch,
+    branch: JudgedBranch,
 ) -> Result<Vec<State>, AllocError>
     ensures { IfOk result (λ v. v.items ≡ maybe_back works.now states.items branch) }
 {
@@ -172,7 +172,11 @@ fn maybe_back(
 }
 
 /// The branches that were lost, and whose names are free.
-fn may_return(alloc: Global, state: &State, lost: &[Branch]) -> Result<Vec<Branch>, AllocError>
+fn may_return(
+    alloc: Global,
+    state: &State,
+    lost: &[JudgedBranch],
+) -> Result<Vec<JudgedBranch>, AllocError>
     ensures { IfOk result (λ v. v.items ≡ may_return state.now lost.now) }
 {
     lost.iter()
@@ -186,12 +190,12 @@ fn all_maybe_back(
     alloc: Global,
     works: &[Work],
     states: Vec<State>,
-    lost: &[Branch],
-) -> Result<Vec<State>, StepError>
-    requires { AreApart states.items }
+    lost: &[JudgedBranch],
+) -> Result<Vec<State>, JudgeError>
+    requires { AreApartStates states.items }
     ensures states { IfOk result (λ v. IsSetOf (fold (maybe_back works.now) states.items lost.now) v.items) }
-    ensures too_many { IfErr result (λ e. e ≡ StepError.TooMany
-        → AreTooMany (fold (maybe_back works.now) states.items lost.now)) }
+    ensures too_many { IfErr result (λ e. e ≡ JudgeError.TooMany
+        → AreTooManyStates (fold (maybe_back works.now) states.items lost.now)) }
 {
     let mut back = states;
     for branch in lost {
@@ -207,9 +211,9 @@ pub(crate) fn after_restart(
     rules: Rules,
     cut: bool,
     state: &State,
-) -> Result<Vec<State>, StepError>
+) -> Result<Vec<State>, JudgeError>
     ensures states { IfOk result (λ v. IsSetOf (after_restart rules cut state.now) v.items) }
-    ensures too_many { IfErr result (λ e. e ≡ StepError.TooMany → AreTooMany (after_restart rules cut state.now)) }
+    ensures too_many { IfErr result (λ e. e ≡ JudgeError.TooMany → AreTooManyStates (after_restart rules cut state.now)) }
 {
     let restarted = state.copied(alloc)?.restarted(alloc)?;
     if cut && rules.lacks.forced {
@@ -222,14 +226,14 @@ pub(crate) fn after_restart(
 }
 
 /// Whether a branch at work hangs on a thread.
-fn hangs_on(thread: u32, state: &State, branch: Branch) -> bool
+fn hangs_on(thread: u32, state: &State, branch: JudgedBranch) -> bool
     ensures { result ≡ hangs_on thread state.now branch }
 {
     branch.is_at_work() && (branch.owner == thread || state.has_link(thread, branch.name))
 }
 
 /// The branches at work that hang on a thread.
-fn all_hanging(alloc: Global, thread: u32, state: &State) -> Result<Vec<Branch>, AllocError>
+fn all_hanging(alloc: Global, thread: u32, state: &State) -> Result<Vec<JudgedBranch>, AllocError>
     ensures { IfOk result (λ v. v.items ≡ filter (hangs_on thread state.now) state.now.branches) }
 {
     state
@@ -263,7 +267,11 @@ fn all_marked(alloc: Global, x: u32, states: &[State]) -> Result<Vec<State>, All
 }
 
 /// A branch may stay, be gone, or be one that can only be rolled back.
-fn maybe_gone(alloc: Global, states: Vec<State>, branch: Branch) -> Result<Vec<State>, AllocError>
+fn maybe_gone(
+    alloc: Global,
+    states: Vec<State>,
+    branch: JudgedBranch,
+) -> Result<Vec<State>, AllocError>
     ensures { IfOk result (λ v. v.items ≡ maybe_gone states.items branch) }
 {
     let gone = all_gone(alloc, branch.name, &states)?;
@@ -275,12 +283,12 @@ fn maybe_gone(alloc: Global, states: Vec<State>, branch: Branch) -> Result<Vec<S
 fn all_maybe_gone(
     alloc: Global,
     states: Vec<State>,
-    branches: &[Branch],
-) -> Result<Vec<State>, StepError>
-    requires { AreApart states.items }
+    branches: &[JudgedBranch],
+) -> Result<Vec<State>, JudgeError>
+    requires { AreApartStates states.items }
     ensures states { IfOk result (λ v. IsSetOf (fold maybe_gone states.items branches.now) v.items) }
-    ensures too_many { IfErr result (λ e. e ≡ StepError.TooMany
-        → AreTooMany (fold maybe_gone states.items branches.now)) }
+    ensures too_many { IfErr result (λ e. e ≡ JudgeError.TooMany
+        → AreTooManyStates (fold maybe_gone states.items branches.now)) }
 {
     let mut left = states;
     for branch in branches {
@@ -291,9 +299,9 @@ fn all_maybe_gone(
 }
 
 /// The states after the connection of a thread is gone.
-pub(crate) fn after_cut(alloc: Global, thread: u32, state: &State) -> Result<Vec<State>, StepError>
+pub(crate) fn after_cut(alloc: Global, thread: u32, state: &State) -> Result<Vec<State>, JudgeError>
     ensures states { IfOk result (λ v. IsSetOf (after_cut thread state.now) v.items) }
-    ensures too_many { IfErr result (λ e. e ≡ StepError.TooMany → AreTooMany (after_cut thread state.now)) }
+    ensures too_many { IfErr result (λ e. e ≡ JudgeError.TooMany → AreTooManyStates (after_cut thread state.now)) }
 {
     let hanging = all_hanging(alloc, thread, state)?;
     let states = one(alloc, state.copied(alloc)?.cut_off(alloc, thread)?)?;

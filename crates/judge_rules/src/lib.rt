@@ -30,8 +30,10 @@ mod starts;
 mod step;
 mod words;
 
-pub use calls::{Answer, BranchVerb, Call, Event, Function, On, XidName, XidSort};
-pub use errors::{MOST_STATES, StepError};
+pub use calls::{
+    BranchVerb, Function, HistoryEvent, JudgedAnswer, JudgedCall, On, XidName, XidSort,
+};
+pub use errors::{JudgeError, MOST_STATES};
 pub use replies::{ALL, Reply, reply_of};
 pub use sets::add_all;
 pub use step::next;

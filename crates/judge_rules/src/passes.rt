@@ -12,7 +12,7 @@ use crate::flags::has;
 use crate::replies::Reply;
 use crate::starts::{is_plain, is_spoiled_at};
 use crate::words::Rules;
-use judge_state::{Branch, Decision, Stand, State};
+use judge_state::{JudgedBranch, JudgedDecision, Stand, State};
 use std::alloc::{AllocError, Global};
 use xa_codes::Flags;
 
@@ -27,32 +27,32 @@ fn is_heuristic(reply: Reply) -> bool
 }
 
 /// What a heuristic answer tells of the decision.
-fn decision_in(reply: Reply) -> Decision
+fn decision_in(reply: Reply) -> JudgedDecision
     ensures { result ≡ decision_in reply }
 {
     match reply {
-        Reply::HeurCom => Decision::Commit,
-        Reply::HeurRb => Decision::Rollback,
-        Reply::HeurMix => Decision::Mixed,
-        _ => Decision::Unknown,
+        Reply::HeurCom => JudgedDecision::Commit,
+        Reply::HeurRb => JudgedDecision::Rollback,
+        Reply::HeurMix => JudgedDecision::Mixed,
+        _ => JudgedDecision::Unknown,
     }
 }
 
 /// Whether a decision that is known is not contradicted by what is told.
-fn agrees(known: Decision, told: Decision) -> bool
+fn agrees(known: JudgedDecision, told: JudgedDecision) -> bool
     ensures { result ≡ agrees known told }
 {
     matches!(
         (known, told),
-        (Decision::Unknown, _)
-            | (Decision::Commit, Decision::Commit)
-            | (Decision::Rollback, Decision::Rollback)
-            | (Decision::Mixed, Decision::Mixed)
+        (JudgedDecision::Unknown, _)
+            | (JudgedDecision::Commit, JudgedDecision::Commit)
+            | (JudgedDecision::Rollback, JudgedDecision::Rollback)
+            | (JudgedDecision::Mixed, JudgedDecision::Mixed)
     )
 }
 
 /// The stand of a branch that is known.
-pub(crate) fn stand_in(branch: Option<Branch>) -> Stand
+pub(crate) fn stand_in(branch: Option<JudgedBranch>) -> Stand
     ensures { result ≡ stand_in branch }
 {
     match branch {
@@ -116,7 +116,7 @@ fn decided_if(
     holds: bool,
     state: &State,
     x: u32,
-    decision: Decision,
+    decision: JudgedDecision,
 ) -> Result<Vec<State>, AllocError>
     ensures { IfOk result (λ v. v.items ≡ one_if holds (decided x decision state.now)) }
 {
@@ -133,7 +133,7 @@ fn known_if(
     holds: bool,
     state: &State,
     x: u32,
-    decision: Decision,
+    decision: JudgedDecision,
 ) -> Result<Vec<State>, AllocError>
     ensures { IfOk result (λ v. v.items ≡ one_if holds (stands x (Heuristic decision) state.now)) }
 {
@@ -324,7 +324,7 @@ fn decided_passes(
     alloc: Global,
     state: &State,
     x: u32,
-    decision: Decision,
+    decision: JudgedDecision,
     reply: Reply,
 ) -> Result<Vec<State>, AllocError>
     ensures { IfOk result (λ v. v.items ≡ decided_passes state.now x decision reply) }

@@ -10,7 +10,7 @@ use crate::starts::{
     end_defects, end_excuses, is_bad_name, is_closed, start_defects, start_excuses,
 };
 use crate::words::Rules;
-use judge_state::{Branch, Stand, State};
+use judge_state::{JudgedBranch, Stand, State};
 use xa_codes::Flags;
 
 /// Whether a branch that stands so has a row for a call that ends it.
@@ -44,7 +44,7 @@ fn decides(verb: BranchVerb) -> bool
 }
 
 /// Whether a known branch has no row for such a call.
-fn is_off_row(verb: BranchVerb, flags: Flags, branch: Option<Branch>) -> bool
+fn is_off_row(verb: BranchVerb, flags: Flags, branch: Option<JudgedBranch>) -> bool
     ensures { result ≡ is_off_row verb flags.0 branch }
 {
     match branch {
@@ -73,7 +73,13 @@ fn finish_defects(rules: Rules, verb: BranchVerb, state: &State, on: On) -> Refu
 }
 
 /// Whether a thread may not end a branch where a branch is bound to its thread.
-fn is_strange(verb: BranchVerb, thread: u32, x: u32, state: &State, branch: Option<Branch>) -> bool
+fn is_strange(
+    verb: BranchVerb,
+    thread: u32,
+    x: u32,
+    state: &State,
+    branch: Option<JudgedBranch>,
+) -> bool
     ensures { result ≡ is_strange verb thread x state.now branch }
 {
     match branch {

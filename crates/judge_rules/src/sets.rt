@@ -1,9 +1,9 @@
 //! Lists of states as sets.
 
 ghost use Rattle.std.specs.Prelude.{◌≡◌, ◌↔◌, ◌∷◌, [], Contains, IfErr, IfOk, IsTrue, OnOk};
-ghost use Rattle.judge_rules.specs.Sets.{Adds, AreTooMany, IsSetOf};
+ghost use Rattle.judge_rules.specs.Sets.{Adds, AreTooManyStates, IsSetOf};
 
-use crate::errors::{MOST_STATES, StepError};
+use crate::errors::{JudgeError, MOST_STATES};
 use judge_state::{State, are_same};
 use std::alloc::{AllocError, Global};
 
@@ -40,15 +40,15 @@ pub fn add_all(states: &mut Vec<State>, more: Vec<State>) -> Result<(), AllocErr
 }
 
 /// These states, each once. It is refused if memory is, and if there are too many of them.
-pub(crate) fn each_once(alloc: Global, states: Vec<State>) -> Result<Vec<State>, StepError>
+pub(crate) fn each_once(alloc: Global, states: Vec<State>) -> Result<Vec<State>, JudgeError>
     ensures states { IfOk result (λ v. IsSetOf states.items v.items) }
-    ensures too_many { IfErr result (λ e. e ≡ StepError.TooMany → AreTooMany states.items) }
+    ensures too_many { IfErr result (λ e. e ≡ JudgeError.TooMany → AreTooManyStates states.items) }
 {
     let mut set = Vec::new(alloc);
     for state in states {
         add(&mut set, state)?;
         if set.len() > MOST_STATES {
-            return Err(StepError::TooMany);
+            return Err(JudgeError::TooMany);
         }
     }
     Ok(set)

@@ -7,7 +7,7 @@ use crate::calls::{BranchVerb, On, XidSort};
 use crate::defects::Refusals;
 use crate::flags::{are_wrong, has};
 use crate::words::Rules;
-use judge_state::{Branch, Stand, State};
+use judge_state::{JudgedBranch, Stand, State};
 use xa_codes::Flags;
 
 /// Whether no branch of this manager may have such an XID.
@@ -36,7 +36,7 @@ pub(crate) fn is_plain(flags: Flags) -> bool
 }
 
 /// Whether a branch can only be rolled back.
-fn is_spoiled(branch: Branch) -> bool
+fn is_spoiled(branch: JudgedBranch) -> bool
     ensures { result ≡ is_spoiled branch }
 {
     match branch.stand {
@@ -46,7 +46,7 @@ fn is_spoiled(branch: Branch) -> bool
 }
 
 /// Whether the branch of a call, where it is known, can only be rolled back.
-pub(crate) fn is_spoiled_at(branch: Option<Branch>) -> bool
+pub(crate) fn is_spoiled_at(branch: Option<JudgedBranch>) -> bool
     ensures { result ≡ is_spoiled_at branch }
 {
     match branch {
@@ -56,7 +56,7 @@ pub(crate) fn is_spoiled_at(branch: Option<Branch>) -> bool
 }
 
 /// Whether no row lets a start join or resume.
-fn has_no_start(branch: Option<Branch>, flags: Flags, suspended: bool, migrated: bool) -> bool
+fn has_no_start(branch: Option<JudgedBranch>, flags: Flags, suspended: bool, migrated: bool) -> bool
     ensures { result ≡ has_no_start branch flags.0 suspended migrated }
 {
     let resumes = has(flags, Flags::TMRESUME);

@@ -3,14 +3,14 @@
 ghost use Rattle.std.specs.Prelude.{◌≡◌, IfErr, IfOk};
 ghost use Rattle.judge_state.specs.Moves.{hung};
 ghost use Rattle.judge_rules.specs.Passes.{one};
-ghost use Rattle.judge_rules.specs.Sets.{AreAlike, AreTooMany, IsSetOf};
+ghost use Rattle.judge_rules.specs.Sets.{AreAlike, AreTooManyStates, IsSetOf};
 ghost use Rattle.judge_rules.specs.Steps.{branch_next, branch_rows, by_defects, decide_next, disconnect_next, function_next, get_next, is_answered, next, open_next, outcome, put_next, recover_next, recover_rows, restart_next, trim_next, waits};
 
 use crate::branch::{both, one, same_if};
-use crate::calls::{Answer, BranchVerb, Call, Function, On};
+use crate::calls::{BranchVerb, Function, JudgedAnswer, JudgedCall, On};
 use crate::data::{read_rows, write_row};
 use crate::defects::{Refusals, is_among, is_defective};
-use crate::errors::StepError;
+use crate::errors::JudgeError;
 use crate::falls::{after_cut, after_restart, effects, failed};
 use crate::opening::open_rows;
 use crate::passes::branch_passes;
@@ -21,7 +21,7 @@ use crate::rows::{
 use crate::scan::given_rows;
 use crate::sets::each_once;
 use crate::words::Rules;
-use judge_state::{Decision, State};
+use judge_state::{JudgedDecision, State};
 use std::alloc::{AllocError, Global};
 use xa_codes::Flags;
 
@@ -107,13 +107,13 @@ fn branch_next(
     verb: BranchVerb,
     state: &State,
     on: On,
-    answer: &Answer,
+    answer: &JudgedAnswer,
 ) -> Result<Vec<State>, AllocError>
     ensures { IfOk result (λ v. v.items ≡ branch_next rules verb state.now on answer.now) }
 {
     match answer {
-        Answer::Code(code) => branch_rows(alloc, rules, verb, state, on, reply_of(*code)),
-        Answer::Hung => waits(alloc, branch_defects(rules, verb, state, on), state),
+        JudgedAnswer::Code(code) => branch_rows(alloc, rules, verb, state, on, reply_of(*code)),
+        JudgedAnswer::Hung => waits(alloc, branch_defects(rules, verb, state, on), state),
         _ => Ok(Vec::new(alloc)),
     }
 }
@@ -125,13 +125,13 @@ fn open_next(
     defects: Refusals,
     opens: bool,
     state: &State,
-    answer: &Answer,
+    answer: &JudgedAnswer,
 ) -> Result<Vec<State>, AllocError>
     ensures { IfOk result (λ v. v.items ≡ open_next rules defects opens state.now answer.now) }
 {
     match answer {
-        Answer::Code(code) => open_rows(alloc, rules, defects, opens, state, reply_of(*code)),
-        Answer::Hung => waits(alloc, defects, state),
+        JudgedAnswer::Code(code) => open_rows(alloc, rules, defects, opens, state, reply_of(*code)),
+        JudgedAnswer::Hung => waits(alloc, defects, state),
         _ => Ok(Vec::new(alloc)),
     }
 }
@@ -144,21 +144,23 @@ fn recover_next(
     thread: u32,
     count: u32,
     flags: Flags,
-    answer: &Answer,
+    answer: &JudgedAnswer,
 ) -> Result<Vec<State>, AllocError>
     ensures { IfOk result (λ v. v.items ≡ recover_next rules state.now thread count flags.0 answer.now) }
 {
     let defects = recover_defects(rules, state, thread, flags);
     match answer {
-        Answer::Code(code) => { recover_rows(alloc, rules, state, thread, flags, reply_of(*code)) }
-        Answer::Given(given) => {
+        JudgedAnswer::Code(code) => {
+            recover_rows(alloc, rules, state, thread, flags, reply_of(*code))
+        }
+        JudgedAnswer::Given(given) => {
             if is_defective(defects) {
                 Ok(Vec::new(alloc))
             } else {
                 given_rows(alloc, rules, state, thread, count, flags, given)
             }
         }
-        Answer::Hung => waits(alloc, defects, state),
+        JudgedAnswer::Hung => waits(alloc, defects, state),
         _ => Ok(Vec::new(alloc)),
     }
 }
@@ -170,12 +172,12 @@ fn get_next(
     state: &State,
     thread: u32,
     key: u32,
-    answer: &Answer,
+    answer: &JudgedAnswer,
 ) -> Result<Vec<State>, AllocError>
     ensures { IfOk result (λ v. v.items ≡ get_next rules state.now thread key answer.now) }
 {
     match answer {
-        Answer::Found(value) => {
+        JudgedAnswer::Found(value) => {
             read_rows(
                 alloc,
                 rules,
@@ -186,8 +188,8 @@ fn get_next(
                 state,
             )
         }
-        Answer::Refused | Answer::Code(_) => one(alloc, state.copied(alloc)?),
-        Answer::Hung => hangs(alloc, state),
+        JudgedAnswer::Refused | JudgedAnswer::Code(_) => one(alloc, state.copied(alloc)?),
+        JudgedAnswer::Hung => hangs(alloc, state),
         _ => Ok(Vec::new(alloc)),
     }
 }
@@ -199,29 +201,29 @@ fn put_next(
     thread: u32,
     key: u32,
     value: u32,
-    answer: &Answer,
+    answer: &JudgedAnswer,
 ) -> Result<Vec<State>, AllocError>
     ensures { IfOk result (λ v. v.items ≡ put_next state.now thread key value answer.now) }
 {
     match answer {
-        Answer::Done => {
+        JudgedAnswer::Done => {
             let written = write_row(alloc, state.active(thread), thread, key, value, state)?;
             one(alloc, written)
         }
-        Answer::Refused | Answer::Code(_) => one(alloc, state.copied(alloc)?),
-        Answer::Hung => hangs(alloc, state),
+        JudgedAnswer::Refused | JudgedAnswer::Code(_) => one(alloc, state.copied(alloc)?),
+        JudgedAnswer::Hung => hangs(alloc, state),
         _ => Ok(Vec::new(alloc)),
     }
 }
 
 /// What an operator decides.
-fn outcome(commits: bool) -> Decision
+fn outcome(commits: bool) -> JudgedDecision
     ensures { result ≡ outcome commits }
 {
     if commits {
-        Decision::Commit
+        JudgedDecision::Commit
     } else {
-        Decision::Rollback
+        JudgedDecision::Rollback
     }
 }
 
@@ -231,12 +233,12 @@ fn decide_next(
     state: &State,
     x: u32,
     commits: bool,
-    answer: &Answer,
+    answer: &JudgedAnswer,
 ) -> Result<Vec<State>, AllocError>
     ensures { IfOk result (λ v. v.items ≡ decide_next state.now x commits answer.now) }
 {
     match answer {
-        Answer::Done => {
+        JudgedAnswer::Done => {
             if state.is_prepared_at(x) {
                 let decided = state.copied(alloc)?.decided(alloc, x, outcome(commits))?;
                 one(alloc, decided)
@@ -244,17 +246,17 @@ fn decide_next(
                 Ok(Vec::new(alloc))
             }
         }
-        Answer::Refused | Answer::Code(_) => one(alloc, state.copied(alloc)?),
-        Answer::Hung => hangs(alloc, state),
+        JudgedAnswer::Refused | JudgedAnswer::Code(_) => one(alloc, state.copied(alloc)?),
+        JudgedAnswer::Hung => hangs(alloc, state),
         _ => Ok(Vec::new(alloc)),
     }
 }
 
 /// Whether an answer came.
-fn is_answered(answer: &Answer) -> bool
+fn is_answered(answer: &JudgedAnswer) -> bool
     ensures { result ≡ is_answered answer.now }
 {
-    !matches!(answer, Answer::Hung)
+    !matches!(answer, JudgedAnswer::Hung)
 }
 
 /// A restart, by whether an answer came.
@@ -263,11 +265,11 @@ fn restart_next(
     rules: Rules,
     cut: bool,
     state: &State,
-    answer: &Answer,
-) -> Result<Vec<State>, StepError>
+    answer: &JudgedAnswer,
+) -> Result<Vec<State>, JudgeError>
     ensures states { IfOk result (λ v. IsSetOf (restart_next rules cut state.now answer.now) v.items) }
-    ensures too_many { IfErr result (λ e. e ≡ StepError.TooMany
-        → AreTooMany (restart_next rules cut state.now answer.now)) }
+    ensures too_many { IfErr result (λ e. e ≡ JudgeError.TooMany
+        → AreTooManyStates (restart_next rules cut state.now answer.now)) }
 {
     if is_answered(answer) {
         after_restart(alloc, rules, cut, state)
@@ -281,11 +283,11 @@ fn disconnect_next(
     alloc: Global,
     thread: u32,
     state: &State,
-    answer: &Answer,
-) -> Result<Vec<State>, StepError>
+    answer: &JudgedAnswer,
+) -> Result<Vec<State>, JudgeError>
     ensures states { IfOk result (λ v. IsSetOf (disconnect_next thread state.now answer.now) v.items) }
-    ensures too_many { IfErr result (λ e. e ≡ StepError.TooMany
-        → AreTooMany (disconnect_next thread state.now answer.now)) }
+    ensures too_many { IfErr result (λ e. e ≡ JudgeError.TooMany
+        → AreTooManyStates (disconnect_next thread state.now answer.now)) }
 {
     if is_answered(answer) {
         after_cut(alloc, thread, state)
@@ -295,7 +297,7 @@ fn disconnect_next(
 }
 
 /// A trim, by whether an answer came.
-fn trim_next(alloc: Global, state: &State, answer: &Answer) -> Result<Vec<State>, AllocError>
+fn trim_next(alloc: Global, state: &State, answer: &JudgedAnswer) -> Result<Vec<State>, AllocError>
     ensures { IfOk result (λ v. v.items ≡ trim_next state.now answer.now) }
 {
     if is_answered(answer) {
@@ -311,7 +313,7 @@ fn function_next(
     rules: Rules,
     state: &State,
     function: Function,
-    answer: &Answer,
+    answer: &JudgedAnswer,
 ) -> Result<Vec<State>, AllocError>
     ensures { IfOk result (λ v. v.items ≡ function_next rules state.now function answer.now) }
 {
@@ -338,35 +340,35 @@ pub fn next(
     alloc: Global,
     rules: Rules,
     state: &State,
-    call: Call,
-    answer: &Answer,
-) -> Result<Vec<State>, StepError>
+    call: JudgedCall,
+    answer: &JudgedAnswer,
+) -> Result<Vec<State>, JudgeError>
     ensures states { IfOk result (λ v. IsSetOf (next rules state.now call answer.now) v.items) }
-    ensures too_many { IfErr result (λ e. e ≡ StepError.TooMany
-        → AreTooMany (next rules state.now call answer.now)) }
+    ensures too_many { IfErr result (λ e. e ≡ JudgeError.TooMany
+        → AreTooManyStates (next rules state.now call answer.now)) }
 {
     if state.is_hung() {
         return Ok(one(alloc, state.copied(alloc)?)?);
     }
     match call {
-        Call::Function(function) => {
+        JudgedCall::Function(function) => {
             let states = function_next(alloc, rules, state, function, answer)?;
             each_once(alloc, states)
         }
-        Call::Get { thread, key } => {
+        JudgedCall::Get { thread, key } => {
             let states = get_next(alloc, rules, state, thread, key, answer)?;
             each_once(alloc, states)
         }
-        Call::Put { thread, key, value } => {
+        JudgedCall::Put { thread, key, value } => {
             let states = put_next(alloc, state, thread, key, value, answer)?;
             each_once(alloc, states)
         }
-        Call::Decide { branch, commits } => {
+        JudgedCall::Decide { branch, commits } => {
             let states = decide_next(alloc, state, branch, commits, answer)?;
             each_once(alloc, states)
         }
-        Call::Restart { cut } => restart_next(alloc, rules, cut, state, answer),
-        Call::Disconnect { thread } => disconnect_next(alloc, thread, state, answer),
-        Call::Trim => each_once(alloc, trim_next(alloc, state, answer)?),
+        JudgedCall::Restart { cut } => restart_next(alloc, rules, cut, state, answer),
+        JudgedCall::Disconnect { thread } => disconnect_next(alloc, thread, state, answer),
+        JudgedCall::Trim => each_once(alloc, trim_next(alloc, state, answer)?),
     }
 }

@@ -3,12 +3,12 @@ use Rattle.std.proofs.Common.{◌≡◌, ℕ, ◌+◌, Bool, true, false, not, L
 use Rattle.std.specs.Prelude.{if◌then◌else◌}
 use Rattle.std.proofs.lemmas.List.{append-nil, length-append}
 use Rattle.std.proofs.lemmas.List.Elements.{filter-append}
-use Rattle.judge_rules.specs.declared.calls.Event.{Event}
+use Rattle.judge_rules.specs.declared.calls.HistoryEvent.{HistoryEvent}
 use Rattle.judge_rules.specs.declared.words.Rules.{Rules}
 use Rattle.judge_script.specs.declared.reading.Transcript.{Transcript}
 use Rattle.script_words.specs.Steps.{◌>>=◌}
 use Rattle.judge_script.specs.Headers.{ruled}
-use Rattle.judge_script.specs.Numbers.{Grows, IsEvent, NameTable, table_of}
+use Rattle.judge_script.specs.Numbers.{Grows, IsLineEvent, NameTable, table_of}
 use Rattle.judge_script.specs.Words.{is_blank, words_in}
 use Rattle.judge_script.specs.Transcripts.{AreEvents, AreTranscript, kept_lines, kept_numbers, ruled_by}
 use Rattle.judge_script.proofs.Places.{event_more, place_more}
@@ -57,14 +57,14 @@ numbers_same : (ls : List (List ℕ)) (l : List ℕ) → is_blank l ≡ true
 numbers_same ls l e = numbers_join 1 ls l ∙ ap (λ (q : List ℕ). kept_numbers 1 ls ++ q)
     (numbers_passed (1 + length ls) l e) ∙ append-nil (kept_numbers 1 ls)
 
-events_more : (n : NameTable) (ls : List (List ℕ)) (es : List Event) (l : List ℕ) (e : Event) → AreEvents n ls es
-    → IsEvent n (words_in l) e → AreEvents n (ls ++ l ∷ []) (es ++ e ∷ [])
+events_more : (n : NameTable) (ls : List (List ℕ)) (es : List HistoryEvent) (l : List ℕ) (e : HistoryEvent) → AreEvents n ls es
+    → IsLineEvent n (words_in l) e → AreEvents n (ls ++ l ∷ []) (es ++ e ∷ [])
 events_more n [] [] l e h is = (is, tt)
 events_more n [] (d ∷ es) l e h is = absurd h
 events_more n (k ∷ ls) [] l e h is = absurd h
 events_more n (k ∷ ls) (d ∷ es) l e h is = (h.0, events_more n ls es l e h.1 is)
 
-events_grow : (n m : NameTable) (ls : List (List ℕ)) (es : List Event) → Grows n m → AreEvents n ls es
+events_grow : (n m : NameTable) (ls : List (List ℕ)) (es : List HistoryEvent) → Grows n m → AreEvents n ls es
     → AreEvents m ls es
 events_grow n m [] [] g h = tt
 events_grow n m [] (d ∷ es) g h = absurd h
@@ -72,7 +72,7 @@ events_grow n m (k ∷ ls) [] g h = absurd h
 events_grow n m (k ∷ ls) (d ∷ es) g h =
     (event_more n m g (words_in k) d h.0, events_grow n m ls es g h.1)
 
-no_events : (n : NameTable) (ls : List (List ℕ)) (es : List Event) → length es ≡ 0 → AreEvents n ls es → ls ≡ []
+no_events : (n : NameTable) (ls : List (List ℕ)) (es : List HistoryEvent) → length es ≡ 0 → AreEvents n ls es → ls ≡ []
 no_events n [] es none h = refl
 no_events n (l ∷ ls) [] none h = absurd h
 no_events n (l ∷ ls) (e ∷ es) none h = absurd (omega (arith, none))
@@ -136,10 +136,10 @@ rules_more ls l t q n kept is none rules h =
     }
 
 -- a line is a call and its answer
-pub event_added : (ls : List (List ℕ)) (l : List ℕ) (t u : Transcript) (e : Event) (n : ℕ) → is_blank l ≡ false
+pub event_added : (ls : List (List ℕ)) (l : List ℕ) (t u : Transcript) (e : HistoryEvent) (n : ℕ) → is_blank l ≡ false
     → n ≡ length ls + 1 → u.rules ≡ t.rules → u.events.items ≡ t.events.items ++ e ∷ []
     → u.lines.items ≡ t.lines.items ++ n ∷ [] → Grows (table_of t.names) (table_of u.names)
-    → IsEvent (table_of u.names) (words_in l) e → AreTranscript ls t → AreTranscript (ls ++ l ∷ []) u
+    → IsLineEvent (table_of u.names) (words_in l) e → AreTranscript ls t → AreTranscript (ls ++ l ∷ []) u
 event_added ls l t u e n kept is rules events lines grows event h = record {
   first = h.first;
   others = h.others ++ l ∷ [];
@@ -151,7 +151,7 @@ event_added ls l t u e n kept is rules events lines grows event h = record {
   each = ap length lines ∙ length-append t.lines.items (n ∷ []) ∙ ap (λ (k : ℕ). k + 1) h.each
       ∙ sym (length-append t.events.items (e ∷ [])) ∙ sym (ap length events);
   rules = h.rules ∙ ap (λ (q : Rules). Some q) (sym rules);
-  events = subst (λ (es : List Event). AreEvents (table_of u.names) (h.others ++ l ∷ []) es) (sym events)
+  events = subst (λ (es : List HistoryEvent). AreEvents (table_of u.names) (h.others ++ l ∷ []) es) (sym events)
       (events_more (table_of u.names) h.others t.events.items l e
       (events_grow (table_of t.names) (table_of u.names) h.others t.events.items grows h.events) event);
   apart_xids = grows.apart_xids h.apart_xids;

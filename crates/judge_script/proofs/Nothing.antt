@@ -7,18 +7,18 @@ use Rattle.std.proofs.lemmas.List.{length-append, length-drop, take-map, drop-ma
 use Rattle.std.proofs.Math.Seq.{drop-append-add, get_or-append_seam, split_at, take-append_seam}
 use Rattle.script_words.proofs.Texts.{blank, long, text_at, texts}
 use Rattle.xa_xid.specs.declared.xid.Xid.{Xid}
-use Rattle.judge_rules.specs.declared.calls.Event.{Event}
+use Rattle.judge_rules.specs.declared.calls.HistoryEvent.{HistoryEvent}
 use Rattle.judge_script.specs.Words.{IsName}
-use Rattle.judge_script.specs.Answers.{AreNames, Says}
+use Rattle.judge_script.specs.Answers.{AreNames, SaysAnswer}
 use Rattle.xa_codes.specs.FlagNames.{IsFlagText}
 use Rattle.judge_rules.specs.declared.calls.BranchVerb.{BranchVerb}
-use Rattle.judge_script.specs.Askings.{Asks, IsWithOne, IsWithThree, IsWithTwo}
-use Rattle.judge_script.specs.declared.asking.Asked.TheVariants as asked
-use Rattle.judge_script.specs.declared.asking.Word.{Word}
-use Rattle.judge_script.specs.declared.asking.Word.TheVariants as word
-use Rattle.judge_script.specs.declared.asking.Asked.{Asked}
-use Rattle.judge_script.specs.declared.answers.Said.{Said}
-use Rattle.judge_script.specs.Numbers.{AreParted, IsAnswer, IsCall, IsEvent, NameTable}
+use Rattle.judge_script.specs.Askings.{AsksCall, IsWithOne, IsWithThree, IsWithTwo}
+use Rattle.judge_script.specs.declared.asking.TranscriptCall.TheVariants as asked
+use Rattle.judge_script.specs.declared.asking.CallWord.{CallWord}
+use Rattle.judge_script.specs.declared.asking.CallWord.TheVariants as word
+use Rattle.judge_script.specs.declared.asking.TranscriptCall.{TranscriptCall}
+use Rattle.judge_script.specs.declared.answers.SaidAnswer.{SaidAnswer}
+use Rattle.judge_script.specs.Numbers.{AreParted, IsLineAnswer, IsCall, IsLineEvent, NameTable}
 
 -- each of the words that spell XIDs spells one
 name_at : (ws : List (List ℕ)) (xs : List Xid) (i : ℕ) → AreNames ws xs → i < length ws
@@ -52,34 +52,34 @@ pub arrow_at : (ws : List (Bor (List ℕ))) (i : ℕ) → true ≡ pointwise nat
 arrow_at ws i is = text_at ws i ∙ same_text (get_or ws i blank).now (codes "->") is
 
 pub no_arrow : (ws : List (Bor (List ℕ))) (i : ℕ) → false ≡ pointwise nat_eq (get_or ws i blank).now (codes "->")
-    → (a : Asked) (s : Said) → AreParted (texts ws) i a s → ⊥
+    → (a : TranscriptCall) (s : SaidAnswer) → AreParted (texts ws) i a s → ⊥
 no_arrow ws i lacks a s h =
     let e : (get_or ws i blank).now ≡ codes "->" = sym (text_at ws i) ∙ h.arrow in
     false≢true (lacks ∙ (bytes_decides (get_or ws i blank).now (codes "->")).1 e)
 
 -- what is parted at a place
-pub parted_words : (ws : List (Bor (List ℕ))) (i : ℕ) (a : Asked) (s : Said)
-    → true ≡ pointwise nat_eq (get_or ws i blank).now (codes "->") → Asks (texts (take i ws)) a
-    → Says (texts (take (length ws - (i + 1)) (drop (i + 1) ws))) s → AreParted (texts ws) i a s
+pub parted_words : (ws : List (Bor (List ℕ))) (i : ℕ) (a : TranscriptCall) (s : SaidAnswer)
+    → true ≡ pointwise nat_eq (get_or ws i blank).now (codes "->") → AsksCall (texts (take i ws)) a
+    → SaysAnswer (texts (take (length ws - (i + 1)) (drop (i + 1) ws))) s → AreParted (texts ws) i a s
 parted_words ws i a s is asks says = record {
   arrow = arrow_at ws i is;
-  asks = subst (λ (q : List (List ℕ)). Asks q a) (sym (front_texts ws i)) asks;
-  says = subst (λ (q : List (List ℕ)). Says q s) (sym (rest_texts ws (i + 1))) says;
+  asks = subst (λ (q : List (List ℕ)). AsksCall q a) (sym (front_texts ws i)) asks;
+  says = subst (λ (q : List (List ℕ)). SaysAnswer q s) (sym (rest_texts ws (i + 1))) says;
 }
 
 -- nothing is parted if no call is spelled, or no answer
-pub no_call : (ws : List (Bor (List ℕ))) (i : ℕ) → ((a : Asked) → Asks (texts (take i ws)) a → ⊥)
-    → (a : Asked) (s : Said) → AreParted (texts ws) i a s → ⊥
-no_call ws i lacks a s h = lacks a (subst (λ (q : List (List ℕ)). Asks q a) (front_texts ws i) h.asks)
+pub no_call : (ws : List (Bor (List ℕ))) (i : ℕ) → ((a : TranscriptCall) → AsksCall (texts (take i ws)) a → ⊥)
+    → (a : TranscriptCall) (s : SaidAnswer) → AreParted (texts ws) i a s → ⊥
+no_call ws i lacks a s h = lacks a (subst (λ (q : List (List ℕ)). AsksCall q a) (front_texts ws i) h.asks)
 
 pub no_answer : (ws : List (Bor (List ℕ))) (i : ℕ)
-    → ((s : Said) → Says (texts (take (length ws - (i + 1)) (drop (i + 1) ws))) s → ⊥)
-    → (a : Asked) (s : Said) → AreParted (texts ws) i a s → ⊥
-no_answer ws i lacks a s h = lacks s (subst (λ (q : List (List ℕ)). Says q s) (rest_texts ws (i + 1)) h.says)
+    → ((s : SaidAnswer) → SaysAnswer (texts (take (length ws - (i + 1)) (drop (i + 1) ws))) s → ⊥)
+    → (a : TranscriptCall) (s : SaidAnswer) → AreParted (texts ws) i a s → ⊥
+no_answer ws i lacks a s h = lacks s (subst (λ (q : List (List ℕ)). SaysAnswer q s) (rest_texts ws (i + 1)) h.says)
 
 -- an event of words that are parted
-pub parted_event : (n : NameTable) (ws : List (List ℕ)) (i : ℕ) (a : Asked) (s : Said) (e : Event) → i < length ws
-    → AreParted ws i a s → IsCall n a e.call → IsAnswer n s e.answer → IsEvent n ws e
+pub parted_event : (n : NameTable) (ws : List (List ℕ)) (i : ℕ) (a : TranscriptCall) (s : SaidAnswer) (e : HistoryEvent) → i < length ws
+    → AreParted ws i a s → IsCall n a e.call → IsLineAnswer n s e.answer → IsLineEvent n ws e
 parted_event n ws i a s e lt h call answer =
     let next : suc i ≡ i + 1 = omega arith in
     record {
@@ -96,7 +96,7 @@ parted_event n ws i a s e lt h call answer =
     }
 
 -- the words of an event are parted
-event_parted : (n : NameTable) (ws : List (List ℕ)) (e : Event) → (h : IsEvent n ws e)
+event_parted : (n : NameTable) (ws : List (List ℕ)) (e : HistoryEvent) → (h : IsLineEvent n ws e)
     → AreParted ws (length h.call) h.asked h.said
 event_parted n ws e h =
     let front : take (length h.call) ws ≡ h.call =
@@ -106,17 +106,17 @@ event_parted n ws e h =
     record {
       arrow = ap (λ (q : List (List ℕ)). get_or q (length h.call) []) h.parts
           ∙ get_or-append_seam h.call (codes "->") h.answer [];
-      asks = subst (λ (q : List (List ℕ)). Asks q h.asked) (sym front) h.asks;
-      says = subst (λ (q : List (List ℕ)). Says q h.said) (sym rest) h.says;
+      asks = subst (λ (q : List (List ℕ)). AsksCall q h.asked) (sym front) h.asks;
+      says = subst (λ (q : List (List ℕ)). SaysAnswer q h.said) (sym rest) h.says;
     }
 
-event_place : (n : NameTable) (ws : List (List ℕ)) (e : Event) → (h : IsEvent n ws e) → length h.call < length ws
+event_place : (n : NameTable) (ws : List (List ℕ)) (e : HistoryEvent) → (h : IsLineEvent n ws e) → length h.call < length ws
 event_place n ws e h = omega (arith, ap length h.parts, length-append h.call (codes "->" ∷ h.answer))
 
 -- so if nothing is parted there is no event
 pub no_event : (ws : List (List ℕ))
-    → ((i : ℕ) (a : Asked) (s : Said) → i < length ws → AreParted ws i a s → ⊥)
-    → (n : NameTable) (e : Event) → IsEvent n ws e → ⊥
+    → ((i : ℕ) (a : TranscriptCall) (s : SaidAnswer) → i < length ws → AreParted ws i a s → ⊥)
+    → (n : NameTable) (e : HistoryEvent) → IsLineEvent n ws e → ⊥
 no_event ws lacks n e h = lacks (length h.call) h.asked h.said (event_place n ws e h) (event_parted n ws e h)
 
 -- what holds anyway holds where there is nothing
@@ -128,37 +128,37 @@ if_none (Some x) P h = tt
 abbrev NamesNone : List ℕ → Type 0
 NamesNone text = (bits : ℕ) → IsFlagText text bits → ⊥
 
-open_one : (x : List ℕ) → NamesNone x → (a : Asked) → IsWithOne word.Open x a → ⊥
+open_one : (x : List ℕ) → NamesNone x → (a : TranscriptCall) → IsWithOne word.Open x a → ⊥
 open_one x none (asked.Open flags) h = none flags.0 h
 open_one x none a h = absurd h
 
-close_one : (x : List ℕ) → NamesNone x → (a : Asked) → IsWithOne word.Close x a → ⊥
+close_one : (x : List ℕ) → NamesNone x → (a : TranscriptCall) → IsWithOne word.Close x a → ⊥
 close_one x none (asked.Close flags) h = none flags.0 h
 close_one x none a h = absurd h
 
-open_two : (x y : List ℕ) → NamesNone x → (a : Asked) → IsWithTwo word.Open x y a → ⊥
+open_two : (x y : List ℕ) → NamesNone x → (a : TranscriptCall) → IsWithTwo word.Open x y a → ⊥
 open_two x y none (asked.Open flags) h = none flags.0 h
 open_two x y none a h = absurd h
 
-recover_three : (x y z : List ℕ) → NamesNone z → (a : Asked) → IsWithThree word.Recover x y z a → ⊥
+recover_three : (x y z : List ℕ) → NamesNone z → (a : TranscriptCall) → IsWithThree word.Recover x y z a → ⊥
 recover_three x y z none (asked.Recover thread count flags) h = none flags.0 h.2
 recover_three x y z none a h = absurd h
 
 -- calls whose flags are none
-pub no_open : (w : Word) (x : List ℕ) → w ≡ word.Open → NamesNone x → (a : Asked) → IsWithOne w x a → ⊥
-no_open w x is none a h = open_one x none a (subst (λ (q : Word). IsWithOne q x a) is h)
+pub no_open : (w : CallWord) (x : List ℕ) → w ≡ word.Open → NamesNone x → (a : TranscriptCall) → IsWithOne w x a → ⊥
+no_open w x is none a h = open_one x none a (subst (λ (q : CallWord). IsWithOne q x a) is h)
 
-pub no_close : (w : Word) (x : List ℕ) → w ≡ word.Close → NamesNone x → (a : Asked) → IsWithOne w x a → ⊥
-no_close w x is none a h = close_one x none a (subst (λ (q : Word). IsWithOne q x a) is h)
+pub no_close : (w : CallWord) (x : List ℕ) → w ≡ word.Close → NamesNone x → (a : TranscriptCall) → IsWithOne w x a → ⊥
+no_close w x is none a h = close_one x none a (subst (λ (q : CallWord). IsWithOne q x a) is h)
 
-pub no_told_open : (w : Word) (x y : List ℕ) → w ≡ word.Open → NamesNone x → (a : Asked) → IsWithTwo w x y a → ⊥
-no_told_open w x y is none a h = open_two x y none a (subst (λ (q : Word). IsWithTwo q x y a) is h)
+pub no_told_open : (w : CallWord) (x y : List ℕ) → w ≡ word.Open → NamesNone x → (a : TranscriptCall) → IsWithTwo w x y a → ⊥
+no_told_open w x y is none a h = open_two x y none a (subst (λ (q : CallWord). IsWithTwo q x y a) is h)
 
-pub no_recover : (w : Word) (x y z : List ℕ) → w ≡ word.Recover → NamesNone z → (a : Asked)
+pub no_recover : (w : CallWord) (x y z : List ℕ) → w ≡ word.Recover → NamesNone z → (a : TranscriptCall)
     → IsWithThree w x y z a → ⊥
-no_recover w x y z is none a h = recover_three x y z none a (subst (λ (q : Word). IsWithThree q x y z a) is h)
+no_recover w x y z is none a h = recover_three x y z none a (subst (λ (q : CallWord). IsWithThree q x y z a) is h)
 
-pub no_branch : (v : BranchVerb) (x y z : List ℕ) → NamesNone z → (a : Asked)
+pub no_branch : (v : BranchVerb) (x y z : List ℕ) → NamesNone z → (a : TranscriptCall)
     → IsWithThree (word.Branch v) x y z a → ⊥
 no_branch v x y z none (asked.Branch f thread xid flags) h = none flags.0 h.3
 no_branch v x y z none a h = absurd h
@@ -175,6 +175,6 @@ not_false true h = refl
 not_false false h = absurd (false≢true h)
 
 pub nothing_parted : (ws : List (Bor (List ℕ)))
-    → ((i : ℕ) (a : Asked) (s : Said) → i < length ws → AreParted (texts ws) i a s → ⊥)
-    → (n : NameTable) (e : Event) → IsEvent n (texts ws) e → ⊥
+    → ((i : ℕ) (a : TranscriptCall) (s : SaidAnswer) → i < length ws → AreParted (texts ws) i a s → ⊥)
+    → (n : NameTable) (e : HistoryEvent) → IsLineEvent n (texts ws) e → ⊥
 nothing_parted ws lacks = no_event (texts ws) (λ i a s lt h. lacks i a s (omega (arith, long ws, lt)) h)

@@ -3,17 +3,17 @@ use Rattle.std.proofs.Common.{◌≡◌, ℕ, ◌<◌, List, [], ◌∷◌, ◌+
 use Rattle.std.proofs.lemmas.Bool.{cases_lt}
 use Rattle.std.proofs.lemmas.List.{append-nil, length-append, get_or_append_left, get_or_default, get_or_push}
 use Rattle.xa_xid.specs.declared.xid.Xid.{Xid}
-use Rattle.judge_rules.specs.declared.calls.Answer.{Answer}
-use Rattle.judge_rules.specs.declared.calls.Answer.TheVariants as answer
-use Rattle.judge_rules.specs.declared.calls.Call.{Call}
-use Rattle.judge_rules.specs.declared.calls.Call.TheVariants as call
-use Rattle.judge_rules.specs.declared.calls.Event.{Event}
+use Rattle.judge_rules.specs.declared.calls.JudgedAnswer.{JudgedAnswer}
+use Rattle.judge_rules.specs.declared.calls.JudgedAnswer.TheVariants as answer
+use Rattle.judge_rules.specs.declared.calls.JudgedCall.{JudgedCall}
+use Rattle.judge_rules.specs.declared.calls.JudgedCall.TheVariants as call
+use Rattle.judge_rules.specs.declared.calls.HistoryEvent.{HistoryEvent}
 use Rattle.judge_rules.specs.declared.calls.Function.TheVariants as function
-use Rattle.judge_script.specs.declared.asking.Asked.{Asked}
-use Rattle.judge_script.specs.declared.asking.Asked.TheVariants as asked
-use Rattle.judge_script.specs.declared.answers.Said.{Said}
-use Rattle.judge_script.specs.declared.answers.Said.TheVariants as said
-use Rattle.judge_script.specs.Numbers.{AreApart, ArePlaces, Grows, HasMore, IsAnswer, IsCall, IsEvent, IsPlace, NameTable}
+use Rattle.judge_script.specs.declared.asking.TranscriptCall.{TranscriptCall}
+use Rattle.judge_script.specs.declared.asking.TranscriptCall.TheVariants as asked
+use Rattle.judge_script.specs.declared.answers.SaidAnswer.{SaidAnswer}
+use Rattle.judge_script.specs.declared.answers.SaidAnswer.TheVariants as said
+use Rattle.judge_script.specs.Numbers.{AreApartNames, ArePlaces, Grows, HasMore, IsLineAnswer, IsCall, IsLineEvent, IsPlace, NameTable}
 
 pub more_same : {A : Type 0} (old : List A) → HasMore old old
 more_same old = ([], sym (append-nil old))
@@ -55,8 +55,8 @@ place_push old x k is = (
 )
 
 -- a name that had no place is apart from the others
-pub apart_push : {A : Type 0} (old : List A) (x : A) → ((i : ℕ) → IsPlace old i x → ⊥) → AreApart old
-    → AreApart (old ++ x ∷ [])
+pub apart_push : {A : Type 0} (old : List A) (x : A) → ((i : ℕ) → IsPlace old i x → ⊥) → AreApartNames old
+    → AreApartNames (old ++ x ∷ [])
 apart_push old x new apart i j d lt in_new =
     elim (cases_lt j (length old)) [
       | inl before ↦ (λ e. apart i j d lt before (
@@ -89,7 +89,7 @@ grows_trans a b c g h = record {
 }
 
 -- a call and an answer that are numbered stay so
-pub call_more : (n m : NameTable) → Grows n m → (a : Asked) (c : Call) → IsCall n a c → IsCall m a c
+pub call_more : (n m : NameTable) → Grows n m → (a : TranscriptCall) (c : JudgedCall) → IsCall n a c → IsCall m a c
 call_more n m g (asked.Open f) (call.Function (function.Open h)) is = is
 call_more n m g (asked.Close f) (call.Function (function.Close h)) is = is
 call_more n m g (asked.Branch v t x f) (call.Function (function.Branch w o)) is =
@@ -107,7 +107,7 @@ call_more n m g (asked.Disconnect t) (call.Disconnect u) is = is
 call_more n m g asked.Trim call.Trim is = is
 call_more n m g a c is = absurd is
 
-pub answer_more : (n m : NameTable) → Grows n m → (s : Said) (a : Answer) → IsAnswer n s a → IsAnswer m s a
+pub answer_more : (n m : NameTable) → Grows n m → (s : SaidAnswer) (a : JudgedAnswer) → IsLineAnswer n s a → IsLineAnswer m s a
 answer_more n m g (said.Code c) (answer.Code d) is = is
 answer_more n m g (said.Given xs) (answer.Given ks) is = places_more n.xids m.xids ks.items xs.items g.xids is
 answer_more n m g (said.Found v) (answer.Found k) is = place_more n.words m.words k v.now g.words is
@@ -117,7 +117,7 @@ answer_more n m g said.Told answer.Told is = is
 answer_more n m g said.Hung answer.Hung is = is
 answer_more n m g s a is = absurd is
 
-pub event_more : (n m : NameTable) → Grows n m → (ws : List (List ℕ)) (e : Event) → IsEvent n ws e → IsEvent m ws e
+pub event_more : (n m : NameTable) → Grows n m → (ws : List (List ℕ)) (e : HistoryEvent) → IsLineEvent n ws e → IsLineEvent m ws e
 event_more n m g ws e h = record {
   call = h.call;
   answer = h.answer;

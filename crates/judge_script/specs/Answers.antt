@@ -4,8 +4,8 @@ use Rattle.script_words.specs.Steps.{same}
 use Rattle.spellings.specs.Numerals.{number_at}
 use Rattle.xa_codes.specs.Codes.{code_name}
 use Rattle.xa_xid.specs.declared.xid.Xid.{Xid}
-use Rattle.judge_script.specs.declared.answers.Said.{Said}
-use Rattle.judge_script.specs.declared.answers.Said.TheVariants.{Code, Given, Found, Done, Refused, Told, Hung}
+use Rattle.judge_script.specs.declared.answers.SaidAnswer.{SaidAnswer}
+use Rattle.judge_script.specs.declared.answers.SaidAnswer.TheVariants.{Code, Given, Found, Done, Refused, Told, Hung}
 use Rattle.judge_script.specs.Words.{Is, IsName}
 
 -- words spell XIDs, each one
@@ -23,31 +23,31 @@ abbrev pub is_told : List ℕ → Bool
 is_told w = same w (codes "boot") || same w (codes "trim")
 
 -- words spell what a read gave
-abbrev pub IsFound : List ℕ → List (List ℕ) → List ℕ → Type 0
-IsFound w (x ∷ []) v = Is w (codes "=") × (x ≡ v)
-IsFound w _ v = ⊥
+abbrev pub IsReadAnswer : List ℕ → List (List ℕ) → List ℕ → Type 0
+IsReadAnswer w (x ∷ []) v = Is w (codes "=") × (x ≡ v)
+IsReadAnswer w _ v = ⊥
 
 -- words spell the answer of a restart or a trim
-abbrev pub IsTold : List ℕ → List (List ℕ) → Type 0
-IsTold w (x ∷ []) = is_told w ≡ true
-IsTold w _ = ⊥
+abbrev pub IsRestartAnswer : List ℕ → List (List ℕ) → Type 0
+IsRestartAnswer w (x ∷ []) = is_told w ≡ true
+IsRestartAnswer w _ = ⊥
 
 -- a word and those after it spell an answer
-abbrev pub SaysBy : List ℕ → List (List ℕ) → Said → Type 0
+abbrev pub SaysBy : List ℕ → List (List ℕ) → SaidAnswer → Type 0
 SaysBy w ws (Code c) = (ws ≡ []) × Is w (code_name c)
 SaysBy w ws (Given xids) = (number_at w ≡ Some (length ws)) × AreNames ws xids.items
-SaysBy w ws (Found v) = IsFound w ws v.now
+SaysBy w ws (Found v) = IsReadAnswer w ws v.now
 SaysBy w ws Done = (ws ≡ []) × Is w (codes "done")
 SaysBy w ws Refused = is_refusal w ≡ true
-SaysBy w ws Told = IsTold w ws
+SaysBy w ws Told = IsRestartAnswer w ws
 SaysBy w ws Hung = (ws ≡ []) × Is w (codes "hung")
 
 -- an answer gives branches
-abbrev pub IsGiven : Said → Type 0
+abbrev pub IsGiven : SaidAnswer → Type 0
 IsGiven (Given xids) = Unit {0}
 IsGiven _ = ⊥
 
 -- words spell an answer
-abbrev pub Says : List (List ℕ) → Said → Type 0
-Says [] s = ⊥
-Says (w ∷ ws) s = SaysBy w ws s
+abbrev pub SaysAnswer : List (List ℕ) → SaidAnswer → Type 0
+SaysAnswer [] s = ⊥
+SaysAnswer (w ∷ ws) s = SaysBy w ws s

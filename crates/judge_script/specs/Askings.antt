@@ -4,14 +4,14 @@ use Rattle.script_words.specs.Steps.{same}
 use Rattle.spellings.specs.Numerals.{number_at}
 use Rattle.xa_codes.specs.FlagNames.{IsFlagText}
 use Rattle.judge_rules.specs.declared.calls.BranchVerb.TheVariants as verb
-use Rattle.judge_script.specs.declared.asking.Asked.{Asked}
-use Rattle.judge_script.specs.declared.asking.Asked.TheVariants.{Open, Close, Branch, Recover, Get, Put, Decide, Restart, Disconnect, Trim}
-use Rattle.judge_script.specs.declared.asking.Word.{Word}
-use Rattle.judge_script.specs.declared.asking.Word.TheVariants as word
+use Rattle.judge_script.specs.declared.asking.TranscriptCall.{TranscriptCall}
+use Rattle.judge_script.specs.declared.asking.TranscriptCall.TheVariants.{Open, Close, Branch, Recover, Get, Put, Decide, Restart, Disconnect, Trim}
+use Rattle.judge_script.specs.declared.asking.CallWord.{CallWord}
+use Rattle.judge_script.specs.declared.asking.CallWord.TheVariants as word
 use Rattle.judge_script.specs.Words.{IsName, IsNumber}
 
 -- what the first word of a line asks for
-abbrev pub word_at : List ℕ → Option Word
+abbrev pub word_at : List ℕ → Option CallWord
 word_at w =
     if same w (codes "open") then Some word.Open
     else if same w (codes "close") then Some word.Close
@@ -39,13 +39,13 @@ outcome_at w =
     else None
 
 -- the call of a word alone
-abbrev pub IsAlone : Word → Asked → Type 0
+abbrev pub IsAlone : CallWord → TranscriptCall → Type 0
 IsAlone word.Restart (Restart cut) = cut ≡ false
 IsAlone word.Trim Trim = Unit {0}
 IsAlone w _ = ⊥
 
 -- the call of a word and another
-abbrev pub IsWithOne : Word → List ℕ → Asked → Type 0
+abbrev pub IsWithOne : CallWord → List ℕ → TranscriptCall → Type 0
 IsWithOne word.Open x (Open flags) = IsFlagText x flags.0
 IsWithOne word.Close x (Close flags) = IsFlagText x flags.0
 IsWithOne word.Restart x (Restart cut) = IsSome (number_at x) × (cut ≡ true)
@@ -53,7 +53,7 @@ IsWithOne word.Disconnect x (Disconnect thread) = IsNumber x thread
 IsWithOne w x _ = ⊥
 
 -- the call of a word and two others; what an open says besides is passed over
-abbrev pub IsWithTwo : Word → List ℕ → List ℕ → Asked → Type 0
+abbrev pub IsWithTwo : CallWord → List ℕ → List ℕ → TranscriptCall → Type 0
 IsWithTwo word.Open x y (Open flags) = IsFlagText x flags.0
 IsWithTwo word.Get x y (Get thread key) = IsNumber x thread × (y ≡ key.now)
 IsWithTwo word.Delete x y (Put thread key value) =
@@ -62,7 +62,7 @@ IsWithTwo word.Decide x y (Decide xid commits) = IsName x xid × (outcome_at y �
 IsWithTwo w x y _ = ⊥
 
 -- the call of a word and three others
-abbrev pub IsWithThree : Word → List ℕ → List ℕ → List ℕ → Asked → Type 0
+abbrev pub IsWithThree : CallWord → List ℕ → List ℕ → List ℕ → TranscriptCall → Type 0
 IsWithThree word.Put x y z (Put thread key value) = IsNumber x thread × (y ≡ key.now) × (z ≡ value.now)
 IsWithThree word.Recover x y z (Recover thread count flags) =
     IsNumber x thread × IsNumber y count × IsFlagText z flags.0
@@ -71,7 +71,7 @@ IsWithThree (word.Branch v) x y z (Branch f thread xid flags) =
 IsWithThree w x y z _ = ⊥
 
 -- a word and those after it spell a call
-abbrev pub AsksBy : Word → List (List ℕ) → Asked → Type 0
+abbrev pub AsksBy : CallWord → List (List ℕ) → TranscriptCall → Type 0
 AsksBy w [] a = IsAlone w a
 AsksBy w (x ∷ []) a = IsWithOne w x a
 AsksBy w (x ∷ y ∷ []) a = IsWithTwo w x y a
@@ -79,6 +79,6 @@ AsksBy w (x ∷ y ∷ z ∷ []) a = IsWithThree w x y z a
 AsksBy w _ a = ⊥
 
 -- words spell a call
-abbrev pub Asks : List (List ℕ) → Asked → Type 0
-Asks [] a = ⊥
-Asks (w ∷ ws) a = IsSomeAnd (word_at w) (λ k. AsksBy k ws a)
+abbrev pub AsksCall : List (List ℕ) → TranscriptCall → Type 0
+AsksCall [] a = ⊥
+AsksCall (w ∷ ws) a = IsSomeAnd (word_at w) (λ k. AsksBy k ws a)

@@ -2,21 +2,21 @@
 use Rattle.std.specs.Prelude.{◌≡◌, ◌≢◌, ℕ, ◌<◌, List, [], ◌∷◌, ◌++◌, ◌+◌, drop, length, map, slice_index_or, take, codes}
 use Rattle.xa_xid.specs.Xids.{null_xid}
 use Rattle.xa_xid.specs.declared.xid.Xid.{Xid}
-use Rattle.judge_rules.specs.declared.calls.Answer.{Answer}
-use Rattle.judge_rules.specs.declared.calls.Answer.TheVariants as answer
-use Rattle.judge_rules.specs.declared.calls.Call.{Call}
-use Rattle.judge_rules.specs.declared.calls.Call.TheVariants as call
-use Rattle.judge_rules.specs.declared.calls.Event.{Event}
+use Rattle.judge_rules.specs.declared.calls.JudgedAnswer.{JudgedAnswer}
+use Rattle.judge_rules.specs.declared.calls.JudgedAnswer.TheVariants as answer
+use Rattle.judge_rules.specs.declared.calls.JudgedCall.{JudgedCall}
+use Rattle.judge_rules.specs.declared.calls.JudgedCall.TheVariants as call
+use Rattle.judge_rules.specs.declared.calls.HistoryEvent.{HistoryEvent}
 use Rattle.judge_rules.specs.declared.calls.Function.TheVariants as function
 use Rattle.judge_rules.specs.declared.calls.XidSort.{XidSort}
 use Rattle.judge_rules.specs.declared.calls.XidSort.TheVariants as sort
-use Rattle.judge_script.specs.declared.asking.Asked.{Asked}
-use Rattle.judge_script.specs.declared.asking.Asked.TheVariants as asked
+use Rattle.judge_script.specs.declared.asking.TranscriptCall.{TranscriptCall}
+use Rattle.judge_script.specs.declared.asking.TranscriptCall.TheVariants as asked
 use Rattle.judge_script.specs.declared.names.Names.{Names}
-use Rattle.judge_script.specs.Askings.{Asks}
-use Rattle.judge_script.specs.Answers.{Says}
-use Rattle.judge_script.specs.declared.answers.Said.{Said}
-use Rattle.judge_script.specs.declared.answers.Said.TheVariants as said
+use Rattle.judge_script.specs.Askings.{AsksCall}
+use Rattle.judge_script.specs.Answers.{SaysAnswer}
+use Rattle.judge_script.specs.declared.answers.SaidAnswer.{SaidAnswer}
+use Rattle.judge_script.specs.declared.answers.SaidAnswer.TheVariants as said
 
 -- the XIDs of a transcript, and its keys and values
 pub record NameTable : Type 0 where
@@ -28,8 +28,8 @@ abbrev pub IsPlace : {A : Type 0} → List A → ℕ → A → Type 0
 IsPlace names k x = (k < length names) × (slice_index_or names k x ≡ x)
 
 -- no name is twice in a list
-abbrev pub AreApart : {A : Type 0} → List A → Type 0
-AreApart {A} names = (i j : ℕ) (d : A) → i < j → j < length names → slice_index_or names i d ≢ slice_index_or names j d
+abbrev pub AreApartNames : {A : Type 0} → List A → Type 0
+AreApartNames {A} names = (i j : ℕ) (d : A) → i < j → j < length names → slice_index_or names i d ≢ slice_index_or names j d
 
 -- names that have these and maybe more
 abbrev pub HasMore : {A : Type 0} → List A → List A → Type 0
@@ -42,7 +42,7 @@ IsSort x sort.Bare = (x ≢ null_xid) × (x.bqual ≡ [])
 IsSort x sort.Full = (x ≢ null_xid) × (x.bqual ≢ [])
 
 -- a call is what a line asks for, its names numbered
-abbrev pub IsCall : NameTable → Asked → Call → Type 0
+abbrev pub IsCall : NameTable → TranscriptCall → JudgedCall → Type 0
 IsCall n (asked.Open f) (call.Function (function.Open g)) = g ≡ f
 IsCall n (asked.Close f) (call.Function (function.Close g)) = g ≡ f
 IsCall n (asked.Branch v t x f) (call.Function (function.Branch w o)) =
@@ -63,15 +63,15 @@ ArePlaces names (k ∷ ks) (x ∷ xs) = IsPlace names k x × ArePlaces names ks 
 ArePlaces names _ _ = ⊥
 
 -- an answer is what a line says, its names numbered
-abbrev pub IsAnswer : NameTable → Said → Answer → Type 0
-IsAnswer n (said.Code c) (answer.Code d) = d ≡ c
-IsAnswer n (said.Given xs) (answer.Given ks) = ArePlaces n.xids ks.items xs.items
-IsAnswer n (said.Found v) (answer.Found k) = IsPlace n.words k v.now
-IsAnswer n said.Done answer.Done = Unit {0}
-IsAnswer n said.Refused answer.Refused = Unit {0}
-IsAnswer n said.Told answer.Told = Unit {0}
-IsAnswer n said.Hung answer.Hung = Unit {0}
-IsAnswer n _ _ = ⊥
+abbrev pub IsLineAnswer : NameTable → SaidAnswer → JudgedAnswer → Type 0
+IsLineAnswer n (said.Code c) (answer.Code d) = d ≡ c
+IsLineAnswer n (said.Given xs) (answer.Given ks) = ArePlaces n.xids ks.items xs.items
+IsLineAnswer n (said.Found v) (answer.Found k) = IsPlace n.words k v.now
+IsLineAnswer n said.Done answer.Done = Unit {0}
+IsLineAnswer n said.Refused answer.Refused = Unit {0}
+IsLineAnswer n said.Told answer.Told = Unit {0}
+IsLineAnswer n said.Hung answer.Hung = Unit {0}
+IsLineAnswer n _ _ = ⊥
 
 -- the names that are numbered
 abbrev pub table_of : Names → NameTable
@@ -81,27 +81,27 @@ table_of n = record { xids = n.xids.items; words = map (λ s. s.now) n.words.ite
 pub record Grows (old new : NameTable) : Type 0 where
   pub xids : HasMore old.xids new.xids
   pub words : HasMore old.words new.words
-  pub apart_xids : AreApart old.xids → AreApart new.xids
-  pub apart_words : AreApart old.words → AreApart new.words
+  pub apart_xids : AreApartNames old.xids → AreApartNames new.xids
+  pub apart_words : AreApartNames old.words → AreApartNames new.words
 
 -- words spell a call and an answer, with an arrow between them at this place
-pub record AreParted (ws : List (List ℕ)) (place : ℕ) (asked : Asked) (said : Said) : Type 0 where
+pub record AreParted (ws : List (List ℕ)) (place : ℕ) (asked : TranscriptCall) (said : SaidAnswer) : Type 0 where
   pub arrow : slice_index_or ws place [] ≡ codes "->"
-  pub asks : Asks (take place ws) asked
-  pub says : Says (drop (place + 1) ws) said
+  pub asks : AsksCall (take place ws) asked
+  pub says : SaysAnswer (drop (place + 1) ws) said
 
 -- an event is the call and the answer of a line, their names numbered
-pub record IsEvent (n : NameTable) (ws : List (List ℕ)) (e : Event) : Type 0 where
+pub record IsLineEvent (n : NameTable) (ws : List (List ℕ)) (e : HistoryEvent) : Type 0 where
   pub call : List (List ℕ)
   pub answer : List (List ℕ)
   pub parts : ws ≡ call ++ codes "->" ∷ answer
-  pub asked : Asked
-  pub said : Said
-  pub asks : Asks call asked
-  pub says : Says answer said
+  pub asked : TranscriptCall
+  pub said : SaidAnswer
+  pub asks : AsksCall call asked
+  pub says : SaysAnswer answer said
   pub is_call : IsCall n asked e.call
-  pub is_answer : IsAnswer n said e.answer
+  pub is_answer : IsLineAnswer n said e.answer
 
 -- words spell no event, whatever the names are
 abbrev pub SpellsNoEvent : List (List ℕ) → Type 0
-SpellsNoEvent ws = (n : NameTable) (e : Event) → IsEvent n ws e → ⊥
+SpellsNoEvent ws = (n : NameTable) (e : HistoryEvent) → IsLineEvent n ws e → ⊥

@@ -2,12 +2,12 @@
 use Rattle.std.specs.Prelude.{◌≡◌, ℕ, ◌+◌, ◌<◌, false, not, List, [], ◌∷◌, ◌++◌, length, filter, take, codes, slice_index_or, Option, Some, None, if◌then◌else◌}
 use Rattle.std.specs.Str.Lines.{lines}
 use Rattle.script_words.specs.Steps.{◌>>=◌}
-use Rattle.judge_rules.specs.declared.calls.Event.{Event}
+use Rattle.judge_rules.specs.declared.calls.HistoryEvent.{HistoryEvent}
 use Rattle.judge_rules.specs.declared.words.Rules.{Rules}
 use Rattle.judge_script.specs.declared.reading.Transcript.{Transcript}
 use Rattle.judge_script.specs.Words.{is_blank, words_in}
 use Rattle.judge_script.specs.Headers.{no_rules, ruled}
-use Rattle.judge_script.specs.Numbers.{AreApart, IsEvent, IsPlace, NameTable, SpellsNoEvent, table_of}
+use Rattle.judge_script.specs.Numbers.{AreApartNames, IsLineEvent, IsPlace, NameTable, SpellsNoEvent, table_of}
 
 -- the lines that are not passed over
 abbrev pub kept_lines : List (List ℕ) → List (List ℕ)
@@ -24,9 +24,9 @@ ruled_by r [] = Some r
 ruled_by r (l ∷ ls) = ruled r (words_in l) >>= λ q. ruled_by q ls
 
 -- lines spell events, each one
-abbrev pub AreEvents : NameTable → List (List ℕ) → List Event → Type 0
+abbrev pub AreEvents : NameTable → List (List ℕ) → List HistoryEvent → Type 0
 AreEvents n [] [] = Unit {0}
-AreEvents n (l ∷ ls) (e ∷ es) = IsEvent n (words_in l) e × AreEvents n ls es
+AreEvents n (l ∷ ls) (e ∷ es) = IsLineEvent n (words_in l) e × AreEvents n ls es
 AreEvents n _ _ = ⊥
 
 -- lines are a transcript: some first ones that say by what the manager is judged, and the others spell its events;
@@ -41,8 +41,8 @@ pub record AreTranscript (ls : List (List ℕ)) (t : Transcript) : Type 0 where
   pub each : length t.lines.items ≡ length t.events.items
   pub rules : ruled_by no_rules first ≡ Some t.rules
   pub events : AreEvents (table_of t.names) others t.events.items
-  pub apart_xids : AreApart (table_of t.names).xids
-  pub apart_words : AreApart (table_of t.names).words
+  pub apart_xids : AreApartNames (table_of t.names).xids
+  pub apart_words : AreApartNames (table_of t.names).words
   pub no_value : IsPlace (table_of t.names).words 0 (codes "none")
 
 -- a text is a transcript

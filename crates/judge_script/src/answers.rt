@@ -5,9 +5,9 @@ ghost use Rattle.std.specs.Global.{Vec as AnyVec};
 ghost use Rattle.xa_codes.specs.declared.code.Code.{Code as AnyCode};
 ghost use Rattle.xa_codes.specs.Codes.{code_name};
 ghost use Rattle.xa_xid.specs.declared.xid.Xid.{Xid as AnyXid};
-ghost use Rattle.judge_script.specs.declared.answers.Said.{Said as AnySaid};
+ghost use Rattle.judge_script.specs.declared.answers.SaidAnswer.{SaidAnswer as AnySaid};
 ghost use Rattle.judge_script.specs.Words.{Is};
-ghost use Rattle.judge_script.specs.Answers.{AreNames, IsGiven, Says, SaysBy, is_refusal, is_told};
+ghost use Rattle.judge_script.specs.Answers.{AreNames, IsGiven, SaysAnswer, SaysBy, is_refusal, is_told};
 
 use crate::asking::xid_of;
 use spellings::numeral;
@@ -17,7 +17,7 @@ use xa_xid::Xid;
 
 /// What a line answers, a value in the line.
 #[derive(Drop)]
-pub enum Said<'a> {
+pub enum SaidAnswer<'a> {
     Code(Code),
     Given(Vec<Xid>),
     Found(&'a str),
@@ -78,14 +78,18 @@ fn xids_of(alloc: Global, words: &[&str]) -> Result<Option<Vec<Xid>>, AllocError
 }
 
 /// A number of branches, and as many names.
-fn given_of<'a>(alloc: Global, first: &str, rest: &[&str]) -> Result<Option<Said<'a>>, AllocError>
+fn given_of<'a>(
+    alloc: Global,
+    first: &str,
+    rest: &[&str],
+) -> Result<Option<SaidAnswer<'a>>, AllocError>
     ensures found { IfOk result (λ read. IfSome read (λ said. SaysBy first.now (map (λ s. s.now) rest.now) said)) }
     ensures none { IfOk result (λ read. IfNone read ((xids : AnyVec AnyXid)
-        → SaysBy first.now (map (λ s. s.now) rest.now) (Said.Given xids) → ⊥)) }
+        → SaysBy first.now (map (λ s. s.now) rest.now) (SaidAnswer.Given xids) → ⊥)) }
 {
     match numeral::number_of(first) {
         Some(number) if number == rest.len() as u64 => match xids_of(alloc, rest)? {
-            Some(xids) => Ok(Some(Said::Given(xids))),
+            Some(xids) => Ok(Some(SaidAnswer::Given(xids))),
             None => Ok(None),
         },
         _ => Ok(None),
@@ -93,15 +97,15 @@ fn given_of<'a>(alloc: Global, first: &str, rest: &[&str]) -> Result<Option<Said
 }
 
 /// An answer of one word, but for a number.
-fn said_alone<'a>(word: &str) -> Option<Said<'a>>
+fn said_alone<'a>(word: &str) -> Option<SaidAnswer<'a>>
     requires { is_refusal word.now ≡ false }
     ensures found { IfSome result (λ said. SaysBy word.now [] said) }
     ensures none { IfNone result ((said : AnySaid) → SaysBy word.now [] said → IsGiven said) }
 {
     match word {
-        "done" => Some(Said::Done),
-        "hung" => Some(Said::Hung),
-        _ => Some(Said::Code(code_of(word)?)),
+        "done" => Some(SaidAnswer::Done),
+        "hung" => Some(SaidAnswer::Hung),
+        _ => Some(SaidAnswer::Code(code_of(word)?)),
     }
 }
 
@@ -120,21 +124,21 @@ fn tells(word: &str) -> bool
 }
 
 /// An answer of a word that is no number and the words after it.
-fn said_by<'a>(first: &str, rest: &[&'a str]) -> Option<Said<'a>>
+fn said_by<'a>(first: &str, rest: &[&'a str]) -> Option<SaidAnswer<'a>>
     ensures found { IfSome result (λ said. SaysBy first.now (map (λ s. s.now) rest.now) said) }
     ensures none { IfNone result ((said : AnySaid) → SaysBy first.now (map (λ s. s.now) rest.now) said
         → IsGiven said) }
 {
     if refuses(first) {
-        return Some(Said::Refused);
+        return Some(SaidAnswer::Refused);
     }
     match rest {
         [] => said_alone(first),
         [second] => {
             if first == "=" {
-                Some(Said::Found(second))
+                Some(SaidAnswer::Found(second))
             } else if tells(first) {
-                Some(Said::Told)
+                Some(SaidAnswer::Told)
             } else {
                 None
             }
@@ -144,10 +148,13 @@ fn said_by<'a>(first: &str, rest: &[&'a str]) -> Option<Said<'a>>
 }
 
 /// The answer that words spell: None, if they spell none.
-pub(crate) fn said_in<'a>(alloc: Global, words: &[&'a str]) -> Result<Option<Said<'a>>, AllocError>
-    ensures found { IfOk result (λ read. IfSome read (λ said. Says (map (λ s. s.now) words.now) said)) }
+pub(crate) fn said_in<'a>(
+    alloc: Global,
+    words: &[&'a str],
+) -> Result<Option<SaidAnswer<'a>>, AllocError>
+    ensures found { IfOk result (λ read. IfSome read (λ said. SaysAnswer (map (λ s. s.now) words.now) said)) }
     ensures none { IfOk result (λ read. IfNone read ((said : AnySaid)
-        → Says (map (λ s. s.now) words.now) said → ⊥)) }
+        → SaysAnswer (map (λ s. s.now) words.now) said → ⊥)) }
 {
     match words {
         [] => Ok(None),

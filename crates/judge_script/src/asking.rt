@@ -2,9 +2,9 @@
 
 ghost use Rattle.std.specs.Prelude.{◌≡◌, IfNone, IfSome, map};
 ghost use Rattle.xa_xid.specs.declared.xid.Xid.{Xid as AnyXid};
-ghost use Rattle.judge_script.specs.declared.asking.Asked.{Asked as AnyAsked};
+ghost use Rattle.judge_script.specs.declared.asking.TranscriptCall.{TranscriptCall as AnyAsked};
 ghost use Rattle.judge_script.specs.Words.{IsName};
-ghost use Rattle.judge_script.specs.Askings.{Asks, AsksBy, IsAlone, IsWithOne, IsWithThree, IsWithTwo, outcome_at, word_at};
+ghost use Rattle.judge_script.specs.Askings.{AsksCall, AsksBy, IsAlone, IsWithOne, IsWithThree, IsWithTwo, outcome_at, word_at};
 
 use crate::words::number_of;
 use judge_rules::BranchVerb;
@@ -14,7 +14,7 @@ use xa_xid::Xid;
 
 /// What a line asks for, its keys and values in the line.
 #[derive(Clone, Copy)]
-pub enum Asked<'a> {
+pub enum TranscriptCall<'a> {
     Open(Flags),
     Close(Flags),
     Branch(BranchVerb, u32, Xid, Flags),
@@ -32,7 +32,7 @@ pub(crate) const NONE: &str = "none";
 
 /// What the first word of a line asks for.
 #[derive(Clone, Copy)]
-pub enum Word {
+pub enum CallWord {
     Open,
     Close,
     Branch(BranchVerb),
@@ -47,26 +47,26 @@ pub enum Word {
 }
 
 /// What a word asks for.
-fn word_of(word: &str) -> Option<Word>
+fn word_of(word: &str) -> Option<CallWord>
     ensures { result ≡ word_at word.now }
 {
     match word {
-        "open" => Some(Word::Open),
-        "close" => Some(Word::Close),
-        "start" => Some(Word::Branch(BranchVerb::Start)),
-        "end" => Some(Word::Branch(BranchVerb::End)),
-        "prepare" => Some(Word::Branch(BranchVerb::Prepare)),
-        "commit" => Some(Word::Branch(BranchVerb::Commit)),
-        "rollback" => Some(Word::Branch(BranchVerb::Rollback)),
-        "forget" => Some(Word::Branch(BranchVerb::Forget)),
-        "recover" => Some(Word::Recover),
-        "get" => Some(Word::Get),
-        "put" => Some(Word::Put),
-        "del" => Some(Word::Delete),
-        "heur" => Some(Word::Decide),
-        "restart" => Some(Word::Restart),
-        "disconnect" => Some(Word::Disconnect),
-        "trim" => Some(Word::Trim),
+        "open" => Some(CallWord::Open),
+        "close" => Some(CallWord::Close),
+        "start" => Some(CallWord::Branch(BranchVerb::Start)),
+        "end" => Some(CallWord::Branch(BranchVerb::End)),
+        "prepare" => Some(CallWord::Branch(BranchVerb::Prepare)),
+        "commit" => Some(CallWord::Branch(BranchVerb::Commit)),
+        "rollback" => Some(CallWord::Branch(BranchVerb::Rollback)),
+        "forget" => Some(CallWord::Branch(BranchVerb::Forget)),
+        "recover" => Some(CallWord::Recover),
+        "get" => Some(CallWord::Get),
+        "put" => Some(CallWord::Put),
+        "del" => Some(CallWord::Delete),
+        "heur" => Some(CallWord::Decide),
+        "restart" => Some(CallWord::Restart),
+        "disconnect" => Some(CallWord::Disconnect),
+        "trim" => Some(CallWord::Trim),
         _ => None,
     }
 }
@@ -94,82 +94,92 @@ pub(crate) fn xid_of(word: &str) -> Option<Xid>
 }
 
 /// The call of a word alone.
-fn alone<'a>(word: Word) -> Option<Asked<'a>>
+fn alone<'a>(word: CallWord) -> Option<TranscriptCall<'a>>
     ensures found { IfSome result (λ asked. IsAlone word asked) }
     ensures none { IfNone result ((asked : AnyAsked) → IsAlone word asked → ⊥) }
 {
     match word {
-        Word::Restart => Some(Asked::Restart(false)),
-        Word::Trim => Some(Asked::Trim),
+        CallWord::Restart => Some(TranscriptCall::Restart(false)),
+        CallWord::Trim => Some(TranscriptCall::Trim),
         _ => None,
     }
 }
 
 /// The call of a word and another.
-fn with_one<'a>(word: Word, first: &str) -> Option<Asked<'a>>
+fn with_one<'a>(word: CallWord, first: &str) -> Option<TranscriptCall<'a>>
     ensures found { IfSome result (λ asked. IsWithOne word first.now asked) }
     ensures none { IfNone result ((asked : AnyAsked) → IsWithOne word first.now asked → ⊥) }
 {
     match word {
-        Word::Open => Some(Asked::Open(Flags::parse(first)?)),
-        Word::Close => Some(Asked::Close(Flags::parse(first)?)),
-        Word::Restart => {
+        CallWord::Open => Some(TranscriptCall::Open(Flags::parse(first)?)),
+        CallWord::Close => Some(TranscriptCall::Close(Flags::parse(first)?)),
+        CallWord::Restart => {
             let _keep = numeral::number_of(first)?;
-            Some(Asked::Restart(true))
+            Some(TranscriptCall::Restart(true))
         }
-        Word::Disconnect => Some(Asked::Disconnect(number_of(first)?)),
+        CallWord::Disconnect => Some(TranscriptCall::Disconnect(number_of(first)?)),
         _ => None,
     }
 }
 
 /// The call of a word and two others. The information text of an open is passed over.
-fn with_two<'a>(word: Word, first: &str, second: &'a str) -> Option<Asked<'a>>
+fn with_two<'a>(word: CallWord, first: &str, second: &'a str) -> Option<TranscriptCall<'a>>
     ensures found { IfSome result (λ asked. IsWithTwo word first.now second.now asked) }
     ensures none { IfNone result ((asked : AnyAsked) → IsWithTwo word first.now second.now asked → ⊥) }
 {
     match word {
-        Word::Open => Some(Asked::Open(Flags::parse(first)?)),
-        Word::Get => Some(Asked::Get(number_of(first)?, second)),
-        Word::Delete => Some(Asked::Put(number_of(first)?, second, NONE)),
-        Word::Decide => {
+        CallWord::Open => Some(TranscriptCall::Open(Flags::parse(first)?)),
+        CallWord::Get => Some(TranscriptCall::Get(number_of(first)?, second)),
+        CallWord::Delete => Some(TranscriptCall::Put(number_of(first)?, second, NONE)),
+        CallWord::Decide => {
             let xid = xid_of(first)?;
-            Some(Asked::Decide(xid, commits(second)?))
+            Some(TranscriptCall::Decide(xid, commits(second)?))
         }
         _ => None,
     }
 }
 
 /// The call of a function on a branch.
-fn on_branch<'a>(verb: BranchVerb, first: &str, second: &str, third: &str) -> Option<Asked<'a>>
-    ensures found { IfSome result (λ asked. IsWithThree (Word.Branch verb) first.now second.now third.now asked) }
+fn on_branch<'a>(
+    verb: BranchVerb,
+    first: &str,
+    second: &str,
+    third: &str,
+) -> Option<TranscriptCall<'a>>
+    ensures found { IfSome result (λ asked. IsWithThree (CallWord.Branch verb) first.now second.now third.now asked) }
     ensures none { IfNone result ((asked : AnyAsked)
-        → IsWithThree (Word.Branch verb) first.now second.now third.now asked → ⊥) }
+        → IsWithThree (CallWord.Branch verb) first.now second.now third.now asked → ⊥) }
 {
     let thread = number_of(first)?;
     let xid = xid_of(second)?;
-    Some(Asked::Branch(verb, thread, xid, Flags::parse(third)?))
+    Some(TranscriptCall::Branch(verb, thread, xid, Flags::parse(third)?))
 }
 
 /// The call of a word and three others.
-fn with_three<'a>(word: Word, first: &str, second: &'a str, third: &'a str) -> Option<Asked<'a>>
+fn with_three<'a>(
+    word: CallWord,
+    first: &str,
+    second: &'a str,
+    third: &'a str,
+) -> Option<TranscriptCall<'a>>
     ensures found { IfSome result (λ asked. IsWithThree word first.now second.now third.now asked) }
     ensures none { IfNone result ((asked : AnyAsked)
         → IsWithThree word first.now second.now third.now asked → ⊥) }
 {
     match word {
-        Word::Put => Some(Asked::Put(number_of(first)?, second, third)),
-        Word::Recover => {
+        CallWord::Put => Some(TranscriptCall::Put(number_of(first)?, second, third)),
+        CallWord::Recover => {
             let thread = number_of(first)?;
             let count = number_of(second)?;
-            Some(Asked::Recover(thread, count, Flags::parse(third)?))
+            Some(TranscriptCall::Recover(thread, count, Flags::parse(third)?))
         }
-        Word::Branch(verb) => on_branch(verb, first, second, third),
+        CallWord::Branch(verb) => on_branch(verb, first, second, third),
         _ => None,
     }
 }
 
 /// The call of a word and those after it.
-fn asked_by<'a>(word: Word, rest: &[&'a str]) -> Option<Asked<'a>>
+fn asked_by<'a>(word: CallWord, rest: &[&'a str]) -> Option<TranscriptCall<'a>>
     ensures found { IfSome result (λ asked. AsksBy word (map (λ s. s.now) rest.now) asked) }
     ensures none { IfNone result ((asked : AnyAsked) → AsksBy word (map (λ s. s.now) rest.now) asked → ⊥) }
 {
@@ -183,9 +193,9 @@ fn asked_by<'a>(word: Word, rest: &[&'a str]) -> Option<Asked<'a>>
 }
 
 /// The call that words spell: None, if they spell none.
-pub(crate) fn asked_in<'a>(words: &[&'a str]) -> Option<Asked<'a>>
-    ensures found { IfSome result (λ asked. Asks (map (λ s. s.now) words.now) asked) }
-    ensures none { IfNone result ((asked : AnyAsked) → Asks (map (λ s. s.now) words.now) asked → ⊥) }
+pub(crate) fn asked_in<'a>(words: &[&'a str]) -> Option<TranscriptCall<'a>>
+    ensures found { IfSome result (λ asked. AsksCall (map (λ s. s.now) words.now) asked) }
+    ensures none { IfNone result ((asked : AnyAsked) → AsksCall (map (λ s. s.now) words.now) asked → ⊥) }
 {
     match words {
         [] => None,

@@ -17,7 +17,7 @@ mod numbering;
 mod reading;
 mod words;
 
-pub use answers::Said;
-pub use asking::{Asked, Word};
+pub use answers::SaidAnswer;
+pub use asking::{CallWord, TranscriptCall};
 pub use names::Names;
 pub use reading::{Transcript, transcript_of};

@@ -1,7 +1,7 @@
 //! The numbers of names.
 
 ghost use Rattle.std.specs.Prelude.{◌≡◌, IfOk, OnOk, IfNone, IfSome, map, ℕ};
-ghost use Rattle.judge_script.specs.Numbers.{AreApart, ArePlaces, HasMore, IsPlace, IsSort};
+ghost use Rattle.judge_script.specs.Numbers.{AreApartNames, ArePlaces, HasMore, IsPlace, IsSort};
 
 use crate::asking::NONE;
 use judge_rules::XidSort;
@@ -60,7 +60,7 @@ pub(crate) fn sort_of(xid: &Xid) -> XidSort
 pub(crate) fn number_xid(xids: &mut Vec<Xid>, xid: Xid) -> Result<u32, AllocError>
     ensures placed { IfOk result (λ k. IsPlace xids.new.items k xid) }
     ensures more { OnOk result (HasMore xids.old.items xids.new.items) }
-    ensures apart { OnOk result (AreApart xids.old.items → AreApart xids.new.items) }
+    ensures apart { OnOk result (AreApartNames xids.old.items → AreApartNames xids.new.items) }
 {
     match place_of_xid(xids, &xid) {
         Some(place) => number_at(place),
@@ -87,8 +87,8 @@ fn number_at(place: usize) -> Result<u32, AllocError>
 pub(crate) fn number_word<'a>(words: &mut Vec<&'a str>, word: &'a str) -> Result<u32, AllocError>
     ensures placed { IfOk result (λ k. IsPlace (map (λ s. s.now) words.new.items) k word.now) }
     ensures more { OnOk result (HasMore (map (λ s. s.now) words.old.items) (map (λ s. s.now) words.new.items)) }
-    ensures apart { OnOk result (AreApart (map (λ s. s.now) words.old.items)
-        → AreApart (map (λ s. s.now) words.new.items)) }
+    ensures apart { OnOk result (AreApartNames (map (λ s. s.now) words.old.items)
+        → AreApartNames (map (λ s. s.now) words.new.items)) }
 {
     match place_of_word(words, word) {
         Some(place) => number_at(place),
@@ -108,7 +108,7 @@ pub(crate) fn number_xids(
 ) -> Result<Vec<u32>, AllocError>
     ensures placed { IfOk result (λ v. ArePlaces xids.new.items v.items named.now) }
     ensures more { OnOk result (HasMore xids.old.items xids.new.items) }
-    ensures apart { OnOk result (AreApart xids.old.items → AreApart xids.new.items) }
+    ensures apart { OnOk result (AreApartNames xids.old.items → AreApartNames xids.new.items) }
 {
     let mut numbers = Vec::new(alloc);
     for xid in named {
@@ -119,13 +119,13 @@ pub(crate) fn number_xids(
 
 impl<'a> Names<'a> {
     ghost use Rattle.std.specs.Prelude.{codes};
-    ghost use Rattle.judge_script.specs.Numbers.{AreApart, IsPlace, table_of};
+    ghost use Rattle.judge_script.specs.Numbers.{AreApartNames, IsPlace, table_of};
 
     /// No names but that of no value, whose number is 0.
     pub(crate) fn new(alloc: Global) -> Result<Names<'a>, AllocError>
         ensures zero { IfOk result (λ names. IsPlace (table_of names).words 0 (codes "none")) }
-        ensures xids { IfOk result (λ names. AreApart (table_of names).xids) }
-        ensures words { IfOk result (λ names. AreApart (table_of names).words) }
+        ensures xids { IfOk result (λ names. AreApartNames (table_of names).xids) }
+        ensures words { IfOk result (λ names. AreApartNames (table_of names).words) }
     {
         let mut words = Vec::new(alloc);
         words.push(NONE)?;

@@ -1,12 +1,12 @@
 //! Events, their names numbered.
 
 ghost use Rattle.std.specs.Prelude.{IfOk, OnOk};
-ghost use Rattle.judge_script.specs.Numbers.{Grows, IsAnswer, IsCall, table_of};
+ghost use Rattle.judge_script.specs.Numbers.{Grows, IsLineAnswer, IsCall, table_of};
 
-use crate::answers::Said;
-use crate::asking::Asked;
+use crate::answers::SaidAnswer;
+use crate::asking::TranscriptCall;
 use crate::names::{Names, number_word, number_xid, number_xids, sort_of};
-use judge_rules::{Answer, BranchVerb, Call, Event, Function, On, XidName};
+use judge_rules::{BranchVerb, Function, HistoryEvent, JudgedAnswer, JudgedCall, On, XidName};
 use std::alloc::{AllocError, Global};
 use xa_codes::Flags;
 use xa_xid::Xid;
@@ -18,8 +18,8 @@ fn number_branch(
     thread: u32,
     xid: Xid,
     flags: Flags,
-) -> Result<Call, AllocError>
-    ensures call { IfOk result (λ call. IsCall (table_of names.new) (Asked.Branch verb thread xid flags) call) }
+) -> Result<JudgedCall, AllocError>
+    ensures call { IfOk result (λ call. IsCall (table_of names.new) (TranscriptCall.Branch verb thread xid flags) call) }
     ensures grows { OnOk result (Grows (table_of names.old) (table_of names.new)) }
 {
     let number = number_xid(&mut names.xids, xid)?;
@@ -27,51 +27,56 @@ fn number_branch(
         number,
         sort: sort_of(&xid),
     };
-    Ok(Call::Function(Function::Branch(verb, On { thread, xid, flags })))
+    Ok(JudgedCall::Function(Function::Branch(verb, On { thread, xid, flags })))
 }
 
 /// A call, its names numbered.
-pub(crate) fn number_call<'a>(names: &mut Names<'a>, asked: &Asked<'a>) -> Result<Call, AllocError>
+pub(crate) fn number_call<'a>(
+    names: &mut Names<'a>,
+    asked: &TranscriptCall<'a>,
+) -> Result<JudgedCall, AllocError>
     ensures call { IfOk result (λ call. IsCall (table_of names.new) asked.now call) }
     ensures grows { OnOk result (Grows (table_of names.old) (table_of names.new)) }
 {
     match asked {
-        Asked::Open(flags) => Ok(Call::Function(Function::Open(*flags))),
-        Asked::Close(flags) => Ok(Call::Function(Function::Close(*flags))),
-        Asked::Branch(verb, thread, xid, flags) => {
+        TranscriptCall::Open(flags) => Ok(JudgedCall::Function(Function::Open(*flags))),
+        TranscriptCall::Close(flags) => Ok(JudgedCall::Function(Function::Close(*flags))),
+        TranscriptCall::Branch(verb, thread, xid, flags) => {
             number_branch(names, *verb, *thread, *xid, *flags)
         }
-        Asked::Recover(thread, count, flags) => Ok(Call::Function(Function::Recover {
-            thread: *thread,
-            count: *count,
-            flags: *flags,
-        })),
-        Asked::Get(thread, key) => {
+        TranscriptCall::Recover(thread, count, flags) => Ok(JudgedCall::Function(
+            Function::Recover {
+                thread: *thread,
+                count: *count,
+                flags: *flags,
+            },
+        )),
+        TranscriptCall::Get(thread, key) => {
             let key = number_word(&mut names.words, key)?;
-            Ok(Call::Get {
+            Ok(JudgedCall::Get {
                 thread: *thread,
                 key,
             })
         }
-        Asked::Put(thread, key, value) => {
+        TranscriptCall::Put(thread, key, value) => {
             let key = number_word(&mut names.words, key)?;
             let value = number_word(&mut names.words, value)?;
-            Ok(Call::Put {
+            Ok(JudgedCall::Put {
                 thread: *thread,
                 key,
                 value,
             })
         }
-        Asked::Decide(xid, commits) => {
+        TranscriptCall::Decide(xid, commits) => {
             let branch = number_xid(&mut names.xids, *xid)?;
-            Ok(Call::Decide {
+            Ok(JudgedCall::Decide {
                 branch,
                 commits: *commits,
             })
         }
-        Asked::Restart(cut) => Ok(Call::Restart { cut: *cut }),
-        Asked::Disconnect(thread) => Ok(Call::Disconnect { thread: *thread }),
-        Asked::Trim => Ok(Call::Trim),
+        TranscriptCall::Restart(cut) => Ok(JudgedCall::Restart { cut: *cut }),
+        TranscriptCall::Disconnect(thread) => Ok(JudgedCall::Disconnect { thread: *thread }),
+        TranscriptCall::Trim => Ok(JudgedCall::Trim),
     }
 }
 
@@ -79,19 +84,23 @@ pub(crate) fn number_call<'a>(names: &mut Names<'a>, asked: &Asked<'a>) -> Resul
 pub(crate) fn number_answer<'a>(
     alloc: Global,
     names: &mut Names<'a>,
-    said: &Said<'a>,
-) -> Result<Answer, AllocError>
-    ensures answer { IfOk result (λ answer. IsAnswer (table_of names.new) said.now answer) }
+    said: &SaidAnswer<'a>,
+) -> Result<JudgedAnswer, AllocError>
+    ensures answer { IfOk result (λ answer. IsLineAnswer (table_of names.new) said.now answer) }
     ensures grows { OnOk result (Grows (table_of names.old) (table_of names.new)) }
 {
     match said {
-        Said::Code(code) => Ok(Answer::Code(*code)),
-        Said::Given(xids) => Ok(Answer::Given(number_xids(alloc, &mut names.xids, xids)?)),
-        Said::Found(value) => Ok(Answer::Found(number_word(&mut names.words, value)?)),
-        Said::Done => Ok(Answer::Done),
-        Said::Refused => Ok(Answer::Refused),
-        Said::Told => Ok(Answer::Told),
-        Said::Hung => Ok(Answer::Hung),
+        SaidAnswer::Code(code) => Ok(JudgedAnswer::Code(*code)),
+        SaidAnswer::Given(xids) => Ok(JudgedAnswer::Given(number_xids(
+            alloc,
+            &mut names.xids,
+            xids,
+        )?)),
+        SaidAnswer::Found(value) => Ok(JudgedAnswer::Found(number_word(&mut names.words, value)?)),
+        SaidAnswer::Done => Ok(JudgedAnswer::Done),
+        SaidAnswer::Refused => Ok(JudgedAnswer::Refused),
+        SaidAnswer::Told => Ok(JudgedAnswer::Told),
+        SaidAnswer::Hung => Ok(JudgedAnswer::Hung),
     }
 }
 
@@ -99,14 +108,14 @@ pub(crate) fn number_answer<'a>(
 pub(crate) fn number_event<'a>(
     alloc: Global,
     names: &mut Names<'a>,
-    asked: &Asked<'a>,
-    said: &Said<'a>,
-) -> Result<Event, AllocError>
+    asked: &TranscriptCall<'a>,
+    said: &SaidAnswer<'a>,
+) -> Result<HistoryEvent, AllocError>
     ensures call { IfOk result (λ event. IsCall (table_of names.new) asked.now event.call) }
-    ensures answer { IfOk result (λ event. IsAnswer (table_of names.new) said.now event.answer) }
+    ensures answer { IfOk result (λ event. IsLineAnswer (table_of names.new) said.now event.answer) }
     ensures grows { OnOk result (Grows (table_of names.old) (table_of names.new)) }
 {
     let call = number_call(names, asked)?;
     let answer = number_answer(alloc, names, said)?;
-    Ok(Event { call, answer })
+    Ok(HistoryEvent { call, answer })
 }

@@ -1,18 +1,18 @@
 //! A whole transcript.
 
 ghost use Rattle.std.specs.Prelude.{◌≡◌, ◌<◌, ℕ, ◌++◌, ◌∷◌, IfNone, IfOk, IfSome, MatchResult, OnOk, length, map};
-ghost use Rattle.judge_script.specs.declared.answers.Said.{Said as AnySaid};
-ghost use Rattle.judge_script.specs.declared.asking.Asked.{Asked as AnyAsked};
-ghost use Rattle.judge_script.specs.Numbers.{AreParted, Grows, IsEvent, SpellsNoEvent, table_of};
+ghost use Rattle.judge_script.specs.declared.answers.SaidAnswer.{SaidAnswer as AnySaid};
+ghost use Rattle.judge_script.specs.declared.asking.TranscriptCall.{TranscriptCall as AnyAsked};
+ghost use Rattle.judge_script.specs.Numbers.{AreParted, Grows, IsLineEvent, SpellsNoEvent, table_of};
 ghost use Rattle.judge_script.specs.Transcripts.{AreTranscript, IsBadLine, IsFirstBadLine, IsNoLine, IsTranscript};
 
-use crate::answers::{Said, said_in};
-use crate::asking::{Asked, asked_in};
+use crate::answers::{SaidAnswer, said_in};
+use crate::asking::{TranscriptCall, asked_in};
 use crate::header::{PLAIN, ruled};
 use crate::names::Names;
 use crate::numbering::number_event;
 use crate::words::{is_blank, words_of};
-use judge_rules::{Event, Rules};
+use judge_rules::{HistoryEvent, Rules};
 use script_words::lines_of;
 use std::alloc::{AllocError, Global};
 
@@ -20,7 +20,7 @@ use std::alloc::{AllocError, Global};
 #[derive(Drop)]
 pub struct Transcript<'a> {
     pub rules: Rules,
-    pub events: Vec<Event>,
+    pub events: Vec<HistoryEvent>,
     pub lines: Vec<usize>,
     pub names: Names<'a>,
 }
@@ -30,7 +30,7 @@ fn parted_at<'a>(
     alloc: Global,
     words: &[&'a str],
     place: usize,
-) -> Result<Option<(Asked<'a>, Said<'a>)>, AllocError>
+) -> Result<Option<(TranscriptCall<'a>, SaidAnswer<'a>)>, AllocError>
     requires { place < length words.now }
     ensures found { IfOk result (λ read. IfSome read (λ p. AreParted (map (λ s. s.now) words.now) place p.0 p.1)) }
     ensures none { IfOk result (λ read. IfNone read ((asked : AnyAsked) (said : AnySaid)
@@ -52,7 +52,7 @@ fn parted_at<'a>(
 fn parts_of<'a>(
     alloc: Global,
     words: &[&'a str],
-) -> Result<Option<(Asked<'a>, Said<'a>)>, AllocError>
+) -> Result<Option<(TranscriptCall<'a>, SaidAnswer<'a>)>, AllocError>
     ensures found { IfOk result (λ read. IfSome read (λ p. (place : ℕ) × (place < length words.now)
         × AreParted (map (λ s. s.now) words.now) place p.0 p.1)) }
     ensures none { IfOk result (λ read. IfNone read ((place : ℕ) (asked : AnyAsked) (said : AnySaid)
@@ -71,9 +71,9 @@ fn event_of<'a>(
     alloc: Global,
     names: &mut Names<'a>,
     words: &[&'a str],
-) -> Result<Option<Event>, AllocError>
+) -> Result<Option<HistoryEvent>, AllocError>
     ensures event { IfOk result (λ read. IfSome read (λ event.
-        IsEvent (table_of names.new) (map (λ s. s.now) words.now) event)) }
+        IsLineEvent (table_of names.new) (map (λ s. s.now) words.now) event)) }
     ensures grows { OnOk result (Grows (table_of names.old) (table_of names.new)) }
     ensures none { IfOk result (λ read. IfNone read (SpellsNoEvent (map (λ s. s.now) words.now))) }
 {

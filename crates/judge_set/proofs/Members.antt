@@ -5,23 +5,23 @@ use Rattle.std.proofs.lemmas.Bool.{cases_lt}
 use Rattle.std.proofs.lemmas.List.{take-append-drop}
 use Rattle.std.proofs.lemmas.List.Elements.{Contains-get_or, Contains-append_left, Contains-push, Contains-append_cases}
 use Rattle.judge_state.specs.Sights.{Sight, first_sight}
-use Rattle.judge_rules.specs.declared.calls.Event.{Event}
+use Rattle.judge_rules.specs.declared.calls.HistoryEvent.{HistoryEvent}
 use Rattle.judge_rules.specs.declared.words.Rules.{Rules}
-use Rattle.judge_rules.specs.Histories.{IsLegal, Leads, Step}
+use Rattle.judge_rules.specs.Histories.{IsLegal, JudgeLeads, Step}
 use Rattle.judge_rules.specs.Steps.{next}
-use Rattle.judge_rules.specs.Sets.{Adds, AreApart, AreMany, AreTooMany, IsSetOf}
-use Rattle.judge_rules.specs.declared.errors.StepError.{StepError}
+use Rattle.judge_rules.specs.Sets.{Adds, AreApartStates, AreMany, AreTooManyStates, IsSetOf}
+use Rattle.judge_rules.specs.declared.errors.JudgeError.{JudgeError}
 use Rattle.judge_rules.specs.declared.errors.TheConstants.{MOST_STATES}
 use Rattle.judge_rules.proofs.Members.{no_more, none_in, one_is}
 use Rattle.judge_set.specs.declared.verdict.Walk.{Walk}
-use Rattle.judge_set.specs.Sets.{AreLeft, Follows, IsTooMuch, IsVerdict, IsWalk, LeadsOn, MayFollow, MayLead}
+use Rattle.judge_set.specs.Sets.{AreStatesLeft, Follows, IsTooMuch, IsVerdict, IsWalk, JudgeLeadsOn, MayFollow, MayLead}
 
 -- nothing follows none
-pub follows_none : (r : Rules) (e : Event) → Follows r [] e []
+pub follows_none : (r : Rules) (e : HistoryEvent) → Follows r [] e []
 follows_none r e t = (λ c. absurd (none_in t c), λ (s, c, step). absurd (none_in s c))
 
 -- and what follows one more
-pub follows_more : (r : Rules) (e : Event) (old after new more : List Sight) (s : Sight) → Follows r old e after
+pub follows_more : (r : Rules) (e : HistoryEvent) (old after new more : List Sight) (s : Sight) → Follows r old e after
     → Adds after new more → IsSetOf (next r s e.call e.answer) more → Follows r (old ++ s ∷ []) e new
 follows_more r e old after new more s so_far adds set t = (
   λ c. elim ((adds.all t).0 c) [
@@ -35,7 +35,7 @@ follows_more r e old after new more s so_far adds set t = (
 )
 
 -- what follows some of these follows these
-front_follows : (r : Rules) (e : Event) (all : List Sight) (n : ℕ) (t : Sight) → MayFollow r (take n all) e t
+front_follows : (r : Rules) (e : HistoryEvent) (all : List Sight) (n : ℕ) (t : Sight) → MayFollow r (take n all) e t
     → MayFollow r all e t
 front_follows r e all n t (s, c, step) = (
   s,
@@ -45,14 +45,14 @@ front_follows r e all n t (s, c, step) = (
 )
 
 -- more than are gone through follow some of these, so they follow these
-pub many_follow : (r : Rules) (e : Event) (all new : List Sight) (n : ℕ) → Follows r (take n all) e new → AreApart new
+pub many_follow : (r : Rules) (e : HistoryEvent) (all new : List Sight) (n : ℕ) → Follows r (take n all) e new → AreApartStates new
     → MOST_STATES < length new → AreMany (MayFollow r all e)
 many_follow r e all new n follows apart many =
     (new, apart, λ t c. front_follows r e all n t ((follows t).0 c), many)
 
 -- and if they follow one of these
-pub one_leads_many : (r : Rules) (e : Event) (all : List Sight) (i : ℕ) (s : Sight) → i < length all
-    → s ≡ get_or all i s → AreTooMany (next r s e.call e.answer) → AreMany (MayFollow r all e)
+pub one_leads_many : (r : Rules) (e : HistoryEvent) (all : List Sight) (i : ℕ) (s : Sight) → i < length all
+    → s ≡ get_or all i s → AreTooManyStates (next r s e.call e.answer) → AreMany (MayFollow r all e)
 one_leads_many r e all i s lt is (ts, apart, among, many) = (
   ts,
   apart,
@@ -66,27 +66,27 @@ pub not_many : (P : Sight → Type 0) (us : List Sight) → ((t : Sight) → P t
 not_many P us all few (ts, apart, kind, many) =
     omega (arith, no_more ts us apart (λ t c. all t (kind t c)), few, many)
 
-leads_more : (r : Rules) (es : List Event) (s : Sight) (e : Event) (u t : Sight) → Leads r s es u → Step r u e t
-    → Leads r s (es ++ e ∷ []) t
+leads_more : (r : Rules) (es : List HistoryEvent) (s : Sight) (e : HistoryEvent) (u t : Sight) → JudgeLeads r s es u → Step r u e t
+    → JudgeLeads r s (es ++ e ∷ []) t
 leads_more r [] s e u t is step = (t, subst (λ (q : Sight). Step r q e t) (sym is) step, refl)
 leads_more r (d ∷ es) s e u t (v, first, rest) step = (v, first, leads_more r es v e u t rest step)
 
-leads_less : (r : Rules) (es : List Event) (s : Sight) (e : Event) (t : Sight) → Leads r s (es ++ e ∷ []) t
-    → (u : Sight) × Leads r s es u × Step r u e t
+leads_less : (r : Rules) (es : List HistoryEvent) (s : Sight) (e : HistoryEvent) (t : Sight) → JudgeLeads r s (es ++ e ∷ []) t
+    → (u : Sight) × JudgeLeads r s es u × Step r u e t
 leads_less r [] s e t (u, step, is) = (s, refl, subst (λ (q : Sight). Step r s e q) is step)
 leads_less r (d ∷ es) s e t (v, first, rest) =
     let h = leads_less r es v e t rest in (h.0, (v, first, h.1), h.2)
 
 -- no call leaves the states alone
-pub left_start : (r : Rules) (starts : List Sight) → AreLeft r starts [] starts
+pub left_start : (r : Rules) (starts : List Sight) → AreStatesLeft r starts [] starts
 left_start r starts t = (
   λ c. (t, c, refl),
   λ (s, c, is). subst (λ (q : Sight). Contains starts q) is c,
 )
 
 -- one more call leaves what follows
-pub left_more : (r : Rules) (starts : List Sight) (es : List Event) (e : Event) (old new : List Sight)
-    → AreLeft r starts es old → Follows r old e new → AreLeft r starts (es ++ e ∷ []) new
+pub left_more : (r : Rules) (starts : List Sight) (es : List HistoryEvent) (e : HistoryEvent) (old new : List Sight)
+    → AreStatesLeft r starts es old → Follows r old e new → AreStatesLeft r starts (es ++ e ∷ []) new
 left_more r starts es e old new left follows t = (
   λ c. let f = (follows t).0 c in
       let h = (left f.0).0 f.1 in (h.0, h.1, leads_more r es h.0 e f.0 t h.2 f.2),
@@ -94,8 +94,8 @@ left_more r starts es e old new left follows t = (
 )
 
 -- too many after one more call
-pub many_more : (r : Rules) (starts : List Sight) (es : List Event) (e : Event) (old : List Sight)
-    → AreLeft r starts es old → AreMany (MayFollow r old e) → AreMany (MayLead r starts (es ++ e ∷ []))
+pub many_more : (r : Rules) (starts : List Sight) (es : List HistoryEvent) (e : HistoryEvent) (old : List Sight)
+    → AreStatesLeft r starts es old → AreMany (MayFollow r old e) → AreMany (MayLead r starts (es ++ e ∷ []))
 many_more r starts es e old left (ts, apart, follow, many) = (
   ts,
   apart,
@@ -104,50 +104,50 @@ many_more r starts es e old left (ts, apart, follow, many) = (
 )
 
 -- if there are many, there is one
-many_lead : (r : Rules) (starts : List Sight) (es : List Event) → AreMany (MayLead r starts es)
-    → LeadsOn r starts es
+many_lead : (r : Rules) (starts : List Sight) (es : List HistoryEvent) → AreMany (MayLead r starts es)
+    → JudgeLeadsOn r starts es
 many_lead r starts es (ts, apart, lead, many) =
     let t = get_or ts 0 first_sight in
     let h = lead t (Contains-get_or ts 0 first_sight (omega (arith, many))) in (h.0, t, h.1, h.2)
 
 -- where a state is left the history leads on
-pub leads_on : (r : Rules) (starts : List Sight) (es : List Event) (states : List Sight)
-    → AreLeft r starts es states → 0 < length states → LeadsOn r starts es
+pub leads_on : (r : Rules) (starts : List Sight) (es : List HistoryEvent) (states : List Sight)
+    → AreStatesLeft r starts es states → 0 < length states → JudgeLeadsOn r starts es
 leads_on r starts es states left some =
     let t = get_or states 0 first_sight in
     let h = (left t).0 (Contains-get_or states 0 first_sight some) in (h.0, t, h.1, h.2)
 
 -- and where none is left it does not
-pub leads_nowhere : (r : Rules) (starts : List Sight) (es : List Event) (states : List Sight)
-    → AreLeft r starts es states → length states ≡ 0 → LeadsOn r starts es → ⊥
+pub leads_nowhere : (r : Rules) (starts : List Sight) (es : List HistoryEvent) (states : List Sight)
+    → AreStatesLeft r starts es states → length states ≡ 0 → JudgeLeadsOn r starts es → ⊥
 leads_nowhere r starts es states left none (s, t, c, l) =
     let d = (left t).1 (s, c, l) in omega (arith, d.1, none)
 
-leads_front : (r : Rules) (n : ℕ) (es : List Event) (s t : Sight) → Leads r s es t
-    → (u : Sight) × Leads r s (take n es) u
+leads_front : (r : Rules) (n : ℕ) (es : List HistoryEvent) (s t : Sight) → JudgeLeads r s es t
+    → (u : Sight) × JudgeLeads r s (take n es) u
 leads_front r zero es s t l = (s, refl)
 leads_front r (suc n) [] s t l = (s, refl)
 leads_front r (suc n) (e ∷ es) s t (u, step, rest) =
     let h = leads_front r n es u t rest in (h.0, (u, step, h.1))
 
-pub take_take : (n m : ℕ) (es : List Event) → n ≤ m → take n (take m es) ≡ take n es
+pub take_take : (n m : ℕ) (es : List HistoryEvent) → n ≤ m → take n (take m es) ≡ take n es
 take_take zero m es h = refl
 take_take (suc n) zero es h = absurd (omega (arith, h))
 take_take (suc n) (suc m) [] h = refl
 take_take (suc n) (suc m) (e ∷ es) h =
-    ap (λ (q : List Event). e ∷ q) (take_take n m es (omega (arith, h)))
+    ap (λ (q : List HistoryEvent). e ∷ q) (take_take n m es (omega (arith, h)))
 
 -- a front of events that lead on leads on
-leads_on_front : (r : Rules) (starts : List Sight) (n m : ℕ) (es : List Event) → n ≤ m
-    → LeadsOn r starts (take m es) → LeadsOn r starts (take n es)
+leads_on_front : (r : Rules) (starts : List Sight) (n m : ℕ) (es : List HistoryEvent) → n ≤ m
+    → JudgeLeadsOn r starts (take m es) → JudgeLeadsOn r starts (take n es)
 leads_on_front r starts n m es le (s, t, c, l) =
     let h = leads_front r n (take m es) s t l in
-    (s, h.0, c, subst (λ (q : List Event). Leads r s q h.0) (take_take n m es le) h.1)
+    (s, h.0, c, subst (λ (q : List HistoryEvent). JudgeLeads r s q h.0) (take_take n m es le) h.1)
 
 -- the events before the first that leads to none were not too much, so all are not
-pub not_past : (r : Rules) (starts : List Sight) (es : List Event) (i : ℕ)
+pub not_past : (r : Rules) (starts : List Sight) (es : List HistoryEvent) (i : ℕ)
     → ((j : ℕ) → j < i → AreMany (MayLead r starts (take (j + 1) es)) → ⊥)
-    → (LeadsOn r starts (take (i + 1) es) → ⊥) → IsTooMuch r starts es → ⊥
+    → (JudgeLeadsOn r starts (take (i + 1) es) → ⊥) → IsTooMuch r starts es → ⊥
 not_past r starts es i before stops (j, lt, many) = elim (cases_lt j i) [
   | inl less ↦ before j less many
   | inr ge ↦ stops (leads_on_front r starts (i + 1) (j + 1) es (omega (arith, ge))
@@ -155,9 +155,9 @@ not_past r starts es i before stops (j, lt, many) = elim (cases_lt j i) [
 ]
 
 -- not too much after one event more
-pub not_next : (r : Rules) (starts : List Sight) (es : List Event) (i : ℕ) (new : List Sight)
+pub not_next : (r : Rules) (starts : List Sight) (es : List HistoryEvent) (i : ℕ) (new : List Sight)
     → ((j : ℕ) → j < i → AreMany (MayLead r starts (take (j + 1) es)) → ⊥)
-    → AreLeft r starts (take (i + 1) es) new → length new ≤ MOST_STATES
+    → AreStatesLeft r starts (take (i + 1) es) new → length new ≤ MOST_STATES
     → (j : ℕ) → j < i + 1 → AreMany (MayLead r starts (take (j + 1) es)) → ⊥
 not_next r starts es i new before left few j lt many = elim (cases_lt j i) [
   | inl less ↦ before j less many
@@ -165,18 +165,18 @@ not_next r starts es i new before left few j lt many = elim (cases_lt j i) [
       (subst (λ (k : ℕ). AreMany (MayLead r starts (take (k + 1) es))) e many))
 ]
 
-pub legal_on : (r : Rules) (es : List Event) → LeadsOn r (first_sight ∷ []) es → IsLegal r es
-legal_on r es (s, t, c, l) = (t, subst (λ (q : Sight). Leads r q es t) (sym (one_is first_sight s c)) l)
+pub legal_on : (r : Rules) (es : List HistoryEvent) → JudgeLeadsOn r (first_sight ∷ []) es → IsLegal r es
+legal_on r es (s, t, c, l) = (t, subst (λ (q : Sight). JudgeLeads r q es t) (sym (one_is first_sight s c)) l)
 
-pub on_legal : (r : Rules) (es : List Event) → IsLegal r es → LeadsOn r (first_sight ∷ []) es
+pub on_legal : (r : Rules) (es : List HistoryEvent) → IsLegal r es → JudgeLeadsOn r (first_sight ∷ []) es
 on_legal r es (t, l) = (first_sight, t, Contains-push [] first_sight, l)
 
 -- a front of a legal history is legal
-pub legal_front : (r : Rules) (es : List Event) (n : ℕ) → IsLegal r es → IsLegal r (take n es)
+pub legal_front : (r : Rules) (es : List HistoryEvent) (n : ℕ) → IsLegal r es → IsLegal r (take n es)
 legal_front r es n (t, l) = leads_front r n es first_sight t l
 
 -- how far a history leads from the first state is its verdict
-pub verdict : (r : Rules) (es : List Event) (fault : Option ℕ) → IsWalk r (first_sight ∷ []) es fault
+pub verdict : (r : Rules) (es : List HistoryEvent) (fault : Option ℕ) → IsWalk r (first_sight ∷ []) es fault
     → IsVerdict r es fault
 verdict r es None w = legal_on r es w
 verdict r es (Some i) w = record {
@@ -186,7 +186,7 @@ verdict r es (Some i) w = record {
   illegal = λ (t, l). w.stops (on_legal r (take (i + 1) es) (leads_front r (i + 1) es first_sight t l));
 }
 
-pub verdicts : (r : Rules) (es : List Event) (w : Result Walk StepError)
+pub verdicts : (r : Rules) (es : List HistoryEvent) (w : Result Walk JudgeError)
     → IfOk w (λ walk. IsWalk r (first_sight ∷ []) es walk.fault) → IfOk w (λ walk. IsVerdict r es walk.fault)
 verdicts r es (Ok walk) h = verdict r es walk.fault h
 verdicts r es (Err e) h = tt

@@ -9,13 +9,13 @@ use Rattle.judge_state.specs.Questions.{active_of, branch_at}
 use Rattle.judge_state.specs.Moves.{decided, gone, marked, unlinked}
 use Rattle.judge_state.specs.declared.parts.Stand.{Stand}
 use Rattle.judge_state.specs.declared.parts.Stand.TheVariants.{Heuristic}
-use Rattle.judge_rules.specs.declared.calls.Answer.{Answer}
-use Rattle.judge_rules.specs.declared.calls.Answer.TheVariants as answer
+use Rattle.judge_rules.specs.declared.calls.JudgedAnswer.{JudgedAnswer}
+use Rattle.judge_rules.specs.declared.calls.JudgedAnswer.TheVariants as answer
 use Rattle.judge_rules.specs.declared.calls.BranchVerb.{BranchVerb}
 use Rattle.judge_rules.specs.declared.calls.BranchVerb.TheVariants as verb
-use Rattle.judge_rules.specs.declared.calls.Call.{Call}
-use Rattle.judge_rules.specs.declared.calls.Call.TheVariants as call
-use Rattle.judge_rules.specs.declared.calls.Event.{Event}
+use Rattle.judge_rules.specs.declared.calls.JudgedCall.{JudgedCall}
+use Rattle.judge_rules.specs.declared.calls.JudgedCall.TheVariants as call
+use Rattle.judge_rules.specs.declared.calls.HistoryEvent.{HistoryEvent}
 use Rattle.judge_rules.specs.declared.calls.Function.{Function}
 use Rattle.judge_rules.specs.declared.calls.Function.TheVariants as function
 use Rattle.judge_rules.specs.declared.calls.On.{On}
@@ -32,7 +32,7 @@ use Rattle.judge_rules.specs.Falls.{effects, effects_rows, failed, failed_rows, 
 use Rattle.judge_rules.specs.Passes.{branch_passes, commit_passes, decide_passes, end_passes, entered, one_if, own_decision, prepare_passes, rollback_passes, stand_in, start_passes}
 use Rattle.judge_rules.specs.Steps.{branch_next, branch_rows, by_defects, function_next, get_next, may_fail, next_by, open_next, open_passes, recover_next, waits}
 use Rattle.judge_rules.specs.Scans.{read_rows}
-use Rattle.judge_rules.specs.Histories.{IsLegal, Leads, Step}
+use Rattle.judge_rules.specs.Histories.{IsLegal, JudgeLeads, Step}
 use Rattle.judge_set.specs.Sets.{without_promises}
 use Rattle.judge_rules.proofs.Members.{none_in}
 
@@ -189,14 +189,14 @@ rows_sub r v s o a =
     (excused_more r v s o a)) (failed_sub r s a))
     (by_defects_sub r v s o a)
 
-branch_sub : (r : Rules) (v : BranchVerb) (s : Sight) (o : On) (a : Answer)
+branch_sub : (r : Rules) (v : BranchVerb) (s : Sight) (o : On) (a : JudgedAnswer)
     → Sub (branch_next r v s o a) (branch_next (without_promises r) v s o a)
 branch_sub r v s o (answer.Code c) = rows_sub r v s o (reply_of c)
 branch_sub r v s o answer.Hung = subst (λ (d : Refusals). Sub (waits (branch_defects r v s o) s) (waits d s))
     (sym (defects_same r v s o)) (λ t c. c)
 branch_sub r v s o a = λ t c. c
 
-open_sub : (r : Rules) (d : Refusals) (o : Bool) (s : Sight) (a : Answer)
+open_sub : (r : Rules) (d : Refusals) (o : Bool) (s : Sight) (a : JudgedAnswer)
     → Sub (open_next r d o s a) (open_next (without_promises r) d o s a)
 open_sub r d o s (answer.Code c) =
     let told = if is_defective d then one_if (is_among d (reply_of c)) s else open_passes o s (reply_of c) in
@@ -206,7 +206,7 @@ open_sub r d o s (answer.Code c) =
     (failed_sub r s (reply_of c)) (λ u e. e)) (λ u e. e)
 open_sub r d o s a = λ u e. e
 
-recover_sub : (r : Rules) (s : Sight) (t count f : ℕ) (a : Answer)
+recover_sub : (r : Rules) (s : Sight) (t count f : ℕ) (a : JudgedAnswer)
     → Sub (recover_next r s t count f a) (recover_next (without_promises r) s t count f a)
 recover_sub r s t count f (answer.Code c) =
     let excused = one_if (is_among (recover_excuses r s t f) (reply_of c)) s in
@@ -216,7 +216,7 @@ recover_sub r s t count f (answer.Code c) =
     (failed_sub r s (reply_of c))) (λ u d. d)
 recover_sub r s t count f a = λ u d. d
 
-function_sub : (r : Rules) (s : Sight) (f : Function) (a : Answer)
+function_sub : (r : Rules) (s : Sight) (f : Function) (a : JudgedAnswer)
     → Sub (function_next r s f a) (function_next (without_promises r) s f a)
 function_sub r s (function.Open f) a = open_sub r (open_defects f.0) true s a
 function_sub r s (function.Close f) a = open_sub r (close_defects s f.0) false s a
@@ -228,21 +228,21 @@ read_sub : (r : Rules) (x : Option ℕ) (t k v : ℕ) (s : Sight)
 read_sub r None t k v s = λ t c. c
 read_sub r (Some x) t k v s = λ t c. c
 
-get_sub : (r : Rules) (s : Sight) (t k : ℕ) (a : Answer) → Sub (get_next r s t k a) (get_next (without_promises r) s t k a)
+get_sub : (r : Rules) (s : Sight) (t k : ℕ) (a : JudgedAnswer) → Sub (get_next r s t k a) (get_next (without_promises r) s t k a)
 get_sub r s t k (answer.Found v) = read_sub r (active_of t s) t k v s
 get_sub r s t k a = λ t c. c
 
-by_sub : (r : Rules) (s : Sight) (c : Call) (a : Answer) → Sub (next_by r s c a) (next_by (without_promises r) s c a)
+by_sub : (r : Rules) (s : Sight) (c : JudgedCall) (a : JudgedAnswer) → Sub (next_by r s c a) (next_by (without_promises r) s c a)
 by_sub r s (call.Function f) a = function_sub r s f a
 by_sub r s (call.Get t k) a = get_sub r s t k a
 by_sub r s c a = λ t c. c
 
-step_sub : (r : Rules) (s : Sight) (e : Event) (t : Sight) → Step r s e t → Step (without_promises r) s e t
+step_sub : (r : Rules) (s : Sight) (e : HistoryEvent) (t : Sight) → Step r s e t → Step (without_promises r) s e t
 step_sub r s e t h = either s.hung _ _ _ _ (λ t c. c) (by_sub r s e.call e.answer) t h
 
-leads_sub : (r : Rules) (es : List Event) (s t : Sight) → Leads r s es t → Leads (without_promises r) s es t
+leads_sub : (r : Rules) (es : List HistoryEvent) (s t : Sight) → JudgeLeads r s es t → JudgeLeads (without_promises r) s es t
 leads_sub r [] s t h = h
 leads_sub r (e ∷ es) s t (u, step, rest) = (u, step_sub r s e u step, leads_sub r es u t rest)
 
-pub narrow : (r : Rules) (es : List Event) → IsLegal r es → IsLegal (without_promises r) es
+pub narrow : (r : Rules) (es : List HistoryEvent) → IsLegal r es → IsLegal (without_promises r) es
 narrow r es (t, l) = (t, leads_sub r es first_sight t l)

@@ -1,17 +1,17 @@
 -- How the judge goes on after a fault: from each state as it is, and as it is if the answer is taken at its word.
 use Rattle.std.specs.Prelude.{Bool, true, false, not, ◌&&◌, List, [], ◌∷◌, Option, Some, None, if◌then◌else◌}
 use Rattle.std.specs.List.{flat_map}
-use Rattle.judge_state.specs.declared.parts.Branch.{Branch}
+use Rattle.judge_state.specs.declared.parts.JudgedBranch.{JudgedBranch}
 use Rattle.judge_state.specs.Moves.{begun, committed, dissociated, gone, inactive, linked, marked, opened, prepared, unlinked}
 use Rattle.judge_state.specs.Questions.{branch_at}
 use Rattle.judge_state.specs.Sights.{Sight}
-use Rattle.judge_rules.specs.declared.calls.Answer.{Answer}
-use Rattle.judge_rules.specs.declared.calls.Answer.TheVariants as answer
+use Rattle.judge_rules.specs.declared.calls.JudgedAnswer.{JudgedAnswer}
+use Rattle.judge_rules.specs.declared.calls.JudgedAnswer.TheVariants as answer
 use Rattle.judge_rules.specs.declared.calls.BranchVerb.{BranchVerb}
 use Rattle.judge_rules.specs.declared.calls.BranchVerb.TheVariants as verb
-use Rattle.judge_rules.specs.declared.calls.Call.{Call}
-use Rattle.judge_rules.specs.declared.calls.Call.TheVariants as call
-use Rattle.judge_rules.specs.declared.calls.Event.{Event}
+use Rattle.judge_rules.specs.declared.calls.JudgedCall.{JudgedCall}
+use Rattle.judge_rules.specs.declared.calls.JudgedCall.TheVariants as call
+use Rattle.judge_rules.specs.declared.calls.HistoryEvent.{HistoryEvent}
 use Rattle.judge_rules.specs.declared.calls.Function.{Function}
 use Rattle.judge_rules.specs.declared.calls.Function.TheVariants as function
 use Rattle.judge_rules.specs.declared.calls.On.{On}
@@ -20,7 +20,7 @@ use Rattle.judge_rules.specs.declared.replies.Reply.TheVariants as reply
 use Rattle.judge_rules.specs.Replies.{reply_of}
 
 -- a state in which a branch is known: begun by the thread, if it was not
-abbrev pub known_by : Option Branch → On → Sight → Sight
+abbrev pub known_by : Option JudgedBranch → On → Sight → Sight
 known_by (Some b) o s = s
 known_by None o s = begun o.thread o.xid.number s
 
@@ -73,7 +73,7 @@ told verb.Rollback a o s = ended o s
 told verb.Forget a o s = ended o s
 
 -- what a code makes of a branch, if it is known
-abbrev pub told_of : BranchVerb → Reply → On → Option Branch → Sight → Sight
+abbrev pub told_of : BranchVerb → Reply → On → Option JudgedBranch → Sight → Sight
 told_of v a o None s = s
 told_of v a o (Some b) s = if is_unknown a then ended o s else told v a o s
 
@@ -92,10 +92,10 @@ function_word (function.Close f) a s = opened false s
 function_word (function.Recover t c f) a s = s
 
 -- the state by the word of a call and its answer
-abbrev pub at_word : Call → Answer → Sight → Sight
+abbrev pub at_word : JudgedCall → JudgedAnswer → Sight → Sight
 at_word (call.Function f) (answer.Code c) s = function_word f (reply_of c) s
 at_word c a s = s
 
 -- the states from which the judge goes on
-abbrev pub resumed : Event → List Sight → List Sight
+abbrev pub resumed : HistoryEvent → List Sight → List Sight
 resumed e us = flat_map (λ u. at_word e.call e.answer u ∷ u ∷ []) us

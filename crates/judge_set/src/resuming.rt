@@ -7,7 +7,9 @@ ghost use Rattle.std.specs.Prelude.{◌≡◌, IfOk};
 ghost use Rattle.judge_state.specs.Questions.{branch_at};
 ghost use Rattle.judge_set.specs.Resuming.{at_word, branch_word, ended, function_word, is_ok, is_start, is_unknown, known, resumed, started, tells, told, told_of};
 
-use judge_rules::{Answer, BranchVerb, Call, Event, Function, On, Reply, reply_of};
+use judge_rules::{
+    BranchVerb, Function, HistoryEvent, JudgedAnswer, JudgedCall, On, Reply, reply_of,
+};
 use judge_state::State;
 use std::alloc::{AllocError, Global};
 
@@ -168,11 +170,11 @@ fn function_word(
 }
 
 /// The state by the word of a call and its answer.
-fn at_word(alloc: Global, state: &State, event: &Event) -> Result<State, AllocError>
+fn at_word(alloc: Global, state: &State, event: &HistoryEvent) -> Result<State, AllocError>
     ensures { IfOk result (λ s. s ≡ at_word event.now.call event.now.answer state.now) }
 {
     match (event.call, &event.answer) {
-        (Call::Function(function), Answer::Code(code)) => {
+        (JudgedCall::Function(function), JudgedAnswer::Code(code)) => {
             function_word(alloc, state, function, reply_of(*code))
         }
         _ => state.copied(alloc),
@@ -180,7 +182,11 @@ fn at_word(alloc: Global, state: &State, event: &Event) -> Result<State, AllocEr
 }
 
 /// The states from which the judge goes on after a fault. They are not none, if these are not.
-pub fn resumed(alloc: Global, states: &[State], event: &Event) -> Result<Vec<State>, AllocError>
+pub fn resumed(
+    alloc: Global,
+    states: &[State],
+    event: &HistoryEvent,
+) -> Result<Vec<State>, AllocError>
     ensures { IfOk result (λ v. v.items ≡ resumed event.now states.now) }
 {
     let mut after = Vec::new(alloc);

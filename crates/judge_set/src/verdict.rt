@@ -2,10 +2,10 @@
 
 ghost use Rattle.std.specs.Prelude.{◌≡◌, ◌<◌, ◌∷◌, [], IfErr, IfOk, length};
 ghost use Rattle.judge_state.specs.Sights.{first_sight};
-ghost use Rattle.judge_set.specs.Sets.{AreLeft, IsTooMuch, IsVerdict, IsWalk, followed};
+ghost use Rattle.judge_set.specs.Sets.{AreStatesLeft, IsTooMuch, IsVerdict, IsWalk, followed};
 
 use crate::set::{follow, start};
-use judge_rules::{Event, Rules, StepError};
+use judge_rules::{HistoryEvent, JudgeError, Rules};
 use judge_state::State;
 use std::alloc::Global;
 
@@ -23,14 +23,14 @@ pub fn follow_all(
     alloc: Global,
     rules: Rules,
     starts: Vec<State>,
-    events: &[Event],
-) -> Result<Walk, StepError>
+    events: &[HistoryEvent],
+) -> Result<Walk, JudgeError>
     requires { 0 < length starts.items }
     ensures fault { IfOk result (λ walk. IsWalk rules starts.items events.now walk.fault) }
     ensures states { IfOk result (λ walk.
-        AreLeft rules starts.items (followed events.now walk.fault) walk.states.items) }
+        AreStatesLeft rules starts.items (followed events.now walk.fault) walk.states.items) }
     ensures few { IfOk result (λ walk. IsTooMuch rules starts.items events.now → ⊥) }
-    ensures too_many { IfErr result (λ e. e ≡ StepError.TooMany → IsTooMuch rules starts.items events.now) }
+    ensures too_many { IfErr result (λ e. e ≡ JudgeError.TooMany → IsTooMuch rules starts.items events.now) }
 {
     let mut states = starts;
     for (i, event) in events.iter().enumerate() {
@@ -51,12 +51,12 @@ pub fn follow_all(
 
 /// Judges a history: whether it is legal, or which of its events is the first that no legal history has there. There is
 /// no verdict if more states than are gone through are possible after one of them.
-pub fn judge(alloc: Global, rules: Rules, events: &[Event]) -> Result<Walk, StepError>
+pub fn judge(alloc: Global, rules: Rules, events: &[HistoryEvent]) -> Result<Walk, JudgeError>
     ensures verdict { IfOk result (λ walk. IsVerdict rules events.now walk.fault) }
     ensures states { IfOk result (λ walk.
-        AreLeft rules (first_sight ∷ []) (followed events.now walk.fault) walk.states.items) }
+        AreStatesLeft rules (first_sight ∷ []) (followed events.now walk.fault) walk.states.items) }
     ensures few { IfOk result (λ walk. IsTooMuch rules (first_sight ∷ []) events.now → ⊥) }
-    ensures too_many { IfErr result (λ e. e ≡ StepError.TooMany
+    ensures too_many { IfErr result (λ e. e ≡ JudgeError.TooMany
         → IsTooMuch rules (first_sight ∷ []) events.now) }
 {
     follow_all(alloc, rules, start(alloc)?, events)

@@ -1,14 +1,14 @@
 -- Two states with the same parts are one.
 use Rattle.std.proofs.Common.{◌≡◌, ℕ, Bool, List}
-use Rattle.judge_state.specs.declared.parts.Branch.{Branch}
+use Rattle.judge_state.specs.declared.parts.JudgedBranch.{JudgedBranch}
 use Rattle.judge_state.specs.declared.parts.Link.{Link}
 use Rattle.judge_state.specs.declared.parts.Listed.{Listed}
 use Rattle.judge_state.specs.declared.parts.Work.{Work}
-use Rattle.judge_state.specs.declared.parts.Write.{Write}
+use Rattle.judge_state.specs.declared.parts.JudgedWrite.{JudgedWrite}
 use Rattle.judge_state.specs.Sights.{Sight}
 
-sight_of : Bool → Bool → List Link → List ℕ → List Branch → List Work → List ℕ → List Listed → List Write
-    → List ℕ → List Branch → List Work → Sight
+sight_of : Bool → Bool → List Link → List ℕ → List JudgedBranch → List Work → List ℕ → List Listed → List JudgedWrite
+    → List ℕ → List JudgedBranch → List Work → Sight
 sight_of o h l m b w s d v u k z = record {
   opened = o;
   hung = h;

@@ -1,15 +1,15 @@
 -- How a state changes.
 use Rattle.std.specs.Prelude.{ℕ, Bool, true, false, ◌&&◌, not, ◌==◌, List, [], ◌∷◌, ◌++◌, length, map, filter, position, remove, Option, Some, None, if◌then◌else◌}
 use Rattle.std.specs.List.{list_any}
-use Rattle.judge_state.specs.declared.parts.Branch.{Branch}
-use Rattle.judge_state.specs.declared.parts.Decision.{Decision}
-use Rattle.judge_state.specs.declared.parts.Decision.TheVariants as decision
+use Rattle.judge_state.specs.declared.parts.JudgedBranch.{JudgedBranch}
+use Rattle.judge_state.specs.declared.parts.JudgedDecision.{JudgedDecision}
+use Rattle.judge_state.specs.declared.parts.JudgedDecision.TheVariants as decision
 use Rattle.judge_state.specs.declared.parts.Link.{Link}
 use Rattle.judge_state.specs.declared.parts.Listed.{Listed}
 use Rattle.judge_state.specs.declared.parts.Stand.{Stand}
 use Rattle.judge_state.specs.declared.parts.Stand.TheVariants.{Active, Prepared, RollbackOnly, Heuristic}
 use Rattle.judge_state.specs.declared.parts.Work.{Work}
-use Rattle.judge_state.specs.declared.parts.Write.{Write}
+use Rattle.judge_state.specs.declared.parts.JudgedWrite.{JudgedWrite}
 use Rattle.judge_state.specs.Parts.{is_in_doubt}
 use Rattle.judge_state.specs.Sights.{Sight}
 use Rattle.judge_state.specs.Questions.{is_active_link}
@@ -31,15 +31,15 @@ is_of x None = false
 is_of x (Some y) = y == x
 
 -- the branches of other names
-abbrev pub others : ℕ → List Branch → List Branch
+abbrev pub others : ℕ → List JudgedBranch → List JudgedBranch
 others x bs = filter (λ b. not (b.name == x)) bs
 
 -- a branch that stands so
-abbrev pub with_stand : Stand → Branch → Branch
+abbrev pub with_stand : Stand → JudgedBranch → JudgedBranch
 with_stand to b = record b { stand = to }
 
 -- the branches, with this one standing so
-abbrev pub standing : ℕ → Stand → List Branch → List Branch
+abbrev pub standing : ℕ → Stand → List JudgedBranch → List JudgedBranch
 standing x to bs = map (λ b. if b.name == x then with_stand to b else b) bs
 
 -- what a branch has written
@@ -51,7 +51,7 @@ abbrev pub works_without : ℕ → List Work → List Work
 works_without x ws = filter (λ w. not (w.branch == x)) ws
 
 -- what was written, committed by this branch
-abbrev pub committed_works : ℕ → Bool → List Work → List Write
+abbrev pub committed_works : ℕ → Bool → List Work → List JudgedWrite
 committed_works x sure ws =
     map (λ w. record { branch = Some x; key = w.key; value = w.value; sure = sure }) (works_of x ws)
 
@@ -160,7 +160,7 @@ gone x s = record s {
 }
 
 -- the branch of a name, if it is prepared
-abbrev pub was_prepared : ℕ → List Branch → List Branch
+abbrev pub was_prepared : ℕ → List JudgedBranch → List JudgedBranch
 was_prepared x bs = filter (λ b. b.name == x && is_prepared b.stand) bs
 
 -- a branch that leaves S3: a crash may bring it back
@@ -191,18 +191,18 @@ abbrev pub unworked : ℕ → Sight → Sight
 unworked x s = record s { works = works_without x s.works }
 
 -- what a decision makes of what a branch has written: of a mixed or unknown one each value may be committed
-abbrev pub settled : ℕ → Decision → Sight → Sight
+abbrev pub settled : ℕ → JudgedDecision → Sight → Sight
 settled x decision.Commit s = published x true s
 settled x decision.Rollback s = unworked x s
 settled x decision.Mixed s = published x false s
 settled x decision.Unknown s = published x false s
 
 -- a branch is decided heuristically
-abbrev pub decided : ℕ → Decision → Sight → Sight
+abbrev pub decided : ℕ → JudgedDecision → Sight → Sight
 decided x d s = enlisted x (settled x d (stands x (Heuristic d) s))
 
 -- a branch that is in doubt has this name
-abbrev pub keeps_name : List Branch → ℕ → Bool
+abbrev pub keeps_name : List JudgedBranch → ℕ → Bool
 keeps_name bs x = list_any (λ b. is_in_doubt b && b.name == x) bs
 
 -- the manager fell: what is in doubt stays, and nothing else of what is not committed
@@ -226,15 +226,15 @@ abbrev pub restarted : Sight → Sight
 restarted s = forgotten (fallen s)
 
 -- a value that is not committed for sure
-abbrev pub without_surety : Write → Write
+abbrev pub without_surety : JudgedWrite → JudgedWrite
 without_surety w = record w { sure = false }
 
 -- what this branch committed may not be there
-abbrev pub doubted : ℕ → List Write → List Write
+abbrev pub doubted : ℕ → List JudgedWrite → List JudgedWrite
 doubted x ws = map (λ w. if is_of x w.branch then without_surety w else w) ws
 
 -- a branch that had left S3 is back in it, with what it had written
-abbrev pub brought_back : Branch → List Work → Sight → Sight
+abbrev pub brought_back : JudgedBranch → List Work → Sight → Sight
 brought_back b ws s = record s {
   branches = s.branches ++ b ∷ [];
   works = s.works ++ works_of b.name ws;

@@ -1,13 +1,13 @@
 -- What is asked of a state.
 use Rattle.std.specs.Prelude.{ℕ, Bool, ◌&&◌, ◌||◌, not, ◌==◌, List, length, Option, Some, None, find, option_map}
 use Rattle.std.specs.List.{list_any}
-use Rattle.judge_state.specs.declared.parts.Branch.{Branch}
+use Rattle.judge_state.specs.declared.parts.JudgedBranch.{JudgedBranch}
 use Rattle.judge_state.specs.declared.parts.Link.{Link}
 use Rattle.judge_state.specs.Parts.{is_at_work, is_named}
 use Rattle.judge_state.specs.Sights.{Sight}
 
 -- the branch of a name, where it is known
-abbrev pub branch_at : ℕ → Sight → Option Branch
+abbrev pub branch_at : ℕ → Sight → Option JudgedBranch
 branch_at x s = find (is_named x) s.branches
 
 -- an association T1 of a thread

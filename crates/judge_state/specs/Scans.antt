@@ -1,10 +1,10 @@
 -- The scans of a recover, and what a thread may read.
 use Rattle.std.specs.Prelude.{ℕ, Bool, true, false, ◌&&◌, ◌||◌, not, ◌==◌, List, [], ◌∷◌, ◌++◌, length, map, filter, take, drop, Option, Some, None, if◌then◌else◌, fold}
 use Rattle.std.specs.List.{list_any, list_all}
-use Rattle.judge_state.specs.declared.parts.Branch.{Branch}
+use Rattle.judge_state.specs.declared.parts.JudgedBranch.{JudgedBranch}
 use Rattle.judge_state.specs.declared.parts.Listed.{Listed}
 use Rattle.judge_state.specs.declared.parts.Work.{Work}
-use Rattle.judge_state.specs.declared.parts.Write.{Write}
+use Rattle.judge_state.specs.declared.parts.JudgedWrite.{JudgedWrite}
 use Rattle.judge_state.specs.Parts.{is_in_doubt}
 use Rattle.judge_state.specs.Sights.{Sight}
 
@@ -25,7 +25,7 @@ scan_closed t s = record s {
 }
 
 -- the list of a new scan: each branch that is in doubt may be given, and is due
-abbrev pub due_lines : ℕ → List Branch → List Listed
+abbrev pub due_lines : ℕ → List JudgedBranch → List Listed
 due_lines t bs = map (λ b. record { thread = t; branch = b.name; given = false; due = true }) (filter is_in_doubt bs)
 
 -- a line of a list that was given
@@ -63,19 +63,19 @@ owes_only t xs s = list_all (λ l. not (l.thread == t && l.due && not l.given) |
 
 -- what is committed under a key after one more value: this one, if it is of the key; where it is not sure, what
 -- was may still be
-abbrev pub held_after : ℕ → ℕ → Bool → Write → Bool
+abbrev pub held_after : ℕ → ℕ → Bool → JudgedWrite → Bool
 held_after k v held w = if w.key == k then w.value == v || (not w.sure && held) else held
 
 -- after these commits a value may be the one under a key
-abbrev pub may_hold : ℕ → ℕ → List Write → Bool
+abbrev pub may_hold : ℕ → ℕ → List JudgedWrite → Bool
 may_hold k v ws = fold (held_after k v) (v == 0) ws
 
 -- a value was committed under a key
-abbrev pub is_written : ℕ → ℕ → List Write → Bool
+abbrev pub is_written : ℕ → ℕ → List JudgedWrite → Bool
 is_written k v ws = list_any (λ w. w.key == k && w.value == v) ws
 
 -- a value was the committed one under a key when this many of these were committed, or later
-abbrev pub may_read_in : ℕ → ℕ → ℕ → List Write → Bool
+abbrev pub may_read_in : ℕ → ℕ → ℕ → List JudgedWrite → Bool
 may_read_in since k v ws = may_hold k v (take since ws) || is_written k v (drop since ws)
 
 -- a value was the committed one under a key when this many were committed, or later

@@ -1,10 +1,10 @@
 -- One state that a resource manager may be in.
 use Rattle.std.specs.Prelude.{ℕ, Bool, false, List, []}
-use Rattle.judge_state.specs.declared.parts.Branch.{Branch}
+use Rattle.judge_state.specs.declared.parts.JudgedBranch.{JudgedBranch}
 use Rattle.judge_state.specs.declared.parts.Link.{Link}
 use Rattle.judge_state.specs.declared.parts.Listed.{Listed}
 use Rattle.judge_state.specs.declared.parts.Work.{Work}
-use Rattle.judge_state.specs.declared.parts.Write.{Write}
+use Rattle.judge_state.specs.declared.parts.JudgedWrite.{JudgedWrite}
 
 -- a state: whether the manager is open (R1, else R0), and whether a call got no answer, after which nothing is
 -- judged; the associations T1 and T2, and a branch as often as it is suspended for migration; the known
@@ -16,13 +16,13 @@ pub record Sight : Type 0 where
   pub hung : Bool
   pub links : List Link
   pub migrated : List ℕ
-  pub branches : List Branch
+  pub branches : List JudgedBranch
   pub works : List Work
   pub scans : List ℕ
   pub listed : List Listed
-  pub values : List Write
+  pub values : List JudgedWrite
   pub outside : List ℕ
-  pub lost : List Branch
+  pub lost : List JudgedBranch
   pub lost_works : List Work
 
 -- the first state: not open, and nothing is known

@@ -19,6 +19,6 @@ mod same;
 mod scans;
 mod state;
 
-pub use parts::{Branch, Decision, Link, Listed, Stand, Work, Write};
+pub use parts::{JudgedBranch, JudgedDecision, JudgedWrite, Link, Listed, Stand, Work};
 pub use scans::are_distinct;
 pub use state::{State, are_same};

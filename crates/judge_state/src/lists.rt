@@ -5,7 +5,7 @@ ghost use Rattle.judge_state.specs.Parts.{is_in_doubt};
 ghost use Rattle.judge_state.specs.Questions.{is_active_link};
 ghost use Rattle.judge_state.specs.Moves.{committed_works, doubted, is_of, is_prepared, keeps_name, links_without, lists, new_lines, not_due, others, scans_without, standing, first_place, was_prepared, with_stand, without_due, without_surety, works_of, works_without};
 
-use crate::parts::{Branch, Link, Listed, Stand, Work, Write};
+use crate::parts::{JudgedBranch, JudgedWrite, Link, Listed, Stand, Work};
 use std::alloc::{AllocError, Global};
 
 /// Whether a branch stands prepared.
@@ -26,7 +26,7 @@ fn is_of(x: u32, branch: Option<u32>) -> bool
 }
 
 /// A branch that stands so.
-fn with_stand(mut branch: Branch, stand: Stand) -> Branch
+fn with_stand(mut branch: JudgedBranch, stand: Stand) -> JudgedBranch
     ensures { result ≡ with_stand stand branch }
 {
     branch.stand = stand;
@@ -42,7 +42,7 @@ fn without_due(mut line: Listed) -> Listed
 }
 
 /// A value that is not committed for sure.
-fn without_surety(mut write: Write) -> Write
+fn without_surety(mut write: JudgedWrite) -> JudgedWrite
     ensures { result ≡ without_surety write }
 {
     write.sure = false;
@@ -50,7 +50,11 @@ fn without_surety(mut write: Write) -> Write
 }
 
 /// The branches of other names.
-pub(crate) fn others(alloc: Global, x: u32, branches: &[Branch]) -> Result<Vec<Branch>, AllocError>
+pub(crate) fn others(
+    alloc: Global,
+    x: u32,
+    branches: &[JudgedBranch],
+) -> Result<Vec<JudgedBranch>, AllocError>
     ensures { IfOk result (λ v. v.items ≡ others x branches.now) }
 {
     branches
@@ -65,8 +69,8 @@ pub(crate) fn standing(
     alloc: Global,
     x: u32,
     to: Stand,
-    branches: &[Branch],
-) -> Result<Vec<Branch>, AllocError>
+    branches: &[JudgedBranch],
+) -> Result<Vec<JudgedBranch>, AllocError>
     ensures { IfOk result (λ v. v.items ≡ standing x to branches.now) }
 {
     branches
@@ -76,7 +80,10 @@ pub(crate) fn standing(
 }
 
 /// The branches in doubt.
-pub(crate) fn in_doubt(alloc: Global, branches: &[Branch]) -> Result<Vec<Branch>, AllocError>
+pub(crate) fn in_doubt(
+    alloc: Global,
+    branches: &[JudgedBranch],
+) -> Result<Vec<JudgedBranch>, AllocError>
     ensures { IfOk result (λ v. v.items ≡ filter is_in_doubt branches.now) }
 {
     branches
@@ -90,8 +97,8 @@ pub(crate) fn in_doubt(alloc: Global, branches: &[Branch]) -> Result<Vec<Branch>
 pub(crate) fn was_prepared(
     alloc: Global,
     x: u32,
-    branches: &[Branch],
-) -> Result<Vec<Branch>, AllocError>
+    branches: &[JudgedBranch],
+) -> Result<Vec<JudgedBranch>, AllocError>
     ensures { IfOk result (λ v. v.items ≡ was_prepared x branches.now) }
 {
     branches
@@ -140,7 +147,7 @@ pub(crate) fn works_but(
 }
 
 /// Whether a branch that is in doubt has this name.
-fn keeps_name(branches: &[Branch], x: u32) -> bool
+fn keeps_name(branches: &[JudgedBranch], x: u32) -> bool
     ensures { result ≡ keeps_name branches.now x }
 {
     branches.iter().any(|b| b.is_in_doubt() && b.name == x)
@@ -149,7 +156,7 @@ fn keeps_name(branches: &[Branch], x: u32) -> bool
 /// What branches in doubt have written.
 pub(crate) fn works_in_doubt(
     alloc: Global,
-    branches: &[Branch],
+    branches: &[JudgedBranch],
     works: &[Work],
 ) -> Result<Vec<Work>, AllocError>
     ensures { IfOk result (λ v. v.items ≡ filter (λ w. keeps_name branches.now w.branch) works.now) }
@@ -167,13 +174,13 @@ pub(crate) fn committed_works(
     x: u32,
     sure: bool,
     works: &[Work],
-) -> Result<Vec<Write>, AllocError>
+) -> Result<Vec<JudgedWrite>, AllocError>
     ensures { IfOk result (λ v. v.items ≡ committed_works x sure works.now) }
 {
     works
         .iter()
         .filter(|w| w.branch == x)
-        .map(|w| Write {
+        .map(|w| JudgedWrite {
             branch: Some(x),
             key: w.key,
             value: w.value,
@@ -183,7 +190,11 @@ pub(crate) fn committed_works(
 }
 
 /// What was committed, where what this branch committed may not be there.
-pub(crate) fn doubted(alloc: Global, x: u32, values: &[Write]) -> Result<Vec<Write>, AllocError>
+pub(crate) fn doubted(
+    alloc: Global,
+    x: u32,
+    values: &[JudgedWrite],
+) -> Result<Vec<JudgedWrite>, AllocError>
     ensures { IfOk result (λ v. v.items ≡ doubted x values.now) }
 {
     values

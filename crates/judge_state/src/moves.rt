@@ -8,7 +8,7 @@ use crate::lists::{
     links_of_others, links_without, listed_of_others, new_lines, not_due, numbers_without, others,
     scans_without, standing, was_prepared, works_but, works_in_doubt, works_of, works_without,
 };
-use crate::parts::{Branch, Decision, Link, Stand, Work, Write};
+use crate::parts::{JudgedBranch, JudgedDecision, JudgedWrite, Link, Stand, Work};
 use crate::state::State;
 use std::alloc::{AllocError, Global};
 
@@ -33,7 +33,7 @@ impl State {
     pub fn begun(mut self, thread: u32, x: u32) -> Result<State, AllocError>
         ensures { IfOk result (λ state. state ≡ begun thread x self) }
     {
-        let branch = Branch {
+        let branch = JudgedBranch {
             name: x,
             stand: Stand::Active,
             owner: thread,
@@ -196,18 +196,23 @@ impl State {
     }
 
     /// What a decision makes of what a branch has written.
-    fn settled(self, alloc: Global, x: u32, decision: Decision) -> Result<State, AllocError>
+    fn settled(self, alloc: Global, x: u32, decision: JudgedDecision) -> Result<State, AllocError>
         ensures { IfOk result (λ state. state ≡ settled x decision self) }
     {
         match decision {
-            Decision::Commit => self.published(alloc, x, true),
-            Decision::Rollback => self.unworked(alloc, x),
-            Decision::Mixed | Decision::Unknown => self.published(alloc, x, false),
+            JudgedDecision::Commit => self.published(alloc, x, true),
+            JudgedDecision::Rollback => self.unworked(alloc, x),
+            JudgedDecision::Mixed | JudgedDecision::Unknown => self.published(alloc, x, false),
         }
     }
 
     /// A branch is decided heuristically.
-    pub fn decided(self, alloc: Global, x: u32, decision: Decision) -> Result<State, AllocError>
+    pub fn decided(
+        self,
+        alloc: Global,
+        x: u32,
+        decision: JudgedDecision,
+    ) -> Result<State, AllocError>
         ensures { IfOk result (λ state. state ≡ decided x decision self) }
     {
         let state = self.standing(alloc, x, Stand::Heuristic(decision))?;
@@ -216,7 +221,7 @@ impl State {
     }
 
     /// What is known of the decision of a branch, and nothing else, changes.
-    pub fn known(self, alloc: Global, x: u32, decision: Decision) -> Result<State, AllocError>
+    pub fn known(self, alloc: Global, x: u32, decision: JudgedDecision) -> Result<State, AllocError>
         ensures { IfOk result (λ state. state ≡ stands x (Stand.Heuristic decision) self) }
     {
         self.standing(alloc, x, Stand::Heuristic(decision))
@@ -258,7 +263,7 @@ impl State {
     pub fn brought_back(
         mut self,
         alloc: Global,
-        branch: Branch,
+        branch: JudgedBranch,
         works: &[Work],
     ) -> Result<State, AllocError>
         ensures { IfOk result (λ state. state ≡ brought_back branch works.now self) }
@@ -315,7 +320,7 @@ impl State {
     fn stored(mut self, key: u32, value: u32) -> Result<State, AllocError>
         ensures { IfOk result (λ state. state ≡ stored key value self) }
     {
-        self.values.push(Write {
+        self.values.push(JudgedWrite {
             branch: None,
             key,
             value,

@@ -6,7 +6,7 @@ ghost use Rattle.judge_state.specs.Parts.{is_at_work, is_in_doubt};
 
 /// What is known of an operator's, or the manager's own, decision of a branch.
 #[derive(Clone, Copy, PartialEq, Eq)]
-pub enum Decision {
+pub enum JudgedDecision {
     /// There is one, and it may be any.
     Unknown,
     Commit,
@@ -25,12 +25,12 @@ pub enum Stand {
     /// Can only be rolled back.
     RollbackOnly,
     /// Decided heuristically, and not yet forgotten.
-    Heuristic(Decision),
+    Heuristic(JudgedDecision),
 }
 
 /// A branch that the manager knows.
 #[derive(Clone, Copy, PartialEq, Eq)]
-pub struct Branch {
+pub struct JudgedBranch {
     pub name: u32,
     pub stand: Stand,
     /// The thread that began it.
@@ -39,7 +39,7 @@ pub struct Branch {
     pub since: usize,
 }
 
-impl Branch {
+impl JudgedBranch {
     /// Whether it is neither prepared nor decided.
     pub fn is_at_work(self) -> bool
         ensures { result ≡ is_at_work self }
@@ -74,7 +74,7 @@ pub struct Work {
 
 /// A value that was committed.
 #[derive(Clone, Copy, PartialEq, Eq)]
-pub struct Write {
+pub struct JudgedWrite {
     /// The branch that wrote it: None outside of any branch.
     pub branch: Option<u32>,
     pub key: u32,

@@ -7,11 +7,11 @@ ghost use Rattle.judge_state.specs.Questions.{active_of, is_active_link, branch_
 ghost use Rattle.judge_state.specs.Moves.{is_prepared_at};
 
 use crate::lists::is_prepared;
-use crate::parts::{Branch, Link, Work};
+use crate::parts::{JudgedBranch, Link, Work};
 use crate::state::State;
 
 /// The branch of a name.
-fn branch_in(branches: &[Branch], x: u32) -> Option<Branch>
+fn branch_in(branches: &[JudgedBranch], x: u32) -> Option<JudgedBranch>
     ensures { result ≡ find (is_named x) branches.now }
 {
     branches.iter().copied().find(|b| b.name == x)
@@ -43,14 +43,14 @@ impl State {
     }
 
     /// The branches that are known.
-    pub fn branches(&self) -> &[Branch]
+    pub fn branches(&self) -> &[JudgedBranch]
         ensures { result.now ≡ self.now.branches }
     {
         &self.branches
     }
 
     /// The branches that left S3 since the last restart.
-    pub fn lost(&self) -> &[Branch]
+    pub fn lost(&self) -> &[JudgedBranch]
         ensures { result.now ≡ self.now.lost }
     {
         &self.lost
@@ -71,7 +71,7 @@ impl State {
     }
 
     /// The branch of a name, where it is known.
-    pub fn branch(&self, x: u32) -> Option<Branch>
+    pub fn branch(&self, x: u32) -> Option<JudgedBranch>
         ensures { result ≡ branch_at x self.now }
     {
         branch_in(&self.branches, x)

@@ -2,7 +2,7 @@
 
 ghost use Rattle.std.specs.Prelude.{◌≡◌, ◌↔◌, IsTrue};
 
-use crate::parts::{Branch, Link, Listed, Work, Write};
+use crate::parts::{JudgedBranch, JudgedWrite, Link, Listed, Work};
 
 /// Whether two lists of numbers are one.
 pub(crate) fn are_numbers(a: &[u32], b: &[u32]) -> bool
@@ -19,7 +19,7 @@ pub(crate) fn are_links(a: &[Link], b: &[Link]) -> bool
 }
 
 /// Whether two lists of branches are one.
-pub(crate) fn are_branches(a: &[Branch], b: &[Branch]) -> bool
+pub(crate) fn are_branches(a: &[JudgedBranch], b: &[JudgedBranch]) -> bool
     ensures { IsTrue result ↔ (a.now ≡ b.now) }
 {
     a == b
@@ -40,7 +40,7 @@ pub(crate) fn are_listed(a: &[Listed], b: &[Listed]) -> bool
 }
 
 /// Whether two lists of commits are one.
-pub(crate) fn are_values(a: &[Write], b: &[Write]) -> bool
+pub(crate) fn are_values(a: &[JudgedWrite], b: &[JudgedWrite]) -> bool
     ensures { IsTrue result ↔ (a.now ≡ b.now) }
 {
     a == b

@@ -5,7 +5,7 @@ ghost use Rattle.judge_state.specs.Parts.{is_in_doubt};
 ghost use Rattle.judge_state.specs.Scans.{are_distinct, due_lines, given_lines, has, has_value, has_worked, held_after, is_worked, is_written, may_give, may_hold, may_read, may_read_in, owes, owes_only, scan_closed, scan_given, scan_opened, with_given};
 
 use crate::lists::{listed_of_others, numbers_without};
-use crate::parts::{Branch, Listed, Write};
+use crate::parts::{JudgedBranch, JudgedWrite, Listed};
 use crate::state::State;
 use std::alloc::{AllocError, Global};
 
@@ -27,7 +27,11 @@ pub fn are_distinct(numbers: &[u32]) -> bool
 }
 
 /// The list of a new scan: each branch that is in doubt may be given, and is due.
-fn due_lines(alloc: Global, thread: u32, branches: &[Branch]) -> Result<Vec<Listed>, AllocError>
+fn due_lines(
+    alloc: Global,
+    thread: u32,
+    branches: &[JudgedBranch],
+) -> Result<Vec<Listed>, AllocError>
     ensures { IfOk result (λ v. v.items ≡ due_lines thread branches.now) }
 {
     branches
@@ -72,7 +76,7 @@ fn given_lines(
 }
 
 /// Whether a value may be under a key after one more commit.
-fn held_after(key: u32, value: u32, held: bool, write: &Write) -> bool
+fn held_after(key: u32, value: u32, held: bool, write: &JudgedWrite) -> bool
     ensures { result ≡ held_after key value held write.now }
 {
     if write.key == key {
@@ -83,7 +87,7 @@ fn held_after(key: u32, value: u32, held: bool, write: &Write) -> bool
 }
 
 /// Whether a value may be the one under a key after these commits.
-fn may_hold(key: u32, value: u32, writes: &[Write]) -> bool
+fn may_hold(key: u32, value: u32, writes: &[JudgedWrite]) -> bool
     ensures { result ≡ may_hold key value writes.now }
 {
     writes.iter().fold(
@@ -93,14 +97,14 @@ fn may_hold(key: u32, value: u32, writes: &[Write]) -> bool
 }
 
 /// Whether a value was committed under a key.
-fn is_written(key: u32, value: u32, writes: &[Write]) -> bool
+fn is_written(key: u32, value: u32, writes: &[JudgedWrite]) -> bool
     ensures { result ≡ is_written key value writes.now }
 {
     writes.iter().any(|w| w.key == key && w.value == value)
 }
 
 /// Whether a value was the committed one under a key when this many were committed, or later.
-fn may_read_in(since: usize, key: u32, value: u32, writes: &[Write]) -> bool
+fn may_read_in(since: usize, key: u32, value: u32, writes: &[JudgedWrite]) -> bool
     ensures { result ≡ may_read_in since key value writes.now }
 {
     if since <= writes.len() {

@@ -3,7 +3,7 @@
 ghost use Rattle.std.specs.Prelude.{◌≡◌, ◌↔◌, IfOk, IsTrue};
 ghost use Rattle.judge_state.specs.Sights.{first_sight};
 
-use crate::parts::{Branch, Link, Listed, Work, Write};
+use crate::parts::{JudgedBranch, JudgedWrite, Link, Listed, Work};
 use crate::same::{are_branches, are_links, are_listed, are_numbers, are_values, are_works};
 use std::alloc::{AllocError, Global};
 use std::marker::Model;
@@ -15,13 +15,13 @@ pub struct State {
     pub(crate) hung: bool,
     pub(crate) links: Vec<Link>,
     pub(crate) migrated: Vec<u32>,
-    pub(crate) branches: Vec<Branch>,
+    pub(crate) branches: Vec<JudgedBranch>,
     pub(crate) works: Vec<Work>,
     pub(crate) scans: Vec<u32>,
     pub(crate) listed: Vec<Listed>,
-    pub(crate) values: Vec<Write>,
+    pub(crate) values: Vec<JudgedWrite>,
     pub(crate) outside: Vec<u32>,
-    pub(crate) lost: Vec<Branch>,
+    pub(crate) lost: Vec<JudgedBranch>,
     pub(crate) lost_works: Vec<Work>,
 }
 

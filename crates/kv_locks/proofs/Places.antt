@@ -12,12 +12,12 @@ use Rattle.indexmap.specs.IndexMap.{IndexMap, IsUnique, Updates, keys, set_value
 use Rattle.indexmap.proofs.CallerLemmas.{keys-with_value_at, updates-with_value_at}
 use Rattle.indexmap.proofs.MapLemmas.{Found-position}
 use Rattle.xa_xid.specs.declared.xid.Xid.{Xid}
-use Rattle.key_tables.specs.declared.holders.Holder.{Holder}
-use Rattle.key_tables.specs.declared.holders.Mode.{Mode}
-use Rattle.key_tables.specs.Holders.{given, without}
-use Rattle.key_tables.specs.Tables.{Becomes, same_key, table_of}
-use Rattle.key_tables.proofs.Tables.{becomes, becomes_then, items_in, key_test, list_at_key}
-use Rattle.kv_locks.specs.Locks.{LetsGo, Takes, holders_of}
+use Rattle.key_lists.specs.declared.holders.Holder.{Holder}
+use Rattle.key_lists.specs.declared.holders.Mode.{Mode}
+use Rattle.key_lists.specs.Holders.{given, without}
+use Rattle.key_lists.specs.Tables.{Becomes, same_key, table_of}
+use Rattle.key_lists.proofs.Tables.{becomes, becomes_then, items_in, key_test, list_at_key}
+use Rattle.kv_locks.specs.Locks.{LetsKeyGo, TakesKey, holders_of}
 
 -- two keys of the map are one
 abbrev pub alike : Vec ℕ → Vec ℕ → Bool
@@ -61,19 +61,19 @@ module _ {H : Type 0} (m : IndexMap (Vec ℕ) (Vec Holder) H) (k : List ℕ) (i 
 
   -- a branch that holds the key gets it in a mode
   pub takes_here : (mode : Mode) → v.items ≡ given w.items x mode
-      → Takes (table_of m.entries) (table_of (set_value_at m.entries i v)) x k mode
+      → TakesKey (table_of m.entries) (table_of (set_value_at m.entries i v)) x k mode
   takes_here mode is = becomes_here _ (is ∙ ap (λ hs. given hs x mode) (sym held_here))
 
   -- a branch lets the key go
   pub lets_go : v.items ≡ without w.items x
-      → LetsGo (table_of m.entries) (table_of (set_value_at m.entries i v)) x k
+      → LetsKeyGo (table_of m.entries) (table_of (set_value_at m.entries i v)) x k
   lets_go out = becomes_here _ (out ∙ ap (λ hs. without hs x) (sym held_here))
 
   -- and nobody is left there, so the key goes too
   pub lets_key_go : v.items ≡ without w.items x → (n : IndexMap (Vec ℕ) (Vec Holder) H)
       (r : Option (Vec ℕ × Vec Holder)) → v.items ≡ [] → r ≡ slice_get (set_value_at m.entries i v) i
       → IfSome r (λ p. Updates alike (with_value_at m i v) n p.0 None)
-      → LetsGo (table_of m.entries) (table_of n.entries) x k
+      → LetsKeyGo (table_of m.entries) (table_of n.entries) x k
   lets_key_go out n r empty is removed =
       let still : position (key_test k) (keys (with_value_at m i v)) ≡ Some i =
       ap (position (key_test k)) (keys-with_value_at m i v) ∙ at in

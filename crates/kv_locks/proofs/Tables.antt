@@ -8,19 +8,19 @@ use Rattle.std.proofs.lemmas.Option.{slice_get-map}
 use Rattle.indexmap.specs.IndexMap.{IndexMap, Updates}
 use Rattle.indexmap.proofs.MapLemmas.{Found-position, Missing-position}
 use Rattle.xa_xid.specs.declared.xid.Xid.{Xid}
-use Rattle.key_tables.specs.declared.holders.Holder.{Holder}
-use Rattle.key_tables.specs.declared.holders.Mode.{Mode}
-use Rattle.key_tables.specs.Tables.{Becomes, same_key, table_of}
-use Rattle.key_tables.specs.Holders.{blocked_by, given, holds, keeps_rule, same, without}
-use Rattle.kv_locks.specs.Locks.{IsKept, KeepsKeys, LockTable, Releases, holders_of, keys_in, keys_of, names_key}
-use Rattle.key_tables.proofs.Holding.{same_is, rule_given, holds_given, rule_without, holds_without, without_idle, without_itself, without_twice}
+use Rattle.key_lists.specs.declared.holders.Holder.{Holder}
+use Rattle.key_lists.specs.declared.holders.Mode.{Mode}
+use Rattle.key_lists.specs.Tables.{Becomes, same_key, table_of}
+use Rattle.key_lists.specs.Holders.{blocked_by, given, holds, keeps_rule, same, without}
+use Rattle.kv_locks.specs.Locks.{IsLocks, KeepsKeys, LockTable, ReleasesLocks, holders_of, keys_in, keys_of, names_key}
+use Rattle.key_lists.proofs.Holding.{same_is, rule_given, holds_given, rule_without, holds_without, without_idle, without_itself, without_twice}
 
 -- nothing is held, and nothing is listed
 pub kept_nothing : (es : List (Vec ℕ × Vec Holder)) (held : List (Xid × Vec (Vec ℕ))) → es ≡ [] → held ≡ []
-    → IsKept (table_of es) held
+    → IsLocks (table_of es) held
 unfolding keeps_rule
-kept_nothing es held none free = subst (λ fs. IsKept (table_of fs) held) (sym none)
-    (subst (λ ks. IsKept [] ks) (sym free) (record {
+kept_nothing es held none free = subst (λ fs. IsLocks (table_of fs) held) (sym none)
+    (subst (λ ks. IsLocks [] ks) (sym free) (record {
       rule = λ k. refl;
       listed = λ x k h. h;
     }))
@@ -58,10 +58,10 @@ key_listed fs x ls ks k l here pushed is =
 
 -- a lock that nobody is in the way of keeps the rule, and its key is listed
 pub kept_given : (t u : LockTable) (held more : List (Xid × Vec (Vec ℕ))) (x : Xid) (k : List ℕ) (m : Mode)
-    → IsKept t held → blocked_by (holders_of t k) x m ≡ None → Becomes t u k (given (holders_of t k) x m)
+    → IsLocks t held → blocked_by (holders_of t k) x m ≡ None → Becomes t u k (given (holders_of t k) x m)
     → ((y : Xid) (l : List ℕ) → names_key (keys_of held y) l ≡ true → names_key (keys_of more y) l ≡ true)
     → names_key (keys_of more x) k ≡ true
-    → IsKept u more
+    → IsLocks u more
 kept_given t u held more x k m kept free made more_names named = record {
   rule = λ l. ruled l (same_key k l) refl;
   listed = λ y l h. listed y l h (same_key k l) refl;
@@ -91,9 +91,9 @@ kept_given t u held more x k m kept free made more_names named = record {
 
 -- a release keeps the rule, and the keys of the others stay listed
 pub kept_released : (t u : LockTable) (held rest : List (Xid × Vec (Vec ℕ))) (x : Xid)
-    → IsKept t held → Releases t u x
+    → IsLocks t held → ReleasesLocks t u x
     → ((y : Xid) → same x y ≡ false → keys_of rest y ≡ keys_of held y)
-    → IsKept u rest
+    → IsLocks u rest
 kept_released t u held rest x kept released others = record {
   rule = λ k. ap keeps_rule (released.each k) ∙ rule_without (holders_of t k) x (kept.rule k);
   listed = λ y k h. listed y k (ap (λ hs. holds hs y) (sym (released.each k)) ∙ h) (same x y) refl;
@@ -150,7 +150,7 @@ releasing_goes_on t u v k rest x so_far out = record {
         so_far.left l (ap (λ hs. holds hs x) (sym (out.others l e)) ∙ h) in
         grind (arith, common_steps)
 
-pub releasing_ends : (t u : LockTable) (x : Xid) → IsReleasing t u [] x → Releases t u x
+pub releasing_ends : (t u : LockTable) (x : Xid) → IsReleasing t u [] x → ReleasesLocks t u x
 releasing_ends t u x so_far = record {
   each = λ k. sym (without_idle (holders_of u k) x (idle k (holds (holders_of u k) x) refl))
       ∙ so_far.others k;
@@ -178,8 +178,8 @@ pub other_keys : {S : Type 0} (m n : IndexMap Xid (Vec (Vec ℕ)) S) (x : Xid) �
 other_keys m n x out y apart = ap keys_in (out.2 y apart)
 
 -- nothing is listed for the branch, so it holds nothing
-pub released_nothing : (t : LockTable) (held : List (Xid × Vec (Vec ℕ))) (x : Xid) → IsKept t held
-    → keys_of held x ≡ [] → Releases t t x
+pub released_nothing : (t : LockTable) (held : List (Xid × Vec (Vec ℕ))) (x : Xid) → IsLocks t held
+    → keys_of held x ≡ [] → ReleasesLocks t t x
 released_nothing t held x kept none = releasing_ends t t x (record {
   others = λ k. refl;
   left = λ k h. ap (λ ks. names_key ks k) (sym none) ∙ kept.listed x k h;

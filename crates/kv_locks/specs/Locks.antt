@@ -4,10 +4,10 @@ use Rattle.std.specs.Global.{Vec}
 use Rattle.std.specs.List.{list_any}
 use Rattle.std.specs.Map.{keys_of as map_keys, lookup}
 use Rattle.xa_xid.specs.declared.xid.Xid.{Xid}
-use Rattle.key_tables.specs.Holders.{blocked_by, given, holds, keeps_rule, same, without}
-use Rattle.key_tables.specs.Tables.{Becomes, list_at, same_key}
-use Rattle.key_tables.specs.declared.holders.Holder.{Holder}
-use Rattle.key_tables.specs.declared.holders.Mode.{Mode}
+use Rattle.key_lists.specs.Holders.{blocked_by, given, holds, keeps_rule, same, without}
+use Rattle.key_lists.specs.Tables.{Becomes, list_at, same_key}
+use Rattle.key_lists.specs.declared.holders.Holder.{Holder}
+use Rattle.key_lists.specs.declared.holders.Mode.{Mode}
 use Rattle.kv_locks.specs.declared.locks.LockError.{LockError}
 use Rattle.kv_locks.specs.declared.locks.LockError.TheVariants.{Held, Memory}
 
@@ -20,26 +20,26 @@ abbrev pub holders_of : LockTable → List ℕ → List Holder
 holders_of t k = list_at t k
 
 -- a branch takes a key in this mode
-abbrev pub Takes : LockTable → LockTable → Xid → List ℕ → Mode → Type 0
-Takes old new x k m = Becomes old new k (given (holders_of old k) x m)
+abbrev pub TakesKey : LockTable → LockTable → Xid → List ℕ → Mode → Type 0
+TakesKey old new x k m = Becomes old new k (given (holders_of old k) x m)
 
 -- a branch lets a key go
-abbrev pub LetsGo : LockTable → LockTable → Xid → List ℕ → Type 0
-LetsGo old new x k = Becomes old new k (without (holders_of old k) x)
+abbrev pub LetsKeyGo : LockTable → LockTable → Xid → List ℕ → Type 0
+LetsKeyGo old new x k = Becomes old new k (without (holders_of old k) x)
 
 -- the branch holds nothing any more, and all others hold what they held, in their order
-pub record Releases (old new : LockTable) (x : Xid) : Type 0 where
+pub record ReleasesLocks (old new : LockTable) (x : Xid) : Type 0 where
   pub each : (k : List ℕ) → holders_of new k ≡ without (holders_of old k) x
 
 -- a lock was given: nobody was in its way
-pub record Gives (old new : LockTable) (x : Xid) (k : List ℕ) (m : Mode) : Type 0 where
+pub record GivesLock (old new : LockTable) (x : Xid) (k : List ℕ) (m : Mode) : Type 0 where
   pub free : blocked_by (holders_of old k) x m ≡ None
-  pub made : Takes old new x k m
+  pub made : TakesKey old new x k m
 
 -- why a lock was not given; nothing changed
-abbrev pub Refuses : LockTable → LockTable → Xid → List ℕ → Mode → LockError → Type 0
-Refuses old new x k m (Held y) = (blocked_by (holders_of old k) x m ≡ Some y) × (new ≡ old)
-Refuses old new x k m Memory = new ≡ old
+abbrev pub RefusesLock : LockTable → LockTable → Xid → List ℕ → Mode → LockError → Type 0
+RefusesLock old new x k m (Held y) = (blocked_by (holders_of old k) x m ≡ Some y) × (new ≡ old)
+RefusesLock old new x k m Memory = new ≡ old
 
 -- the number of why a lock was not given
 abbrev pub lock_number : LockError → ℕ
@@ -75,6 +75,6 @@ abbrev pub HoldsAtMost : LockTable → Xid → List (Vec ℕ) → Type 0
 HoldsAtMost t x ks = (k : List ℕ) → holds (holders_of t k) x ≡ true → names_key ks k ≡ true
 
 -- the lock rule holds of each key, and each key of a branch is listed for it
-pub record IsKept (t : LockTable) (held : List (Xid × Vec (Vec ℕ))) : Type 0 where
+pub record IsLocks (t : LockTable) (held : List (Xid × Vec (Vec ℕ))) : Type 0 where
   pub rule : (k : List ℕ) → keeps_rule (holders_of t k) ≡ true
   pub listed : (x : Xid) → HoldsAtMost t x (keys_of held x)

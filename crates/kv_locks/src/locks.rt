@@ -1,13 +1,13 @@
 //! Which branch holds which key.
 
 ghost use Rattle.std.specs.Prelude.{◌≡◌, ℕ, List, [], true, IfErr, OnOk, OnErr, Some};
-ghost use Rattle.key_tables.specs.declared.holders.Mode.TheVariants as mode;
-ghost use Rattle.key_tables.specs.Tables.{Becomes, table_of};
-ghost use Rattle.key_tables.specs.Holders.{blocked_by, holds, keeps_rule};
-ghost use Rattle.kv_locks.specs.Locks.{Gives, HoldsAtMost, KeepsKeys, LetsGo, Refuses, Releases, Takes, holders_of, keys_of, lock_number, names_key, place_of};
+ghost use Rattle.key_lists.specs.declared.holders.Mode.TheVariants as mode;
+ghost use Rattle.key_lists.specs.Tables.{Becomes, table_of};
+ghost use Rattle.key_lists.specs.Holders.{blocked_by, holds, keeps_rule};
+ghost use Rattle.kv_locks.specs.Locks.{GivesLock, HoldsAtMost, KeepsKeys, LetsKeyGo, RefusesLock, ReleasesLocks, TakesKey, holders_of, keys_of, lock_number, names_key, place_of};
 
 use indexmap::IndexMap;
-use key_tables::{Holder, Mode, blocked_by, given, holds, raise, remove};
+use key_lists::{Holder, Mode, blocked_by, given, holds, raise, remove};
 use std::alloc::{AllocError, Global};
 use std::marker::Model;
 use thiserror::Error;
@@ -62,14 +62,14 @@ pub struct Locks {
 }
 
 impl Model for Locks {
-    ghost use Rattle.key_tables.specs.Tables.{table_of};
-    ghost use Rattle.kv_locks.specs.Locks.{IsKept, LockTable};
+    ghost use Rattle.key_lists.specs.Tables.{table_of};
+    ghost use Rattle.kv_locks.specs.Locks.{IsLocks, LockTable};
 
     ghost Value = { LockTable };
 
     ghost view = { λ l. table_of l.holders.entries };
 
-    ghost invariant = { λ l. IsKept (table_of l.holders.entries) l.keys.entries };
+    ghost invariant = { λ l. IsLocks (table_of l.holders.entries) l.keys.entries };
 }
 
 impl Locks {
@@ -85,7 +85,7 @@ impl Locks {
     }
 
     /// The holders of a key, in the order in which they took it.
-    #[tactic(auto, using(key_tables::proofs::Tables::list_at_key), unfolding(key_tables::specs::Holders::keeps_rule))]
+    #[tactic(auto, using(key_lists::proofs::Tables::list_at_key), unfolding(key_lists::specs::Holders::keeps_rule))]
     pub fn holders(&self, key: &[u8]) -> &[Holder]
         ensures holders { result.now ≡ holders_of self.now key.now }
         ensures rule { keeps_rule result.now ≡ true }
@@ -107,8 +107,8 @@ impl Locks {
     /// A shared lock for a branch, which keeps what it holds. Held: another branch holds the key exclusively.
     /// Either refusal changes nothing.
     pub fn shared(&mut self, xid: &Xid, key: &[u8]) -> Result<(), LockError>
-        ensures ok { OnOk result (Gives self.old self.new xid.now key.now mode.Shared) }
-        ensures err { IfErr result (Refuses self.old self.new xid.now key.now mode.Shared) }
+        ensures ok { OnOk result (GivesLock self.old self.new xid.now key.now mode.Shared) }
+        ensures err { IfErr result (RefusesLock self.old self.new xid.now key.now mode.Shared) }
     {
         self.take(xid, key, Mode::Shared)
     }
@@ -116,16 +116,16 @@ impl Locks {
     /// An exclusive lock for a branch, in place of a shared one that it holds alone. Held: another branch
     /// holds the key. Either refusal changes nothing.
     pub fn exclusive(&mut self, xid: &Xid, key: &[u8]) -> Result<(), LockError>
-        ensures ok { OnOk result (Gives self.old self.new xid.now key.now mode.Exclusive) }
-        ensures err { IfErr result (Refuses self.old self.new xid.now key.now mode.Exclusive) }
+        ensures ok { OnOk result (GivesLock self.old self.new xid.now key.now mode.Exclusive) }
+        ensures err { IfErr result (RefusesLock self.old self.new xid.now key.now mode.Exclusive) }
     {
         self.take(xid, key, Mode::Exclusive)
     }
 
     /// A lock for a branch. Either refusal changes nothing.
     fn take(&mut self, xid: &Xid, key: &[u8], mode: Mode) -> Result<(), LockError>
-        ensures ok { OnOk result (Gives self.old self.new xid.now key.now mode) }
-        ensures err { IfErr result (Refuses self.old self.new xid.now key.now mode) }
+        ensures ok { OnOk result (GivesLock self.old self.new xid.now key.now mode) }
+        ensures err { IfErr result (RefusesLock self.old self.new xid.now key.now mode) }
     {
         let (place, held) = find(&self.holders, key);
         if let Some(other) = blocked_by(held, xid, mode) {
@@ -145,7 +145,7 @@ impl Locks {
 
     /// Releases all locks of a branch. It takes no memory.
     pub fn release(&mut self, xid: &Xid)
-        ensures { Releases self.old self.new xid.now }
+        ensures { ReleasesLocks self.old self.new xid.now }
     {
         let Some(place) = few_keys::place_of(&self.keys, xid) else {
             return;
@@ -165,7 +165,7 @@ impl Locks {
 }
 
 /// Where a key stands, if it does, and its holders.
-#[tactic(auto, using(key_tables::proofs::Tables::list_at_key))]
+#[tactic(auto, using(key_lists::proofs::Tables::list_at_key))]
 fn find<'a>(holders: &'a Holders, key: &[u8]) -> (Option<usize>, &'a [Holder])
     ensures place { result.0 ≡ place_of holders.now.entries key.now }
     ensures holders { result.1.now ≡ holders_of (table_of holders.now.entries) key.now }
@@ -181,7 +181,7 @@ fn raise_at(holders: &mut Holders, place: usize, xid: &Xid, mode: Mode)
     requires { (k : List ℕ) × (place_of holders.old.entries k ≡ Some place)
         × (holds (holders_of (table_of holders.old.entries) k) xid.now ≡ true) }
     ensures { (k : List ℕ) → place_of holders.old.entries k ≡ Some place
-        → Takes (table_of holders.old.entries) (table_of holders.new.entries) xid.now k mode }
+        → TakesKey (table_of holders.old.entries) (table_of holders.new.entries) xid.now k mode }
 {
     match holders.get_index_mut(place) {
         Some(list) => raise(list, xid, mode),
@@ -218,7 +218,7 @@ fn add_key(alloc: Global, keys: &mut Keys, xid: &Xid, key: &[u8]) -> Result<(), 
 /// The branch releases each of these keys, which are all that it holds.
 fn release_each(holders: &mut Holders, keys: &[Vec<u8>], xid: &Xid)
     requires { HoldsAtMost (table_of holders.old.entries) xid.now keys.now }
-    ensures { Releases (table_of holders.old.entries) (table_of holders.new.entries) xid.now }
+    ensures { ReleasesLocks (table_of holders.old.entries) (table_of holders.new.entries) xid.now }
 {
     let mut rest = keys;
     while let [key, behind @ ..] = rest {
@@ -229,7 +229,7 @@ fn release_each(holders: &mut Holders, keys: &[Vec<u8>], xid: &Xid)
 
 /// The branch releases a key.
 fn release_key(holders: &mut Holders, key: &[u8], xid: &Xid)
-    ensures { LetsGo (table_of holders.old.entries) (table_of holders.new.entries) xid.now key.now }
+    ensures { LetsKeyGo (table_of holders.old.entries) (table_of holders.new.entries) xid.now key.now }
 {
     let Some(place) = holders.get_index_of(key) else {
         return;

@@ -7,21 +7,21 @@ use Rattle.indexmap.specs.IndexMap.{insert_entry}
 use Rattle.xa_xid.specs.declared.xid.Xid.{Xid}
 use Rattle.xa_codes.specs.declared.code.Code.TheVariants as code
 use Rattle.xa_assoc.specs.Restored.{has_twice, restore_refusal}
-use Rattle.tree_model.specs.declared.names.Kind.TheVariants.{Manager}
-use Rattle.tree_model.specs.declared.names.ProcessId.{ProcessId}
-use Rattle.tree_model.specs.declared.records.Branch.{Branch}
-use Rattle.tree_model.specs.declared.records.LogRecord.{LogRecord}
-use Rattle.tree_model.specs.declared.records.Record.{Record}
-use Rattle.tree_model.specs.declared.records.Record.TheVariants.{Prepared}
-use Rattle.tree_model.specs.declared.records.Write.{Write}
-use Rattle.tree_model.specs.LogNames.{name_xid}
+use Rattle.protocol.specs.declared.names.Kind.TheVariants.{Manager}
+use Rattle.protocol.specs.declared.names.ProcessId.{ProcessId}
+use Rattle.protocol.specs.declared.records.BranchName.{BranchName}
+use Rattle.protocol.specs.declared.records.LogRecord.{LogRecord}
+use Rattle.protocol.specs.declared.records.Record.{Record}
+use Rattle.protocol.specs.declared.records.Record.TheVariants.{Prepared}
+use Rattle.protocol.specs.declared.records.Write.{Write}
+use Rattle.protocol.specs.LogNames.{name_xid}
 use Rattle.log_rules.specs.declared.order.seen.Promise.{Promise}
-use Rattle.log_rules.specs.order.Orders.{SeenLog, after, left_by, nothing_seen, opens, promised_by, same}
+use Rattle.log_rules.specs.order.Orders.{SeenLog, after, in_doubt_by, nothing_seen, opens, promised_by, same}
 use Rattle.log_rules.specs.sound.Sound.{IsSound, IsSoundEntry, IsSoundWrite, AreSoundWrites}
-use Rattle.kv_core.specs.Replays.{AreMalformed, seen_of}
-use Rattle.kv_core.proofs.Lawful.{lawful_of}
-use Rattle.kv_core.proofs.Lookups.{Live, apart_turns}
-use Rattle.kv_manager.specs.Restarts.{AreTooMany, NotRebuilt}
+use Rattle.kv_state.specs.Replays.{AreMalformed, seen_of}
+use Rattle.kv_state.proofs.Lawful.{lawful_of}
+use Rattle.kv_state.proofs.Lookups.{Live, apart_turns}
+use Rattle.kv_manager.specs.Restarts.{AreTooManyBranches, KvNotRebuilt}
 use Rattle.kv_manager.specs.declared.restart.RecordsError.TheVariants.{Unfit}
 use Rattle.kv_manager.specs.Sights.{are_ordered}
 use Rattle.kv_manager.proofs.Steps.{Steps, Stays, Puts, Marks, Leaves, each_step, steps_after}
@@ -104,11 +104,11 @@ length_left [] = refl
 length_left (e ∷ es) = ap suc (length_left es)
 
 pub none_refused : (ls : List LogRecord) (t : SeenLog) → seen_of ls ≡ Some t
-    → restore_refusal (left_by t) ≡ None
+    → restore_refusal (in_doubt_by t) ≡ None
 none_refused ls t h =
     let few = few_of ls t h in
     let long = length_left t.live in
-    by_tests (nat_lt 1024 (length (left_by t))) (has_twice (left_by t))
+    by_tests (nat_lt 1024 (length (in_doubt_by t))) (has_twice (in_doubt_by t))
     (grind (arith, nat_tests, few, long)) (none_twice t.live (lawful_of ls t h).orderly.distinct)
   where
     by_tests : (a b : Bool) → a ≡ false → b ≡ false
@@ -146,7 +146,7 @@ all_out x (e ∷ es) all = by_test (same x e.0) (all_out x es all.1)
     by_test true h = all.1
     by_test false h = (all.0, h)
 
-of_prepared : (q : Option ProcessId) (r : Record) (b : Branch) (ws : List Write) → r ≡ Prepared b ws
+of_prepared : (q : Option ProcessId) (r : Record) (b : BranchName) (ws : List Write) → r ≡ Prepared b ws
     → IsSoundEntry Manager q r → AreSoundWrites ws
 of_prepared q r b ws is sound = (subst (IsSoundEntry Manager q) is sound).1
 
@@ -202,12 +202,12 @@ never_malformed ls ordered sound (inr h) =
 
 -- Records that may follow one another are never too many.
 
-never_too_many : (ls : List LogRecord) → AreTooMany ls → ⊥
+never_too_many : (ls : List LogRecord) → AreTooManyBranches ls → ⊥
 never_too_many ls h =
     absurd (let never : None ≡ Some h.refusal = sym (none_refused ls h.seen h.read) ∙ h.refused in cc)
 
 -- what sound records leave that may follow one another is a manager
 pub never_unfit : (ls : List LogRecord) → are_ordered ls ≡ true → AllByRecursion (IsSound Manager) ls
-    → NotRebuilt ls Unfit → ⊥
+    → KvNotRebuilt ls Unfit → ⊥
 never_unfit ls ordered sound (inl malformed) = never_malformed ls ordered sound malformed
 never_unfit ls ordered sound (inr many) = never_too_many ls many

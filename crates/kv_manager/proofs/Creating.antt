@@ -1,18 +1,18 @@
 -- A manager over an empty store.
 use Rattle.std.proofs.Common.{◌≡◌, ◌∙◌, ◌∷◌, [], ◌++◌, ℕ, false, List, Some, Result, Ok, Err, IfOk, refl, sym, subst, ap}
 use Rattle.xa_xid.specs.declared.xid.Xid.{Xid}
-use Rattle.tree_model.specs.declared.names.Kind.TheVariants.{Manager}
-use Rattle.tree_model.specs.declared.names.ProcessId.{ProcessId}
+use Rattle.protocol.specs.declared.names.Kind.TheVariants.{Manager}
+use Rattle.protocol.specs.declared.names.ProcessId.{ProcessId}
 use Rattle.log_text.specs.Forms.{log_form}
-use Rattle.tree_model.specs.declared.records.LogRecord.{LogRecord}
-use Rattle.tree_model.specs.Records.{same_bytes}
+use Rattle.protocol.specs.declared.records.LogRecord.{LogRecord}
+use Rattle.protocol.specs.Records.{same_bytes}
 use Rattle.log_rules.specs.order.Logs.{Whole, read_log}
 use Rattle.xa_assoc.specs.Restored.{states_left}
-use Rattle.log_rules.specs.order.Orders.{SeenLog, left_by as in_doubt_by, names_key, nothing_seen, promised}
-use Rattle.rec_log.specs.Sights.{records_of}
-use Rattle.kv_core.specs.Replays.{seen_after, seen_of}
-use Rattle.core_model.specs.Opening.{first_opened}
-use Rattle.manager_model.specs.Opening.{IsNew}
+use Rattle.log_rules.specs.order.Orders.{SeenLog, in_doubt_by, names_key, nothing_seen, promised}
+use Rattle.log_records.specs.Sights.{records_of}
+use Rattle.kv_state.specs.Replays.{seen_after, seen_of}
+use Rattle.process_state.specs.Opening.{first_opened}
+use Rattle.resource_manager.specs.Opening.{IsNewManager}
 use Rattle.kv_manager.specs.Resources.{sight_of}
 use Rattle.kv_manager.specs.Restarts.{LeavesStore, RestoredFrom, next_boot, opened}
 use Rattle.kv_manager.specs.Sights.{KvSight}
@@ -39,7 +39,7 @@ unfolding names_key
 none_promised s x k is = ap (λ t. names_key (promised t x) k) (sym is)
 
 pub created : (process : ProcessId) (forced failures : ℕ) (s : KvSight) → RestoredFrom process [] forced failures s
-    → IsNew (sight_of s)
+    → IsNewManager (sight_of s)
 created process forced failures s r =
     let none : records_of r.log.sight.kept ≡ [] = sym
     (same_records [] (records_of r.log.sight.kept) 0 r.opens.torn (sym (nothing_read process) ∙ r.opens.read)) in
@@ -67,7 +67,7 @@ created process forced failures s r =
 
 pub each_new : {E : Type 0} (process : ProcessId) (bytes : List ℕ) (forced failures : ℕ) (r : Result KvSight E) → bytes ≡ []
     → IfOk r (RestoredFrom process bytes forced failures)
-    → IfOk r (λ m. IsNew (sight_of m))
+    → IfOk r (λ m. IsNewManager (sight_of m))
 each_new process bytes forced failures (Ok m) empty r =
     created process forced failures m (subst (λ bs. RestoredFrom process bs forced failures m) empty r)
 each_new process bytes forced failures (Err e) empty r = r

@@ -10,32 +10,32 @@ use Rattle.xa_tables.specs.declared.states.BranchState.{BranchState}
 use Rattle.xa_tables.specs.declared.states.BranchState.TheVariants.{S0, S3, S5}
 use Rattle.xa_xid.specs.declared.xid.Xid.{Xid}
 use Rattle.xa_branch.specs.Names.{same}
-use Rattle.xa_assoc.specs.Answers.{Same, Takes as TakesRow}
-use Rattle.xa_heur.specs.declared.decision.Decision.{Decision}
-use Rattle.xa_heur.specs.Decisions.{decided_as, heur_code}
-use Rattle.xa_heur.specs.Cases.{decision_in, decision_or}
-use Rattle.tree_model.specs.declared.names.Outcome.{Outcome}
-use Rattle.tree_model.specs.declared.names.Outcome.TheVariants.{Aborted, Committed}
-use Rattle.rec_log.specs.Sights.{Breaks, LogState}
-use Rattle.core_model.specs.States.{wrote}
-use Rattle.manager_model.specs.Sights.{SameManager}
-use Rattle.manager_model.specs.Ends.{logged_under, state_of as state_of_log}
-use Rattle.manager_model.specs.Deciding.{DecideFails, Decides, NotDecided, decision_writes}
-use Rattle.manager_model.specs.declared.errors.DecideError.{DecideError}
-use Rattle.manager_model.specs.declared.errors.DecideError.TheVariants.{Device, Exhausted, Failed, Memory, NotInDoubt}
-use Rattle.key_tables.specs.Holders.{without}
-use Rattle.kv_locks.specs.Locks.{Releases, holders_of}
-use Rattle.kv_store.specs.Versions.{Applies, SameData, VersionTable}
-use Rattle.kv_store.specs.writes.Writes.{Leaves, writes_of}
-use Rattle.kv_turns.specs.declared.entries.Entry.{Entry}
-use Rattle.kv_turns.specs.Turns.{decide_turn, entry_record, heur_entry}
-use Rattle.kv_core.specs.Stores.{state_of}
-use Rattle.kv_core.specs.Ends.{OfOperator, Reserves, known_behind, known_of}
+use Rattle.xa_assoc.specs.Answers.{SameStates, TakesTableRow}
+use Rattle.xa_branch.specs.declared.decision.Decision.{Decision}
+use Rattle.xa_branch.specs.Decisions.{decided_as, heur_code}
+use Rattle.xa_branch.specs.Cases.{decision_in, decision_or}
+use Rattle.protocol.specs.declared.names.Outcome.{Outcome}
+use Rattle.protocol.specs.declared.names.Outcome.TheVariants.{Aborted, Committed}
+use Rattle.log_records.specs.Sights.{Breaks, LogState}
+use Rattle.process_state.specs.States.{wrote}
+use Rattle.resource_manager.specs.Sights.{SameManager}
+use Rattle.resource_manager.specs.Ends.{logged_under, state_of as state_of_log}
+use Rattle.resource_manager.specs.Deciding.{DecideFails, ManagerDecides, ManagerNotDecided, decision_writes}
+use Rattle.resource_manager.specs.declared.errors.DecideError.{DecideError}
+use Rattle.resource_manager.specs.declared.errors.DecideError.TheVariants.{Device, Exhausted, Failed, Memory, NotInDoubt}
+use Rattle.key_lists.specs.Holders.{without}
+use Rattle.kv_locks.specs.Locks.{ReleasesLocks, holders_of}
+use Rattle.kv_store.specs.Versions.{AppliesCommit, SameData, VersionTable}
+use Rattle.kv_store.specs.writes.Writes.{LeavesWrites, writes_of}
+use Rattle.kv_calls.specs.declared.entries.BranchRecord.{BranchRecord}
+use Rattle.kv_calls.specs.Turns.{decide_turn, entry_record, heur_entry}
+use Rattle.kv_state.specs.Stores.{state_of}
+use Rattle.kv_state.specs.Ends.{OfOperator, Reserves, known_behind, known_of}
 use Rattle.kv_manager.specs.Resources.{IsRefusal, sight_of}
 use Rattle.xa_codes.specs.Codes.{is_own}
-use Rattle.kv_manager.specs.Sights.{KvSight, SameManager as SameKv}
+use Rattle.kv_manager.specs.Sights.{KvSight, SameKv}
 use Rattle.kv_manager.specs.Turns as kv
-use Rattle.kv_manager.specs.Turns.{DecisionFails, Fails as KvFails, IsDueTurn, Makes as KvMakes, Takes as KvTakes, commits, with_record}
+use Rattle.kv_manager.specs.Turns.{DecisionFails, KvFails, IsDueTurn, KvMakes, KvTakes, commits, with_record}
 use Rattle.kv_manager.proofs.Resources.{same_sight, same_tables}
 
 -- The turn.
@@ -69,7 +69,7 @@ module _ (old mid new : KvSight) (x : Xid) (o : Outcome) (works : old.log.sight.
   known_same : (y : Xid) → known_of mid.store y ≡ known_of old.store y
   known_same y = ap (λ (ds : List (Xid × Decision)). decision_or (lookup (same y) ds)) room.decisions
 
-  wrote_as : (o : Outcome) → kv.Logs mid new x true (Some (heur_entry o))
+  wrote_as : (o : Outcome) → kv.LogsTurn mid new x true (Some (heur_entry o))
       → new.log.sight ≡ wrote mid.log.sight (decision_writes x o) (logged_under x (decision_writes x o))
   wrote_as Committed is = is
   wrote_as Aborted is = is
@@ -83,11 +83,11 @@ module _ (old mid new : KvSight) (x : Xid) (o : Outcome) (works : old.log.sight.
   known_so Committed known = refl
   known_so Aborted known = refl
 
-  decides : KvMakes mid new x (decide_turn o) → Decides (sight_of old) (sight_of new) x o
+  decides : KvMakes mid new x (decide_turn o) → ManagerDecides (sight_of old) (sight_of new) x o
   decides made = record {
     works = works;
     prepared = here;
-    tables = subst (λ t. TakesRow t new.store.tables x S5) room.tables made.tables;
+    tables = subst (λ t. TakesTableRow t new.store.tables x S5) room.tables made.tables;
     log = wrote_as o made.log ∙ ap (λ k. wrote k (decision_writes x o)
         (logged_under x (decision_writes x o))) log;
     own = (let_go made).0;
@@ -98,7 +98,7 @@ module _ (old mid new : KvSight) (x : Xid) (o : Outcome) (works : old.log.sight.
     boot = made.boot ∙ boot;
   }
 
-  some_is : (e f : Entry) → Some e ≡ Some f → e ≡ f
+  some_is : (e f : BranchRecord) → Some e ≡ Some f → e ≡ f
   some_is e f h = cc
 
   records_so : (o : Outcome) → entry_record (heur_entry o) x (writes_of mid.store.writes x) ∷ []
@@ -136,7 +136,7 @@ module _ (old mid new : KvSight) (x : Xid) (o : Outcome) (works : old.log.sight.
 
   stays_same : SameKv mid new → SameKv old new
   stays_same alike = record {
-    tables = subst (λ t. Same t new.store.tables) room.tables alike.tables;
+    tables = subst (λ t. SameStates t new.store.tables) room.tables alike.tables;
     writes = λ y. alike.writes y ∙ ap (λ w. writes_of w y) room.writes;
     locks = alike.locks ∙ room.locks;
     versions = subst (λ v. SameData v new.store.versions) room.versions alike.versions;
@@ -161,7 +161,7 @@ module _ (old mid new : KvSight) (x : Xid) (o : Outcome) (works : old.log.sight.
 
   -- it was decided
   pub was_decided : (answer : Code) → KvTakes mid new x (decide_turn o) answer → is_own answer ≡ false
-      → Decides (sight_of old) (sight_of new) x o
+      → ManagerDecides (sight_of old) (sight_of new) x o
   was_decided answer (kv.Made is made) h = decides made
   was_decided answer (kv.Broke is failed) h = never (ap is_own (sym is) ∙ h)
   was_decided answer (kv.Spent is commits few alike) h = never (ap is_own (sym is) ∙ h)
@@ -169,7 +169,7 @@ module _ (old mid new : KvSight) (x : Xid) (o : Outcome) (works : old.log.sight.
   -- or it was not
   pub was_not : (answer : Code) → KvTakes mid new x (decide_turn o) answer
       → (e : DecideError) → IsRefusal answer e
-      → NotDecided (sight_of old) (sight_of new) x o e
+      → ManagerNotDecided (sight_of old) (sight_of new) x o e
   was_not answer (kv.Made is made) Device h = never (ap is_own (sym h ∙ is) ∙ no_refusal o)
   was_not answer (kv.Made is made) Exhausted h = never (ap is_own (sym h ∙ is) ∙ no_refusal o)
   was_not answer (kv.Made is made) Memory h = absurd h
@@ -197,22 +197,22 @@ module _ (old mid new : KvSight) (x : Xid) (o : Outcome) (room : Reserves old.st
   known_alike y = ap (λ (ds : List (Xid × Decision)). lookup (same y) ds) room.decisions
 
   versions_by : (o : Outcome) → MatchBool (commits (Some (heur_entry o)))
-      (Applies mid.store.versions new.store.versions (writes_of mid.store.writes x))
+      (AppliesCommit mid.store.versions new.store.versions (writes_of mid.store.writes x))
       (new.store.versions ≡ mid.store.versions)
       → MatchBool (commits (Some (heur_entry o)))
-      (Applies old.store.versions new.store.versions (writes_of old.store.writes x))
+      (AppliesCommit old.store.versions new.store.versions (writes_of old.store.writes x))
       (new.store.versions ≡ old.store.versions)
   versions_by Committed applied =
-      subst (λ w. Applies old.store.versions new.store.versions (writes_of w x)) room.writes
-      (subst (λ v. Applies v new.store.versions (writes_of mid.store.writes x)) room.versions applied)
+      subst (λ w. AppliesCommit old.store.versions new.store.versions (writes_of w x)) room.writes
+      (subst (λ v. AppliesCommit v new.store.versions (writes_of mid.store.writes x)) room.versions applied)
   versions_by Aborted stay = stay ∙ room.versions
 
   makes : KvMakes mid new x (decide_turn o) → KvMakes old new x (decide_turn o)
   makes made = record {
-    tables = subst (λ t. TakesRow t new.store.tables x S5) room.tables made.tables;
+    tables = subst (λ t. TakesTableRow t new.store.tables x S5) room.tables made.tables;
     keeps = (
-      subst (λ w. Leaves w new.store.writes x []) room.writes made.keeps.0,
-      subst (λ k. Releases k new.store.locks x) room.locks made.keeps.1,
+      subst (λ w. LeavesWrites w new.store.writes x []) room.writes made.keeps.0,
+      subst (λ k. ReleasesLocks k new.store.locks x) room.locks made.keeps.1,
     );
     versions = versions_by o made.versions;
     decisions = record {
@@ -240,12 +240,12 @@ module _ (old mid new : KvSight) (x : Xid) (o : Outcome) (room : Reserves old.st
     boot = failed.boot ∙ boot;
   }
     where
-      one_entry : (e f : Entry) → Some e ≡ Some f → e ≡ f
+      one_entry : (e f : BranchRecord) → Some e ≡ Some f → e ≡ f
       one_entry e f h = cc
 
   stays : SameKv mid new → SameKv old new
   stays alike = record {
-    tables = subst (λ t. Same t new.store.tables) room.tables alike.tables;
+    tables = subst (λ t. SameStates t new.store.tables) room.tables alike.tables;
     writes = λ y. alike.writes y ∙ ap (λ w. writes_of w y) room.writes;
     locks = alike.locks ∙ room.locks;
     versions = subst (λ v. SameData v new.store.versions) room.versions alike.versions;
@@ -271,7 +271,7 @@ module _ (old mid new : KvSight) (x : Xid) (o : Outcome) (room : Reserves old.st
   was_taken answer (kv.Spent is commits few alike) h = clash (ap is_own (sym is) ∙ h)
 
   pub was_not_taken : (answer : Code) → KvTakes mid new x (decide_turn o) answer
-      → (e : DecideError) → IsRefusal answer e → kv.NotTaken old new x o e
+      → (e : DecideError) → IsRefusal answer e → kv.DecisionNotTaken old new x o e
   was_not_taken answer (kv.Made is made) Device h = clash (ap is_own (sym h ∙ is) ∙ no_code o)
   was_not_taken answer (kv.Made is made) Exhausted h = clash (ap is_own (sym h ∙ is) ∙ no_code o)
   was_not_taken answer (kv.Made is made) Memory h = absurd h

@@ -8,22 +8,22 @@ use Rattle.xa_tables.specs.declared.states.BranchState.{BranchState}
 use Rattle.xa_tables.specs.declared.states.BranchState.TheVariants.{S0, S2, S3, S5}
 use Rattle.xa_xid.specs.declared.xid.Xid.{Xid}
 use Rattle.xa_assoc.specs.Restored.{state_left}
-use Rattle.tree_model.specs.Records.{is_opened}
+use Rattle.protocol.specs.Records.{is_opened}
 use Rattle.log_text.specs.Parts.{name_in}
-use Rattle.log_rules.specs.declared.order.seen.Mark.{Mark}
-use Rattle.log_rules.specs.declared.order.seen.Mark.TheVariants.{Open, Decided, Told as ToldMark}
+use Rattle.log_rules.specs.declared.order.seen.DoubtMark.{DoubtMark}
+use Rattle.log_rules.specs.declared.order.seen.DoubtMark.TheVariants.{Open, Decided, Told as ToldMark}
 use Rattle.log_rules.specs.declared.order.seen.Promise.{Promise}
 use Rattle.log_rules.specs.order.Orders.{SeenLog, after, decided, direct, followed, forgot, found, is_heuristic, is_open, is_untold, key_open, keys_free, keys_once, names_key, opens, prepared, promised, promises, same, settled, told}
 use Rattle.log_text.proofs.NameReading.{name_again}
-use Rattle.key_tables.specs.declared.holders.Holder.{Holder}
-use Rattle.key_tables.specs.declared.holders.Mode.TheVariants.{Exclusive}
+use Rattle.key_lists.specs.declared.holders.Holder.{Holder}
+use Rattle.key_lists.specs.declared.holders.Mode.TheVariants.{Exclusive}
 use Rattle.kv_store.specs.writes.Writes.{AreWrites, writes_of}
-use Rattle.kv_turns.specs.declared.entries.Entry.{Entry}
-use Rattle.kv_turns.specs.declared.entries.Entry.TheVariants.{Prepared, Committed, RolledBack, Direct, HeurCommit, HeurRollback, Told, Forgot}
-use Rattle.kv_turns.specs.Turns.{entry_of, entry_record}
-use Rattle.kv_core.specs.Stores.{IsTidy, KeySight, state_of}
-use Rattle.kv_core.specs.Ends.{known_of}
-use Rattle.kv_core.proofs.Lookups.{true_is_false}
+use Rattle.kv_calls.specs.declared.entries.BranchRecord.{BranchRecord}
+use Rattle.kv_calls.specs.declared.entries.BranchRecord.TheVariants.{Prepared, Committed, RolledBack, Direct, HeurCommit, HeurRollback, Told, Forgot}
+use Rattle.kv_calls.specs.Turns.{entry_of, entry_record}
+use Rattle.kv_state.specs.Stores.{IsTidy, KeySight, state_of}
+use Rattle.kv_state.specs.Ends.{known_of}
+use Rattle.kv_state.proofs.Lookups.{true_is_false}
 use Rattle.kv_manager.specs.Sights.{doubt_of}
 use Rattle.kv_manager.proofs.Marks.{state_by}
 use Rattle.kv_manager.proofs.Turns.{IsUntold}
@@ -73,7 +73,7 @@ untold_by : (o : Option Promise) → state_by o ≡ S5 → (is_told o ≡ true �
 untold_by None h never = absurd (cc)
 untold_by (Some p) h never = by_mark p.mark h never
   where
-    by_mark : (m : Mark) → state_left (not (opens m)) ≡ S5 → (told_mark m ≡ true → ⊥) → is_untold (Some (record { mark = m; writes = p.writes })) ≡ true
+    by_mark : (m : DoubtMark) → state_left (not (opens m)) ≡ S5 → (told_mark m ≡ true → ⊥) → is_untold (Some (record { mark = m; writes = p.writes })) ≡ true
     by_mark Open e n = absurd (cc)
     by_mark Decided e n = refl
     by_mark ToldMark e n = absurd (n refl)
@@ -141,7 +141,7 @@ module _ (t : SeenLog) (s : KeySight) (x : Xid) (stands : StandsWith t s)
       (free_where (promises t) (writes_of s.writes x)
       (λ k named. shut k off named (key_open (promises t) k) refl)))
 
-  by_entry : (e : Entry) → state_of s x ≡ comes_from e → IsUntold (state_of s x) (known_of s x) e
+  by_entry : (e : BranchRecord) → state_of s x ≡ comes_from e → IsUntold (state_of s x) (known_of s x) e
       → AreWrites (writes_of s.writes x) → length s.tables.branches.branches ≤ 1024
       → is_some (followed t (name_in x).0 (entry_of e (name_in x).1 (writes_of s.writes x))) ≡ true
   by_entry Prepared is n limits few =
@@ -163,7 +163,7 @@ module _ (t : SeenLog) (s : KeySight) (x : Xid) (stands : StandsWith t s)
       ap (λ y. is_some (forgot t y)) (name_again x) ∙ some_if _ _ (decided_by (found t x) (at S5 is))
 
   -- the record of a branch may follow
-  pub follows : (e : Entry) → state_of s x ≡ comes_from e → IsUntold (state_of s x) (known_of s x) e
+  pub follows : (e : BranchRecord) → state_of s x ≡ comes_from e → IsUntold (state_of s x) (known_of s x) e
       → AreWrites (writes_of s.writes x) → length s.tables.branches.branches ≤ 1024
       → is_some (after t (entry_record e x (writes_of s.writes x))) ≡ true
   unfolding after

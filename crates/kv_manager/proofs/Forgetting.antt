@@ -1,16 +1,16 @@
 -- A manager forgets what its data were before the last commit.
 use Rattle.std.proofs.Common.{◌≡◌, ◌∙◌, true, false, refl, sym, ap, subst}
 use Rattle.std.specs.Prelude.{not}
-use Rattle.tree_model.specs.Store.{Data}
+use Rattle.protocol.specs.Store.{Data}
 use Rattle.kv_store.specs.Versions.{Rebases, VersionTable}
 use Rattle.kv_store.specs.writes.Writes.{writes_of}
 use Rattle.kv_locks.specs.Locks.{holders_of}
-use Rattle.kv_core.specs.Ends.{known_of}
-use Rattle.kv_core.specs.Folds.{AreData}
-use Rattle.kv_core.specs.Stores.{KeySight, RebasesStore, has_numbers}
-use Rattle.manager_model.specs.Sights.{ManagerSight}
+use Rattle.kv_state.specs.Ends.{known_of}
+use Rattle.kv_state.specs.Folds.{AreData}
+use Rattle.kv_state.specs.Stores.{KeySight, RebasesStore, has_numbers}
+use Rattle.resource_manager.specs.Sights.{ManagerSight}
 use Rattle.kv_manager.specs.Resources.{sight_of}
-use Rattle.kv_manager.specs.Sights.{IsKept, KvSight}
+use Rattle.kv_manager.specs.Sights.{IsKvManager, KvSight}
 
 -- the data stay
 pub rebased_data : (old new : VersionTable) (d : Data) → Rebases old new → AreData old d → AreData new d
@@ -32,9 +32,9 @@ store_is old new rebases = λ i. record {
 
 -- what a manager keeps stands
 pub kept_forgetting : (s : KvSight) (store : KeySight) → RebasesStore s.store store → s.log.sight.failed ≡ false
-    → IsKept s → IsKept (record s { store = store })
+    → IsKvManager s → IsKvManager (record s { store = store })
 kept_forgetting s store rebases works kept =
-    subst (λ (t : KeySight). IsKept (record s { store = t })) (sym (store_is s.store store rebases)) (record {
+    subst (λ (t : KeySight). IsKvManager (record s { store = t })) (sym (store_is s.store store rebases)) (record {
       kind = kept.kind;
       ordered = kept.ordered;
       counted = kept.counted;

@@ -6,12 +6,12 @@ use Rattle.std.proofs.lemmas.Map.Entries.{length-keys_of}
 use Rattle.std.specs.List.{AllByRecursion, IsDistinct, list_any}
 use Rattle.std.specs.Map.{keys_of, lookup}
 use Rattle.xa_xid.specs.declared.xid.Xid.{Xid}
-use Rattle.tree_model.specs.declared.records.Write.{Write}
-use Rattle.tree_model.specs.Records.{same_bytes}
+use Rattle.protocol.specs.declared.records.Write.{Write}
+use Rattle.protocol.specs.Records.{same_bytes}
 use Rattle.log_rules.specs.declared.order.seen.Promise.{Promise}
 use Rattle.log_rules.specs.order.Orders.{holds, is_open, key_open, keys_free, names_key, opens, promised_by, same}
 use Rattle.kv_store.proofs.Order.{same_itself as key_itself}
-use Rattle.kv_core.proofs.Lookups.{Live, same_is, same_itself, same_laws, true_is_false}
+use Rattle.kv_state.proofs.Lookups.{Live, same_is, same_itself, same_laws, true_is_false}
 
 both : (a b : Bool) → (a && b) ≡ true → (a ≡ true) × (b ≡ true)
 both true true h = (refl, refl)

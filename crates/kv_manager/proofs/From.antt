@@ -11,22 +11,22 @@ use Rattle.xa_tables.specs.declared.call.Call.TheVariants as call
 use Rattle.xa_tables.specs.declared.states.BranchState.{BranchState}
 use Rattle.xa_tables.specs.declared.states.BranchState.TheVariants.{S0, S1, S2, S3, S4, S5}
 use Rattle.xa_xid.specs.declared.xid.Xid.{Xid}
-use Rattle.xa_heur.specs.declared.decision.Decision.{Decision}
-use Rattle.tree_model.specs.declared.names.Outcome.{Outcome}
-use Rattle.tree_model.specs.declared.names.Outcome.TheVariants.{Aborted as AbortedOutcome, Committed as CommittedOutcome}
-use Rattle.tree_model.specs.declared.records.Branch.{Branch}
-use Rattle.kv_turns.specs.declared.entries.Entry.{Entry}
-use Rattle.kv_turns.specs.declared.entries.Entry.TheVariants.{Prepared, Committed, RolledBack, Direct, HeurCommit, HeurRollback, Told, Forgot}
-use Rattle.kv_turns.specs.declared.turns.Turn.{Turn}
-use Rattle.kv_turns.specs.Turns.{decide_turn, tell_turn, turn_of}
-use Rattle.kv_core.specs.Stores.{state_of}
-use Rattle.kv_core.specs.Ends.{IsListed, IsTurn, OfCall, OfOperator}
+use Rattle.xa_branch.specs.declared.decision.Decision.{Decision}
+use Rattle.protocol.specs.declared.names.Outcome.{Outcome}
+use Rattle.protocol.specs.declared.names.Outcome.TheVariants.{Aborted as AbortedOutcome, Committed as CommittedOutcome}
+use Rattle.protocol.specs.declared.records.BranchName.{BranchName}
+use Rattle.kv_calls.specs.declared.entries.BranchRecord.{BranchRecord}
+use Rattle.kv_calls.specs.declared.entries.BranchRecord.TheVariants.{Prepared, Committed, RolledBack, Direct, HeurCommit, HeurRollback, Told, Forgot}
+use Rattle.kv_calls.specs.declared.turns.CallRow.{CallRow}
+use Rattle.kv_calls.specs.Turns.{decide_turn, tell_turn, turn_of}
+use Rattle.kv_state.specs.Stores.{state_of}
+use Rattle.kv_state.specs.Ends.{IsRowListed, IsTurn, OfCall, OfOperator}
 use Rattle.kv_manager.specs.Sights.{KvSight, doubt_of}
 use Rattle.kv_manager.specs.Turns.{IsDueTurn}
 use Rattle.kv_manager.proofs.Steps.{some_is}
 
 -- the state from which a record leads
-abbrev pub comes_from : Entry → BranchState
+abbrev pub comes_from : BranchRecord → BranchState
 comes_from Prepared = S2
 comes_from Direct = S2
 comes_from Committed = S3
@@ -184,13 +184,13 @@ other_row s call.Forget h = absurd (cc)
 other_never : (s : BranchState) (c : Call) → finishes c ≡ false → Contains (branch_rows s c) (code.Ok, S0) → ⊥
 other_never s c h listed = none_zero (branch_rows s c) (other_row s c h) listed
 
-tells_from : (b : Branch) (o : Outcome) (d : Decision) (told : Option Outcome) (e : Entry)
+tells_from : (b : BranchName) (o : Outcome) (d : Decision) (told : Option Outcome) (e : BranchRecord)
     → (tell_turn b o d told).entry ≡ Some e → S5 ≡ comes_from e
 tells_from b o d None e h = ap comes_from (some_is (Told o) e h)
 tells_from b o d (Some t) e h = absurd (cc)
 
 -- the record of a call's turn, which is a row of the table
-from_row : (s : BranchState) (c : Call) (wrote : Bool) (b : Branch) (d : Decision) (e : Entry)
+from_row : (s : BranchState) (c : Call) (wrote : Bool) (b : BranchName) (d : Decision) (e : BranchRecord)
     → (turn_of s c wrote b d).entry ≡ Some e
     → Contains (branch_rows s c) ((turn_of s c wrote b d).code, (turn_of s c wrote b d).to) → s ≡ comes_from e
 from_row s call.Prepare true b d e h listed = prepare_from s listed ∙ ap comes_from (some_is Prepared e h)
@@ -224,25 +224,25 @@ from_row s call.RecoverStart wrote b d e h listed = absurd (other_never s call.R
 from_row s call.RecoverEnd wrote b d e h listed = absurd (other_never s call.RecoverEnd refl listed)
 from_row s call.RecoverWhole wrote b d e h listed = absurd (other_never s call.RecoverWhole refl listed)
 
-decides_from : (o : Outcome) (e : Entry) → (decide_turn o).entry ≡ Some e → S3 ≡ comes_from e
+decides_from : (o : Outcome) (e : BranchRecord) → (decide_turn o).entry ≡ Some e → S3 ≡ comes_from e
 decides_from CommittedOutcome e h = ap comes_from (some_is HeurCommit e h)
 decides_from AbortedOutcome e h = ap comes_from (some_is HeurRollback e h)
 
 -- the record of a turn that is due
-pub due_from : (s : KvSight) (x : Xid) (c : Call) (turn : Turn) (e : Entry) → IsDueTurn s x c turn
+pub due_from : (s : KvSight) (x : Xid) (c : Call) (turn : CallRow) (e : BranchRecord) → IsDueTurn s x c turn
     → turn.entry ≡ Some e → state_of s.store x ≡ comes_from e
 due_from s x c turn e due is = by_turn due.due
   where
     by_turn : IsTurn s.store x c turn → state_of s.store x ≡ comes_from e
     by_turn (OfCall one) =
-        from_row (state_of s.store x) c _ _ _ e (ap (λ (t : Turn). t.entry) (sym one) ∙ is)
-        (subst (IsListed s.store x c) one due.listed)
+        from_row (state_of s.store x) c _ _ _ e (ap (λ (t : CallRow). t.entry) (sym one) ∙ is)
+        (subst (IsRowListed s.store x c) one due.listed)
     by_turn (OfOperator o here room one) =
-        here ∙ decides_from o e (ap (λ (t : Turn). t.entry) (sym one) ∙ is)
+        here ∙ decides_from o e (ap (λ (t : CallRow). t.entry) (sym one) ∙ is)
 
 -- A turn without a record leaves in doubt what was.
 
-silent_tells : (b : Branch) (o : Outcome) (d : Decision) (told : Option Outcome)
+silent_tells : (b : BranchName) (o : Outcome) (d : Decision) (told : Option Outcome)
     → (tell_turn b o d told).entry ≡ None → (tell_turn b o d told).to ≡ S5
 silent_tells b o d None h = absurd (cc)
 silent_tells b o d (Some t) h = refl
@@ -255,7 +255,7 @@ read_from S3 h = absurd (let none = h.1 in omega arith)
 read_from S4 h = absurd (let none = h.1 in omega arith)
 read_from S5 h = absurd (let none = h.1 in omega arith)
 
-silent_row : (s : BranchState) (c : Call) (wrote : Bool) (b : Branch) (d : Decision)
+silent_row : (s : BranchState) (c : Call) (wrote : Bool) (b : BranchName) (d : Decision)
     → (turn_of s c wrote b d).entry ≡ None
     → Contains (branch_rows s c) ((turn_of s c wrote b d).code, (turn_of s c wrote b d).to)
     → doubt_of (turn_of s c wrote b d).to ≡ doubt_of s
@@ -281,13 +281,13 @@ no_silence : (o : Outcome) → (decide_turn o).entry ≡ None → ⊥
 no_silence CommittedOutcome h = absurd (cc)
 no_silence AbortedOutcome h = absurd (cc)
 
-pub silent_doubt : (s : KvSight) (x : Xid) (c : Call) (turn : Turn) → IsDueTurn s x c turn
+pub silent_doubt : (s : KvSight) (x : Xid) (c : Call) (turn : CallRow) → IsDueTurn s x c turn
     → turn.entry ≡ None → doubt_of turn.to ≡ doubt_of (state_of s.store x)
 silent_doubt s x c turn due is = by_turn due.due
   where
     by_turn : IsTurn s.store x c turn → doubt_of turn.to ≡ doubt_of (state_of s.store x)
     by_turn (OfCall one) =
-        ap (λ (t : Turn). doubt_of t.to) one
-        ∙ silent_row (state_of s.store x) c _ _ _ (ap (λ (t : Turn). t.entry) (sym one) ∙ is)
-        (subst (IsListed s.store x c) one due.listed)
-    by_turn (OfOperator o here room one) = absurd (no_silence o (ap (λ (t : Turn). t.entry) (sym one) ∙ is))
+        ap (λ (t : CallRow). doubt_of t.to) one
+        ∙ silent_row (state_of s.store x) c _ _ _ (ap (λ (t : CallRow). t.entry) (sym one) ∙ is)
+        (subst (IsRowListed s.store x c) one due.listed)
+    by_turn (OfOperator o here room one) = absurd (no_silence o (ap (λ (t : CallRow). t.entry) (sym one) ∙ is))

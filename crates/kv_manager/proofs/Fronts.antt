@@ -1,9 +1,9 @@
 -- What has been seen of a front of records, and after one record more.
 use Rattle.std.proofs.Common.{◌≡◌, ℕ, true, List, [], ◌∷◌, ◌++◌, append_assoc, Option, Some, None, refl, sym, ap, ◌∙◌, is_some, take, drop}
 use Rattle.std.proofs.lemmas.List.{take-append-drop}
-use Rattle.tree_model.specs.declared.records.LogRecord.{LogRecord}
+use Rattle.protocol.specs.declared.records.LogRecord.{LogRecord}
 use Rattle.log_rules.specs.order.Orders.{SeenLog, after, nothing_seen}
-use Rattle.kv_core.specs.Replays.{seen_after, seen_of}
+use Rattle.kv_state.specs.Replays.{seen_after, seen_of}
 use Rattle.kv_manager.specs.Sights.{are_ordered, has_records}
 
 pub seen_never : (ls : List LogRecord) → seen_after None ls ≡ None

@@ -2,19 +2,19 @@
 use Rattle.std.proofs.Common.{◌≡◌, ◌≤◌, ◌∙◌, ℕ, Bool, true, false, not, ◌&&◌, ◌||◌, cond, List, [], ◌∷◌, ◌++◌, append_assoc, Option, Some, None, map, refl, sym, ap, subst, is_some, nat_lt, length, arith}
 use Rattle.std.proofs.lemmas.Bool.Decides.{nat_tests}
 use Rattle.xa_tables.specs.declared.states.BranchState.TheVariants.{S0, S5}
-use Rattle.tree_model.specs.declared.names.ProcessId.{ProcessId}
-use Rattle.tree_model.specs.declared.records.LogRecord.{LogRecord}
-use Rattle.tree_model.specs.declared.records.Record.{Record}
-use Rattle.tree_model.specs.declared.records.Record.TheVariants.{Opened, Collecting, Prepare, Commit, Abort, End, Prepared, Committed, RolledBack, Direct, HeurCommit, HeurRollback, Told as ToldRecord, Forgot, Base, Pair, Cleared}
-use Rattle.tree_model.specs.LogNames.{name_xid}
-use Rattle.tree_model.specs.Records.{boot_of, is_opened}
-use Rattle.tree_model.specs.Standings.{mark_at}
-use Rattle.log_rules.specs.declared.order.seen.Mark.{Mark}
-use Rattle.log_rules.specs.declared.order.seen.Mark.TheVariants.{Open, Decided, Told}
+use Rattle.protocol.specs.declared.names.ProcessId.{ProcessId}
+use Rattle.protocol.specs.declared.records.LogRecord.{LogRecord}
+use Rattle.protocol.specs.declared.records.Record.{Record}
+use Rattle.protocol.specs.declared.records.Record.TheVariants.{Opened, Collecting, Prepare, Commit, Abort, End, Prepared, Committed, RolledBack, Direct, HeurCommit, HeurRollback, Told as ToldRecord, Forgot, Base, Pair, Cleared}
+use Rattle.protocol.specs.LogNames.{name_xid}
+use Rattle.protocol.specs.Records.{boot_of, is_opened}
+use Rattle.protocol.specs.Standings.{mark_at}
+use Rattle.log_rules.specs.declared.order.seen.DoubtMark.{DoubtMark}
+use Rattle.log_rules.specs.declared.order.seen.DoubtMark.TheVariants.{Open, Decided, Told}
 use Rattle.log_rules.specs.declared.order.seen.Promise.{Promise}
 use Rattle.log_rules.specs.order.Orders.{SeenLog, after, boot_rises, followed, found, is_open, is_untold, keys_free, keys_once, promises}
-use Rattle.kv_core.specs.Replays.{seen_of}
-use Rattle.manager_model.specs.Orders.{AreInOrder, MayFollow}
+use Rattle.kv_state.specs.Replays.{seen_of}
+use Rattle.resource_manager.specs.Orders.{AreInOrder, MayFollow}
 use Rattle.kv_manager.specs.Sights.{are_ordered}
 use Rattle.kv_manager.proofs.Fronts.{ordered_front, seen_one, seen_where}
 use Rattle.kv_manager.proofs.Marks.{Agrees, agrees_of, boot_is, state_by}
@@ -36,7 +36,7 @@ untold_five : (o : Option Promise) → is_untold o ≡ true → state_by o ≡ S
 untold_five None h = absurd (cc)
 untold_five (Some p) h = by_mark p.mark h
   where
-    by_mark : (m : Mark) → is_untold (Some (record { mark = m; writes = p.writes })) ≡ true
+    by_mark : (m : DoubtMark) → is_untold (Some (record { mark = m; writes = p.writes })) ≡ true
         → state_by (Some (record { mark = m; writes = p.writes })) ≡ S5
     by_mark Open e = absurd (cc)
     by_mark Decided e = refl

@@ -10,7 +10,7 @@ use Rattle.xa_tables.specs.declared.call.Call.{Call}
 use Rattle.xa_tables.specs.declared.call.Verb.TheVariants as verb
 use Rattle.xa_assoc.specs.Associations.{IsBare}
 use Rattle.xa_branch.specs.Branches.{BranchList, state_in}
-use Rattle.xa_assoc.specs.Answers.{BeginsIdle, Closed, Closes, Opened, Opens, state_at}
+use Rattle.xa_assoc.specs.Answers.{BeginsIdle, Closed, Closes, Opened, OpensManager, state_at}
 use Rattle.xa_tables.specs.declared.states.BranchState.{BranchState}
 use Rattle.xa_tables.specs.declared.states.BranchState.TheVariants.{S0, S1, S2, S3, S4, S5}
 use Rattle.xa_xid.specs.declared.xid.Xid.{Xid}
@@ -19,21 +19,21 @@ use Rattle.xa_branch.proofs.Names.{same_is}
 use Rattle.xa_branch.specs.Names.{same}
 use Rattle.xa_assoc.specs.declared.errors.WorkError.{WorkError}
 use Rattle.xa_assoc.specs.declared.errors.WorkError.TheVariants.{Memory, NotAssociated, Locked, TooLong, TooManyWrites, RmFail, RollbackOnly}
-use Rattle.tree_model.specs.Store.{Data}
-use Rattle.tree_model.specs.declared.messages.Op.{Op}
-use Rattle.tree_model.specs.declared.messages.Op.TheVariants.{Put, Get, Delete}
+use Rattle.protocol.specs.Store.{Data}
+use Rattle.protocol.specs.declared.messages.Op.{Op}
+use Rattle.protocol.specs.declared.messages.Op.TheVariants.{Put, Get, Delete}
 use Rattle.kv_store.specs.Versions.{SameData, VersionTable, value_at}
-use Rattle.kv_core.specs.Folds.{AreData}
+use Rattle.kv_state.specs.Folds.{AreData}
 use Rattle.kv_store.specs.writes.Writes.{writes_of}
-use Rattle.xa_heur.specs.Cases.{decision_in, decision_or}
-use Rattle.kv_core.specs.Stores.{KeySight, MovesTables, SameStore, is_decided, state_of}
-use Rattle.kv_core.specs.Ends.{Reserves, SameButData, known_of}
-use Rattle.kv_core.specs.Works.{Does, IsRefused, Writes, WritesFor, WorksIdle}
-use Rattle.kv_core.proofs.Moves.{Keeps, moves_keep, same_keeps}
-use Rattle.kv_core.proofs.Working.{works_apart}
-use Rattle.xa_heur.specs.declared.decision.Decision.{Decision}
-use Rattle.rec_log.specs.Sights.{records_of}
-use Rattle.kv_manager.specs.Sights.{IsKept, KvSight, SaysDecided, doubt_of, logged}
+use Rattle.xa_branch.specs.Cases.{decision_in, decision_or}
+use Rattle.kv_state.specs.Stores.{KeySight, MovesTables, SameKeyStore, is_decided, state_of}
+use Rattle.kv_state.specs.Ends.{Reserves, SameButData, known_of}
+use Rattle.kv_state.specs.Works.{DoesOperation, IsRefusedWork, WritesKey, WritesFor, KeyStoreWorksIdle}
+use Rattle.kv_state.proofs.Moves.{KeepsTest, moves_keep, same_keeps}
+use Rattle.kv_state.proofs.Working.{works_apart}
+use Rattle.xa_branch.specs.declared.decision.Decision.{Decision}
+use Rattle.log_records.specs.Sights.{records_of}
+use Rattle.kv_manager.specs.Sights.{IsKvManager, KvSight, SaysDecided, doubt_of, logged}
 use Rattle.kv_manager.proofs.Staying.{SameDoubts, moves_doubts, same_doubts}
 
 -- a branch is prepared
@@ -82,8 +82,8 @@ pub one_data : (v v' : VersionTable) → v' ≡ v → SameData v v'
 one_data v v' one = subst (λ w. SameData v w) (sym one)
     (record { base = refl; count = refl; is_staged = refl; values = λ n k. refl })
 
-pub kept_by : (s : KvSight) (store : KeySight) → IsKept s → KeepsPromises s.store store
-    → IsKept (record s { store = store })
+pub kept_by : (s : KvSight) (store : KeySight) → IsKvManager s → KeepsPromises s.store store
+    → IsKvManager (record s { store = store })
 kept_by s store kept keeps = record {
   kind = kept.kind;
   ordered = kept.ordered;
@@ -101,7 +101,7 @@ kept_by s store kept keeps = record {
   };
 }
 
-prepared_by : (old new : States) → Keeps is_prepared old new → (s s' : KeySight)
+prepared_by : (old new : States) → KeepsTest is_prepared old new → (s s' : KeySight)
     → s.tables ≡ old → s'.tables ≡ new
     → (x : Xid) → state_of s' x ≡ S3 → state_of s x ≡ S3
 prepared_by old new keeps s s' is_old is_new x is =
@@ -110,7 +110,7 @@ prepared_by old new keeps s s' is_old is_new x is =
     ∙ keeps x (ap (λ t. is_prepared (state_of (record s' { tables = t }) x))
     (sym is_new) ∙ ap is_prepared is))
 
-decided_by : (old new : States) → Keeps is_decided old new → (s s' : KeySight)
+decided_by : (old new : States) → KeepsTest is_decided old new → (s s' : KeySight)
     → s.tables ≡ old → s'.tables ≡ new
     → (x : Xid) → state_of s' x ≡ S5 → state_of s x ≡ S5
 decided_by old new keeps s s' is_old is_new x is =
@@ -118,7 +118,7 @@ decided_by old new keeps s s' is_old is_new x is =
     (ap (λ t. is_decided (state_of (record s { tables = t }) x)) is_old
     ∙ keeps x (ap (λ t. is_decided (state_of (record s' { tables = t }) x)) (sym is_new) ∙ ap is_decided is))
 
-pub same_promises : (old new : KeySight) → SameStore old new → KeepsPromises old new
+pub same_promises : (old new : KeySight) → SameKeyStore old new → KeepsPromises old new
 same_promises old new stays = record {
   versions = one_data old.versions new.versions stays.versions;
   prepared = prepared_by old.tables new.tables
@@ -130,8 +130,8 @@ same_promises old new stays = record {
   doubts = same_doubts old.tables new.tables stays.tables;
 }
 
-pub moved_promises : (old new : KeySight) → SameDoubts old.tables new.tables → Keeps is_prepared old.tables new.tables
-    → Keeps is_decided old.tables new.tables
+pub moved_promises : (old new : KeySight) → SameDoubts old.tables new.tables → KeepsTest is_prepared old.tables new.tables
+    → KeepsTest is_decided old.tables new.tables
     → new.writes ≡ old.writes → new.versions ≡ old.versions
     → new.decisions ≡ old.decisions → KeepsPromises old new
 moved_promises old new doubts keeps still writes versions decisions = record {
@@ -144,7 +144,7 @@ moved_promises old new doubts keeps still writes versions decisions = record {
 }
 
 pub refused_same : (old new : KeySight) (refusal : Option WorkError) (e : WorkError)
-    → IsRefused old new refusal e → SameStore old new
+    → IsRefusedWork old new refusal e → SameKeyStore old new
 refused_same old new refusal Memory h = h.1
 refused_same old new refusal NotAssociated h = h.1
 refused_same old new refusal (Locked y) h = h.1
@@ -173,7 +173,7 @@ kept_writes old new w k v apart wrote = record {
     writes x is false e = wrote.writes.others x e
 
 pub wrote_promises : (old new : KeySight) (t : ℕ) (k : List ℕ) (v : Option (List ℕ))
-    → Writes old new t k v → KeepsPromises old new
+    → WritesKey old new t k v → KeepsPromises old new
 wrote_promises old new t k v wrote =
     kept_writes old new wrote.branch k v (works_apart is_prepared old t wrote.branch refl refl wrote.works)
     (record {
@@ -255,7 +255,7 @@ closes_one old new flags c h = by_legal (legal verb.Close flags) h
     by_legal (Ok k) h = closed_one old new c h
     by_legal (Err e) h = ap (λ (m : States). m.branches) h.1
 
-pub opens_one : (old new : States) (flags : ℕ) (migrates : Bool) (c : Code) → Opens old new flags migrates c
+pub opens_one : (old new : States) (flags : ℕ) (migrates : Bool) (c : Code) → OpensManager old new flags migrates c
     → new.branches ≡ old.branches
 opens_one old new flags migrates c h = by_legal (legal verb.Open flags) h
   where
@@ -272,7 +272,7 @@ called_promises old new one writes versions decisions =
     moved_promises old new (λ x. ap (λ (b : BranchList). doubt_of (state_in b.branches x)) one)
     (keeps is_prepared) (keeps is_decided) writes versions decisions
   where
-    keeps : (q : BranchState → Bool) → Keeps q old.tables new.tables
+    keeps : (q : BranchState → Bool) → KeepsTest q old.tables new.tables
     keeps q x h = ap (λ (b : BranchList). q (state_in b.branches x)) (sym one) ∙ h
 
 -- Work of a branch that no thread is in.
@@ -298,7 +298,7 @@ begins_promises old new x false made =
     (same_keeps is_prepared old.tables new.tables made.tables.1)
     (same_keeps is_decided old.tables new.tables made.tables.1) made.writes made.versions made.decisions
 
-did_promises : (old new : KeySight) (x : Xid) (op : Op) → state_of old x ≡ S2 → Does old new x op
+did_promises : (old new : KeySight) (x : Xid) (op : Op) → state_of old x ≡ S2 → DoesOperation old new x op
     → KeepsPromises old new
 did_promises old new x (Put k v) at wrote = kept_writes old new x k (Some v) (ap is_prepared at) wrote
 did_promises old new x (Get k) at reads =
@@ -308,7 +308,7 @@ did_promises old new x (Delete k) at wrote = kept_writes old new x k None (ap is
 
 -- an idle one does an operation, or is refused it
 pub works_promises : (old new : KeySight) (x : Xid) (op : Op) (done : Bool) → state_of old x ≡ S2
-    → WorksIdle old new x op done → KeepsPromises old new
+    → KeyStoreWorksIdle old new x op done → KeepsPromises old new
 works_promises old new x op true at did = did_promises old new x op at did
 works_promises old new x op false at spoils = record {
   doubts = moves_doubts old.tables new.tables x S4 (sym (ap doubt_of at)) spoils.tables.branch;

@@ -7,23 +7,23 @@ use Rattle.xa_tables.specs.declared.states.BranchState.{BranchState}
 use Rattle.xa_tables.specs.declared.states.BranchState.TheVariants.{S0, S3}
 use Rattle.xa_assoc.specs.Restored.{state_left}
 use Rattle.xa_xid.specs.declared.xid.Xid.{Xid}
-use Rattle.tree_model.specs.declared.names.ProcessId.{ProcessId}
-use Rattle.tree_model.specs.declared.records.Branch.TheVariants.{Case as CaseBranch, Foreign}
-use Rattle.tree_model.specs.declared.records.LogRecord.{LogRecord}
-use Rattle.tree_model.specs.declared.records.Record.{Record}
-use Rattle.tree_model.specs.declared.records.Record.TheVariants.{Opened, Collecting, Prepare, Commit, Abort, End, Prepared, Committed, RolledBack, Direct, HeurCommit, HeurRollback, Told as ToldRecord, Forgot, Base as BaseRecord, Pair as PairRecord, Cleared}
-use Rattle.tree_model.specs.LogNames.{name_xid, renamed_by, by_xid}
-use Rattle.tree_model.specs.Records.{boot_after, boot_of, record_branch, same_branch, same_xid, is_opened}
-use Rattle.tree_model.specs.Standings.{Mark, Unmarked, Promised, Decided as DecidedMark, ToldOf, Finished, mark_after, mark_of, mark_at}
-use Rattle.tree_model.specs.Store.{Data, no_data, stored, stored_after, writes_of as promised_of, data_of}
+use Rattle.protocol.specs.declared.names.ProcessId.{ProcessId}
+use Rattle.protocol.specs.declared.records.BranchName.TheVariants.{Case as CaseBranch, Foreign}
+use Rattle.protocol.specs.declared.records.LogRecord.{LogRecord}
+use Rattle.protocol.specs.declared.records.Record.{Record}
+use Rattle.protocol.specs.declared.records.Record.TheVariants.{Opened, Collecting, Prepare, Commit, Abort, End, Prepared, Committed, RolledBack, Direct, HeurCommit, HeurRollback, Told as ToldRecord, Forgot, Base as BaseRecord, Pair as PairRecord, Cleared}
+use Rattle.protocol.specs.LogNames.{name_xid, renamed_by, by_xid}
+use Rattle.protocol.specs.Records.{boot_after, boot_of, record_branch, same_branch, same_xid, is_opened}
+use Rattle.protocol.specs.Standings.{Mark, Unmarked, Promised, Decided as DecidedMark, ToldOf, Finished, mark_after, mark_of, mark_at}
+use Rattle.protocol.specs.Store.{Data, no_data, stored, stored_after, writes_of as promised_of, data_of}
 use Rattle.log_text.proofs.NameReading.{same_xid_is, same_xid_refl}
-use Rattle.log_rules.specs.declared.order.seen.Mark.TheVariants.{Open, Decided, Told}
+use Rattle.log_rules.specs.declared.order.seen.DoubtMark.TheVariants.{Open, Decided, Told}
 use Rattle.log_rules.specs.declared.order.seen.Promise.{Promise}
 use Rattle.log_rules.specs.order.Orders.{SeenLog, after, boot_rises, followed, found, is_heuristic, is_open, is_untold, is_within, keys_free, keys_once, nothing_seen, opens, promised, promised_by, promises, rises, same, with_promise, without_promise}
-use Rattle.kv_core.specs.Replays.{seen_after, seen_of}
-use Rattle.kv_core.proofs.Lawful.{IsLawful, lawful_after, lawful_of, never_seen}
-use Rattle.kv_core.proofs.Lookups.{found_out, found_put, same_is, same_itself, true_is_false}
-use Rattle.manager_model.specs.Restarting.{marked_state, marked_writes, next_boot as boot_behind, writes_left}
+use Rattle.kv_state.specs.Replays.{seen_after, seen_of}
+use Rattle.kv_state.proofs.Lawful.{IsLawful, lawful_after, lawful_of, never_seen}
+use Rattle.kv_state.proofs.Lookups.{found_out, found_put, same_is, same_itself, true_is_false}
+use Rattle.resource_manager.specs.Restarting.{marked_state, marked_writes, next_boot as boot_behind, writes_left}
 use Rattle.kv_manager.specs.Restarts.{next_boot}
 
 -- Tests of names.

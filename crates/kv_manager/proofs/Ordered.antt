@@ -5,20 +5,20 @@ use Rattle.xa_tables.specs.declared.states.BranchState.{BranchState}
 use Rattle.xa_tables.specs.declared.states.BranchState.TheVariants.{S0, S1, S2, S3, S4, S5}
 use Rattle.xa_xid.specs.declared.xid.Xid.{Xid}
 use Rattle.xa_assoc.specs.Restored.{state_left}
-use Rattle.xa_heur.specs.declared.decision.Decision.{Decision}
-use Rattle.log_rules.specs.declared.order.seen.Mark.{Mark}
-use Rattle.log_rules.specs.declared.order.seen.Mark.TheVariants.{Open, Decided, Told}
+use Rattle.xa_branch.specs.declared.decision.Decision.{Decision}
+use Rattle.log_rules.specs.declared.order.seen.DoubtMark.{DoubtMark}
+use Rattle.log_rules.specs.declared.order.seen.DoubtMark.TheVariants.{Open, Decided, Told}
 use Rattle.log_rules.specs.declared.order.seen.Promise.{Promise}
 use Rattle.log_rules.specs.order.Orders.{SeenLog, found, is_open}
-use Rattle.rec_log.specs.Sights.{records_of}
+use Rattle.log_records.specs.Sights.{records_of}
 use Rattle.kv_store.specs.writes.Writes.{AreWrites, writes_of}
-use Rattle.kv_turns.specs.declared.entries.Entry.{Entry}
-use Rattle.kv_turns.specs.declared.turns.Turn.{Turn}
-use Rattle.kv_turns.specs.Turns.{applies, entry_record}
-use Rattle.kv_core.specs.Stores.{IsTidy, state_of}
-use Rattle.kv_core.specs.Replays.{seen_of}
-use Rattle.kv_core.proofs.Lawful.{lawful_of}
-use Rattle.kv_manager.specs.Sights.{IsKept, IsLogged, KvSight, doubt_of}
+use Rattle.kv_calls.specs.declared.entries.BranchRecord.{BranchRecord}
+use Rattle.kv_calls.specs.declared.turns.CallRow.{CallRow}
+use Rattle.kv_calls.specs.Turns.{applies, entry_record}
+use Rattle.kv_state.specs.Stores.{IsTidy, state_of}
+use Rattle.kv_state.specs.Replays.{seen_of}
+use Rattle.kv_state.proofs.Lawful.{lawful_of}
+use Rattle.kv_manager.specs.Sights.{IsKvManager, IsLogged, KvSight, doubt_of}
 use Rattle.kv_manager.specs.Turns.{IsDueTurn}
 use Rattle.kv_manager.proofs.Marks.{agrees_of, state_by}
 use Rattle.kv_manager.proofs.Turns.{IsFollowed, due_untold, record_counts}
@@ -36,7 +36,7 @@ told_five : (o : Option Promise) → is_told o ≡ true → state_by o ≡ S5
 told_five None h = absurd (cc)
 told_five (Some p) h = by_mark p.mark h
   where
-    by_mark : (m : Mark) → told_mark m ≡ true → state_by (Some (record { mark = m; writes = p.writes })) ≡ S5
+    by_mark : (m : DoubtMark) → told_mark m ≡ true → state_by (Some (record { mark = m; writes = p.writes })) ≡ S5
     by_mark Open e = absurd (cc)
     by_mark Decided e = absurd (cc)
     by_mark Told e = refl
@@ -75,7 +75,7 @@ stands_with s t stands h = record {
     states x = (agrees_of (records_of s.log.sight.kept) t h).states x ∙ sym (stands.doubts x)
 
 -- the record of a turn that is due
-pub record_follows : (s : KvSight) (x : Xid) (c : Call) (turn : Turn) (e : Entry) → IsKept s
+pub record_follows : (s : KvSight) (x : Xid) (c : Call) (turn : CallRow) (e : BranchRecord) → IsKvManager s
     → IsTidy s.store → AreWrites (writes_of s.store.writes x)
     → length s.store.tables.branches.branches ≤ 1024 → IsDueTurn s x c turn → turn.entry ≡ Some e
     → (applies e ≡ true → s.store.versions.count + 1 < 2 ^ 63) → IsFollowed s e x

@@ -1,22 +1,22 @@
 -- What a manager remembers of its log, whatever it did.
 use Rattle.std.proofs.Common.{◌≡◌, ◌≤◌, ◌∙◌, ◌+◌, ◌-◌, inl, inr, ℕ, Bool, true, false, if◌then◌else◌, List, [], ◌∷◌, ◌++◌, length, map, take, refl, sym, ap, subst, append_assoc, append-nil, arith}
-use Rattle.tree_model.specs.declared.records.LogRecord.{LogRecord}
+use Rattle.protocol.specs.declared.records.LogRecord.{LogRecord}
 use Rattle.log_text.specs.Payloads.{record_size}
-use Rattle.core_log.specs.Writes.{Writes}
-use Rattle.rec_log.specs.Sights.{Breaks, IsFront, Kept, LogSight, LogState, NotRewritten, Restarts, Rewritten, frames_size, left_by, records_of, whole_within}
-use Rattle.manager_model.specs.declared.errors.RestartError.{RestartError}
-use Rattle.manager_model.specs.declared.errors.RestartError.TheVariants as restarts
+use Rattle.log_writing.specs.Writes.{WritesRecord}
+use Rattle.log_records.specs.Sights.{Breaks, IsLogFront, Kept, LogSight, LogState, NotRewritten, LogRestarts, Rewritten, frames_size, left_by, records_of, whole_within}
+use Rattle.resource_manager.specs.declared.errors.RestartError.{RestartError}
+use Rattle.resource_manager.specs.declared.errors.RestartError.TheVariants as restarts
 use Rattle.kv_manager.specs.Restarts.{FailsToRestart}
 use Rattle.std.specs.Prelude.{Result, Ok, Err, IfErr, OnOk}
-use Rattle.tree_model.specs.Nodes.{is_any_forced}
-use Rattle.rec_log.specs.declared.log.LogError.{LogError}
-use Rattle.rec_log.specs.declared.log.LogError.TheVariants.{Device, Memory}
-use Rattle.kv_core.specs.Remembered.{Remembers}
+use Rattle.protocol.specs.Nodes.{is_any_forced}
+use Rattle.log_records.specs.declared.log.LogError.{LogError}
+use Rattle.log_records.specs.declared.log.LogError.TheVariants.{Device, Memory}
+use Rattle.kv_state.specs.Remembered.{RemembersData}
 use Rattle.kv_manager.specs.Remembered.{IsFrontOf}
 use Rattle.kv_manager.specs.declared.remembered.Front.{Front}
 
 -- the header is the front of any log
-pub header_front : (log : LogState) (f : Front) → f.size ≡ 5 → Remembers [] f.remembered → IsFrontOf log f
+pub header_front : (log : LogState) (f : Front) → f.size ≡ 5 → RemembersData [] f.remembered → IsFrontOf log f
 unfolding frames_size
 header_front log f size says = record {
   first = [];
@@ -102,7 +102,7 @@ frames_more [] l = omega arith
 frames_more (k ∷ ls) l = let rest = frames_more ls l in omega (arith, rest)
 
 -- how many bytes the front of a log that restarted has, but for the record of its boot
-pub restarted_size : (old new : LogState) (keep size : ℕ) (l : LogRecord) → Restarts old new keep (l ∷ [])
+pub restarted_size : (old new : LogState) (keep size : ℕ) (l : LogRecord) → LogRestarts old new keep (l ∷ [])
     → size ≡ 5 + frames_size (records_of new.sight.kept)
     → size ≡ 5 + frames_size (left_by old.sight keep) + record_size l
 restarted_size old new keep size l restarted is =
@@ -114,8 +114,8 @@ restarted_size old new keep size l restarted is =
     omega (arith, sum, more)
 
 -- what was left is the front of a log that restarted
-pub restarted_front : (old new : LogState) (keep : ℕ) (l : LogRecord) (f : Front) → Restarts old new keep (l ∷ [])
-    → f.size ≡ 5 + frames_size (left_by old.sight keep) → Remembers (left_by old.sight keep) f.remembered
+pub restarted_front : (old new : LogState) (keep : ℕ) (l : LogRecord) (f : Front) → LogRestarts old new keep (l ∷ [])
+    → f.size ≡ 5 + frames_size (left_by old.sight keep) → RemembersData (left_by old.sight keep) f.remembered
     → IsFrontOf new f
 restarted_front old new keep l f restarted sized says = record {
   first = left_by old.sight keep;
@@ -124,7 +124,7 @@ restarted_front old new keep l f restarted sized says = record {
 }
 
 -- a record was written
-pub front_wrote : (old new : LogState) (l : LogRecord) (forced : Bool) (f : Front) → Writes old new l forced
+pub front_wrote : (old new : LogState) (l : LogRecord) (forced : Bool) (f : Front) → WritesRecord old new l forced
     → IsFrontOf old f → IsFrontOf new f
 front_wrote old new l forced f writes front =
     let m = wrote_more old.sight (is_any_forced (record { entry = l.entry; is_forced = forced } ∷ [])) (l ∷ []) in
@@ -132,7 +132,7 @@ front_wrote old new l forced f writes front =
 
 -- so it does whether the device failed or not
 pub front_written : {T : Type 0} (old new : LogState) (l : LogRecord) (forced : Bool) (f : Front)
-    (r : Result T LogError) → OnOk r (Writes old new l forced)
+    (r : Result T LogError) → OnOk r (WritesRecord old new l forced)
     → IfErr r (λ e. (e ≡ Device) × Breaks old new (l ∷ [])) → IsFrontOf old f → IsFrontOf new f
 front_written old new l forced f (Ok x) wrote broke front = front_wrote old new l forced f wrote front
 front_written old new l forced f (Err e) wrote broke front = front_broken old new (l ∷ []) f broke.1 front

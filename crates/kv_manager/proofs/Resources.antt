@@ -15,50 +15,50 @@ use Rattle.xa_branch.specs.Names.{same}
 use Rattle.xa_branch.specs.Branches.{off_row}
 use Rattle.xa_assoc.specs.Associations.{AssocList, active_of}
 use Rattle.xa_assoc.specs.declared.states.States.{States}
-use Rattle.xa_assoc.specs.Answers.{BeginsIdle, Same, Takes as TakesRow, state_at}
+use Rattle.xa_assoc.specs.Answers.{BeginsIdle, SameStates, TakesTableRow, state_at}
 use Rattle.xa_assoc.specs.Ready.{has_rows, is_work, is_work_verb}
 use Rattle.xa_assoc.proofs.Finishing.{passed, works_as}
 use Rattle.xa_assoc.proofs.Reactions.{stays}
-use Rattle.xa_heur.specs.declared.decision.Decision.{Decision}
-use Rattle.xa_heur.specs.Decisions.{first_told, told_behind}
-use Rattle.xa_heur.specs.Cases.{decision_in, decision_or}
-use Rattle.tree_model.specs.declared.names.Outcome.{Outcome}
-use Rattle.tree_model.specs.declared.names.Outcome.TheVariants.{Aborted as AbortedOutcome, Committed as CommittedOutcome}
-use Rattle.tree_model.specs.declared.records.Branch.{Branch}
-use Rattle.tree_model.specs.declared.records.Branch.TheVariants.{Case as CaseBranch, Foreign}
-use Rattle.tree_model.specs.declared.records.Write.{Write}
-use Rattle.tree_model.specs.declared.messages.Op.{Op}
-use Rattle.tree_model.specs.declared.messages.Op.TheVariants.{Put, Get, Delete}
-use Rattle.tree_model.specs.Nodes.{Written}
-use Rattle.tree_model.specs.Plays.{op_writes}
+use Rattle.xa_branch.specs.declared.decision.Decision.{Decision}
+use Rattle.xa_branch.specs.Decisions.{first_told, told_behind}
+use Rattle.xa_branch.specs.Cases.{decision_in, decision_or}
+use Rattle.protocol.specs.declared.names.Outcome.{Outcome}
+use Rattle.protocol.specs.declared.names.Outcome.TheVariants.{Aborted as AbortedOutcome, Committed as CommittedOutcome}
+use Rattle.protocol.specs.declared.records.BranchName.{BranchName}
+use Rattle.protocol.specs.declared.records.BranchName.TheVariants.{Case as CaseBranch, Foreign}
+use Rattle.protocol.specs.declared.records.Write.{Write}
+use Rattle.protocol.specs.declared.messages.Op.{Op}
+use Rattle.protocol.specs.declared.messages.Op.TheVariants.{Put, Get, Delete}
+use Rattle.protocol.specs.Nodes.{Written}
+use Rattle.protocol.specs.Plays.{op_writes}
 use Rattle.log_text.specs.Parts.{name_in}
-use Rattle.rec_log.specs.Sights.{Breaks, LogSight}
-use Rattle.core_model.specs.States.{wrote}
+use Rattle.log_records.specs.Sights.{Breaks, LogSight}
+use Rattle.process_state.specs.States.{wrote}
 use Rattle.xa_assoc.specs.declared.errors.WorkError.{WorkError}
 use Rattle.xa_assoc.specs.declared.errors.WorkError.TheVariants.{Locked, Memory, NotAssociated, RmFail, RollbackOnly, TooLong, TooManyWrites}
-use Rattle.manager_model.specs.Sights.{Calls, SameManager, obstacle}
-use Rattle.manager_model.specs.Data as model_data
-use Rattle.manager_model.specs.Data.{Locks, held_with, is_begun}
-use Rattle.manager_model.specs.Idle.{Comes, HasBegun, IsIdle, IsQuiet, WorksIdle}
-use Rattle.manager_model.proofs.Idle.{has_begun, stays_known}
-use Rattle.manager_model.specs.Works.{WorkRefused, Works, work_refusal}
-use Rattle.manager_model.specs.Works as model
-use Rattle.manager_model.specs.Ends.{Broke, Fails, Failed, Finishes, Limited, Made, Makes, Refused, Unlisted, decided_behind, left_with, logged_under, outcome_row, row_for, row_of, state_of as state_of_log, tells, written_by, written_for}
-use Rattle.key_tables.specs.declared.holders.Mode.{Mode}
-use Rattle.key_tables.specs.declared.holders.Mode.TheVariants.{Exclusive, Shared}
-use Rattle.key_tables.specs.Holders.{blocked_by}
+use Rattle.resource_manager.specs.Sights.{ManagerCalls, SameManager, obstacle}
+use Rattle.resource_manager.specs.Data as model_data
+use Rattle.resource_manager.specs.Data.{Locks, held_with, is_begun}
+use Rattle.resource_manager.specs.Idle.{BranchComes, HasBegun, IsIdle, IsQuiet, WorksIdle}
+use Rattle.resource_manager.proofs.Idle.{has_begun, stays_known}
+use Rattle.resource_manager.specs.Works.{WorkRefused, ThreadWorks, work_refusal}
+use Rattle.resource_manager.specs.Works as model
+use Rattle.resource_manager.specs.Ends.{Broke, BranchFails, Failed, ManagerFinishes, Limited, Made, BranchMakes, Refused, Unlisted, decided_behind, left_with, logged_under, outcome_row, row_for, row_of, state_of as state_of_log, tells, written_by, written_for}
+use Rattle.key_lists.specs.declared.holders.Mode.{Mode}
+use Rattle.key_lists.specs.declared.holders.Mode.TheVariants.{Exclusive, Shared}
+use Rattle.key_lists.specs.Holders.{blocked_by}
 use Rattle.kv_locks.specs.Locks.{holders_of}
 use Rattle.kv_store.specs.writes.Writes.{SameWrites, writes_of}
-use Rattle.kv_turns.specs.declared.entries.Entry.{Entry}
-use Rattle.kv_turns.specs.declared.turns.Turn.{Turn}
-use Rattle.kv_turns.specs.Turns.{entry_of, tell_turn, turn_of}
-use Rattle.kv_core.specs.Stores.{KeySight, MovesTables, SameStore, has_numbers, state_of}
-use Rattle.kv_core.specs.Ends.{IsListed, LetsGo, Refused as OffRefused, Unlisted as OffUnlisted, known_behind, known_of, turn_for, wrote_some}
-use Rattle.kv_core.specs.Works as core
-use Rattle.kv_core.specs.Works.{IsRefused, Reads, Writes, at_work, is_too_long, limit_refusal, refusal_by, unless_locked, worker_of, working}
-use Rattle.kv_manager.specs.Sights.{KvSight, SameManager as SameKv}
+use Rattle.kv_calls.specs.declared.entries.BranchRecord.{BranchRecord}
+use Rattle.kv_calls.specs.declared.turns.CallRow.{CallRow}
+use Rattle.kv_calls.specs.Turns.{entry_of, tell_turn, turn_of}
+use Rattle.kv_state.specs.Stores.{KeySight, MovesTables, SameKeyStore, has_numbers, state_of}
+use Rattle.kv_state.specs.Ends.{IsRowListed, LetsBranchGo, Refused as OffRefused, Unlisted as OffUnlisted, known_behind, known_of, turn_for, wrote_some}
+use Rattle.kv_state.specs.Works as core
+use Rattle.kv_state.specs.Works.{IsRefusedWork, ReadsKey, WritesKey, at_work, is_too_long, limit_refusal, refusal_by, unless_locked, worker_of, working}
+use Rattle.kv_manager.specs.Sights.{KvSight, SameKv}
 use Rattle.kv_manager.specs.Turns as kv
-use Rattle.kv_manager.specs.Turns.{Calls as KvCalls, Finishes as KvFinishes, Makes as KvMakes, Fails as KvFails, Takes as KvTakes, Logs, Refuses}
+use Rattle.kv_manager.specs.Turns.{KvCalls, KvFinishes, KvMakes, KvFails, KvTakes, LogsTurn, RefusesWork}
 use Rattle.kv_manager.specs.Resources.{sight_of}
 
 -- Nothing changes.
@@ -90,10 +90,10 @@ moved_rest old new Moves made = (
 
 pub called : (old new : KvSight) (refuses : Type 0) (Moves : States → States → Type 0)
     → KvCalls old new refuses (λ before behind. MovesTables before behind Moves)
-    → Calls (sight_of old) (sight_of new) refuses Moves
+    → ManagerCalls (sight_of old) (sight_of new) refuses Moves
 called old new refuses Moves made = by_failed old.log.sight.failed refl
   where
-    by_failed : (b : Bool) → old.log.sight.failed ≡ b → Calls (sight_of old) (sight_of new) refuses Moves
+    by_failed : (b : Bool) → old.log.sight.failed ≡ b → ManagerCalls (sight_of old) (sight_of new) refuses Moves
     by_failed true failed =
         let same = same_sight old new (made.failed failed).1 in
         record {
@@ -196,7 +196,7 @@ refusal_failed s t op failed =
     ap (λ b. if b then Some RmFail else model.refusal_by (sight_of s) op
     (active_of s.store.tables.associations t)) failed
 
-stayed : (old new : KvSight) → SameStore old.store new.store
+stayed : (old new : KvSight) → SameKeyStore old.store new.store
     → new.log.sight ≡ old.log.sight → new.boot ≡ old.boot
     → SameManager (sight_of old) (sight_of new)
 stayed old new same log boot =
@@ -213,7 +213,7 @@ stayed old new same log boot =
     }
 
 pub work_refused : (old new : KvSight) (t : ℕ) (op : Op) (e : WorkError)
-    → Refuses old new (op_refusal old.store t op) e
+    → RefusesWork old new (op_refusal old.store t op) e
     → WorkRefused (sight_of old) (sight_of new) t op e
 work_refused old new t op e made = by_failed old.log.sight.failed refl e made
   where
@@ -223,7 +223,7 @@ work_refused old new t op e made = by_failed old.log.sight.failed refl e made
     failed_so e is one same = subst (WorkRefused (sight_of old) (sight_of new) t op) (sym one) (is, same)
 
     refused_so : (e : WorkError) → work_refusal (sight_of old) t op ≡ op_refusal old.store t op
-        → IsRefused old.store new.store (op_refusal old.store t op) e
+        → IsRefusedWork old.store new.store (op_refusal old.store t op) e
         → new.log.sight ≡ old.log.sight → new.boot ≡ old.boot
         → WorkRefused (sight_of old) (sight_of new) t op e
     refused_so Memory as' why log boot = (as' ∙ why.0, stayed old new why.1 log boot)
@@ -235,7 +235,7 @@ work_refused old new t op e made = by_failed old.log.sight.failed refl e made
     refused_so RollbackOnly as' why log boot = (as' ∙ why.0, stayed old new why.1 log boot)
 
     by_failed : (b : Bool) → old.log.sight.failed ≡ b → (e : WorkError)
-        → Refuses old new (op_refusal old.store t op) e
+        → RefusesWork old new (op_refusal old.store t op) e
         → WorkRefused (sight_of old) (sight_of new) t op e
     by_failed true is e made = failed_so e (refusal_failed old t op is) (made.failed is).0
         (same_sight old new (made.failed is).1)
@@ -253,8 +253,8 @@ active_is : (s : KeySight) (o : Option Xid) (x : Xid) → worker_of s o ≡ Some
 active_is s None x h = absurd (cc)
 active_is s (Some y) x h = ap Some (worker_is (state_of s y) y x h)
 
-pub same_tables : (a b : States) → b ≡ a → Same a b
-same_tables a b is = subst (Same a) (sym is)
+pub same_tables : (a b : States) → b ≡ a → SameStates a b
+same_tables a b is = subst (SameStates a) (sym is)
     (record { init = refl; branches = stays a.branches a.branches refl; associations = refl })
 
 -- an operation was done by the branch that the thread is active in
@@ -266,7 +266,7 @@ worked : (old new : KvSight) (t : ℕ) (op : Op) (x : Xid) → old.log.sight.fai
     → Locks (sight_of old).holders (sight_of new).holders x op
     → new.store.tables ≡ old.store.tables → new.store.decisions ≡ old.store.decisions
     → new.log.sight ≡ old.log.sight → new.boot ≡ old.boot
-    → Works (sight_of old) (sight_of new) t op
+    → ThreadWorks (sight_of old) (sight_of new) t op
 worked old new t op x works at allowed own others locks tables decisions log boot =
     record {
       allowed = refusal_as old t op works ∙ allowed;
@@ -282,11 +282,11 @@ worked old new t op x works at allowed own others locks tables decisions log boo
     }
 
 pub did_read : (old new : KvSight) (t : ℕ) (k : List ℕ) (found : Option (List ℕ))
-    → KvCalls old new ⊥ (λ before behind. Reads before behind t k found)
-    → Works (sight_of old) (sight_of new) t (Get k)
+    → KvCalls old new ⊥ (λ before behind. ReadsKey before behind t k found)
+    → ThreadWorks (sight_of old) (sight_of new) t (Get k)
 did_read old new t k found made = by_failed old.log.sight.failed refl
   where
-    by_failed : (b : Bool) → old.log.sight.failed ≡ b → Works (sight_of old) (sight_of new) t (Get k)
+    by_failed : (b : Bool) → old.log.sight.failed ≡ b → ThreadWorks (sight_of old) (sight_of new) t (Get k)
     by_failed true is = absurd (made.failed is).0
     by_failed false is =
         let reads = made.works is in
@@ -297,11 +297,11 @@ did_read old new t k found made = by_failed old.log.sight.failed refl
         reads.tables reads.decisions made.log made.boot
 
 pub did_put : (old new : KvSight) (t : ℕ) (k v : List ℕ)
-    → KvCalls old new ⊥ (λ before behind. Writes before behind t k (Some v))
-    → Works (sight_of old) (sight_of new) t (Put k v)
+    → KvCalls old new ⊥ (λ before behind. WritesKey before behind t k (Some v))
+    → ThreadWorks (sight_of old) (sight_of new) t (Put k v)
 did_put old new t k v made = by_failed old.log.sight.failed refl
   where
-    by_failed : (b : Bool) → old.log.sight.failed ≡ b → Works (sight_of old) (sight_of new) t (Put k v)
+    by_failed : (b : Bool) → old.log.sight.failed ≡ b → ThreadWorks (sight_of old) (sight_of new) t (Put k v)
     by_failed true is = absurd (made.failed is).0
     by_failed false is =
         let wrote = made.works is in
@@ -311,11 +311,11 @@ did_put old new t k v made = by_failed old.log.sight.failed refl
         (record { own = wrote.locks.own; others = wrote.locks.others }) wrote.tables wrote.decisions made.log made.boot
 
 pub did_delete : (old new : KvSight) (t : ℕ) (k : List ℕ)
-    → KvCalls old new ⊥ (λ before behind. Writes before behind t k None)
-    → Works (sight_of old) (sight_of new) t (Delete k)
+    → KvCalls old new ⊥ (λ before behind. WritesKey before behind t k None)
+    → ThreadWorks (sight_of old) (sight_of new) t (Delete k)
 did_delete old new t k made = by_failed old.log.sight.failed refl
   where
-    by_failed : (b : Bool) → old.log.sight.failed ≡ b → Works (sight_of old) (sight_of new) t (Delete k)
+    by_failed : (b : Bool) → old.log.sight.failed ≡ b → ThreadWorks (sight_of old) (sight_of new) t (Delete k)
     by_failed true is = absurd (made.failed is).0
     by_failed false is =
         let wrote = made.works is in
@@ -377,7 +377,7 @@ did_idle old new x op idle at allowed own others locks tables decisions log boot
 }
 
 done_idle : (old new : KvSight) (x : Xid) (op : Op) → IsIdle (sight_of old) → state_of old.store x ≡ S2
-    → core.Does old.store new.store x op → new.log.sight ≡ old.log.sight → new.boot ≡ old.boot
+    → core.DoesOperation old.store new.store x op → new.log.sight ≡ old.log.sight → new.boot ≡ old.boot
     → WorksIdle (sight_of old) (sight_of new) x op true
 done_idle old new x (Put k v) idle at did log boot =
     did_idle old new x (Put k v) idle at did.allowed did.writes.own did.writes.others
@@ -407,7 +407,7 @@ spoiled_idle old new x op idle at spoils log boot = record {
   };
 }
   where
-    comes : Comes (sight_of old) (sight_of new) x S4
+    comes : BranchComes (sight_of old) (sight_of new) x S4
     comes = record {
       own = spoils.tables.branch.own;
       others = spoils.tables.branch.others;
@@ -421,26 +421,26 @@ spoiled_idle old new x op idle at spoils log boot = record {
     }
 
 works_by : (old new : KvSight) (x : Xid) (op : Op) (done : Bool) → IsIdle (sight_of old)
-    → state_of old.store x ≡ S2 → core.WorksIdle old.store new.store x op done
+    → state_of old.store x ≡ S2 → core.KeyStoreWorksIdle old.store new.store x op done
     → new.log.sight ≡ old.log.sight → new.boot ≡ old.boot → WorksIdle (sight_of old) (sight_of new) x op done
 works_by old new x op true = done_idle old new x op
 works_by old new x op false = spoiled_idle old new x op
 
 pub works_idle : (old new : KvSight) (x : Xid) (op : Op) (done : Bool) → IsIdle (sight_of old)
     → old.log.sight.failed ≡ false → state_of old.store x ≡ S2
-    → KvCalls old new ⊥ (λ before behind. core.WorksIdle before behind x op done)
+    → KvCalls old new ⊥ (λ before behind. core.KeyStoreWorksIdle before behind x op done)
     → WorksIdle (sight_of old) (sight_of new) x op done
 works_idle old new x op done idle up at made =
     works_by old new x op done idle at (made.works up) made.log made.boot
 
 -- The calls that finish a branch: a turn is its row, and its record the row's.
 
-told_row : (b : Branch) (o : Outcome) (d : Decision) (told : Option Outcome)
+told_row : (b : BranchName) (o : Outcome) (d : Decision) (told : Option Outcome)
     → ((tell_turn b o d told).code, (tell_turn b o d told).to) ≡ outcome_row S5 d
 told_row b o d None = refl
 told_row b o d (Some t) = refl
 
-row_as : (s : BranchState) (c : Call) (ws : List Write) (b : Branch) (d : Decision)
+row_as : (s : BranchState) (c : Call) (ws : List Write) (b : BranchName) (d : Decision)
     → ((turn_of s c (wrote_some ws) b d).code, (turn_of s c (wrote_some ws) b d).to) ≡ row_of c s ws d
 row_as s call.Prepare [] b d = refl
 row_as s call.Prepare (w ∷ ws) b d = refl
@@ -461,17 +461,17 @@ row_as S5 call.Rollback ws b d = told_row b AbortedOutcome d d.told
 row_as s _ ws b d = refl
 
 -- the record of a turn
-abbrev recorded : Option Entry → Bool → Branch → List Write → List Written
+abbrev recorded : Option BranchRecord → Bool → BranchName → List Write → List Written
 recorded None is_forced b ws = []
 recorded (Some e) is_forced b ws = record { entry = entry_of e b ws; is_forced = is_forced } ∷ []
 
-told_written : (b : Branch) (o : Outcome) (d : Decision) (told : Option Outcome) (ws : List Write)
+told_written : (b : BranchName) (o : Outcome) (d : Decision) (told : Option Outcome) (ws : List Write)
     → tells b o told ≡ recorded (tell_turn b o d told).entry (tell_turn b o d told).is_forced b ws
 told_written (CaseBranch c) o d None ws = refl
 told_written (Foreign x) o d None ws = refl
 told_written b o d (Some t) ws = refl
 
-written_as : (s : BranchState) (c : Call) (ws : List Write) (b : Branch) (d : Decision) → is_work c ≡ false
+written_as : (s : BranchState) (c : Call) (ws : List Write) (b : BranchName) (d : Decision) → is_work c ≡ false
     → has_rows (branch_rows s c) ≡ true
     → written_by c s b ws d ≡ recorded (turn_of s c (wrote_some ws) b d).entry
     (turn_of s c (wrote_some ws) b d).is_forced b ws
@@ -502,7 +502,7 @@ first_stays : (o : Outcome) (told : Option Outcome) (t : Outcome) → told ≡ S
 first_stays o None t is = absurd (cc)
 first_stays o (Some u) t is = refl
 
-told_known : (b : Branch) (o : Outcome) (known : Option Decision) (told : Option Outcome)
+told_known : (b : BranchName) (o : Outcome) (known : Option Decision) (told : Option Outcome)
     → (decision_or known).told ≡ told
     → decision_or (known_behind (tell_turn b o (decision_or known) told).entry known)
     ≡ told_behind o (decision_or known)
@@ -512,7 +512,7 @@ told_known b o known (Some t) is =
     (first_stays o (decision_or known).told t is))
 
 -- what is known of a branch after a turn that leaves it in S5
-known_as : (s : BranchState) (c : Call) (wrote : Bool) (b : Branch)
+known_as : (s : BranchState) (c : Call) (wrote : Bool) (b : BranchName)
     (known : Option Decision) → is_work c ≡ false
     → has_rows (branch_rows s c) ≡ true → (turn_of s c wrote b (decision_or known)).to ≡ S5
     → decision_or (known_behind (turn_of s c wrote b (decision_or known)).entry known)
@@ -539,7 +539,7 @@ known_as S5 call.Rollback wrote b known w h to =
 known_as S5 call.Forget wrote b known w h to = absurd (cc)
 known_as S5 _ wrote b known w h to = absurd (cc)
 
-log_as : (old new : KvSight) (x : Xid) (is_forced : Bool) (o : Option Entry) → Logs old new x is_forced o
+log_as : (old new : KvSight) (x : Xid) (is_forced : Bool) (o : Option BranchRecord) → LogsTurn old new x is_forced o
     → let ws = recorded o is_forced (name_in x).1 (writes_of old.store.writes x) in
     new.log.sight ≡ wrote old.log.sight ws (logged_under x ws)
 log_as old new x is_forced None is =
@@ -551,7 +551,7 @@ log_as old new x is_forced None is =
     }) (append-nil old.log.sight.kept.unforced))
 log_as old new x is_forced (Some e) is = is
 
-left_own : (old new : KeySight) (x : Xid) (to : BranchState) → LetsGo old new x to
+left_own : (old new : KeySight) (x : Xid) (to : BranchState) → LetsBranchGo old new x to
     → writes_of new.writes x ≡ left_with to (writes_of old.writes x)
 left_own old new x S0 goes = goes.0.own
 left_own old new x S1 goes = ap (λ w. writes_of w x) goes.0
@@ -560,7 +560,7 @@ left_own old new x S3 goes = ap (λ w. writes_of w x) goes.0
 left_own old new x S4 goes = ap (λ w. writes_of w x) goes.0
 left_own old new x S5 goes = goes.0.own
 
-left_others : (old new : KeySight) (x : Xid) (to : BranchState) → LetsGo old new x to
+left_others : (old new : KeySight) (x : Xid) (to : BranchState) → LetsBranchGo old new x to
     → (y : Xid) → same x y ≡ false
     → writes_of new.writes y ≡ writes_of old.writes y
 left_others old new x S0 goes y apart = goes.0.others y apart
@@ -570,7 +570,7 @@ left_others old new x S3 goes y apart = ap (λ w. writes_of w y) goes.0
 left_others old new x S4 goes y apart = ap (λ w. writes_of w y) goes.0
 left_others old new x S5 goes y apart = goes.0.others y apart
 
-left_held : (old new : KeySight) (x : Xid) (to : BranchState) → LetsGo old new x to
+left_held : (old new : KeySight) (x : Xid) (to : BranchState) → LetsBranchGo old new x to
     → (k : List ℕ) → holders_of new.locks k ≡ held_with to x (holders_of old.locks k)
 left_held old new x S0 goes k = goes.1.each k
 left_held old new x S1 goes k = ap (λ t. holders_of t k) goes.1
@@ -581,14 +581,14 @@ left_held old new x S5 goes k = goes.1.each k
 
 module _ (old new : KvSight) (x : Xid) (c : Call) (w : is_work c ≡ false)
     (h : has_rows (branch_rows (state_of old.store x) c) ≡ true)
-    (due : IsListed old.store x c (turn_for old.store x c)) where
+    (due : IsRowListed old.store x c (turn_for old.store x c)) where
   abbrev ws : List Write
   ws = writes_of old.store.writes x
 
-  abbrev b : Branch
+  abbrev b : BranchName
   b = (name_in x).1
 
-  abbrev turn : Turn
+  abbrev turn : CallRow
   turn = turn_for old.store x c
 
   abbrev row : Code × BranchState
@@ -603,11 +603,11 @@ module _ (old new : KvSight) (x : Xid) (c : Call) (w : is_work c ≡ false)
   is_written : written_for (sight_of old) x c ≡ recorded turn.entry turn.is_forced b ws
   is_written = written_as (state_of old.store x) c ws b (known_of old.store x) w h
 
-  made_row : KvMakes old new x turn → Makes (sight_of old) (sight_of new) x c row
+  made_row : KvMakes old new x turn → BranchMakes (sight_of old) (sight_of new) x c row
   made_row made =
       record {
         listed = listed;
-        tables = subst (λ (r : Code × BranchState). TakesRow old.store.tables
+        tables = subst (λ (r : Code × BranchState). TakesTableRow old.store.tables
             new.store.tables x r.1) is_row made.tables;
         log = log_as old new x turn.is_forced turn.entry made.log
             ∙ ap (λ rs. wrote old.log.sight rs (logged_under x rs)) (sym is_written);
@@ -623,7 +623,7 @@ module _ (old new : KvSight) (x : Xid) (c : Call) (w : is_work c ≡ false)
         boot = made.boot;
       }
 
-  broke_under : KvFails old new x turn → Fails (sight_of old) (sight_of new) x c
+  broke_under : KvFails old new x turn → BranchFails (sight_of old) (sight_of new) x c
   broke_under failed =
       let entered : written_for (sight_of old) x c ≡ recorded (Some failed.entry) turn.is_forced b ws =
       is_written ∙ ap (λ o. recorded o turn.is_forced b ws) failed.writes_it in
@@ -649,7 +649,7 @@ spent_so : (b : Bool) → b ≡ false → not b ≡ true
 spent_so b is = ap not is
 
 pub finished : (old new : KvSight) (v : Verb) (x : Xid) (flags : ℕ) (answer : Code) → is_work_verb v ≡ false
-    → KvFinishes old new v x flags answer → Finishes (sight_of old) (sight_of new) v x flags answer
+    → KvFinishes old new v x flags answer → ManagerFinishes (sight_of old) (sight_of new) v x flags answer
 finished old new v x flags answer n (kv.Failed failed is same) = Failed failed is (same_sight old new same)
 finished old new v x flags answer n (kv.Refused works (OffRefused checked) same) =
     Refused works checked (same_sight old new same)
@@ -667,8 +667,8 @@ finished old new v x flags answer n (kv.Taken works due is_due taken) =
     let checked = passed old.store.tables v x flags due.0 is_due.checked in
     let w : is_work due.0 ≡ false = works_as v flags due.0 checked.by_flags ∙ n in
     let h : has_rows (branch_rows (state_of old.store x) due.0) ≡ true = free_rows _ _ checked.passes.free in
-    let listed : IsListed old.store x due.0 (turn_for old.store x due.0) =
-    subst (IsListed old.store x due.0) is_due.turn is_due.listed in
+    let listed : IsRowListed old.store x due.0 (turn_for old.store x due.0) =
+    subst (IsRowListed old.store x due.0) is_due.turn is_due.listed in
     by_taken w h listed (subst (λ t. KvTakes old new x t answer) is_due.turn taken)
   where
     free_rows : (held has : Bool) → (held || not has) ≡ false → has ≡ true
@@ -677,9 +677,9 @@ finished old new v x flags answer n (kv.Taken works due is_due taken) =
     free_rows false false h = absurd cc
 
     by_taken : is_work due.0 ≡ false → has_rows (branch_rows (state_of old.store x) due.0) ≡ true
-        → IsListed old.store x due.0 (turn_for old.store x due.0)
+        → IsRowListed old.store x due.0 (turn_for old.store x due.0)
         → KvTakes old new x (turn_for old.store x due.0) answer
-        → Finishes (sight_of old) (sight_of new) v x flags answer
+        → ManagerFinishes (sight_of old) (sight_of new) v x flags answer
     by_taken w h listed (kv.Made is made) =
         Made works due.0 is_due.checked (is ∙ ap (λ (r : Code × BranchState). r.0)
         (row_as (state_of old.store x) due.0 (writes_of old.store.writes x) _ _))

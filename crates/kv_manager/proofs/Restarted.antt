@@ -2,20 +2,20 @@
 use Rattle.std.proofs.Common.{◌≡◌, ◌∙◌, ℕ, List, [], ◌∷◌, ◌++◌, refl, sym, ap, subst}
 use Rattle.xa_xid.specs.declared.xid.Xid.{Xid}
 use Rattle.xa_assoc.specs.declared.states.States.{States}
-use Rattle.xa_assoc.specs.Answers.{Same}
+use Rattle.xa_assoc.specs.Answers.{SameStates}
 use Rattle.xa_assoc.proofs.Reactions.{stays}
-use Rattle.tree_model.specs.declared.records.LogRecord.{LogRecord}
+use Rattle.protocol.specs.declared.records.LogRecord.{LogRecord}
 use Rattle.log_rules.specs.order.Orders.{names_key}
-use Rattle.rec_log.specs.Sights.{LogState, RestartBreaks, Restarts as LogRestarts, left_by}
-use Rattle.core_model.specs.States.{forced_sight}
-use Rattle.manager_model.specs.Ends.{state_of}
-use Rattle.manager_model.specs.Restarting.{NotRestarted, RestartFails, Restarts, boot_record, next_boot}
-use Rattle.manager_model.specs.declared.errors.RestartError.{RestartError}
-use Rattle.manager_model.specs.declared.errors.RestartError.TheVariants.{Device, Exhausted, Memory}
+use Rattle.log_records.specs.Sights.{LogState, LogRestartBreaks, LogRestarts, left_by}
+use Rattle.process_state.specs.States.{forced_sight}
+use Rattle.resource_manager.specs.Ends.{state_of}
+use Rattle.resource_manager.specs.Restarting.{ManagerNotRestarted, ManagerRestartFails, RestartsManager, boot_record, next_boot}
+use Rattle.resource_manager.specs.declared.errors.RestartError.{RestartError}
+use Rattle.resource_manager.specs.declared.errors.RestartError.TheVariants.{Device, Exhausted, Memory}
 use Rattle.kv_manager.specs.Resources.{sight_of}
-use Rattle.kv_manager.specs.Restarts.{NotRestarted as KvNotRestarted, RestartFails as KvFails, Restarted, opened}
-use Rattle.kv_core.specs.Stores.{KeySight}
-use Rattle.kv_core.specs.Ends.{known_of}
+use Rattle.kv_manager.specs.Restarts.{KvNotRestarted, KvRestartFails, Restarted, opened}
+use Rattle.kv_state.specs.Stores.{KeySight}
+use Rattle.kv_state.specs.Ends.{known_of}
 use Rattle.kv_manager.specs.Sights.{KvSight}
 use Rattle.kv_manager.proofs.Marks.{agrees_of, boot_last, boot_next, writes_as}
 use Rattle.kv_manager.proofs.Resources.{same_sight}
@@ -33,7 +33,7 @@ log_of old new keep rs made = λ i. record {
 }
 
 pub restarted : (old new : KvSight) (keep : ℕ) (given : List Xid) → Restarted old new keep given
-    → Restarts (sight_of old) (sight_of new) keep
+    → RestartsManager (sight_of old) (sight_of new) keep
 restarted old new keep given made =
     let left = made.left in
     let ls = left_by old.log.sight keep in
@@ -58,12 +58,12 @@ restarted old new keep given made =
           ∙ ap (λ n. forced_sight old.log.sight.form (ls ++ boot_record n ∷ []) old.log.sight.failures) boot;
     }
 
-same_tables : (a b : States) → b ≡ a → Same a b
-same_tables a b is = subst (Same a) (sym is)
+same_tables : (a b : States) → b ≡ a → SameStates a b
+same_tables a b is = subst (SameStates a) (sym is)
     (record { init = refl; branches = stays a.branches a.branches refl; associations = refl })
 
-broken : (old new : LogState) (keep : ℕ) (rs : List LogRecord) → RestartBreaks old new keep rs
-    → RestartBreaks (state_of old.sight) (state_of new.sight) keep rs
+broken : (old new : LogState) (keep : ℕ) (rs : List LogRecord) → LogRestartBreaks old new keep rs
+    → LogRestartBreaks (state_of old.sight) (state_of new.sight) keep rs
 broken old new keep rs b = record {
   form = b.form;
   appended = b.appended;
@@ -73,14 +73,14 @@ broken old new keep rs b = record {
   cause = b.cause;
 }
 
-fails : (old new : KvSight) (keep : ℕ) → KvFails old new keep
-    → RestartFails (sight_of old) (sight_of new) keep
+fails : (old new : KvSight) (keep : ℕ) → KvRestartFails old new keep
+    → ManagerRestartFails (sight_of old) (sight_of new) keep
 fails old new keep made =
     let ls = left_by old.log.sight keep in
     let boot : made.next ≡ next_boot ls = boot_next ls made.comes.seen made.next
     made.comes.read made.comes.next in
     record {
-      log = subst (λ n. RestartBreaks (state_of old.log.sight) (state_of new.log.sight)
+      log = subst (λ n. LogRestartBreaks (state_of old.log.sight) (state_of new.log.sight)
           keep (boot_record n ∷ [])) boot
           (broken old.log new.log keep (opened made.next ∷ []) made.log);
       tables = same_tables old.store.tables new.store.tables (ap (λ s. s.tables) made.store);
@@ -89,7 +89,7 @@ fails old new keep made =
     }
 
 pub not_restarted : (old new : KvSight) (keep : ℕ) (e : RestartError) → KvNotRestarted old new keep e
-    → NotRestarted (sight_of old) (sight_of new) keep e
+    → ManagerNotRestarted (sight_of old) (sight_of new) keep e
 not_restarted old new keep Device made = fails old new keep made
 not_restarted old new keep Memory made = same_sight old new made
 not_restarted old new keep Exhausted made =

@@ -10,50 +10,50 @@ use Rattle.xa_tables.specs.declared.states.BranchState.TheVariants.{S0, S3}
 use Rattle.xa_assoc.specs.declared.states.States.{States}
 use Rattle.xa_assoc.specs.Answers.{state_at}
 use Rattle.xa_assoc.specs.Restored.{Restored, restore_refusal, state_left, states_left}
-use Rattle.tree_model.specs.declared.records.Branch.TheVariants.{Foreign}
-use Rattle.tree_model.specs.declared.records.LogRecord.{LogRecord}
-use Rattle.tree_model.specs.Store.{Data, writes_of as promised_of, data_of}
+use Rattle.protocol.specs.declared.records.BranchName.TheVariants.{Foreign}
+use Rattle.protocol.specs.declared.records.LogRecord.{LogRecord}
+use Rattle.protocol.specs.Store.{Data, writes_of as promised_of, data_of}
 use Rattle.log_rules.specs.declared.order.seen.Promise.{Promise}
-use Rattle.log_rules.specs.order.Orders.{SeenLog, found, is_open, left_by, names_key, opens, promised, promised_by, same}
-use Rattle.key_tables.specs.declared.holders.Mode.TheVariants.{Exclusive}
-use Rattle.key_tables.specs.Holders.{holds}
+use Rattle.log_rules.specs.order.Orders.{SeenLog, found, is_open, in_doubt_by, names_key, opens, promised, promised_by, same}
+use Rattle.key_lists.specs.declared.holders.Mode.TheVariants.{Exclusive}
+use Rattle.key_lists.specs.Holders.{holds}
 use Rattle.kv_locks.specs.Locks.{LockTable, holders_of}
 use Rattle.kv_store.specs.Pairs.{keys_rise}
 use Rattle.kv_store.specs.Versions.{VersionTable}
 use Rattle.kv_store.specs.writes.Writes.{WriteTable, writes_of}
-use Rattle.kv_core.specs.Folds.{AreData}
-use Rattle.kv_core.specs.Replays.{AreCounted, HoldPromises, seen_of}
-use Rattle.kv_core.specs.Remembered.{LeavesNow}
-use Rattle.kv_core.specs.declared.replayed.Replayed.{Replayed}
-use Rattle.kv_core.proofs.Counting.{counted_front}
-use Rattle.kv_core.specs.declared.fault.ReplayError.{ReplayError}
-use Rattle.kv_core.specs.declared.fault.ReplayError.TheVariants.{Memory, Malformed, Exhausted}
-use Rattle.kv_core.specs.Replays.{Fails}
-use Rattle.kv_core.proofs.Lawful.{lawful_of}
-use Rattle.kv_core.proofs.Lookups.{same_is}
-use Rattle.tree_model.specs.declared.names.Kind.TheVariants.{Manager}
+use Rattle.kv_state.specs.Folds.{AreData}
+use Rattle.kv_state.specs.Replays.{AreCountedCommits, HoldPromises, seen_of}
+use Rattle.kv_state.specs.Remembered.{LeavesNow}
+use Rattle.kv_state.specs.declared.replayed.Replayed.{Replayed}
+use Rattle.kv_state.proofs.Counting.{counted_front}
+use Rattle.kv_state.specs.declared.fault.ReplayError.{ReplayError}
+use Rattle.kv_state.specs.declared.fault.ReplayError.TheVariants.{Memory, Malformed, Exhausted}
+use Rattle.kv_state.specs.Replays.{ReplayFails}
+use Rattle.kv_state.proofs.Lawful.{lawful_of}
+use Rattle.kv_state.proofs.Lookups.{same_is}
+use Rattle.protocol.specs.declared.names.Kind.TheVariants.{Manager}
 use Rattle.log_text.specs.Made.{frame_record}
-use Rattle.core_log.specs.Writes.{Writes}
-use Rattle.core_model.specs.States.{wrote}
-use Rattle.rec_log.specs.Sights.{Breaks, LogSight, LogState, Restarts, left_by as left_by_crash, records_of}
+use Rattle.log_writing.specs.Writes.{WritesRecord}
+use Rattle.process_state.specs.States.{wrote}
+use Rattle.log_records.specs.Sights.{Breaks, LogSight, LogState, LogRestarts, left_by as left_by_crash, records_of}
 use Rattle.kv_manager.specs.declared.restart.Ready.{Ready}
-use Rattle.manager_model.specs.declared.errors.RestartError.{RestartError}
-use Rattle.manager_model.specs.declared.errors.RestartError.TheVariants as restarts
+use Rattle.resource_manager.specs.declared.errors.RestartError.{RestartError}
+use Rattle.resource_manager.specs.declared.errors.RestartError.TheVariants as restarts
 use Rattle.kv_manager.specs.declared.restart.RecordsError.{RecordsError}
 use Rattle.kv_manager.specs.declared.restart.RecordsError.TheVariants.{Device, Exhausted as ExhaustedRecords, Memory as MemoryRecords, Unfit}
-use Rattle.xa_heur.specs.Cases.{DecisionTable}
-use Rattle.kv_core.specs.Decisions.{KnowDecided, says_decided}
-use Rattle.xa_heur.specs.Decisions.{decided_in}
-use Rattle.kv_core.specs.Stores.{IsTidy, KeySight, Rebuilt, is_decided, is_let_go}
-use Rattle.kv_core.specs.Ends.{known_of}
-use Rattle.kv_manager.specs.Restarts.{FailsToRestart, IsReady, LeavesNone, LeavesStore, NotBegun, NotRebuilt, NotStored, StartsOver, error_of, next_boot, opened}
-use Rattle.kv_manager.specs.Sights.{IsKept, IsLogged, KvSight, SaysDecided, are_ordered, doubt_of, has_records, logged}
+use Rattle.xa_branch.specs.Cases.{DecisionTable}
+use Rattle.kv_state.specs.Decisions.{KnowDecided, says_decided}
+use Rattle.xa_branch.specs.Decisions.{decided_in}
+use Rattle.kv_state.specs.Stores.{IsTidy, KeySight, Rebuilt, is_decided, is_let_go}
+use Rattle.kv_state.specs.Ends.{known_of}
+use Rattle.kv_manager.specs.Restarts.{FailsToRestart, IsReady, LeavesNone, LeavesStore, NotBegun, KvNotRebuilt, NotStored, StartsOver, error_of, next_boot, opened}
+use Rattle.kv_manager.specs.Sights.{IsKvManager, IsLogged, KvSight, SaysDecided, are_ordered, doubt_of, has_records, logged}
 use Rattle.kv_manager.proofs.Boots.{opened_counted, opened_ordered}
 use Rattle.kv_manager.proofs.Fronts.{has_more, ordered_front}
 use Rattle.kv_manager.proofs.Marks.{agrees_of, prepared_mark, state_by}
 use Rattle.kv_manager.proofs.Turns.{data_behind, decided_behind, mark_behind}
-use Rattle.manager_model.specs.Restarting.{marked_state}
-use Rattle.tree_model.specs.Standings.{Decided, Finished, Mark, Promised, ToldOf, Unmarked, mark_at}
+use Rattle.resource_manager.specs.Restarting.{marked_state}
+use Rattle.protocol.specs.Standings.{Decided, Finished, Mark, Promised, ToldOf, Unmarked, mark_at}
 
 Live : Type 0
 Live = List (Xid × Promise)
@@ -73,7 +73,7 @@ state_found (e ∷ es) x = by_test (same x e.0) (state_found es x)
     by_test true h = refl
     by_test false h = h
 
-pub restored_state : (s : SeenLog) (t : States) (x : Xid) → Restored (left_by s) t
+pub restored_state : (s : SeenLog) (t : States) (x : Xid) → Restored (in_doubt_by s) t
     → state_at t x ≡ state_by (found s x)
 restored_state s t x left = ap (λ bs. unwrap_or (lookup (same x) bs) S0) left.branches ∙ state_found s.live x
 
@@ -161,7 +161,7 @@ says_marked Finished = refl
 -- what the records leave is tidy
 pub tidy_restored : (ls : List LogRecord) (s : SeenLog) (t : States) (writes : WriteTable)
     (locks : LockTable) (versions : VersionTable)
-    (decisions : DecisionTable) → seen_of ls ≡ Some s → Restored (left_by s) t
+    (decisions : DecisionTable) → seen_of ls ≡ Some s → Restored (in_doubt_by s) t
     → ((x : Xid) → writes_of writes x ≡ promised s x) → HoldPromises s locks → KnowDecided ls decisions
     → IsTidy
     (record { tables = t; writes = writes; locks = locks; versions = versions; decisions = decisions })
@@ -247,11 +247,11 @@ logged_left s ls left is marks decisions begun = record {
 
 -- what the records leave stands with a log of them and of the boot, all of it forced
 kept_left : (s : KvSight) (ls : List LogRecord) → s.log.sight.form.kind ≡ Manager → LeavesStore ls s.store s.boot
-    → s.log.sight.kept.forced ≡ ls ++ opened s.boot ∷ [] → s.log.sight.kept.unforced ≡ [] → IsKept s
+    → s.log.sight.kept.forced ≡ ls ++ opened s.boot ∷ [] → s.log.sight.kept.unforced ≡ [] → IsKvManager s
 kept_left s ls kind left forced unforced =
     record {
       kind = kind;
-      counted = subst AreCounted (sym (records_booted s ls s.boot forced unforced))
+      counted = subst AreCountedCommits (sym (records_booted s ls s.boot forced unforced))
           (opened_counted ls s.boot left.counted);
       ordered = ap are_ordered (records_booted s ls s.boot forced unforced)
           ∙ opened_ordered ls left.seen s.boot left.read left.next;
@@ -263,8 +263,8 @@ kept_left s ls kind left forced unforced =
 
 pub kept_restarted : (old log : LogState) (keep : ℕ) (r : Ready) → old.sight.form.kind ≡ Manager
     → IsReady (left_by_crash old.sight keep) r
-    → Restarts old log keep (frame_record r.opened ∷ [])
-    → IsKept (record { store = r.store; log = log; boot = r.boot })
+    → LogRestarts old log keep (frame_record r.opened ∷ [])
+    → IsKvManager (record { store = r.store; log = log; boot = r.boot })
 kept_restarted old log keep r kind ready made =
     kept_left (record { store = r.store; log = log; boot = r.boot }) (left_by_crash old.sight keep)
     (ap (λ f. f.kind) made.form ∙ kind) ready.left
@@ -273,7 +273,7 @@ kept_restarted old log keep r kind ready made =
 -- a log that was opened, with the record of the boot after its own
 pub kept_over : (log new : LogState) (store : KeySight) (boot : ℕ) → log.sight.form.kind ≡ Manager → new.sight.form ≡ log.sight.form
     → StartsOver log (record { store = store; log = new; boot = boot })
-    → IsKept (record { store = store; log = new; boot = boot })
+    → IsKvManager (record { store = store; log = new; boot = boot })
 kept_over log new store boot kind same starts =
     kept_left (record { store = store; log = new; boot = boot }) (records_of log.sight.kept) (ap (λ f. f.kind) same ∙ kind)
     starts.left starts.forced starts.unforced
@@ -281,7 +281,7 @@ kept_over log new store boot kind same starts =
 -- the record of the boot was written after those of a log that was opened
 pub starts_over : (log new : LogState) (store : KeySight) (boot : ℕ) → log.sight.failed ≡ false
     → LeavesStore (records_of log.sight.kept) store boot
-    → Writes log new (opened boot) true → StartsOver log (record { store = store; log = new; boot = boot })
+    → WritesRecord log new (opened boot) true → StartsOver log (record { store = store; log = new; boot = boot })
 starts_over log new store boot works left made = record {
   form = ap (λ (k : LogSight). k.form) made.sight;
   left = left;
@@ -304,9 +304,9 @@ starts_none log new store boot ExhaustedRecords left never = absurd never
 
 -- a record is written after room that was made
 pub writes_behind : (log mid new : LogState) (l m : LogRecord) → mid.sight ≡ log.sight
-    → l ≡ m → Writes mid new l true
-    → Writes log new m true
-writes_behind log mid new l m same is made = subst (λ k. Writes log new k true) is (record {
+    → l ≡ m → WritesRecord mid new l true
+    → WritesRecord log new m true
+writes_behind log mid new l m same is made = subst (λ k. WritesRecord log new k true) is (record {
   sight = made.sight ∙ ap (λ s. wrote s (record { entry = l.entry; is_forced = true } ∷ []) (l ∷ [])) same;
 })
 
@@ -329,18 +329,18 @@ breaks_behind log mid new l m same is broke = subst (λ k. Breaks log new (k ∷
 
 -- the records of a log that was opened leave no manager
 pub none_left : (log : LogState) (e : RecordsError)
-    → NotRebuilt (records_of log.sight.kept) e → LeavesNone log log e
+    → KvNotRebuilt (records_of log.sight.kept) e → LeavesNone log log e
 none_left log MemoryRecords why = (why, refl)
 none_left log Device never = absurd never
 none_left log Unfit why = (why, refl)
 none_left log ExhaustedRecords why = (why, refl)
 
 -- a log that stays the same but for its room leaves a manager that stands
-pub kept_alike : (s : KvSight) (log : LogState) → IsKept s → log.sight ≡ s.log.sight → IsKept (record s { log = log })
+pub kept_alike : (s : KvSight) (log : LogState) → IsKvManager s → log.sight ≡ s.log.sight → IsKvManager (record s { log = log })
 kept_alike s log kept stays = record {
   kind = ap (λ (k : LogSight). k.form.kind) stays ∙ kept.kind;
   ordered = ap (λ (k : LogSight). are_ordered (records_of k.kept)) stays ∙ kept.ordered;
-  counted = subst (λ (k : LogSight). AreCounted (records_of k.kept)) (sym stays) kept.counted;
+  counted = subst (λ (k : LogSight). AreCountedCommits (records_of k.kept)) (sym stays) kept.counted;
   stands = λ works. record {
     doubts = λ x. (stands works).doubts x
         ∙ ap (λ (k : LogSight). marked_state (mark_at (records_of k.kept) x)) (sym stays);
@@ -362,15 +362,15 @@ kept_alike s log kept stays = record {
 
 -- a log that did not restart leaves a manager that stands, or that has failed
 pub kept_unstarted : (s : KvSight) (log : LogState) (keep : ℕ) (l : LogRecord) (e : RestartError)
-    → IsKept s → are_ordered (left_by_crash s.log.sight keep ++ l ∷ []) ≡ true
-    → AreCounted (left_by_crash s.log.sight keep ++ l ∷ [])
-    → FailsToRestart s.log log keep l e → IsKept (record s { log = log })
+    → IsKvManager s → are_ordered (left_by_crash s.log.sight keep ++ l ∷ []) ≡ true
+    → AreCountedCommits (left_by_crash s.log.sight keep ++ l ∷ [])
+    → FailsToRestart s.log log keep l e → IsKvManager (record s { log = log })
 kept_unstarted s log keep l restarts.Memory kept behind counts stays = kept_alike s log kept stays
 kept_unstarted s log keep l restarts.Device kept behind counts broke = record {
   kind = ap (λ f. f.kind) broke.form ∙ kept.kind;
-  counted = subst AreCounted (sym broke.stand)
+  counted = subst AreCountedCommits (sym broke.stand)
       (counted_front (left_by_crash s.log.sight keep ++ take broke.appended (l ∷ []))
-      (drop broke.appended (l ∷ [])) (subst AreCounted (sym whole) counts));
+      (drop broke.appended (l ∷ [])) (subst AreCountedCommits (sym whole) counts));
   ordered = ap are_ordered broke.stand
       ∙ ordered_front (left_by_crash s.log.sight keep ++ take broke.appended (l ∷ []))
       (drop broke.appended (l ∷ [])) (ap are_ordered whole ∙ behind);
@@ -400,15 +400,15 @@ left_store ls r s boot leaves rebuilt next = record {
 }
 
 -- what does not replay is not rebuilt
-pub not_rebuilt : (ls : List LogRecord) (e : ReplayError) → Fails ls e → NotRebuilt ls (error_of e)
+pub not_rebuilt : (ls : List LogRecord) (e : ReplayError) → ReplayFails ls e → KvNotRebuilt ls (error_of e)
 not_rebuilt ls Memory why = tt
 not_rebuilt ls Malformed why = inl why
 not_rebuilt ls Exhausted why = inl why
 
 -- nor is what makes no store
 pub not_stored : (ls : List LogRecord) (s : SeenLog) (left : List (Xid × Bool)) (e : RecordsError)
-    → seen_of ls ≡ Some s → left ≡ left_by s
-    → NotStored left e → NotRebuilt ls e
+    → seen_of ls ≡ Some s → left ≡ in_doubt_by s
+    → NotStored left e → KvNotRebuilt ls e
 not_stored ls s left MemoryRecords read is why = tt
 not_stored ls s left Device read is never = never
 not_stored ls s left Unfit read is why =

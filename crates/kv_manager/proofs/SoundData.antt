@@ -1,16 +1,16 @@
 -- The pairs of the data that sound records make can be in a log.
 use Rattle.std.proofs.Common.{ℕ, Bool, true, false, cond, List, [], ◌∷◌, Option, Some, None, map, fold, refl}
 use Rattle.std.specs.List.{AllByRecursion}
-use Rattle.tree_model.specs.declared.names.Kind.TheVariants.{Manager}
-use Rattle.tree_model.specs.declared.names.ProcessId.{ProcessId}
-use Rattle.tree_model.specs.declared.records.Branch.{Branch}
-use Rattle.tree_model.specs.declared.records.LogRecord.{LogRecord}
-use Rattle.tree_model.specs.declared.records.Record.{Record}
-use Rattle.tree_model.specs.declared.records.Record.TheVariants.{Opened, Collecting, Prepare, Commit, Abort, End, Prepared, Committed, RolledBack, Direct, HeurCommit, HeurRollback, Told, Forgot, Base, Pair, Cleared}
-use Rattle.tree_model.specs.declared.records.Write.{Write}
-use Rattle.tree_model.specs.LogNames.{by_xid, unnamed}
-use Rattle.tree_model.specs.Records.{same_branch, same_bytes}
-use Rattle.tree_model.specs.Store.{Data, applied, data_of, key_below, no_data, pair_record, set_key, stored, stored_after, with_pair, without_key, writes_of}
+use Rattle.protocol.specs.declared.names.Kind.TheVariants.{Manager}
+use Rattle.protocol.specs.declared.names.ProcessId.{ProcessId}
+use Rattle.protocol.specs.declared.records.BranchName.{BranchName}
+use Rattle.protocol.specs.declared.records.LogRecord.{LogRecord}
+use Rattle.protocol.specs.declared.records.Record.{Record}
+use Rattle.protocol.specs.declared.records.Record.TheVariants.{Opened, Collecting, Prepare, Commit, Abort, End, Prepared, Committed, RolledBack, Direct, HeurCommit, HeurRollback, Told, Forgot, Base, Pair, Cleared}
+use Rattle.protocol.specs.declared.records.Write.{Write}
+use Rattle.protocol.specs.LogNames.{by_xid, unnamed}
+use Rattle.protocol.specs.Records.{same_branch, same_bytes}
+use Rattle.protocol.specs.Store.{Data, applied, data_of, key_below, no_data, pair_record, set_key, stored, stored_after, with_pair, without_key, writes_of}
 use Rattle.log_rules.specs.sound.Sound.{IsSound, IsSoundEntry, IsSoundKey, IsSoundLeft, IsSoundWrite}
 
 abbrev Pairs : Type 0
@@ -57,9 +57,9 @@ applied_sound (w ∷ ws) ps sound all =
     (set_sound w.key w.value ps sound.0.key sound.0.left all)
 
 abbrev Promises : Type 0
-Promises = List (Branch × List Write)
+Promises = List (BranchName × List Write)
 
-writes_sound : (b : Branch) (ps : Promises) → AllByRecursion (λ p. AllByRecursion IsSoundWrite p.1) ps
+writes_sound : (b : BranchName) (ps : Promises) → AllByRecursion (λ p. AllByRecursion IsSoundWrite p.1) ps
     → AllByRecursion IsSoundWrite (writes_of b ps)
 unfolding writes_of
 writes_sound b [] all = tt

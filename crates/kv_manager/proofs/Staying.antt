@@ -14,12 +14,12 @@ use Rattle.xa_tables.specs.declared.states.BranchState.{BranchState}
 use Rattle.xa_tables.specs.declared.states.BranchState.TheVariants.{S0, S1, S2, S3, S4, S5}
 use Rattle.xa_xid.specs.declared.xid.Xid.{Xid}
 use Rattle.xa_xid.specs.Xids.{null_xid}
-use Rattle.xa_assoc.specs.Associations.{Row}
+use Rattle.xa_assoc.specs.Associations.{AssocRow}
 use Rattle.xa_branch.proofs.Names.{same_is, same_refl}
-use Rattle.xa_branch.specs.Branches.{Moves as BranchMoves, Scans, scan_refusal, state_in}
+use Rattle.xa_branch.specs.Branches.{BranchMoves, ScansBranches, scan_refusal, state_in}
 use Rattle.xa_branch.specs.Names.{same}
 use Rattle.xa_assoc.specs.declared.states.States.{States}
-use Rattle.xa_assoc.specs.Answers.{Answers, ByState, Checked, Does, Reacts, Recovers, Refuses, Same, Scanned, Wanted, left_state, state_at}
+use Rattle.xa_assoc.specs.Answers.{AnswersCall, ByState, Checked, DoesCall, ReactsByRows, Recovers, RefusesCall, SameStates, Scanned, Wanted, left_state, state_at}
 use Rattle.xa_assoc.specs.Reacting.{left_by, resumed}
 use Rattle.xa_assoc.specs.Ready.{is_work, is_work_verb}
 use Rattle.xa_assoc.proofs.Finishing.{works_as}
@@ -29,7 +29,7 @@ use Rattle.kv_manager.specs.Sights.{doubt_of}
 abbrev pub SameDoubts : States → States → Type 0
 SameDoubts old new = (y : Xid) → doubt_of (state_at new y) ≡ doubt_of (state_at old y)
 
-pub same_doubts : (old new : States) → Same old new → SameDoubts old new
+pub same_doubts : (old new : States) → SameStates old new → SameDoubts old new
 same_doubts old new stays y = ap (λ bs. doubt_of (state_in bs y)) stays.branches.branches
 
 pub moves_doubts : (old new : States) (x : Xid) (to : BranchState) → doubt_of to ≡ doubt_of (state_at old x)
@@ -66,21 +66,21 @@ row_works S5 call.EndFail r w h = absurd (let none = h.1 in omega arith)
 row_works S3 _ r w h = absurd (cc)
 row_works S5 _ r w h = absurd (cc)
 
-reacts_doubts : (old new : States) (t : ℕ) (x : Xid) (c : Call) (plan : Result Row Code) (to : BranchState)
-    (answer : Code) → is_work c ≡ true → doubt_of to ≡ S0 → Reacts old new t x c plan to answer
+reacts_doubts : (old new : States) (t : ℕ) (x : Xid) (c : Call) (plan : Result AssocRow Code) (to : BranchState)
+    (answer : Code) → is_work c ≡ true → doubt_of to ≡ S0 → ReactsByRows old new t x c plan to answer
     → SameDoubts old new
 reacts_doubts old new t x c (Ok row) to answer w works walks = moves_doubts old new x to
     (works ∙ sym (row_works (state_at old x) c (answer, to) w walks.listed)) walks.branch
 reacts_doubts old new t x c (Err refusal) to answer w works refused = same_doubts old new refused.1
 
-by_state_any : (R : Type 0) (s : BranchState) (Unknown Off : Type 0) (Does : Bool → Type 0)
-    → (Unknown → R) → ((lost : Bool) → Does lost → R) → (Off → R) → ByState s Unknown Does Off → R
-by_state_any R S0 Unknown Off Does u d o h = u h
-by_state_any R S1 Unknown Off Does u d o h = d false h
-by_state_any R S2 Unknown Off Does u d o h = d false h
-by_state_any R S3 Unknown Off Does u d o h = o h
-by_state_any R S4 Unknown Off Does u d o h = d true h
-by_state_any R S5 Unknown Off Does u d o h = o h
+by_state_any : (R : Type 0) (s : BranchState) (Unknown Off : Type 0) (DoesCall : Bool → Type 0)
+    → (Unknown → R) → ((lost : Bool) → DoesCall lost → R) → (Off → R) → ByState s Unknown DoesCall Off → R
+by_state_any R S0 Unknown Off DoesCall u d o h = u h
+by_state_any R S1 Unknown Off DoesCall u d o h = d false h
+by_state_any R S2 Unknown Off DoesCall u d o h = d false h
+by_state_any R S3 Unknown Off DoesCall u d o h = o h
+by_state_any R S4 Unknown Off DoesCall u d o h = d true h
+by_state_any R S5 Unknown Off DoesCall u d o h = o h
 
 resumed_works : (lost : Bool) → doubt_of (resumed lost) ≡ S0
 resumed_works true = refl
@@ -92,7 +92,7 @@ left_works false true = refl
 left_works false false = refl
 
 does_doubts : (wanted : Wanted) (old new : States) (c : Call) (t : ℕ) (x : Xid) (answer : Code)
-    → is_work c ≡ true → Does wanted old new c t x answer → SameDoubts old new
+    → is_work c ≡ true → DoesCall wanted old new c t x answer → SameDoubts old new
 does_doubts wanted old new call.Start t x answer w h =
     reacts_doubts old new t x call.Start _ S1 answer refl refl h
 does_doubts wanted old new call.StartJoin t x answer w h =
@@ -136,12 +136,12 @@ checked_doubts wanted old new c t x answer w checked = by_init old.init refl
 
 -- a start or an end
 pub works_doubts : (wanted : Wanted) (old new : States) (v : Verb) (t : ℕ) (x : Xid) (flags : ℕ)
-    (answer : Code) → is_work_verb v ≡ true → Answers wanted old new v t x flags answer → SameDoubts old new
+    (answer : Code) → is_work_verb v ≡ true → AnswersCall wanted old new v t x flags answer → SameDoubts old new
 works_doubts wanted old new v t x flags answer w answers = by_legal (legal v flags) refl answers
   where
     by_legal : (r : Result Call Code) → legal v flags ≡ r
         → MatchResult r (λ c. Checked wanted old new c t x answer)
-        (λ refusal. Refuses old new answer refusal) → SameDoubts old new
+        (λ refusal. RefusesCall old new answer refusal) → SameDoubts old new
     by_legal (Ok c) e h = checked_doubts wanted old new c t x answer (works_as v flags c e ∙ w) h
     by_legal (Err refusal) e h = same_doubts old new h.1
 
@@ -151,9 +151,9 @@ pub recovers_doubts : (old new : States) (t count flags : ℕ) (answer : Result 
 recovers_doubts old new t count flags answer recovers = by_legal (legal verb.Recover flags) recovers
   where
     by_answer : (c : Call) (r : Result (List Xid) Code)
-        → MatchResult r (λ given. Scans old.branches new.branches t count c given
+        → MatchResult r (λ given. ScansBranches old.branches new.branches t count c given
         × (new.associations ≡ old.associations) × (new.init ≡ old.init))
-        (λ refusal. (scan_refusal old.branches.scans t c ≡ Some refusal) × Same old new) → SameDoubts old new
+        (λ refusal. (scan_refusal old.branches.scans t c ≡ Some refusal) × SameStates old new) → SameDoubts old new
     by_answer c (Ok given) h = λ y. ap (λ bs. doubt_of (state_in bs y)) h.0.branches
     by_answer c (Err refusal) h = same_doubts old new h.1
 
@@ -163,6 +163,6 @@ recovers_doubts old new t count flags answer recovers = by_legal (legal verb.Rec
 
     by_legal : (r : Result Call Code)
         → MatchResult r (λ c. Scanned old new t count c answer)
-        (λ refusal. (answer ≡ Err refusal) × Same old new) → SameDoubts old new
+        (λ refusal. (answer ≡ Err refusal) × SameStates old new) → SameDoubts old new
     by_legal (Ok c) h = by_init c old.init refl h
     by_legal (Err refusal) h = same_doubts old new h.1

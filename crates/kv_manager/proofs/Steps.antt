@@ -4,21 +4,21 @@ use Rattle.std.specs.List.{AllByRecursion}
 use Rattle.std.specs.Map.{remove_entry}
 use Rattle.indexmap.specs.IndexMap.{insert_entry}
 use Rattle.xa_xid.specs.declared.xid.Xid.{Xid}
-use Rattle.tree_model.specs.declared.names.ProcessId.{ProcessId}
-use Rattle.tree_model.specs.declared.records.Branch.{Branch}
-use Rattle.tree_model.specs.declared.records.Branch.TheVariants.{Case as CaseBranch}
-use Rattle.tree_model.specs.declared.records.LogRecord.{LogRecord}
-use Rattle.tree_model.specs.declared.records.Record.{Record}
-use Rattle.tree_model.specs.declared.records.Record.TheVariants.{Opened, Collecting, Prepare, Commit, Abort, End, Prepared, Committed, RolledBack, Direct, HeurCommit, HeurRollback, Told as ToldRecord, Forgot, Base as BaseRecord, Pair as PairRecord, Cleared}
-use Rattle.tree_model.specs.declared.records.Write.{Write}
-use Rattle.tree_model.specs.LogNames.{name_xid}
-use Rattle.tree_model.specs.Records.{is_opened}
-use Rattle.log_rules.specs.declared.order.seen.Mark.{Mark}
-use Rattle.log_rules.specs.declared.order.seen.Mark.TheVariants.{Open, Decided, Told}
+use Rattle.protocol.specs.declared.names.ProcessId.{ProcessId}
+use Rattle.protocol.specs.declared.records.BranchName.{BranchName}
+use Rattle.protocol.specs.declared.records.BranchName.TheVariants.{Case as CaseBranch}
+use Rattle.protocol.specs.declared.records.LogRecord.{LogRecord}
+use Rattle.protocol.specs.declared.records.Record.{Record}
+use Rattle.protocol.specs.declared.records.Record.TheVariants.{Opened, Collecting, Prepare, Commit, Abort, End, Prepared, Committed, RolledBack, Direct, HeurCommit, HeurRollback, Told as ToldRecord, Forgot, Base as BaseRecord, Pair as PairRecord, Cleared}
+use Rattle.protocol.specs.declared.records.Write.{Write}
+use Rattle.protocol.specs.LogNames.{name_xid}
+use Rattle.protocol.specs.Records.{is_opened}
+use Rattle.log_rules.specs.declared.order.seen.DoubtMark.{DoubtMark}
+use Rattle.log_rules.specs.declared.order.seen.DoubtMark.TheVariants.{Open, Decided, Told}
 use Rattle.log_rules.specs.declared.order.seen.Promise.{Promise}
 use Rattle.log_rules.specs.order.Orders.{SeenLog, after, boot_rises, followed, found, is_heuristic, is_open, is_untold, is_within, keys_free, keys_once, nothing_seen, opens, promises, rises, same}
-use Rattle.kv_core.specs.Replays.{seen_after, seen_of}
-use Rattle.kv_core.proofs.Lawful.{never_seen}
+use Rattle.kv_state.specs.Replays.{seen_after, seen_of}
+use Rattle.kv_state.proofs.Lawful.{never_seen}
 use Rattle.kv_manager.specs.Sights.{has_records}
 
 pub taken : {A : Type 0} (b : Bool) (u t : A) → cond b (Some u) None ≡ Some t → (b ≡ true) × (u ≡ t)
@@ -35,11 +35,11 @@ some_is a b h = cc
 -- the branches stay; or one promises that was not known, one that was known is open no longer, or one is gone
 pub data Steps (s t : SeenLog) (q : Option ProcessId) (r : Record) : Type 0 where
   Stays : t.live ≡ s.live → Steps s t q r
-  Puts : (b : Branch) (ws : List Write) → r ≡ Prepared b ws → is_some (found s (name_xid q b)) ≡ false
+  Puts : (b : BranchName) (ws : List Write) → r ≡ Prepared b ws → is_some (found s (name_xid q b)) ≡ false
       → nat_lt (length s.live) 1024 ≡ true
       → t.live ≡ insert_entry same s.live (name_xid q b) (record { mark = Open; writes = ws })
       → Steps s t q r
-  Marks : (x : Xid) (m : Mark) → is_some (found s x) ≡ true → opens m ≡ false
+  Marks : (x : Xid) (m : DoubtMark) → is_some (found s x) ≡ true → opens m ≡ false
       → t.live ≡ insert_entry same s.live x (record { mark = m; writes = [] })
       → Steps s t q r
   Leaves : (x : Xid) → t.live ≡ remove_entry (same x) s.live → Steps s t q r

@@ -3,28 +3,28 @@ use Rattle.std.proofs.Common.{◌≡◌, Bool, true, false, not, ◌&&◌, cond,
 use Rattle.std.specs.List.{IsDistinct}
 use Rattle.std.specs.Map.{keys_of, lookup}
 use Rattle.xa_xid.specs.declared.xid.Xid.{Xid}
-use Rattle.xa_heur.specs.declared.decision.Decision.{Decision}
-use Rattle.xa_heur.specs.Decisions.{decided_as, decision_after, decision_of, decided_in}
-use Rattle.tree_model.specs.declared.names.Outcome.TheVariants as outcome
-use Rattle.tree_model.specs.declared.names.ProcessId.{ProcessId}
-use Rattle.tree_model.specs.declared.records.Branch.TheVariants.{Case as CaseBranch, Foreign}
-use Rattle.tree_model.specs.declared.records.LogRecord.{LogRecord}
-use Rattle.tree_model.specs.declared.records.Record.{Record}
-use Rattle.tree_model.specs.declared.records.Record.TheVariants.{Opened, Collecting, Prepare, Commit, Abort, End, Prepared, Committed, RolledBack, Direct, HeurCommit, HeurRollback, Told as ToldRecord, Forgot, Base as BaseRecord, Pair as PairRecord, Cleared}
-use Rattle.tree_model.specs.LogNames.{by_xid, name_xid, renamed_by}
-use Rattle.tree_model.specs.Records.{record_branch, same_branch}
-use Rattle.tree_model.specs.Store.{Data, data_of, stored_after}
-use Rattle.log_rules.specs.declared.order.seen.Mark.{Mark}
-use Rattle.log_rules.specs.declared.order.seen.Mark.TheVariants.{Open, Decided, Told}
+use Rattle.xa_branch.specs.declared.decision.Decision.{Decision}
+use Rattle.xa_branch.specs.Decisions.{decided_as, decision_after, decision_of, decided_in}
+use Rattle.protocol.specs.declared.names.Outcome.TheVariants as outcome
+use Rattle.protocol.specs.declared.names.ProcessId.{ProcessId}
+use Rattle.protocol.specs.declared.records.BranchName.TheVariants.{Case as CaseBranch, Foreign}
+use Rattle.protocol.specs.declared.records.LogRecord.{LogRecord}
+use Rattle.protocol.specs.declared.records.Record.{Record}
+use Rattle.protocol.specs.declared.records.Record.TheVariants.{Opened, Collecting, Prepare, Commit, Abort, End, Prepared, Committed, RolledBack, Direct, HeurCommit, HeurRollback, Told as ToldRecord, Forgot, Base as BaseRecord, Pair as PairRecord, Cleared}
+use Rattle.protocol.specs.LogNames.{by_xid, name_xid, renamed_by}
+use Rattle.protocol.specs.Records.{record_branch, same_branch}
+use Rattle.protocol.specs.Store.{Data, data_of, stored_after}
+use Rattle.log_rules.specs.declared.order.seen.DoubtMark.{DoubtMark}
+use Rattle.log_rules.specs.declared.order.seen.DoubtMark.TheVariants.{Open, Decided, Told}
 use Rattle.log_rules.specs.declared.order.seen.Promise.{Promise}
 use Rattle.log_rules.specs.order.Orders.{SeenLog, after, boot_rises, followed, found, is_heuristic, is_open, is_untold, is_within, keys_free, keys_once, nothing_seen, promises, rises, same, with_promise, without_promise}
-use Rattle.kv_core.specs.Replays.{seen_after, seen_of}
-use Rattle.kv_core.proofs.Lawful.{IsLawful, lawful_after, lawful_of, never_seen}
-use Rattle.kv_core.proofs.Lookups.{found_out, found_put, same_laws}
+use Rattle.kv_state.specs.Replays.{seen_after, seen_of}
+use Rattle.kv_state.proofs.Lawful.{IsLawful, lawful_after, lawful_of, never_seen}
+use Rattle.kv_state.proofs.Lookups.{found_out, found_put, same_laws}
 use Rattle.kv_manager.proofs.Marks.{branch_same}
 use Rattle.kv_manager.proofs.Steps.{followed_by, refused, some_is, taken}
 
-abbrev pub told_mark : Mark → Bool
+abbrev pub told_mark : DoubtMark → Bool
 told_mark Told = true
 told_mark _ = false
 

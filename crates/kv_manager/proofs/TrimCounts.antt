@@ -4,29 +4,29 @@ use Rattle.std.specs.List.{AllByRecursion, IsDistinct, list_any}
 use Rattle.std.specs.Map.{keys_of, lookup, remove_entry}
 use Rattle.indexmap.specs.IndexMap.{insert_entry}
 use Rattle.xa_xid.specs.declared.xid.Xid.{Xid}
-use Rattle.tree_model.specs.declared.names.ProcessId.{ProcessId}
-use Rattle.tree_model.specs.declared.records.LogRecord.{LogRecord}
-use Rattle.tree_model.specs.declared.records.Record.{Record}
-use Rattle.tree_model.specs.declared.records.Record.TheVariants.{Opened, Collecting, Prepare, Commit, Abort, End, Prepared, Committed, RolledBack, Direct, HeurCommit, HeurRollback, Told as ToldRecord, Forgot, Base as BaseRecord, Pair as PairRecord, Cleared}
-use Rattle.tree_model.specs.declared.records.Write.{Write}
-use Rattle.tree_model.specs.LogNames.{by_xid, name_xid, unnamed}
-use Rattle.tree_model.specs.Restarts.{is_open as is_open_mark}
-use Rattle.tree_model.specs.Records.{is_opened}
-use Rattle.tree_model.specs.Standings.{Mark as StandingMark, mark_at}
-use Rattle.tree_model.specs.Store.{Data, base_records, data_of, no_data, pair_record, stored, stored_after}
-use Rattle.log_rules.specs.declared.order.seen.Mark.{Mark}
-use Rattle.log_rules.specs.declared.order.seen.Mark.TheVariants.{Open, Decided, Told}
+use Rattle.protocol.specs.declared.names.ProcessId.{ProcessId}
+use Rattle.protocol.specs.declared.records.LogRecord.{LogRecord}
+use Rattle.protocol.specs.declared.records.Record.{Record}
+use Rattle.protocol.specs.declared.records.Record.TheVariants.{Opened, Collecting, Prepare, Commit, Abort, End, Prepared, Committed, RolledBack, Direct, HeurCommit, HeurRollback, Told as ToldRecord, Forgot, Base as BaseRecord, Pair as PairRecord, Cleared}
+use Rattle.protocol.specs.declared.records.Write.{Write}
+use Rattle.protocol.specs.LogNames.{by_xid, name_xid, unnamed}
+use Rattle.protocol.specs.Restarts.{is_open as is_open_mark}
+use Rattle.protocol.specs.Records.{is_opened}
+use Rattle.protocol.specs.Standings.{Mark as StandingMark, mark_at}
+use Rattle.protocol.specs.Store.{Data, base_records, data_of, no_data, pair_record, stored, stored_after}
+use Rattle.log_rules.specs.declared.order.seen.DoubtMark.{DoubtMark}
+use Rattle.log_rules.specs.declared.order.seen.DoubtMark.TheVariants.{Open, Decided, Told}
 use Rattle.log_rules.specs.declared.order.seen.Promise.{Promise}
 use Rattle.log_rules.specs.order.Orders.{SeenLog, after, followed, found, is_heuristic, is_open, is_untold, keys_free, keys_once, nothing_seen, opens, promises, same}
 use Rattle.log_rules.specs.trim.Tables.{is_live}
 use Rattle.log_rules.specs.trim.Trims.{front_of_trim, is_of, last_opened, prepares, said_of, staying, stays, stays_by, trim_of}
-use Rattle.kv_core.specs.Keeping.{is_managers}
-use Rattle.kv_core.specs.Replays.{AreCounted, CountsFrom, seen_after, seen_of}
-use Rattle.kv_core.proofs.Counting.{counted_more, counted_whole}
-use Rattle.kv_core.proofs.Lawful.{never_seen}
-use Rattle.kv_core.proofs.Lookups.{Live, distinct_out, distinct_put, found_out, found_put, same_is, same_itself, true_is_false}
-use Rattle.kv_core.proofs.Promised.{lives, of_name}
-use Rattle.manager_model.specs.Restarting.{marked_state}
+use Rattle.kv_state.specs.Keeping.{is_managers}
+use Rattle.kv_state.specs.Replays.{AreCountedCommits, CountsFrom, seen_after, seen_of}
+use Rattle.kv_state.proofs.Counting.{counted_more, counted_whole}
+use Rattle.kv_state.proofs.Lawful.{never_seen}
+use Rattle.kv_state.proofs.Lookups.{Live, distinct_out, distinct_put, found_out, found_put, same_is, same_itself, true_is_false}
+use Rattle.kv_state.proofs.Promised.{lives, of_name}
+use Rattle.resource_manager.specs.Restarting.{marked_state}
 use Rattle.xa_tables.specs.declared.states.BranchState.TheVariants.{S0}
 use Rattle.kv_manager.proofs.Bounds.{AreFew, few_after}
 use Rattle.kv_manager.proofs.Marks.{agrees_of, state_by}
@@ -261,7 +261,7 @@ shut_new x ws (e ∷ es) off = by_test (same x e.0) off (shut_new x ws es)
     by_test false h more = ap (λ n. cond (opens e.1.mark) n (suc n)) (more h)
 
 -- an operator decides an open branch
-shut_more : (x : Xid) (k : Mark) (es : Live) → opens k ≡ false → is_open (lookup (same x) es) ≡ true
+shut_more : (x : Xid) (k : DoubtMark) (es : Live) → opens k ≡ false → is_open (lookup (same x) es) ≡ true
     → shut (insert_entry same es x (record { mark = k; writes = [] })) ≡ suc (shut es)
 shut_more x k [] off h = absurd (cc)
 shut_more x k (e ∷ es) off h = by_test (same x e.0) h (shut_more x k es off)
@@ -282,7 +282,7 @@ shut_more x k (e ∷ es) off h = by_test (same x e.0) h (shut_more x k es off)
         ap (λ n. cond (opens e.1.mark) n (suc n)) (more was) ∙ step (opens e.1.mark) (shut es)
 
 -- a branch that is known is told
-shut_same : (x : Xid) (k : Mark) (es : Live) → opens k ≡ false
+shut_same : (x : Xid) (k : DoubtMark) (es : Live) → opens k ≡ false
     → shut es ≤ shut (insert_entry same es x (record { mark = k; writes = [] }))
 shut_same x k [] off = omega arith
 shut_same x k (e ∷ es) off = by_test (same x e.0) (shut_same x k es off)
@@ -376,7 +376,7 @@ counts_staying (l ∷ ls) t w d stand within few h = by_after (after t l) refl h
 -- The boot in front, and the data after.
 
 boot_counts : (q : Option ProcessId) (r : Record) → is_opened r ≡ true
-    → AreCounted (record { entry = r; parent = q } ∷ [])
+    → AreCountedCommits (record { entry = r; parent = q } ∷ [])
     × (data_of (record { entry = r; parent = q } ∷ []) ≡ no_data)
 unfolding stored
 boot_counts q (Opened n) h = ((omega arith, omega arith), refl)
@@ -418,7 +418,7 @@ within_none t = omega arith
 
 -- the data of each front of what a trim leaves count fewer than 2^63 commits, where those of the records do
 pub trim_counts : (ls : List LogRecord) (u : SeenLog) → AllByRecursion (λ l. is_managers l.entry ≡ true) ls
-    → has_records ls ≡ true → seen_of ls ≡ Some u → AreCounted ls → AreCounted (trim_of ls)
+    → has_records ls ≡ true → seen_of ls ≡ Some u → AreCountedCommits ls → AreCountedCommits (trim_of ls)
 unfolding front_of_trim
 trim_counts ls u m some h counted =
     let boot = boot_in_front ls u some h in
@@ -427,7 +427,7 @@ trim_counts ls u m some h counted =
     h in
     let begun = boot_counts boot.record_is.parent boot.record_is.entry boot.opens in
     let stand = all_stand ls u m h ls nothing_seen m none_distinct h in
-    let front = counted_more (last_opened ls) (staying ls ls) (subst AreCounted (sym boot.one) begun.0)
+    let front = counted_more (last_opened ls) (staying ls ls) (subst AreCountedCommits (sym boot.one) begun.0)
     (subst (λ d. CountsFrom d (map by_xid (staying ls ls))) (sym (ap data_of boot.one ∙ begun.1))
     (counts_staying (staying ls ls) first.seen stay.seen no_data stand (within_none first.seen)
     (few_none first.seen first.none) stay.read)) in

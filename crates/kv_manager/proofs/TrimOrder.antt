@@ -5,27 +5,27 @@ use Rattle.std.specs.List.{AllByRecursion, list_any}
 use Rattle.std.specs.Map.{lookup, remove_entry}
 use Rattle.indexmap.specs.IndexMap.{insert_entry}
 use Rattle.xa_xid.specs.declared.xid.Xid.{Xid}
-use Rattle.tree_model.specs.declared.names.ProcessId.{ProcessId}
-use Rattle.tree_model.specs.declared.records.LogRecord.{LogRecord}
-use Rattle.tree_model.specs.declared.records.Record.{Record}
-use Rattle.tree_model.specs.declared.records.Record.TheVariants.{Opened, Collecting, Prepare, Commit, Abort, End, Prepared, Committed, RolledBack, Direct, HeurCommit, HeurRollback, Told as ToldRecord, Forgot, Base as BaseRecord, Pair as PairRecord, Cleared}
-use Rattle.tree_model.specs.declared.records.Write.{Write}
-use Rattle.tree_model.specs.declared.records.Branch.{Branch}
-use Rattle.tree_model.specs.declared.records.Branch.TheVariants.{Case as CaseBranch, Foreign}
-use Rattle.tree_model.specs.LogNames.{name_by, name_xid, unnamed}
-use Rattle.tree_model.specs.Records.{branch_case, is_opened}
-use Rattle.tree_model.specs.Store.{base_records, data_of, pair_record}
+use Rattle.protocol.specs.declared.names.ProcessId.{ProcessId}
+use Rattle.protocol.specs.declared.records.LogRecord.{LogRecord}
+use Rattle.protocol.specs.declared.records.Record.{Record}
+use Rattle.protocol.specs.declared.records.Record.TheVariants.{Opened, Collecting, Prepare, Commit, Abort, End, Prepared, Committed, RolledBack, Direct, HeurCommit, HeurRollback, Told as ToldRecord, Forgot, Base as BaseRecord, Pair as PairRecord, Cleared}
+use Rattle.protocol.specs.declared.records.Write.{Write}
+use Rattle.protocol.specs.declared.records.BranchName.{BranchName}
+use Rattle.protocol.specs.declared.records.BranchName.TheVariants.{Case as CaseBranch, Foreign}
+use Rattle.protocol.specs.LogNames.{name_by, name_xid, unnamed}
+use Rattle.protocol.specs.Records.{branch_case, is_opened}
+use Rattle.protocol.specs.Store.{base_records, data_of, pair_record}
 use Rattle.log_rules.specs.declared.order.seen.Data.TheVariants.{Other, Base, Pair}
-use Rattle.log_rules.specs.declared.order.seen.Mark.TheVariants.{Open, Decided, Told}
+use Rattle.log_rules.specs.declared.order.seen.DoubtMark.TheVariants.{Open, Decided, Told}
 use Rattle.log_rules.specs.declared.order.seen.Promise.{Promise}
 use Rattle.log_rules.specs.order.Orders.{SeenLog, after, boot_rises, followed, found, holds, is_heuristic, is_open, is_untold, key_open, keys_free, keys_once, nothing_seen, prepared, promises, rises, same, with_data, with_promise, without_promise}
 use Rattle.log_rules.specs.trim.Tables.{is_live, is_prepared, log_name}
 use Rattle.log_rules.specs.trim.Trims.{front_of_trim, is_name, is_of, last_opened, opened_after, prepares, said_of, staying, stays, stays_by, trim_of}
 use Rattle.kv_store.specs.Pairs.{is_behind, keys_rise}
-use Rattle.kv_core.specs.Keeping.{is_managers}
-use Rattle.kv_core.specs.Replays.{seen_after, seen_of}
-use Rattle.kv_core.proofs.Lawful.{lawful_of, never_seen}
-use Rattle.kv_core.proofs.Lookups.{Live, apart_turns, same_is, true_is_false}
+use Rattle.kv_state.specs.Keeping.{is_managers}
+use Rattle.kv_state.specs.Replays.{seen_after, seen_of}
+use Rattle.kv_state.proofs.Lawful.{lawful_of, never_seen}
+use Rattle.kv_state.proofs.Lookups.{Live, apart_turns, same_is, true_is_false}
 use Rattle.kv_manager.specs.Sights.{has_records}
 use Rattle.kv_manager.proofs.Fronts.{seen_more}
 use Rattle.kv_manager.proofs.Steps.{followed_by, refused, some_is, taken}
@@ -352,7 +352,7 @@ module _ (all behind : List LogRecord) (l : LogRecord) (s u t : SeenLog)
           opened = opened;
         })
 
-pub named_as : (q : Option ProcessId) (b : Branch)
+pub named_as : (q : Option ProcessId) (b : BranchName)
     → option_map (name_xid q) (name_by (branch_case b) (Some b)) ≡ Some (name_xid q b)
 named_as q (CaseBranch c) = refl
 named_as q (Foreign x) = refl

@@ -3,38 +3,38 @@ use Rattle.std.proofs.Common.{◌≡◌, ◌∙◌, ℕ, Bool, true, false, Opti
 use Rattle.std.proofs.lemmas.List.{append-nil}
 use Rattle.std.specs.List.{AllByRecursion}
 use Rattle.xa_xid.specs.declared.xid.Xid.{Xid}
-use Rattle.tree_model.specs.declared.names.Kind.TheVariants.{Manager}
-use Rattle.tree_model.specs.declared.names.ProcessId.{ProcessId}
-use Rattle.tree_model.specs.declared.records.Branch.TheVariants.{Foreign}
-use Rattle.tree_model.specs.declared.records.LogRecord.{LogRecord}
-use Rattle.tree_model.specs.declared.records.Record.{Record}
-use Rattle.tree_model.specs.declared.records.Record.TheVariants.{Opened, Collecting, Prepare, Commit, Abort, End, Prepared, Committed, RolledBack, Direct, HeurCommit, HeurRollback, Told, Forgot, Base, Pair, Cleared}
-use Rattle.tree_model.specs.Restarts.{is_open}
-use Rattle.tree_model.specs.Store.{Data, base_records, pair_record, writes_of as promised_of, data_of}
+use Rattle.protocol.specs.declared.names.Kind.TheVariants.{Manager}
+use Rattle.protocol.specs.declared.names.ProcessId.{ProcessId}
+use Rattle.protocol.specs.declared.records.BranchName.TheVariants.{Foreign}
+use Rattle.protocol.specs.declared.records.LogRecord.{LogRecord}
+use Rattle.protocol.specs.declared.records.Record.{Record}
+use Rattle.protocol.specs.declared.records.Record.TheVariants.{Opened, Collecting, Prepare, Commit, Abort, End, Prepared, Committed, RolledBack, Direct, HeurCommit, HeurRollback, Told, Forgot, Base, Pair, Cleared}
+use Rattle.protocol.specs.Restarts.{is_open}
+use Rattle.protocol.specs.Store.{Data, base_records, pair_record, writes_of as promised_of, data_of}
 use Rattle.log_rules.specs.sound.Sound.{IsSound, IsSoundEntry}
-use Rattle.rec_log.specs.Sights.{Kept, LogSight, LogState, NotRewritten, Rewritten, records_of}
-use Rattle.rec_log.proofs.Trims.{settled_trimmed, settled_untrimmed}
-use Rattle.rec_log.specs.declared.log.LogError.{LogError}
-use Rattle.rec_log.specs.declared.log.LogError.TheVariants.{Device, Memory}
+use Rattle.log_records.specs.Sights.{Kept, LogSight, LogState, NotRewritten, Rewritten, records_of}
+use Rattle.log_records.proofs.Trims.{settled_trimmed, settled_untrimmed}
+use Rattle.log_records.specs.declared.log.LogError.{LogError}
+use Rattle.log_records.specs.declared.log.LogError.TheVariants.{Device, Memory}
 use Rattle.kv_manager.proofs.Restoring.{kept_alike}
-use Rattle.rec_log.specs.Trimming.{IsSettled, Trimmed, data_by, own_data}
-use Rattle.rec_log.specs.Trimming as rec_log
+use Rattle.log_records.specs.Trimming.{StaysTrimmed, LogTrimmed, data_by, own_data}
+use Rattle.log_records.specs.Trimming as rec_log
 use Rattle.kv_store.specs.Pairs.{ArePairsOf, keys_rise}
 use Rattle.kv_store.proofs.Pairs.{same_pairs}
 use Rattle.kv_store.specs.Versions.{VersionTable}
-use Rattle.tree_model.specs.Standings.{Decided, Finished, Mark, Promised, ToldOf, Unmarked, mark_at}
-use Rattle.kv_core.specs.Ends.{known_of}
-use Rattle.kv_core.specs.Decisions.{says_decided}
-use Rattle.kv_core.specs.Folds.{AreData}
-use Rattle.kv_core.specs.Keeping.{KeepsData, is_managers}
+use Rattle.protocol.specs.Standings.{Decided, Finished, Mark, Promised, ToldOf, Unmarked, mark_at}
+use Rattle.kv_state.specs.Ends.{known_of}
+use Rattle.kv_state.specs.Decisions.{says_decided}
+use Rattle.kv_state.specs.Folds.{AreData}
+use Rattle.kv_state.specs.Keeping.{KeepsData, is_managers}
 use Rattle.log_rules.specs.trim.Trims.{front_of_trim, trim_of}
-use Rattle.tree_model.specs.LogNames.{unnamed}
-use Rattle.kv_core.proofs.Trims.{trims_keep_data}
-use Rattle.kv_manager.specs.Sights.{IsKept, IsLogged, KvSight, SaysDecided, are_ordered, has_records, logged}
+use Rattle.protocol.specs.LogNames.{unnamed}
+use Rattle.kv_state.proofs.Trims.{trims_keep_data}
+use Rattle.kv_manager.specs.Sights.{IsKvManager, IsLogged, KvSight, SaysDecided, are_ordered, has_records, logged}
 use Rattle.log_rules.specs.declared.order.seen.Promise.{Promise}
 use Rattle.log_rules.specs.order.Orders.{SeenLog, found}
-use Rattle.kv_core.specs.Replays.{AreCounted, seen_of}
-use Rattle.manager_model.specs.Restarting.{marked_state}
+use Rattle.kv_state.specs.Replays.{AreCountedCommits, seen_of}
+use Rattle.resource_manager.specs.Restarting.{marked_state}
 use Rattle.xa_tables.specs.declared.states.BranchState.TheVariants.{S0}
 use Rattle.kv_manager.proofs.Follows.{off_by}
 use Rattle.kv_manager.proofs.Fronts.{seen_where}
@@ -97,7 +97,7 @@ pairs_are_data v d ps are rise of =
     same_pairs ps d.pairs of.rise rise (λ k. of.values k ∙ are.values k)
 
 records_behind : (s : KvSight) (log : LogState) (rs : List LogRecord) (n : ℕ)
-    → AreOfData s rs → Trimmed s.log log rs n
+    → AreOfData s rs → LogTrimmed s.log log rs n
     → records_of log.sight.kept ≡ trim_of (records_of s.log.sight.kept)
 records_behind s log rs n of made =
     ap (λ us. log.sight.kept.forced ++ us) made.log.unforced
@@ -132,14 +132,14 @@ some_trimmed ls = some_behind (front_of_trim ls)
     some_behind (k ∷ ks) = refl
 
 -- the data of the log are after a trim, and so do the branches that are prepared or that operators decided
-pub kept_trimmed : (s : KvSight) (log : LogState) (rs : List LogRecord) (n : ℕ) → IsKept s
+pub kept_trimmed : (s : KvSight) (log : LogState) (rs : List LogRecord) (n : ℕ) → IsKvManager s
     → s.log.sight.failed ≡ false
-    → AllByRecursion (IsSound Manager) (records_of s.log.sight.kept) → AreOfData s rs → Trimmed s.log log rs n
-    → IsKept (record s { log = log })
+    → AllByRecursion (IsSound Manager) (records_of s.log.sight.kept) → AreOfData s rs → LogTrimmed s.log log rs n
+    → IsKvManager (record s { log = log })
 kept_trimmed s log rs n kept works sound of made = record {
   kind = ap (λ f. f.kind) made.log.form ∙ kept.kind;
   ordered = ap are_ordered is ∙ ap is_some follows.read;
-  counted = subst AreCounted (sym is)
+  counted = subst AreCountedCommits (sym is)
       (trim_counts ls seen.0 (all_of_manager ls sound) stands.begun seen.1 kept.counted);
   stands = λ _. record {
     doubts = λ x. stands.doubts x ∙ by_mark x (is_open (mark_at ls x)) refl
@@ -191,7 +191,7 @@ kept_trimmed s log rs n kept works sound of made = record {
         ∙ (agrees_of (trim_of ls) follows.seen follows.read).states x
 
 -- what a trim leaves may follow one another
-trimmed_ordered : (s : KvSight) → IsKept s → s.log.sight.failed ≡ false
+trimmed_ordered : (s : KvSight) → IsKvManager s → s.log.sight.failed ≡ false
     → AllByRecursion (IsSound Manager) (records_of s.log.sight.kept)
     → are_ordered (trim_of (records_of s.log.sight.kept)) ≡ true
 trimmed_ordered s kept works sound =
@@ -200,19 +200,19 @@ trimmed_ordered s kept works sound =
     ap is_some (trim_follows ls seen.0 (all_of_manager ls sound) (kept.stands works).begun seen.1).read
 
 -- and its commits can be counted
-trimmed_counted : (s : KvSight) → IsKept s → s.log.sight.failed ≡ false
+trimmed_counted : (s : KvSight) → IsKvManager s → s.log.sight.failed ≡ false
     → AllByRecursion (IsSound Manager) (records_of s.log.sight.kept)
-    → AreCounted (trim_of (records_of s.log.sight.kept))
+    → AreCountedCommits (trim_of (records_of s.log.sight.kept))
 trimmed_counted s kept works sound =
     let ls = records_of s.log.sight.kept in
     let seen = seen_where ls kept.ordered in
     trim_counts ls seen.0 (all_of_manager ls sound) (kept.stands works).begun seen.1 kept.counted
 
 -- a log that was not trimmed leaves a manager that stands, or that has failed
-pub kept_untrimmed : (s : KvSight) (log : LogState) (rs : List LogRecord) (e : LogError) → IsKept s
+pub kept_untrimmed : (s : KvSight) (log : LogState) (rs : List LogRecord) (e : LogError) → IsKvManager s
     → s.log.sight.failed ≡ false → AllByRecursion (IsSound Manager) (records_of s.log.sight.kept)
     → AreOfData s rs → NotRewritten s.log log (rec_log.trim_of s.log rs) e
-    → IsKept (record s { log = log })
+    → IsKvManager (record s { log = log })
 kept_untrimmed s log rs Memory kept works sound of stays = kept_alike s log kept stays
 kept_untrimmed s log rs Device kept works sound of broke = record {
   kind = ap (λ f. f.kind) broke.form ∙ kept.kind;
@@ -223,8 +223,8 @@ kept_untrimmed s log rs Device kept works sound of broke = record {
         ∙ ap (λ ks. are_ordered (rec_log.trim_of s.log ks)) of ∙ trimmed_ordered s kept works sound)
   ];
   counted = elim broke.either [
-    | inl same ↦ subst (λ (k : Kept). AreCounted (records_of k)) (sym same) kept.counted
-    | inr trimmed ↦ subst AreCounted
+    | inl same ↦ subst (λ (k : Kept). AreCountedCommits (records_of k)) (sym same) kept.counted
+    | inr trimmed ↦ subst AreCountedCommits
         (sym (ap (λ (k : Kept). records_of k) trimmed ∙ append-nil (rec_log.trim_of s.log rs)
         ∙ ap (rec_log.trim_of s.log) of)) (trimmed_counted s kept works sound)
   ];
@@ -240,24 +240,24 @@ data_in s = map unnamed (base_records (data_of (records_of s.kept)))
 pub own_is_data : (s : LogSight) → s.form.kind ≡ Manager → own_data s ≡ data_in s
 own_is_data s kind = ap (λ k. data_by k (records_of s.kept)) kind
 
-pub trimmed_again : (old new : LogState) (count : ℕ) → old.sight.form.kind ≡ Manager → IsSettled old count
-    → Rewritten old new (records_of old.sight.kept) → Trimmed old new (data_in old.sight) count
+pub trimmed_again : (old new : LogState) (count : ℕ) → old.sight.form.kind ≡ Manager → StaysTrimmed old count
+    → Rewritten old new (records_of old.sight.kept) → LogTrimmed old new (data_in old.sight) count
 trimmed_again old new count kind s r =
-    subst (λ rs. Trimmed old new rs count) (own_is_data old.sight kind) (settled_trimmed old new count s r)
+    subst (λ rs. LogTrimmed old new rs count) (own_is_data old.sight kind) (settled_trimmed old new count s r)
 
 pub untrimmed_again : (old new : LogState) (count : ℕ) (e : LogError) → old.sight.form.kind ≡ Manager
-    → IsSettled old count → NotRewritten old new (records_of old.sight.kept) e
+    → StaysTrimmed old count → NotRewritten old new (records_of old.sight.kept) e
     → NotRewritten old new (rec_log.trim_of old (data_in old.sight)) e
 untrimmed_again old new count e kind s r =
     subst (λ rs. NotRewritten old new (rec_log.trim_of old rs) e) (own_is_data old.sight kind)
     (settled_untrimmed old new count e s r)
 
 -- whichever the answer is, the manager stands, or has failed
-pub kept_again : {A : Type 0} (r : Result A LogError) (s : KvSight) (log : LogState) (n : ℕ) → IsKept s
+pub kept_again : {A : Type 0} (r : Result A LogError) (s : KvSight) (log : LogState) (n : ℕ) → IsKvManager s
     → s.log.sight.failed ≡ false → AllByRecursion (IsSound Manager) (records_of s.log.sight.kept)
-    → OnOk r (Trimmed s.log log (data_in s.log.sight) n)
+    → OnOk r (LogTrimmed s.log log (data_in s.log.sight) n)
     → IfErr r (λ e. NotRewritten s.log log (rec_log.trim_of s.log (data_in s.log.sight)) e)
-    → IsKept (record s { log = log })
+    → IsKvManager (record s { log = log })
 kept_again (Ok a) s log n kept works sound made why =
     kept_trimmed s log (data_in s.log.sight) n kept works sound refl made
 kept_again (Err e) s log n kept works sound made why =

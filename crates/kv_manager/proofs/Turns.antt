@@ -17,85 +17,85 @@ use Rattle.xa_xid.specs.Xids.{XidParts}
 use Rattle.xa_branch.specs.Names.{same}
 use Rattle.xa_branch.specs.Branches.{is_known}
 use Rattle.xa_branch.proofs.Names.{same_is}
-use Rattle.xa_assoc.specs.Answers.{Takes as TakesRow, state_at}
+use Rattle.xa_assoc.specs.Answers.{TakesTableRow, state_at}
 use Rattle.log_store.specs.Stores.{MoreFailures}
 use Rattle.log_text.specs.Parts.{name_in}
-use Rattle.tree_model.specs.declared.names.Outcome.{Outcome}
-use Rattle.tree_model.specs.declared.names.Outcome.TheVariants.{Aborted as AbortedOutcome, Committed as CommittedOutcome}
-use Rattle.tree_model.specs.declared.records.Branch.{Branch}
-use Rattle.tree_model.specs.declared.records.Branch.TheVariants.{Foreign}
-use Rattle.tree_model.specs.declared.records.LogRecord.{LogRecord}
-use Rattle.tree_model.specs.declared.records.Write.{Write}
-use Rattle.tree_model.specs.Records.{same_branch, same_xid}
-use Rattle.tree_model.specs.ManagerRows.{is_acknowledged, presumption_of}
-use Rattle.tree_model.specs.Standings.{Decided, Finished, Mark, Promised, ToldOf, Unmarked, mark_after, mark_of, mark_at}
-use Rattle.tree_model.specs.Store.{Data, commits, stored, stored_after, writes_of as promised_of, data_of}
+use Rattle.protocol.specs.declared.names.Outcome.{Outcome}
+use Rattle.protocol.specs.declared.names.Outcome.TheVariants.{Aborted as AbortedOutcome, Committed as CommittedOutcome}
+use Rattle.protocol.specs.declared.records.BranchName.{BranchName}
+use Rattle.protocol.specs.declared.records.BranchName.TheVariants.{Foreign}
+use Rattle.protocol.specs.declared.records.LogRecord.{LogRecord}
+use Rattle.protocol.specs.declared.records.Write.{Write}
+use Rattle.protocol.specs.Records.{same_branch, same_xid}
+use Rattle.protocol.specs.ManagerRows.{is_acknowledged, presumption_of}
+use Rattle.protocol.specs.Standings.{Decided, Finished, Mark, Promised, ToldOf, Unmarked, mark_after, mark_of, mark_at}
+use Rattle.protocol.specs.Store.{Data, commits, stored, stored_after, writes_of as promised_of, data_of}
 use Rattle.log_text.proofs.NameReading.{same_xid_is, same_xid_refl}
 use Rattle.log_text.proofs.NameReading.{name_again}
-use Rattle.rec_log.specs.Sights.{Breaks, LogSight, left_by, longer, records_of}
+use Rattle.log_records.specs.Sights.{Breaks, LogSight, left_by, longer, records_of}
 use Rattle.kv_store.specs.Pairs.{found_in, keys_rise}
-use Rattle.kv_store.specs.Versions.{Applies, VersionTable, written}
+use Rattle.kv_store.specs.Versions.{AppliesCommit, VersionTable, written}
 use Rattle.kv_store.proofs.Pairs.{writes_pairs}
 use Rattle.kv_store.proofs.Stages.{applies as applies_staged}
-use Rattle.kv_store.specs.writes.Writes.{AreWrites, Leaves, writes_of}
-use Rattle.kv_turns.specs.declared.entries.Entry.{Entry}
-use Rattle.kv_turns.specs.declared.entries.Entry.TheVariants.{Prepared, Committed, RolledBack, Direct, HeurCommit, HeurRollback, Told, Forgot}
-use Rattle.kv_turns.specs.declared.turns.Turn.{Turn}
-use Rattle.kv_turns.specs.Turns.{IsEntry, applies, decide_turn, entry_of, entry_record, has_writes, silent, tell_turn, turn_of, writes}
-use Rattle.kv_core.specs.Folds.{AreData}
-use Rattle.tree_model.specs.LogNames.{by_xid}
-use Rattle.xa_heur.specs.declared.decision.Decision.{Decision}
-use Rattle.xa_heur.specs.Decisions.{decided_as, decision_after, decision_of, first_told, told_behind, decided_in}
-use Rattle.xa_heur.specs.Cases.{DecisionTable, Notes, decision_in, decision_or}
-use Rattle.kv_core.specs.Decisions.{says_decided}
-use Rattle.kv_core.specs.Replays.{AreCounted}
-use Rattle.kv_core.proofs.Counting.{counted_next, counted_taken, counted_whole}
-use Rattle.kv_core.specs.Stores.{KeySight, is_decided, is_let_go, state_of}
-use Rattle.kv_core.specs.Ends.{IsDue, IsListed, IsTurn, LetsGo, OfCall, OfOperator, PublishesWrites, StagesWrites, TakesTurn, known_behind, known_of, wrote_some}
-use Rattle.kv_locks.specs.Locks.{Releases}
-use Rattle.kv_manager.specs.Sights.{IsKept, IsLogged, KvSight, SameManager, SaysDecided, are_ordered, doubt_of, has_records, logged}
-use Rattle.manager_model.specs.Restarting.{marked_state}
+use Rattle.kv_store.specs.writes.Writes.{AreWrites, LeavesWrites, writes_of}
+use Rattle.kv_calls.specs.declared.entries.BranchRecord.{BranchRecord}
+use Rattle.kv_calls.specs.declared.entries.BranchRecord.TheVariants.{Prepared, Committed, RolledBack, Direct, HeurCommit, HeurRollback, Told, Forgot}
+use Rattle.kv_calls.specs.declared.turns.CallRow.{CallRow}
+use Rattle.kv_calls.specs.Turns.{IsEntry, applies, decide_turn, entry_of, entry_record, has_writes, silent, tell_turn, turn_of, writes}
+use Rattle.kv_state.specs.Folds.{AreData}
+use Rattle.protocol.specs.LogNames.{by_xid}
+use Rattle.xa_branch.specs.declared.decision.Decision.{Decision}
+use Rattle.xa_branch.specs.Decisions.{decided_as, decision_after, decision_of, first_told, told_behind, decided_in}
+use Rattle.xa_branch.specs.Cases.{DecisionTable, NotesDecision, decision_in, decision_or}
+use Rattle.kv_state.specs.Decisions.{says_decided}
+use Rattle.kv_state.specs.Replays.{AreCountedCommits}
+use Rattle.kv_state.proofs.Counting.{counted_next, counted_taken, counted_whole}
+use Rattle.kv_state.specs.Stores.{KeySight, is_decided, is_let_go, state_of}
+use Rattle.kv_state.specs.Ends.{IsDue, IsRowListed, IsTurn, LetsBranchGo, OfCall, OfOperator, PublishesWrites, StagesWrites, TakesTurn, known_behind, known_of, wrote_some}
+use Rattle.kv_locks.specs.Locks.{ReleasesLocks}
+use Rattle.kv_manager.specs.Sights.{IsKvManager, IsLogged, KvSight, SameKv, SaysDecided, are_ordered, doubt_of, has_records, logged}
+use Rattle.resource_manager.specs.Restarting.{marked_state}
 use Rattle.kv_manager.proofs.Fronts.{has_more, ordered_taken}
 use Rattle.kv_manager.proofs.Staying.{moves_doubts}
 use Rattle.kv_manager.proofs.Keeping.{KeepsPromises, one_data}
 use Rattle.kv_manager.proofs.Marks.{branch_same}
 use Rattle.xa_assoc.proofs.Finishing.{passed}
 use Rattle.xa_assoc.proofs.Reactions.{stays}
-use Rattle.core_model.specs.States.{wrote}
-use Rattle.core_log.specs.Writes.{Writes}
-use Rattle.kv_manager.specs.Turns.{Fails, HasWrites, IsDueTurn, Logs, Makes, OnlyRoom, commits as commits_data, with_record}
+use Rattle.process_state.specs.States.{wrote}
+use Rattle.log_writing.specs.Writes.{WritesRecord}
+use Rattle.kv_manager.specs.Turns.{KvFails, HasWrites, IsDueTurn, LogsTurn, KvMakes, OnlyRoom, commits as commits_data, with_record}
 
 -- What a turn is.
 
 -- the state to which a record leads
-abbrev pub leads : Entry → BranchState
+abbrev pub leads : BranchRecord → BranchState
 leads Prepared = S3
 leads HeurCommit = S5
 leads HeurRollback = S5
 leads (Told o) = S5
 leads _ = S0
 
-some_is : (e f : Entry) → Some e ≡ Some f → e ≡ f
+some_is : (e f : BranchRecord) → Some e ≡ Some f → e ≡ f
 some_is e f h = cc
 
 -- what holds of a turn that has a record, and of one that has none
-module _ (P : Entry → BranchState → Type 0) where
-  abbrev pub HoldsOf : Turn → Type 0
-  HoldsOf turn = (e : Entry) → turn.entry ≡ Some e → P e turn.to
+module _ (P : BranchRecord → BranchState → Type 0) where
+  abbrev pub HoldsOf : CallRow → Type 0
+  HoldsOf turn = (e : BranchRecord) → turn.entry ≡ Some e → P e turn.to
 
-  written_so : (f : Entry) (is_forced : Bool) (to : BranchState) → P f to → HoldsOf (writes f is_forced to)
+  written_so : (f : BranchRecord) (is_forced : Bool) (to : BranchState) → P f to → HoldsOf (writes f is_forced to)
   written_so f is_forced to h e is = subst (λ g. P g to) (some_is f e is) h
 
   silent_so : (a : Code) (to : BranchState) → HoldsOf (silent a to)
   silent_so a to e is = absurd (cc)
 
-  told_so : (b : Branch) (o : Outcome) (d : Decision) (told : Option Outcome) → P (Told o) S5
+  told_so : (b : BranchName) (o : Outcome) (d : Decision) (told : Option Outcome) → P (Told o) S5
       → HoldsOf (tell_turn b o d told)
   told_so b o d None h e is = subst (λ g. P g S5) (some_is (Told o) e is) h
   told_so b o d (Some t) h e is = absurd (cc)
 
   -- of each turn that a call takes
-  pub each_call : (s : BranchState) (c : Call) (wrote : Bool) (b : Branch) (d : Decision)
+  pub each_call : (s : BranchState) (c : Call) (wrote : Bool) (b : BranchName) (d : Decision)
       → (wrote ≡ true → P Prepared S3)
       → P Committed S0 → P RolledBack S0 → (wrote ≡ true → P Direct S0)
       → ((o : Outcome) → P (Told o) S5) → P Forgot S0
@@ -130,13 +130,13 @@ module _ (P : Entry → BranchState → Type 0) where
   each_decision AbortedOutcome c r e is = subst (λ g. P g S5) (some_is HeurRollback e is) r
 
 -- a turn without a record ends its branch, or answers by an operator's decision
-silent_told : (b : Branch) (o : Outcome) (d : Decision) (told : Option Outcome)
+silent_told : (b : BranchName) (o : Outcome) (d : Decision) (told : Option Outcome)
     → (tell_turn b o d told).entry ≡ None
     → (tell_turn b o d told).to ≡ S5
 silent_told b o d None h = absurd (cc)
 silent_told b o d (Some t) h = refl
 
-pub silent_ends : (s : BranchState) (c : Call) (wrote : Bool) (b : Branch) (d : Decision)
+pub silent_ends : (s : BranchState) (c : Call) (wrote : Bool) (b : BranchName) (d : Decision)
     → (turn_of s c wrote b d).entry ≡ None
     → ((turn_of s c wrote b d).to ≡ S0) ⊎ (((turn_of s c wrote b d).to ≡ S5) × (s ≡ S5))
 silent_ends s call.Prepare true b d h = absurd (cc)
@@ -161,7 +161,7 @@ one_at_least : (ws : List Write) → wrote_some ws ≡ true → 1 ≤ length ws
 one_at_least [] h = absurd (cc)
 one_at_least (w ∷ ws) h = omega arith
 
-pub is_entry : (e : Entry) (ws : List Write) → HasWrites e ws → AreWrites ws → IsEntry e ws
+pub is_entry : (e : BranchRecord) (ws : List Write) → HasWrites e ws → AreWrites ws → IsEntry e ws
 is_entry Prepared ws has limits = (limits, one_at_least ws has)
 is_entry Committed ws has limits = tt
 is_entry RolledBack ws has limits = tt
@@ -172,7 +172,7 @@ is_entry (Told o) ws has limits = tt
 is_entry Forgot ws has limits = tt
 
 -- a record that has no writes is the same whatever was written
-pub without_writes : (e : Entry) (x : Xid) (vs ws : List Write) → has_writes e ≡ false
+pub without_writes : (e : BranchRecord) (x : Xid) (vs ws : List Write) → has_writes e ≡ false
     → (entry_record e x vs ≡ entry_record e x ws) × IsEntry e vs
 without_writes Prepared x vs ws h = absurd cc
 without_writes Committed x vs ws h = (refl, tt)
@@ -198,12 +198,12 @@ commit_prepared S5 h = absurd (let never : S0 ≡ S5 = All-contains (λ (r : Cod
     heuristic (code.Ok, S0) all_decided h in cc)
 
 -- it makes what a prepared branch promised data
-abbrev pub settles : Entry → Bool
+abbrev pub settles : BranchRecord → Bool
 settles Committed = true
 settles HeurCommit = true
 settles _ = false
 
-told_settles : (b : Branch) (o : Outcome) (d : Decision) (told : Option Outcome) (e : Entry)
+told_settles : (b : BranchName) (o : Outcome) (d : Decision) (told : Option Outcome) (e : BranchRecord)
     → (tell_turn b o d told).entry ≡ Some e
     → settles e ≡ true → S5 ≡ S3
 told_settles b o d None e h is = absurd (let never : false
@@ -212,7 +212,7 @@ told_settles b o d (Some t) e h is = absurd (cc)
 
 -- a branch that a call commits was prepared
 pub committed_was_prepared : (s : BranchState) (c : Call) (wrote : Bool)
-    (b : Branch) (d : Decision) (e : Entry)
+    (b : BranchName) (d : Decision) (e : BranchRecord)
     → (turn_of s c wrote b d).entry ≡ Some e → settles e ≡ true
     → Contains (branch_rows s c) ((turn_of s c wrote b d).code, (turn_of s c wrote b d).to) → s ≡ S3
 committed_was_prepared s call.Prepare true b d e h is listed =
@@ -239,16 +239,16 @@ committed_was_prepared s _ wrote b d e h is listed =
     absurd (let never : false ≡ true = ap settles (some_is Forgot e h) ∙ is in cc)
 
 -- a branch that is told of an outcome was decided by an operator, and told nothing yet
-abbrev pub IsUntold : BranchState → Decision → Entry → Type 0
+abbrev pub IsUntold : BranchState → Decision → BranchRecord → Type 0
 IsUntold s d (Told o) = (s ≡ S5) × (d.told ≡ None)
 IsUntold s d _ = Unit {0}
 
-told_untold : (b : Branch) (o : Outcome) (d : Decision) (told : Option Outcome) (e : Entry) → d.told ≡ told
+told_untold : (b : BranchName) (o : Outcome) (d : Decision) (told : Option Outcome) (e : BranchRecord) → d.told ≡ told
     → (tell_turn b o d told).entry ≡ Some e → IsUntold S5 d e
 told_untold b o d None e is h = subst (IsUntold S5 d) (some_is (Told o) e h) (refl, is)
 told_untold b o d (Some t) e is h = absurd (cc)
 
-pub untold : (s : BranchState) (c : Call) (wrote : Bool) (b : Branch) (d : Decision) (e : Entry)
+pub untold : (s : BranchState) (c : Call) (wrote : Bool) (b : BranchName) (d : Decision) (e : BranchRecord)
     → (turn_of s c wrote b d).entry ≡ Some e → IsUntold s d e
 untold s call.Prepare true b d e h = subst (IsUntold s d) (some_is Prepared e h) tt
 untold s call.Prepare false b d e h = absurd (cc)
@@ -268,7 +268,7 @@ untold S4 call.Rollback wrote b d e h = absurd (cc)
 untold S5 call.Rollback wrote b d e h = told_untold b AbortedOutcome d d.told e refl h
 untold s _ wrote b d e h = subst (IsUntold s d) (some_is Forgot e h) tt
 
-untold_decision : (s : BranchState) (d : Decision) (o : Outcome) (e : Entry)
+untold_decision : (s : BranchState) (d : Decision) (o : Outcome) (e : BranchRecord)
     → (decide_turn o).entry ≡ Some e → IsUntold s d e
 untold_decision s d CommittedOutcome e h = subst (IsUntold s d) (some_is HeurCommit e h) tt
 untold_decision s d AbortedOutcome e h = subst (IsUntold s d) (some_is HeurRollback e h) tt
@@ -290,7 +290,7 @@ pub mark_behind : (ls : List LogRecord) (l : LogRecord) (x : Xid)
 unfolding mark_of
 mark_behind ls l x = fold_last (mark_after (Foreign x)) by_xid Unmarked ls l
 
-pub entry_by_xid : (e : Entry) (x : XidParts) (ws : List Write)
+pub entry_by_xid : (e : BranchRecord) (x : XidParts) (ws : List Write)
     → by_xid (entry_record e x ws) ≡ entry_of e (Foreign x) ws
 entry_by_xid Prepared x ws = ap (λ y. entry_of Prepared (Foreign y) ws) (name_again x)
 entry_by_xid Committed x ws = ap (λ y. entry_of Committed (Foreign y) ws) (name_again x)
@@ -302,7 +302,7 @@ entry_by_xid (Told o) x ws = ap (λ y. entry_of (Told o) (Foreign y) ws) (name_a
 entry_by_xid Forgot x ws = ap (λ y. entry_of Forgot (Foreign y) ws) (name_again x)
 
 -- the fold after a record of a branch
-abbrev pub after_entry : Data → Entry → XidParts → List Write → Data
+abbrev pub after_entry : Data → BranchRecord → XidParts → List Write → Data
 after_entry d e x ws = stored_after d (entry_of e (Foreign x) ws)
 
 wrote_records : (s : LogSight) (l : LogRecord) (is_forced : Bool)
@@ -310,16 +310,16 @@ wrote_records : (s : LogSight) (l : LogRecord) (is_forced : Bool)
 wrote_records s l true = append-nil (records_of s.kept ++ l ∷ [])
 wrote_records s l false = sym (append_assoc s.kept.forced s.kept.unforced (l ∷ []))
 
-pub logged_behind : (s s' : KvSight) (e : Entry) (x : Xid) (ws : List Write) (is_forced : Bool)
-    → Writes s.log s'.log (entry_record e x ws) is_forced → logged s' ≡ after_entry (logged s) e x ws
+pub logged_behind : (s s' : KvSight) (e : BranchRecord) (x : Xid) (ws : List Write) (is_forced : Bool)
+    → WritesRecord s.log s'.log (entry_record e x ws) is_forced → logged s' ≡ after_entry (logged s) e x ws
 logged_behind s s' e x ws is_forced made =
     ap (λ (k : LogSight). data_of (records_of k.kept)) made.sight
     ∙ ap data_of (wrote_records s.log.sight (entry_record e x ws) is_forced)
     ∙ data_behind (records_of s.log.sight.kept) (entry_record e x ws)
     ∙ ap (stored_after (logged s)) (entry_by_xid e x ws)
 
-marked_logged : (s s' : KvSight) (e : Entry) (x : Xid) (ws : List Write) (is_forced : Bool)
-    → Writes s.log s'.log (entry_record e x ws) is_forced
+marked_logged : (s s' : KvSight) (e : BranchRecord) (x : Xid) (ws : List Write) (is_forced : Bool)
+    → WritesRecord s.log s'.log (entry_record e x ws) is_forced
     → (y : Xid) → mark_at (records_of s'.log.sight.kept) y
     ≡ mark_after (Foreign y) (mark_at (records_of s.log.sight.kept) y) (entry_of e (Foreign x) ws)
 marked_logged s s' e x ws is_forced made y =
@@ -329,11 +329,11 @@ marked_logged s s' e x ws is_forced made y =
     ∙ ap (mark_after (Foreign y) (mark_at (records_of s.log.sight.kept) y)) (entry_by_xid e x ws)
 
 -- a record of another branch leaves what is said of a branch
-marks_other : (m : Mark) (e : Entry) (x y : Xid) (ws : List Write) → same x y ≡ false
+marks_other : (m : Mark) (e : BranchRecord) (x y : Xid) (ws : List Write) → same x y ≡ false
     → mark_after (Foreign y) m (entry_of e (Foreign x) ws) ≡ m
 marks_other m e x y ws apart = by_entry e (branch_same x y ∙ apart)
   where
-    by_entry : (e : Entry) → same_branch (Foreign x) (Foreign y) ≡ false
+    by_entry : (e : BranchRecord) → same_branch (Foreign x) (Foreign y) ≡ false
         → mark_after (Foreign y) m (entry_of e (Foreign x) ws) ≡ m
     by_entry Prepared t = ap (λ b. cond b Promised m) t
     by_entry Committed t = ap (λ b. cond b Finished m) t
@@ -350,7 +350,7 @@ unfolding same_branch
 marks_own m x ws = ap (λ b. cond b Promised m) (same_xid_refl x)
 
 -- a record of a branch leaves it in doubt as the record leads it
-marks_lead : (m : Mark) (e : Entry) (x : Xid) (ws : List Write)
+marks_lead : (m : Mark) (e : BranchRecord) (x : Xid) (ws : List Write)
     → marked_state (mark_after (Foreign x) m (entry_of e (Foreign x) ws)) ≡ doubt_of (leads e)
 unfolding same_branch
 marks_lead m Prepared x ws = ap (λ b. marked_state (cond b Promised m)) (same_xid_refl x)
@@ -369,8 +369,8 @@ pub decided_behind : (ls : List LogRecord) (l : LogRecord) (x : Xid)
 unfolding decision_of
 decided_behind ls l x = fold_last (decision_after (Foreign x)) by_xid (decided_as AbortedOutcome) ls l
 
-decided_logged : (s s' : KvSight) (e : Entry) (x : Xid) (ws : List Write) (is_forced : Bool)
-    → Writes s.log s'.log (entry_record e x ws) is_forced
+decided_logged : (s s' : KvSight) (e : BranchRecord) (x : Xid) (ws : List Write) (is_forced : Bool)
+    → WritesRecord s.log s'.log (entry_record e x ws) is_forced
     → (y : Xid) → decided_in (records_of s'.log.sight.kept) y
     ≡ decision_after (Foreign y) (decided_in (records_of s.log.sight.kept) y) (entry_of e (Foreign x) ws)
 decided_logged s s' e x ws is_forced made y =
@@ -379,11 +379,11 @@ decided_logged s s' e x ws is_forced made y =
     ∙ decided_behind (records_of s.log.sight.kept) (entry_record e x ws) y
     ∙ ap (decision_after (Foreign y) (decided_in (records_of s.log.sight.kept) y)) (entry_by_xid e x ws)
 
-decides_other : (d : Decision) (e : Entry) (x y : Xid) (ws : List Write) → same x y ≡ false
+decides_other : (d : Decision) (e : BranchRecord) (x y : Xid) (ws : List Write) → same x y ≡ false
     → decision_after (Foreign y) d (entry_of e (Foreign x) ws) ≡ d
 decides_other d e x y ws apart = by_entry e (branch_same x y ∙ apart)
   where
-    by_entry : (e : Entry) → same_branch (Foreign x) (Foreign y) ≡ false
+    by_entry : (e : BranchRecord) → same_branch (Foreign x) (Foreign y) ≡ false
         → decision_after (Foreign y) d (entry_of e (Foreign x) ws) ≡ d
     by_entry Prepared t = ap (λ b. cond b (decided_as AbortedOutcome) d) t
     by_entry Committed t = refl
@@ -395,12 +395,12 @@ decides_other d e x y ws apart = by_entry e (branch_same x y ∙ apart)
     by_entry Forgot t = ap (λ b. cond b (decided_as AbortedOutcome) d) t
 
 -- the record of what a branch is told
-abbrev IsTold : Entry → Type 0
+abbrev IsTold : BranchRecord → Type 0
 IsTold (Told o) = Unit {0}
 IsTold _ = ⊥
 
 -- a record that leads to S5 says that an operator decided its branch, as it is known then
-decides_own : (m : Mark) (d : Decision) (known : Option Decision) (e : Entry) (x : Xid) (ws : List Write)
+decides_own : (m : Mark) (d : Decision) (known : Option Decision) (e : BranchRecord) (x : Xid) (ws : List Write)
     → leads e ≡ S5 → IsUntold S5 d e
     → (IsTold e → decision_or known ≡ d)
     → (says_decided (mark_after (Foreign x) m (entry_of e (Foreign x) ws)) ≡ true)
@@ -428,7 +428,7 @@ decides_own m d known (Told o) x ws h n same = (
 )
 
 -- a record of another branch changes no promise
-pub promised_other : (d : Data) (e : Entry) (x y : Xid) (ws : List Write) → same x y ≡ false
+pub promised_other : (d : Data) (e : BranchRecord) (x y : Xid) (ws : List Write) → same x y ≡ false
     → promised_of (Foreign y) (after_entry d e x ws).promised ≡ promised_of (Foreign y) d.promised
 unfolding promised_of same_branch
 promised_other d Prepared x y ws apart = by_test (same_xid x y) refl
@@ -455,7 +455,7 @@ unfolding promised_of same_branch
 promised_own d x ws = ap (λ b. cond b ws (promised_of (Foreign x) d.promised)) (same_xid_refl x)
 
 -- a record that makes no data
-pub noted_pairs : (d : Data) (e : Entry) (x : Xid) (ws : List Write) → applies e ≡ false
+pub noted_pairs : (d : Data) (e : BranchRecord) (x : Xid) (ws : List Write) → applies e ≡ false
     → (after_entry d e x ws).pairs ≡ d.pairs
 noted_pairs d Prepared x ws h = refl
 noted_pairs d Committed x ws h = absurd (cc)
@@ -466,7 +466,7 @@ noted_pairs d HeurRollback x ws h = refl
 noted_pairs d (Told o) x ws h = refl
 noted_pairs d Forgot x ws h = refl
 
-pub noted_count : (d : Data) (e : Entry) (x : Xid) (ws : List Write) → applies e ≡ false
+pub noted_count : (d : Data) (e : BranchRecord) (x : Xid) (ws : List Write) → applies e ≡ false
     → (after_entry d e x ws).count ≡ d.count
 noted_count d Prepared x ws h = refl
 noted_count d Committed x ws h = absurd (cc)
@@ -477,7 +477,7 @@ noted_count d HeurRollback x ws h = refl
 noted_count d (Told o) x ws h = refl
 noted_count d Forgot x ws h = refl
 
-pub applied_count : (d : Data) (e : Entry) (x : Xid) (ws : List Write) → applies e ≡ true
+pub applied_count : (d : Data) (e : BranchRecord) (x : Xid) (ws : List Write) → applies e ≡ true
     → (after_entry d e x ws).count ≡ d.count + 1
 applied_count d Prepared x ws h = absurd (cc)
 applied_count d Committed x ws h = refl
@@ -489,9 +489,9 @@ applied_count d (Told o) x ws h = absurd (cc)
 applied_count d Forgot x ws h = absurd (cc)
 
 -- the commits can be counted after a record of a branch, where one more can be of a record that commits
-pub record_counts : (s : KvSight) (e : Entry) (x : Xid) (ws : List Write) → IsKept s → s.log.sight.failed ≡ false
+pub record_counts : (s : KvSight) (e : BranchRecord) (x : Xid) (ws : List Write) → IsKvManager s → s.log.sight.failed ≡ false
     → (applies e ≡ true → s.store.versions.count + 1 < 2 ^ 63)
-    → AreCounted (records_of s.log.sight.kept ++ entry_record e x ws ∷ [])
+    → AreCountedCommits (records_of s.log.sight.kept ++ entry_record e x ws ∷ [])
 record_counts s e x ws kept works fits =
     counted_next (records_of s.log.sight.kept) (entry_record e x ws) kept.counted
     (subst (λ (d : Data). d.count < 2 ^ 63)
@@ -517,7 +517,7 @@ same_data v d d' count pairs are = record {
 }
 
 -- a record that makes data is a commit of the branch's writes
-pub committed_data : (d : Data) (e : Entry) (x : Xid) (ws : List Write) → applies e ≡ true
+pub committed_data : (d : Data) (e : BranchRecord) (x : Xid) (ws : List Write) → applies e ≡ true
     → (settles e ≡ true → promised_of (Foreign x) d.promised ≡ ws) → after_entry d e x ws ≡ commits ws d
 committed_data d Prepared x ws h was = absurd (cc)
 committed_data d Committed x ws h was = ap (λ us. commits us d) (was refl)
@@ -530,7 +530,7 @@ committed_data d Forgot x ws h was = absurd (cc)
 
 pub applies_data : (old new : VersionTable) (d : Data) (ws : List Write)
     → keys_rise d.pairs ≡ true → AreData old d
-    → Applies old new ws → AreData new (commits ws d)
+    → AppliesCommit old new ws → AreData new (commits ws d)
 applies_data old new d ws rise are made = record {
   count = made.count ∙ ap (λ n. n + 1) are.count;
   unstaged = made.is_staged;
@@ -541,7 +541,7 @@ applies_data old new d ws rise are made = record {
 -- What a turn that is due is.
 
 -- a call that is due has its turn at a manager whose log stands
-pub due_turn : (s : KvSight) (v : Verb) (x : Xid) (flags : ℕ) (c : Call) (turn : Turn)
+pub due_turn : (s : KvSight) (v : Verb) (x : Xid) (flags : ℕ) (c : Call) (turn : CallRow)
     → s.log.sight.failed ≡ false → IsDue s.store v x flags (c, turn) → IsDueTurn s x c turn
 due_turn s v x flags c turn works due = record {
   works = works;
@@ -550,20 +550,20 @@ due_turn s v x flags c turn works due = record {
   listed = due.listed;
 }
 
-pub due_leads : (s : KvSight) (x : Xid) (c : Call) (turn : Turn) (e : Entry) → IsDueTurn s x c turn
+pub due_leads : (s : KvSight) (x : Xid) (c : Call) (turn : CallRow) (e : BranchRecord) → IsDueTurn s x c turn
     → turn.entry ≡ Some e → turn.to ≡ leads e
 due_leads s x c turn e due is = by_turn due.due
   where
     by_turn : IsTurn s.store x c turn → turn.to ≡ leads e
     by_turn (OfCall one) =
-        subst (λ (t : Turn). HoldsOf (λ f to. to ≡ leads f) t) (sym one)
+        subst (λ (t : CallRow). HoldsOf (λ f to. to ≡ leads f) t) (sym one)
         (each_call (λ f to. to ≡ leads f) (state_of s.store x) c _ _ _ (λ h. refl) refl refl
         (λ h. refl) (λ o. refl) refl) e is
     by_turn (OfOperator o here room one) =
-        subst (λ (t : Turn). HoldsOf (λ f to. to ≡ leads f) t) (sym one)
+        subst (λ (t : CallRow). HoldsOf (λ f to. to ≡ leads f) t) (sym one)
         (each_decision (λ f to. to ≡ leads f) o refl refl) e is
 
-pub due_has : (s : KvSight) (x : Xid) (c : Call) (turn : Turn) (e : Entry)
+pub due_has : (s : KvSight) (x : Xid) (c : Call) (turn : CallRow) (e : BranchRecord)
     → IsDueTurn s x c turn → turn.entry ≡ Some e
     → HasWrites e (writes_of s.store.writes x)
 due_has s x c turn e due is = by_turn due.due
@@ -573,39 +573,39 @@ due_has s x c turn e due is = by_turn due.due
 
     by_turn : IsTurn s.store x c turn → HasWrites e ws
     by_turn (OfCall one) =
-        subst (λ (t : Turn). HoldsOf (λ f to. HasWrites f ws) t) (sym one)
+        subst (λ (t : CallRow). HoldsOf (λ f to. HasWrites f ws) t) (sym one)
         (each_call (λ f to. HasWrites f ws) (state_of s.store x) c _ _ _ (λ h. h) tt
         tt (λ h. h) (λ o. tt) tt) e is
     by_turn (OfOperator o here room one) =
-        subst (λ (t : Turn). HoldsOf (λ f to. HasWrites f ws) t) (sym one)
+        subst (λ (t : CallRow). HoldsOf (λ f to. HasWrites f ws) t) (sym one)
         (each_decision (λ f to. HasWrites f ws) o tt tt) e is
 
-due_prepared : (s : KvSight) (x : Xid) (c : Call) (turn : Turn) (e : Entry)
+due_prepared : (s : KvSight) (x : Xid) (c : Call) (turn : CallRow) (e : BranchRecord)
     → IsDueTurn s x c turn → turn.entry ≡ Some e
     → settles e ≡ true → state_of s.store x ≡ S3
 due_prepared s x c turn e due is h = by_turn due.due
   where
     by_turn : IsTurn s.store x c turn → state_of s.store x ≡ S3
     by_turn (OfCall one) =
-        committed_was_prepared (state_of s.store x) c _ _ _ e (ap (λ (t : Turn). t.entry) (sym one) ∙ is) h
-        (subst (IsListed s.store x c) one due.listed)
+        committed_was_prepared (state_of s.store x) c _ _ _ e (ap (λ (t : CallRow). t.entry) (sym one) ∙ is) h
+        (subst (IsRowListed s.store x c) one due.listed)
     by_turn (OfOperator o here room one) = here
 
-pub due_untold : (s : KvSight) (x : Xid) (c : Call) (turn : Turn) (e : Entry)
+pub due_untold : (s : KvSight) (x : Xid) (c : Call) (turn : CallRow) (e : BranchRecord)
     → IsDueTurn s x c turn → turn.entry ≡ Some e
     → IsUntold (state_of s.store x) (known_of s.store x) e
 due_untold s x c turn e due is = by_turn due.due
   where
     by_turn : IsTurn s.store x c turn → IsUntold (state_of s.store x) (known_of s.store x) e
     by_turn (OfCall one) = untold (state_of s.store x) c _ _ (known_of s.store x) e
-        (ap (λ (t : Turn). t.entry) (sym one) ∙ is)
+        (ap (λ (t : CallRow). t.entry) (sym one) ∙ is)
     by_turn (OfOperator o here room one) =
         untold_decision (state_of s.store x) (known_of s.store x) o e
-        (ap (λ (t : Turn). t.entry) (sym one) ∙ is)
+        (ap (λ (t : CallRow). t.entry) (sym one) ∙ is)
 
 -- What a turn makes of a manager.
 
-leads_prepared : (e : Entry) → leads e ≡ S3 → e ≡ Prepared
+leads_prepared : (e : BranchRecord) → leads e ≡ S3 → e ≡ Prepared
 leads_prepared Prepared h = refl
 leads_prepared Committed h = absurd (cc)
 leads_prepared RolledBack h = absurd (cc)
@@ -615,26 +615,26 @@ leads_prepared HeurRollback h = absurd (cc)
 leads_prepared (Told o) h = absurd (cc)
 leads_prepared Forgot h = absurd (cc)
 
-writes_other : (old new : KeySight) (x y : Xid) (to : BranchState) → LetsGo old new x to → same x y ≡ false
+writes_other : (old new : KeySight) (x y : Xid) (to : BranchState) → LetsBranchGo old new x to → same x y ≡ false
     → writes_of new.writes y ≡ writes_of old.writes y
 writes_other old new x y to goes apart = by_end (is_let_go to) goes
   where
     by_end : (b : Bool)
-        → MatchBool b (Leaves old.writes new.writes x [] × Releases old.locks new.locks x)
+        → MatchBool b (LeavesWrites old.writes new.writes x [] × ReleasesLocks old.locks new.locks x)
         ((new.writes ≡ old.writes) × (new.locks ≡ old.locks))
         → writes_of new.writes y ≡ writes_of old.writes y
     by_end true h = h.0.others y apart
     by_end false h = ap (λ w. writes_of w y) h.0
 
-writes_kept : (old new : KeySight) (x : Xid) (to : BranchState) → LetsGo old new x to → to ≡ S3
+writes_kept : (old new : KeySight) (x : Xid) (to : BranchState) → LetsBranchGo old new x to → to ≡ S3
     → writes_of new.writes x ≡ writes_of old.writes x
 writes_kept old new x to goes promises =
-    ap (λ w. writes_of w x) (subst (λ b. MatchBool b (Leaves old.writes new.writes x [] × Releases old.locks
+    ap (λ w. writes_of w x) (subst (λ b. MatchBool b (LeavesWrites old.writes new.writes x [] × ReleasesLocks old.locks
     new.locks x) ((new.writes ≡ old.writes) × (new.locks ≡ old.locks))) (ap is_let_go promises) goes).0
 
 -- a branch that is prepared after a turn has the writes that the log says it promised
-promises_behind : (s s' : KvSight) (x : Xid) (e : Entry) (to : BranchState) → IsLogged s → to ≡ leads e
-    → TakesRow s.store.tables s'.store.tables x to → LetsGo s.store s'.store x to
+promises_behind : (s s' : KvSight) (x : Xid) (e : BranchRecord) (to : BranchState) → IsLogged s → to ≡ leads e
+    → TakesTableRow s.store.tables s'.store.tables x to → LetsBranchGo s.store s'.store x to
     → (y : Xid) → state_of s'.store y ≡ S3
     → writes_of s'.store.writes y ≡ promised_of (Foreign y)
     (after_entry (logged s) e x (writes_of s.store.writes x)).promised
@@ -665,9 +665,9 @@ promises_behind s s' x e to stands is_to row goes y is = by_test (same x y) refl
         ∙ sym (promised_other (logged s) e x y (writes_of s.store.writes x) t)
 
 -- and that is its last record
-marked_behind : (s s' : KvSight) (x : Xid) (e : Entry) (to : BranchState)
+marked_behind : (s s' : KvSight) (x : Xid) (e : BranchRecord) (to : BranchState)
     (ws : List Write) → IsLogged s → to ≡ leads e
-    → TakesRow s.store.tables s'.store.tables x to → (y : Xid) → state_of s'.store y ≡ S3
+    → TakesTableRow s.store.tables s'.store.tables x to → (y : Xid) → state_of s'.store y ≡ S3
     → mark_after (Foreign y) (mark_at (records_of s.log.sight.kept) y) (entry_of e (Foreign x) ws) ≡ Promised
 marked_behind s s' x e to ws stands is_to row y is = by_test (same x y) refl
   where
@@ -689,8 +689,8 @@ marked_behind s s' x e to ws stands is_to row y is = by_test (same x y) refl
     by_test false t = marks_other (said y) e x y ws t ∙ stands.marked y (sym (row.branch.others y t) ∙ is)
 
 -- the branches in doubt are those of the log after a turn
-doubts_behind : (s s' : KvSight) (x : Xid) (e : Entry) (to : BranchState) (ws : List Write) → IsLogged s
-    → to ≡ leads e → TakesRow s.store.tables s'.store.tables x to → (y : Xid)
+doubts_behind : (s s' : KvSight) (x : Xid) (e : BranchRecord) (to : BranchState) (ws : List Write) → IsLogged s
+    → to ≡ leads e → TakesTableRow s.store.tables s'.store.tables x to → (y : Xid)
     → doubt_of (state_of s'.store y) ≡ marked_state
     (mark_after (Foreign y) (mark_at (records_of s.log.sight.kept) y) (entry_of e (Foreign x) ws))
 doubts_behind s s' x e to ws stands is_to row y = by_test (same x y) refl
@@ -708,19 +708,19 @@ doubts_behind s s' x e to ws stands is_to row y = by_test (same x y) refl
         ∙ ap marked_state (sym (marks_other (said y) e x y ws t))
 
 -- the records after a turn
-records_behind : (s s' : KvSight) (e : Entry) (x : Xid) (ws : List Write) (is_forced : Bool)
-    → Writes s.log s'.log (entry_record e x ws) is_forced
+records_behind : (s s' : KvSight) (e : BranchRecord) (x : Xid) (ws : List Write) (is_forced : Bool)
+    → WritesRecord s.log s'.log (entry_record e x ws) is_forced
     → records_of s'.log.sight.kept ≡ records_of s.log.sight.kept ++ entry_record e x ws ∷ []
 records_behind s s' e x ws is_forced made =
     ap (λ (k : LogSight). records_of k.kept) made.sight
     ∙ wrote_records s.log.sight (entry_record e x ws) is_forced
 
 -- of each branch that an operator decided the log says so after a turn
-still_decided : (s s' : KvSight) (x : Xid) (c : Call) (turn : Turn) (e : Entry) → IsLogged s
+still_decided : (s s' : KvSight) (x : Xid) (c : Call) (turn : CallRow) (e : BranchRecord) → IsLogged s
     → IsDueTurn s x c turn → turn.entry ≡ Some e
-    → TakesRow s.store.tables s'.store.tables x turn.to
-    → Notes s.store.decisions s'.store.decisions x (known_behind turn.entry (decision_in s.store.decisions x))
-    → Writes s.log s'.log (entry_record e x (writes_of s.store.writes x)) turn.is_forced
+    → TakesTableRow s.store.tables s'.store.tables x turn.to
+    → NotesDecision s.store.decisions s'.store.decisions x (known_behind turn.entry (decision_in s.store.decisions x))
+    → WritesRecord s.log s'.log (entry_record e x (writes_of s.store.writes x)) turn.is_forced
     → (y : Xid) → state_of s'.store y ≡ S5 → SaysDecided
     (records_of s'.log.sight.kept) y (known_of s'.store y)
 still_decided s s' x c turn e stands due is row notes made y here = by_test (same x y) refl
@@ -732,7 +732,7 @@ still_decided s s' x c turn e stands due is row notes made y here = by_test (sam
         → known_of s.store x ≡ decided_in (records_of s.log.sight.kept) x
     by_state n t = (stands.decided x (was e n t)).how
       where
-        was : (e : Entry) → IsUntold (state_of s.store x) (known_of s.store x) e
+        was : (e : BranchRecord) → IsUntold (state_of s.store x) (known_of s.store x) e
             → IsTold e → state_of s.store x ≡ S5
         was (Told o) n t = n.0
         was Prepared n t = absurd t
@@ -743,7 +743,7 @@ still_decided s s' x c turn e stands due is row notes made y here = by_test (sam
         was HeurRollback n t = absurd t
         was Forgot n t = absurd t
 
-    logs_untold : (e : Entry) → IsUntold (state_of s.store x) (known_of s.store x) e
+    logs_untold : (e : BranchRecord) → IsUntold (state_of s.store x) (known_of s.store x) e
         → (IsTold e → known_of s.store x ≡ decided_in (records_of s.log.sight.kept) x)
         → IsUntold S5 (decided_in (records_of s.log.sight.kept) x) e
     logs_untold (Told o) n how = (refl, ap (λ (d : Decision). d.told) (sym (how tt)) ∙ n.1)
@@ -787,15 +787,15 @@ still_decided s s' x c turn e stands due is row notes made y here = by_test (sam
 -- these records may follow those of the log, and the commits can be counted
 pub record AreFollowed (s : KvSight) (ls : List LogRecord) : Type 0 where
   pub ordered : are_ordered (records_of s.log.sight.kept ++ ls) ≡ true
-  pub counted : AreCounted (records_of s.log.sight.kept ++ ls)
+  pub counted : AreCountedCommits (records_of s.log.sight.kept ++ ls)
 
 -- the record of a branch may follow
-abbrev pub IsFollowed : KvSight → Entry → Xid → Type 0
+abbrev pub IsFollowed : KvSight → BranchRecord → Xid → Type 0
 IsFollowed s e x = AreFollowed s (entry_record e x (writes_of s.store.writes x) ∷ [])
 
 -- what is written leaves a log of its sort
-written_kind : (s s' : KvSight) (e : Entry) (x : Xid) (is_forced : Bool)
-    → Writes s.log s'.log (entry_record e x (writes_of s.store.writes x)) is_forced
+written_kind : (s s' : KvSight) (e : BranchRecord) (x : Xid) (is_forced : Bool)
+    → WritesRecord s.log s'.log (entry_record e x (writes_of s.store.writes x)) is_forced
     → s'.log.sight.form.kind ≡ s.log.sight.form.kind
 written_kind s s' e x is_forced made =
     ap (λ (k : LogSight). k.form.kind) made.sight
@@ -805,14 +805,14 @@ written_kind s s' e x is_forced made =
     by_force true k l = refl
     by_force false k l = refl
 
-pub kept_noted : (s s' : KvSight) (x : Xid) (c : Call) (turn : Turn) (e : Entry)
-    → IsKept s → IsFollowed s e x → IsDueTurn s x c turn
+pub kept_noted : (s s' : KvSight) (x : Xid) (c : Call) (turn : CallRow) (e : BranchRecord)
+    → IsKvManager s → IsFollowed s e x → IsDueTurn s x c turn
     → turn.entry ≡ Some e → applies e ≡ false → TakesTurn s.store s'.store x turn
-    → Writes s.log s'.log (entry_record e x (writes_of s.store.writes x)) turn.is_forced → IsKept s'
+    → WritesRecord s.log s'.log (entry_record e x (writes_of s.store.writes x)) turn.is_forced → IsKvManager s'
 kept_noted s s' x c turn e kept follows due is notes takes made = record {
   kind = written_kind s s' e x turn.is_forced made ∙ kept.kind;
   ordered = ap are_ordered (records_behind s s' e x ws turn.is_forced made) ∙ follows.ordered;
-  counted = subst AreCounted (sym (records_behind s s' e x ws turn.is_forced made)) follows.counted;
+  counted = subst AreCountedCommits (sym (records_behind s s' e x ws turn.is_forced made)) follows.counted;
   stands = λ works. record {
     are_data = subst (AreData s'.store.versions) (sym behind)
         (same_data s'.store.versions (logged s) _ (noted_count (logged s) e x ws notes)
@@ -843,36 +843,36 @@ kept_noted s s' x c turn e kept follows due is notes takes made = record {
     behind = logged_behind s s' e x ws turn.is_forced made
 
 -- a turn that commits, from its steps
-pub record Commits (old new : KeySight) (x : Xid) (turn : Turn) : Type 0 where
-  pub tables : TakesRow old.tables new.tables x turn.to
-  pub keeps : LetsGo old new x turn.to
-  pub versions : Applies old.versions new.versions (writes_of old.writes x)
-  pub decisions : Notes old.decisions new.decisions x (known_behind turn.entry (decision_in old.decisions x))
+pub record Commits (old new : KeySight) (x : Xid) (turn : CallRow) : Type 0 where
+  pub tables : TakesTableRow old.tables new.tables x turn.to
+  pub keeps : LetsBranchGo old new x turn.to
+  pub versions : AppliesCommit old.versions new.versions (writes_of old.writes x)
+  pub decisions : NotesDecision old.decisions new.decisions x (known_behind turn.entry (decision_in old.decisions x))
 
-pub commits_by : (a b c d : KeySight) (x : Xid) (turn : Turn) → StagesWrites a b x
+pub commits_by : (a b c d : KeySight) (x : Xid) (turn : CallRow) → StagesWrites a b x
     → PublishesWrites b c → TakesTurn c d x turn
     → Commits a d x turn
 commits_by a b c d x turn staged published takes = record {
-  tables = subst (λ t. TakesRow t d.tables x turn.to) (published.tables ∙ staged.tables) takes.tables;
-  keeps = subst (λ w. MatchBool (is_let_go turn.to) (Leaves w d.writes x [] × Releases a.locks d.locks x)
+  tables = subst (λ t. TakesTableRow t d.tables x turn.to) (published.tables ∙ staged.tables) takes.tables;
+  keeps = subst (λ w. MatchBool (is_let_go turn.to) (LeavesWrites w d.writes x [] × ReleasesLocks a.locks d.locks x)
       ((d.writes ≡ w) × (d.locks ≡ a.locks))) (published.writes ∙ staged.writes)
-      (subst (λ l. MatchBool (is_let_go turn.to) (Leaves c.writes d.writes x [] × Releases l d.locks x)
+      (subst (λ l. MatchBool (is_let_go turn.to) (LeavesWrites c.writes d.writes x [] × ReleasesLocks l d.locks x)
       ((d.writes ≡ c.writes) × (d.locks ≡ l))) (published.locks ∙ staged.locks) takes.keeps);
-  versions = subst (λ v. Applies a.versions v (writes_of a.writes x)) (sym takes.versions)
+  versions = subst (λ v. AppliesCommit a.versions v (writes_of a.writes x)) (sym takes.versions)
       (applies_staged a.versions b.versions c.versions (writes_of a.writes x)
       staged.versions published.versions);
-  decisions = subst (λ t. Notes t d.decisions x (known_behind turn.entry (decision_in t x)))
+  decisions = subst (λ t. NotesDecision t d.decisions x (known_behind turn.entry (decision_in t x)))
       (published.decisions ∙ staged.decisions) takes.decisions;
 }
 
-pub kept_committed : (s s' : KvSight) (x : Xid) (c : Call) (turn : Turn) (e : Entry)
-    → IsKept s → IsFollowed s e x → IsDueTurn s x c turn
+pub kept_committed : (s s' : KvSight) (x : Xid) (c : Call) (turn : CallRow) (e : BranchRecord)
+    → IsKvManager s → IsFollowed s e x → IsDueTurn s x c turn
     → turn.entry ≡ Some e → applies e ≡ true → Commits s.store s'.store x turn
-    → Writes s.log s'.log (entry_record e x (writes_of s.store.writes x)) turn.is_forced → IsKept s'
+    → WritesRecord s.log s'.log (entry_record e x (writes_of s.store.writes x)) turn.is_forced → IsKvManager s'
 kept_committed s s' x c turn e kept follows due is makes takes made = record {
   kind = written_kind s s' e x turn.is_forced made ∙ kept.kind;
   ordered = ap are_ordered (records_behind s s' e x ws turn.is_forced made) ∙ follows.ordered;
-  counted = subst AreCounted (sym (records_behind s s' e x ws turn.is_forced made)) follows.counted;
+  counted = subst AreCountedCommits (sym (records_behind s s' e x ws turn.is_forced made)) follows.counted;
   stands = λ works. record {
     are_data = subst (AreData s'.store.versions) (sym committed) (applies_data s.store.versions
         s'.store.versions (logged s) ws stands.rise stands.are_data takes.versions);
@@ -908,13 +908,13 @@ kept_committed s s' x c turn e kept follows due is makes takes made = record {
 
 -- A device that fails leaves nothing to hold.
 
-pub kept_broken : (s s' : KvSight) (ls : List LogRecord) → IsKept s
-    → AreFollowed s ls → Breaks s.log s'.log ls → IsKept s'
+pub kept_broken : (s s' : KvSight) (ls : List LogRecord) → IsKvManager s
+    → AreFollowed s ls → Breaks s.log s'.log ls → IsKvManager s'
 kept_broken s s' ls kept follows broke = record {
   kind = ap (λ f. f.kind) broke.form ∙ kept.kind;
   ordered = ap are_ordered broke.stand
       ∙ ordered_taken (records_of s.log.sight.kept) ls broke.appended follows.ordered;
-  counted = subst AreCounted (sym broke.stand)
+  counted = subst AreCountedCommits (sym broke.stand)
       (counted_taken (records_of s.log.sight.kept) ls broke.appended follows.counted);
   stands = λ works. absurd (let never : true ≡ false = sym broke.failed ∙ works in cc);
 }
@@ -922,7 +922,7 @@ kept_broken s s' ls kept follows broke = record {
 -- From the room that was made first.
 
 -- a turn stays one where neither the tables nor the writes nor the decisions change
-pub turn_same : (a b : KeySight) (x : Xid) (c : Call) (turn : Turn) → b.tables ≡ a.tables
+pub turn_same : (a b : KeySight) (x : Xid) (c : Call) (turn : CallRow) → b.tables ≡ a.tables
     → b.writes ≡ a.writes → b.decisions ≡ a.decisions
     → IsTurn a x c turn → IsTurn b x c turn
 turn_same a b x c turn tables writes decisions (OfCall one) =
@@ -932,28 +932,28 @@ turn_same a b x c turn tables writes decisions (OfOperator o here room one) =
     OfOperator o (ap (λ t. state_at t x) tables ∙ here)
     (subst (λ (t : DecisionTable). 1 ≤ t.room) (sym decisions) room) one
 
-pub due_same : (a b : KvSight) (x : Xid) (c : Call) (turn : Turn) → OnlyRoom a b
+pub due_same : (a b : KvSight) (x : Xid) (c : Call) (turn : CallRow) → OnlyRoom a b
     → IsDueTurn a x c turn → IsDueTurn b x c turn
 due_same a b x c turn room due = record {
   works = ap (λ (k : LogSight). k.failed) room.sight ∙ due.works;
   known = subst (λ (s : KeySight). is_known s.tables.branches.branches x ≡ true) (sym room.store) due.known;
   due = subst (λ (s : KeySight). IsTurn s x c turn) (sym room.store) due.due;
-  listed = subst (λ (s : KeySight). IsListed s x c turn) (sym room.store) due.listed;
+  listed = subst (λ (s : KeySight). IsRowListed s x c turn) (sym room.store) due.listed;
 }
 
-pub made_committed : (old s s' : KvSight) (x : Xid) (turn : Turn) (e : Entry)
+pub made_committed : (old s s' : KvSight) (x : Xid) (turn : CallRow) (e : BranchRecord)
     → OnlyRoom old s → turn.entry ≡ Some e
     → applies e ≡ true → Commits s.store s'.store x turn
-    → Writes s.log s'.log (entry_record e x (writes_of s.store.writes x)) turn.is_forced → s'.boot ≡ s.boot
-    → Makes old s' x turn
+    → WritesRecord s.log s'.log (entry_record e x (writes_of s.store.writes x)) turn.is_forced → s'.boot ≡ s.boot
+    → KvMakes old s' x turn
 made_committed old s s' x turn e room is makes done made boot = record {
   tables = commits_old.tables;
   keeps = commits_old.keeps;
-  versions = subst (λ b. MatchBool b (Applies old.store.versions s'.store.versions
+  versions = subst (λ b. MatchBool b (AppliesCommit old.store.versions s'.store.versions
       (writes_of old.store.writes x)) (s'.store.versions ≡ old.store.versions))
       (sym (ap commits_data is ∙ makes)) commits_old.versions;
   decisions = commits_old.decisions;
-  log = subst (λ o. Logs old s' x turn.is_forced o) (sym is)
+  log = subst (λ o. LogsTurn old s' x turn.is_forced o) (sym is)
       (made.sight ∙ ap (λ (k : LogSight). with_record k
       (entry_record e x (writes_of s.store.writes x)) turn.is_forced) room.sight
       ∙ ap (λ (v : KeySight). with_record old.log.sight (entry_record e x (writes_of v.writes x))
@@ -964,10 +964,10 @@ made_committed old s s' x turn e room is makes done made boot = record {
     commits_old : Commits old.store s'.store x turn
     commits_old = subst (λ (v : KeySight). Commits v s'.store x turn) room.store done
 
-pub fails_by : (old s s' : KvSight) (x : Xid) (turn : Turn) (e : Entry) → OnlyRoom old s → turn.entry ≡ Some e
+pub fails_by : (old s s' : KvSight) (x : Xid) (turn : CallRow) (e : BranchRecord) → OnlyRoom old s → turn.entry ≡ Some e
     → Breaks s.log s'.log (entry_record e x (writes_of s.store.writes x) ∷ [])
     → s'.store.tables ≡ s.store.tables → s'.store.writes ≡ s.store.writes → s'.store.locks ≡ s.store.locks
-    → s'.store.decisions ≡ s.store.decisions → s'.boot ≡ s.boot → Fails old s' x turn
+    → s'.store.decisions ≡ s.store.decisions → s'.boot ≡ s.boot → KvFails old s' x turn
 fails_by old s s' x turn e room is broke tables writes locks decisions boot = record {
   entry = e;
   writes_it = is;
@@ -997,10 +997,10 @@ fails_by old s s' x turn e room is broke tables writes locks decisions boot = re
 -- A turn that writes nothing.
 
 -- it ends its branch, or the branch stays as an operator decided it
-abbrev pub StaysDecided : KeySight → Xid → Turn → Type 0
+abbrev pub StaysDecided : KeySight → Xid → CallRow → Type 0
 StaysDecided old x turn = (turn.to ≡ S0) ⊎ ((turn.to ≡ S5) × (state_of old x ≡ S5))
 
-pub silent_promises : (old new : KeySight) (x : Xid) (turn : Turn) → TakesTurn old new x turn
+pub silent_promises : (old new : KeySight) (x : Xid) (turn : CallRow) → TakesTurn old new x turn
     → turn.entry ≡ None → StaysDecided old x turn → doubt_of turn.to ≡ doubt_of (state_of old x)
     → KeepsPromises old new
 silent_promises old new x turn takes none so one = record {
@@ -1044,7 +1044,7 @@ silent_promises old new x turn takes none so one = record {
         (ap decision_or (takes.decisions.own ∙ ap (λ o. known_behind o (decision_in old.decisions x)) none))
     known y false t = ap decision_or (takes.decisions.others y t)
 
-pub due_ends : (s : KvSight) (x : Xid) (c : Call) (turn : Turn) → IsDueTurn s x c turn → turn.entry ≡ None
+pub due_ends : (s : KvSight) (x : Xid) (c : Call) (turn : CallRow) → IsDueTurn s x c turn → turn.entry ≡ None
     → StaysDecided s.store x turn
 due_ends s x c turn due is = by_turn due.due
   where
@@ -1054,12 +1054,12 @@ due_ends s x c turn due is = by_turn due.due
 
     by_turn : IsTurn s.store x c turn → StaysDecided s.store x turn
     by_turn (OfCall one) =
-        subst (λ (t : Turn). StaysDecided s.store x t) (sym one)
-        (silent_ends (state_of s.store x) c _ _ _ (ap (λ (t : Turn). t.entry) (sym one) ∙ is))
-    by_turn (OfOperator o here room one) = absurd (none_decides o (ap (λ (t : Turn). t.entry) (sym one) ∙ is))
+        subst (λ (t : CallRow). StaysDecided s.store x t) (sym one)
+        (silent_ends (state_of s.store x) c _ _ _ (ap (λ (t : CallRow). t.entry) (sym one) ∙ is))
+    by_turn (OfOperator o here room one) = absurd (none_decides o (ap (λ (t : CallRow). t.entry) (sym one) ∙ is))
 
 -- nothing changed
-pub same_self : (s : KvSight) → SameManager s s
+pub same_self : (s : KvSight) → SameKv s s
 same_self s = record {
   tables = record {
     init = refl;

@@ -2,17 +2,17 @@
 use Rattle.std.specs.Prelude.{◌≡◌, not}
 use Rattle.xa_codes.specs.declared.code.Code.{Code}
 use Rattle.xa_codes.specs.declared.code.Code.TheVariants as code
-use Rattle.manager_model.specs.declared.errors.DecideError.{DecideError}
-use Rattle.manager_model.specs.declared.errors.DecideError.TheVariants as decides
-use Rattle.manager_model.specs.Sights.{ManagerSight}
+use Rattle.resource_manager.specs.declared.errors.DecideError.{DecideError}
+use Rattle.resource_manager.specs.declared.errors.DecideError.TheVariants as decides
+use Rattle.resource_manager.specs.Sights.{ManagerSight}
 use Rattle.kv_locks.specs.Locks.{holders_of}
 use Rattle.kv_store.specs.writes.Writes.{writes_of}
-use Rattle.kv_core.specs.Stores.{has_numbers}
-use Rattle.kv_core.specs.Ends.{known_of}
-use Rattle.manager_model.specs.declared.errors.TrimError.{TrimError}
-use Rattle.manager_model.specs.declared.errors.TrimError.TheVariants as trims
-use Rattle.rec_log.specs.declared.log.LogError.{LogError}
-use Rattle.rec_log.specs.declared.log.LogError.TheVariants as log
+use Rattle.kv_state.specs.Stores.{has_numbers}
+use Rattle.kv_state.specs.Ends.{known_of}
+use Rattle.resource_manager.specs.declared.errors.TrimError.{TrimError}
+use Rattle.resource_manager.specs.declared.errors.TrimError.TheVariants as trims
+use Rattle.log_records.specs.declared.log.LogError.{LogError}
+use Rattle.log_records.specs.declared.log.LogError.TheVariants as log
 use Rattle.kv_manager.specs.Sights.{KvSight}
 
 -- a limit of its own is met where no commit more can be counted

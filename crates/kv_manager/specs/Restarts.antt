@@ -4,31 +4,31 @@ use Rattle.xa_codes.specs.declared.code.Code.{Code}
 use Rattle.xa_xid.specs.declared.xid.Xid.{Xid}
 use Rattle.xa_branch.specs.Branches.{in_doubt}
 use Rattle.xa_assoc.specs.Restored.{Restored, restore_refusal}
-use Rattle.tree_model.specs.declared.records.LogRecord.{LogRecord}
-use Rattle.tree_model.specs.declared.records.Record.TheVariants.{Opened}
-use Rattle.log_rules.specs.order.Orders.{SeenLog, left_by as in_doubt_by, promised}
-use Rattle.tree_model.specs.declared.names.Kind.TheVariants.{Manager}
+use Rattle.protocol.specs.declared.records.LogRecord.{LogRecord}
+use Rattle.protocol.specs.declared.records.Record.TheVariants.{Opened}
+use Rattle.log_rules.specs.order.Orders.{SeenLog, in_doubt_by, promised}
+use Rattle.protocol.specs.declared.names.Kind.TheVariants.{Manager}
 use Rattle.log_text.specs.Made.{frame_record}
-use Rattle.rec_log.specs.Openings.{NotOpened, Opens}
-use Rattle.rec_log.specs.Sights.{Breaks, IsRecord, LogState, RestartBreaks, Restarts, left_by, log_state, records_of}
+use Rattle.log_records.specs.Openings.{LogNotOpened, OpensLog}
+use Rattle.log_records.specs.Sights.{Breaks, IsRecord, LogState, LogRestartBreaks, LogRestarts, left_by, log_state, records_of}
 use Rattle.kv_store.specs.writes.Writes.{writes_of}
-use Rattle.kv_core.specs.declared.fault.ReplayError.{ReplayError}
-use Rattle.kv_core.specs.declared.fault.ReplayError.TheVariants as replays
-use Rattle.kv_core.specs.Folds.{AreData}
-use Rattle.tree_model.specs.Store.{data_of}
-use Rattle.kv_core.specs.Decisions.{KnowDecided}
-use Rattle.kv_core.specs.Replays.{AreCounted, AreMalformed, CountTooFar, HoldPromises, seen_of}
-use Rattle.kv_core.specs.Stores.{KeySight}
-use Rattle.manager_model.specs.declared.errors.RestartError.{RestartError}
-use Rattle.manager_model.specs.declared.errors.RestartError.TheVariants as restarts
+use Rattle.kv_state.specs.declared.fault.ReplayError.{ReplayError}
+use Rattle.kv_state.specs.declared.fault.ReplayError.TheVariants as replays
+use Rattle.kv_state.specs.Folds.{AreData}
+use Rattle.protocol.specs.Store.{data_of}
+use Rattle.kv_state.specs.Decisions.{KnowDecided}
+use Rattle.kv_state.specs.Replays.{AreCountedCommits, AreMalformed, CountTooFar, HoldPromises, seen_of}
+use Rattle.kv_state.specs.Stores.{KeySight}
+use Rattle.resource_manager.specs.declared.errors.RestartError.{RestartError}
+use Rattle.resource_manager.specs.declared.errors.RestartError.TheVariants as restarts
 use Rattle.kv_manager.specs.declared.restart.RecordsError.{RecordsError}
 use Rattle.kv_manager.specs.declared.restart.RecordsError.TheVariants.{Device, Exhausted, Memory, Unfit}
 use Rattle.kv_manager.specs.declared.restart.Ready.{Ready}
 use Rattle.kv_manager.specs.declared.manager.RestoreError.{RestoreError}
 use Rattle.kv_manager.specs.declared.manager.RestoreError.TheVariants.{Log, Records}
-use Rattle.kv_manager.specs.Sights.{KvSight, SameManager}
+use Rattle.kv_manager.specs.Sights.{KvSight, SameKv}
 use Rattle.log_text.specs.Forms.{log_form}
-use Rattle.tree_model.specs.declared.names.ProcessId.{ProcessId}
+use Rattle.protocol.specs.declared.names.ProcessId.{ProcessId}
 
 -- the number of why no manager stands over records
 abbrev pub records_number : RecordsError → ℕ
@@ -61,14 +61,14 @@ pub record LeavesStore (ls : List LogRecord) (s : KeySight) (boot : ℕ) : Type 
   pub read : seen_of ls ≡ Some seen
   pub tables : Restored (in_doubt_by seen) s.tables
   pub stored : AreData s.versions (data_of ls)
-  pub counted : AreCounted ls
+  pub counted : AreCountedCommits ls
   pub promises : (x : Xid) → writes_of s.writes x ≡ promised seen x
   pub locks_held : HoldPromises seen s.locks
   pub decided : KnowDecided ls s.decisions
   pub next : next_boot seen.boot ≡ Some boot
 
 -- more branches are in doubt than a manager holds, or one of them twice
-pub record AreTooMany (ls : List LogRecord) : Type 0 where
+pub record AreTooManyBranches (ls : List LogRecord) : Type 0 where
   pub seen : SeenLog
   pub read : seen_of ls ≡ Some seen
   pub refusal : Code
@@ -88,11 +88,11 @@ NotStored left Unfit = (refusal : Code) × (restore_refusal left ≡ Some refusa
 NotStored left Exhausted = ⊥
 
 -- why records leave no manager; want of memory may come at any time
-abbrev pub NotRebuilt : List LogRecord → RecordsError → Type 0
-NotRebuilt ls Memory = ⊤
-NotRebuilt ls Device = ⊥
-NotRebuilt ls Unfit = AreMalformed ls ⊎ AreTooMany ls
-NotRebuilt ls Exhausted = CountTooFar ls ⊎ AreLastBoots ls
+abbrev pub KvNotRebuilt : List LogRecord → RecordsError → Type 0
+KvNotRebuilt ls Memory = ⊤
+KvNotRebuilt ls Device = ⊥
+KvNotRebuilt ls Unfit = AreMalformed ls ⊎ AreTooManyBranches ls
+KvNotRebuilt ls Exhausted = CountTooFar ls ⊎ AreLastBoots ls
 
 -- all is made that a manager restarts as where these records are left: with the branches in doubt, and the
 -- frame of its boot
@@ -108,7 +108,7 @@ pub record IsReady (ls : List LogRecord) (r : Ready) : Type 0 where
 -- left leave, the log has these and the next boot, all forced, and these branches are in doubt
 pub record Restarted (old new : KvSight) (keep : ℕ) (given : List Xid) : Type 0 where
   pub left : LeavesStore (left_by old.log.sight keep) new.store new.boot
-  pub log : Restarts old.log new.log keep (opened new.boot ∷ [])
+  pub log : LogRestarts old.log new.log keep (opened new.boot ∷ [])
   pub gives : given ≡ in_doubt new.store.tables.branches.branches
 
 -- why a manager is not made ready to restart where its own records are left, which are never refused
@@ -120,7 +120,7 @@ NotReady ls restarts.Exhausted = AreLastBoots ls
 -- a log did not restart: nothing changed, or the device failed
 abbrev pub FailsToRestart : LogState → LogState → ℕ → LogRecord → RestartError → Type 0
 FailsToRestart old new keep l restarts.Memory = new.sight ≡ old.sight
-FailsToRestart old new keep l restarts.Device = RestartBreaks old new keep (l ∷ [])
+FailsToRestart old new keep l restarts.Device = LogRestartBreaks old new keep (l ∷ [])
 FailsToRestart old new keep l restarts.Exhausted = ⊥
 
 -- this boot comes after the last one of these records
@@ -131,19 +131,19 @@ pub record ComesNext (ls : List LogRecord) (boot : ℕ) : Type 0 where
 
 -- the device failed under a restart: it left the log as such a failure does, with the record of the next boot
 -- or without; and nothing else changed
-pub record RestartFails (old new : KvSight) (keep : ℕ) : Type 0 where
+pub record KvRestartFails (old new : KvSight) (keep : ℕ) : Type 0 where
   pub next : ℕ
   pub comes : ComesNext (left_by old.log.sight keep) next
-  pub log : RestartBreaks old.log new.log keep (opened next ∷ [])
+  pub log : LogRestartBreaks old.log new.log keep (opened next ∷ [])
   pub store : new.store ≡ old.store
   pub boot : new.boot ≡ old.boot
 
 -- a manager did not restart: nothing changed, also where no boot comes after the last one; or the device failed,
 -- and the manager has failed
-abbrev pub NotRestarted : KvSight → KvSight → ℕ → RestartError → Type 0
-NotRestarted old new keep restarts.Memory = SameManager old new
-NotRestarted old new keep restarts.Device = RestartFails old new keep
-NotRestarted old new keep restarts.Exhausted = AreLastBoots (left_by old.log.sight keep) × SameManager old new
+abbrev pub KvNotRestarted : KvSight → KvSight → ℕ → RestartError → Type 0
+KvNotRestarted old new keep restarts.Memory = SameKv old new
+KvNotRestarted old new keep restarts.Device = KvRestartFails old new keep
+KvNotRestarted old new keep restarts.Exhausted = AreLastBoots (left_by old.log.sight keep) × SameKv old new
 
 -- Restoring from a store.
 
@@ -161,7 +161,7 @@ pub record StartsOver (log : LogState) (s : KvSight) : Type 0 where
 -- the manager of this process over the log of these bytes
 pub record RestoredFrom (process : ProcessId) (bytes : List ℕ) (forced failures : ℕ) (s : KvSight) : Type 0 where
   pub log : LogState
-  pub opens : Opens (log_form process Manager) bytes forced failures log
+  pub opens : OpensLog (log_form process Manager) bytes forced failures log
   pub starts : StartsOver log s
 
 -- the record of a boot was not written: nothing changed, or the device failed under it
@@ -174,13 +174,13 @@ NotBegun old new boot e = ⊥
 abbrev pub LeavesNone : LogState → LogState → RecordsError → Type 0
 LeavesNone old new Device = (boot : ℕ) × ComesNext (records_of old.sight.kept) boot
     × Breaks old new (opened boot ∷ [])
-LeavesNone old new e = NotRebuilt (records_of old.sight.kept) e × (new.sight ≡ old.sight)
+LeavesNone old new e = KvNotRebuilt (records_of old.sight.kept) e × (new.sight ≡ old.sight)
 
 -- a store whose log was opened is handed back
-pub record HandsBack {S : Type 0} (bytes : S → List ℕ) (forced failures : S → ℕ) (process : ProcessId)
+pub record RecordsHandBack {S : Type 0} (bytes : S → List ℕ) (forced failures : S → ℕ) (process : ProcessId)
     (old new : S) (e : RecordsError) : Type 0 where
   pub opened_as : LogState
-  pub opens : Opens (log_form process Manager) (bytes old) (forced old) (failures old) opened_as
+  pub opens : OpensLog (log_form process Manager) (bytes old) (forced old) (failures old) opened_as
   pub left_as : LogState
   pub holds : left_as.sight
       ≡ (log_state (log_form process Manager) (bytes new) (forced new) (failures new) 0 left_as.sight.failed).sight
@@ -190,5 +190,5 @@ pub record HandsBack {S : Type 0} (bytes : S → List ℕ) (forced failures : S 
 abbrev pub NotRestored : {S : Type 0} → (S → List ℕ) → (S → ℕ) → (S → ℕ) → ProcessId → S → S
     → RestoreError → Type 0
 NotRestored bytes forced failures p old new (Log e) =
-    NotOpened bytes forced failures (log_form p Manager) old new e
-NotRestored bytes forced failures p old new (Records e) = HandsBack bytes forced failures p old new e
+    LogNotOpened bytes forced failures (log_form p Manager) old new e
+NotRestored bytes forced failures p old new (Records e) = RecordsHandBack bytes forced failures p old new e

@@ -3,25 +3,25 @@ use Rattle.std.specs.Prelude.{◌≡◌, ℕ, Bool, true, false, List, [], ◌�
 use Rattle.xa_tables.specs.declared.states.BranchState.{BranchState}
 use Rattle.xa_tables.specs.declared.states.BranchState.TheVariants.{S0, S3, S5}
 use Rattle.xa_xid.specs.declared.xid.Xid.{Xid}
-use Rattle.tree_model.specs.declared.names.Kind.TheVariants.{Manager}
-use Rattle.tree_model.specs.declared.records.Branch.TheVariants.{Foreign}
-use Rattle.tree_model.specs.Standings.{Promised, mark_at}
-use Rattle.tree_model.specs.Store.{Data, writes_of as promised_of, data_of}
-use Rattle.rec_log.specs.Sights.{LogState, records_of}
+use Rattle.protocol.specs.declared.names.Kind.TheVariants.{Manager}
+use Rattle.protocol.specs.declared.records.BranchName.TheVariants.{Foreign}
+use Rattle.protocol.specs.Standings.{Promised, mark_at}
+use Rattle.protocol.specs.Store.{Data, writes_of as promised_of, data_of}
+use Rattle.log_records.specs.Sights.{LogState, records_of}
 use Rattle.kv_store.specs.Pairs.{keys_rise}
-use Rattle.kv_core.specs.Folds.{AreData}
-use Rattle.kv_core.specs.Decisions.{says_decided}
-use Rattle.xa_heur.specs.Decisions.{decided_in}
+use Rattle.kv_state.specs.Folds.{AreData}
+use Rattle.kv_state.specs.Decisions.{says_decided}
+use Rattle.xa_branch.specs.Decisions.{decided_in}
 use Rattle.kv_store.specs.Versions.{SameData}
 use Rattle.kv_store.specs.writes.Writes.{SameWrites, writes_of}
-use Rattle.xa_assoc.specs.Answers.{Same}
-use Rattle.xa_heur.specs.declared.decision.Decision.{Decision}
-use Rattle.xa_heur.specs.Cases.{SameDecisions}
-use Rattle.tree_model.specs.declared.records.LogRecord.{LogRecord}
-use Rattle.kv_core.specs.Stores.{KeySight, state_of}
-use Rattle.kv_core.specs.Ends.{known_of}
-use Rattle.kv_core.specs.Replays.{AreCounted, seen_of}
-use Rattle.manager_model.specs.Restarting.{marked_state}
+use Rattle.xa_assoc.specs.Answers.{SameStates}
+use Rattle.xa_branch.specs.declared.decision.Decision.{Decision}
+use Rattle.xa_branch.specs.Cases.{SameDecisions}
+use Rattle.protocol.specs.declared.records.LogRecord.{LogRecord}
+use Rattle.kv_state.specs.Stores.{KeySight, state_of}
+use Rattle.kv_state.specs.Ends.{known_of}
+use Rattle.kv_state.specs.Replays.{AreCountedCommits, seen_of}
+use Rattle.resource_manager.specs.Restarting.{marked_state}
 
 -- what a contract sees: the key store, its log, and how often it opened
 pub record KvSight : Type 0 where
@@ -70,15 +70,15 @@ pub record IsLogged (s : KvSight) : Type 0 where
 
 -- what a manager keeps: the log is a manager's, its records may follow one another, the data of each front of them
 -- count fewer than 2^63 commits, and while it has not failed the data are those of its records
-pub record IsKept (s : KvSight) : Type 0 where
+pub record IsKvManager (s : KvSight) : Type 0 where
   pub kind : s.log.sight.form.kind ≡ Manager
   pub ordered : are_ordered (records_of s.log.sight.kept) ≡ true
-  pub counted : AreCounted (records_of s.log.sight.kept)
+  pub counted : AreCountedCommits (records_of s.log.sight.kept)
   pub stands : s.log.sight.failed ≡ false → IsLogged s
 
 -- nothing changes but room; what each key was after each commit stays
-pub record SameManager (old new : KvSight) : Type 0 where
-  pub tables : Same old.store.tables new.store.tables
+pub record SameKv (old new : KvSight) : Type 0 where
+  pub tables : SameStates old.store.tables new.store.tables
   pub writes : SameWrites old.store.writes new.store.writes
   pub locks : new.store.locks ≡ old.store.locks
   pub versions : SameData old.store.versions new.store.versions

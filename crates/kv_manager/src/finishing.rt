@@ -1,28 +1,28 @@
 //! What finishes a branch: the turns of its calls, and of an operator's decision.
 
 ghost use Rattle.std.specs.Prelude.{◌≡◌, ◌<◌, ◌≤◌, ◌+◌, ◌^◌, length, false, true, IfOk, IfErr, OnOk, OnErr, Err, Some, None};
-ghost use Rattle.manager_model.specs.Deciding.{Decides, NotDecided};
+ghost use Rattle.resource_manager.specs.Deciding.{ManagerDecides, ManagerNotDecided};
 ghost use Rattle.xa_assoc.specs.Ready.{is_work_verb, leaves};
 ghost use Rattle.xa_codes.specs.Codes.{is_own};
 ghost use Rattle.kv_manager.specs.Resources.{IsRefusal, sight_of};
-ghost use Rattle.kv_manager.specs.Sights.{SameManager};
+ghost use Rattle.kv_manager.specs.Sights.{SameKv};
 ghost use Rattle.log_text.specs.Made.{frame_record};
 ghost use Rattle.log_text.specs.Payloads.{record_size};
-ghost use Rattle.rec_log.specs.Sights.{IsRecord};
-ghost use Rattle.tree_model.specs.declared.names.Kind.TheVariants as kind;
+ghost use Rattle.log_records.specs.Sights.{IsRecord};
+ghost use Rattle.protocol.specs.declared.names.Kind.TheVariants as kind;
 ghost use Rattle.kv_store.specs.writes.Writes.{ListedAt, writes_of};
-ghost use Rattle.kv_turns.specs.Turns.{IsEntry, applies, decide_turn, entry_record};
-ghost use Rattle.xa_branch.specs.Branches.{StandsAt};
+ghost use Rattle.kv_calls.specs.Turns.{IsEntry, applies, decide_turn, entry_record};
+ghost use Rattle.xa_branch.specs.Branches.{BranchStandsAt};
 ghost use Rattle.xa_tables.specs.declared.call.Call.{Call as AnyCall};
-ghost use Rattle.kv_manager.specs.Turns.{Finishes, HasWrites, IsDueTurn, Makes, NotTaken, OnlyRoom, Takes};
+ghost use Rattle.kv_manager.specs.Turns.{KvFinishes, HasWrites, IsDueTurn, KvMakes, DecisionNotTaken, OnlyRoom, KvTakes};
 
 use crate::manager::KvManager;
-use kv_turns::{Entry, Turn};
+use kv_calls::{BranchRecord, CallRow};
 use log_store::LogStore;
 use log_text::Frame;
-use manager_model::DecideError;
+use protocol::{Outcome, Write};
+use resource_manager::DecideError;
 use std::alloc::AllocError;
-use tree_model::{Outcome, Write};
 use xa_codes::{Code, Flags};
 use xa_tables::{BranchState, Verb};
 use xa_xid::Xid;
@@ -41,7 +41,7 @@ fn decided(answer: Code) -> Result<(), DecideError>
 
 impl<L: LogStore> KvManager<L> {
     /// What a record has of what its branch has written.
-    fn writes_in(&self, xid: &Xid, written: Option<usize>, entry: Entry) -> &[Write]
+    fn writes_in(&self, xid: &Xid, written: Option<usize>, entry: BranchRecord) -> &[Write]
         requires written { ListedAt self.now.store.writes xid.now written }
         requires some { HasWrites entry (writes_of self.now.store.writes xid.now) }
         ensures record { entry_record entry xid.now result.now
@@ -60,7 +60,7 @@ impl<L: LogStore> KvManager<L> {
         &mut self,
         xid: &Xid,
         written: Option<usize>,
-        entry: Entry,
+        entry: BranchRecord,
     ) -> Result<Frame, AllocError>
         requires written { ListedAt self.old.store.writes xid.now written }
         requires some { HasWrites entry (writes_of self.old.store.writes xid.now) }
@@ -81,16 +81,16 @@ impl<L: LogStore> KvManager<L> {
         xid: &Xid,
         place: usize,
         written: Option<usize>,
-        turn: Turn,
-        entry: Entry,
+        turn: CallRow,
+        entry: BranchRecord,
     ) -> Result<Code, AllocError>
         requires due { (c : AnyCall) × IsDueTurn self.old xid.now c turn }
-        requires stands { StandsAt self.old.store.tables.branches.branches xid.now place }
+        requires stands { BranchStandsAt self.old.store.tables.branches.branches xid.now place }
         requires written { ListedAt self.old.store.writes xid.now written }
         requires entry { turn.entry ≡ Some entry }
         requires data { applies entry ≡ false }
-        ensures answer { IfOk result (Takes self.old self.new xid.now turn) }
-        ensures err { OnErr result (SameManager self.old self.new) }
+        ensures answer { IfOk result (KvTakes self.old self.new xid.now turn) }
+        ensures err { OnErr result (SameKv self.old self.new) }
     {
         let frame = self.frame(xid, written, entry)?;
         self.store.is_tidy(xid);
@@ -110,17 +110,17 @@ impl<L: LogStore> KvManager<L> {
         xid: &Xid,
         place: usize,
         written: Option<usize>,
-        turn: Turn,
-        entry: Entry,
+        turn: CallRow,
+        entry: BranchRecord,
     ) -> Result<Code, AllocError>
         requires due { (c : AnyCall) × IsDueTurn self.old xid.now c turn }
-        requires stands { StandsAt self.old.store.tables.branches.branches xid.now place }
+        requires stands { BranchStandsAt self.old.store.tables.branches.branches xid.now place }
         requires written { ListedAt self.old.store.writes xid.now written }
         requires entry { turn.entry ≡ Some entry }
         requires data { applies entry ≡ true }
         requires fits { self.old.store.versions.count + 1 < 2 ^ 63 }
-        ensures answer { IfOk result (Takes self.old self.new xid.now turn) }
-        ensures err { OnErr result (SameManager self.old self.new) }
+        ensures answer { IfOk result (KvTakes self.old self.new xid.now turn) }
+        ensures err { OnErr result (SameKv self.old self.new) }
     {
         let frame = self.frame(xid, written, entry)?;
         self.store.is_tidy(xid);
@@ -141,13 +141,13 @@ impl<L: LogStore> KvManager<L> {
         xid: &Xid,
         place: usize,
         written: Option<usize>,
-        turn: Turn,
+        turn: CallRow,
     ) -> Result<Code, AllocError>
         requires due { (c : AnyCall) × IsDueTurn self.old xid.now c turn }
-        requires stands { StandsAt self.old.store.tables.branches.branches xid.now place }
+        requires stands { BranchStandsAt self.old.store.tables.branches.branches xid.now place }
         requires written { ListedAt self.old.store.writes xid.now written }
-        ensures answer { IfOk result (Takes self.old self.new xid.now turn) }
-        ensures err { OnErr result (SameManager self.old self.new) }
+        ensures answer { IfOk result (KvTakes self.old self.new xid.now turn) }
+        ensures err { OnErr result (SameKv self.old self.new) }
     {
         match turn.entry {
             None => {
@@ -163,10 +163,10 @@ impl<L: LogStore> KvManager<L> {
     /// A prepare, commit, rollback or forget.
     fn finish(&mut self, verb: Verb, xid: &Xid, flags: Flags) -> Result<Code, AllocError>
         requires { is_work_verb verb ≡ false }
-        ensures answer { IfOk result (Finishes self.old self.new verb xid.now flags.0) }
-        ensures err { OnErr result (SameManager self.old self.new) }
+        ensures answer { IfOk result (KvFinishes self.old self.new verb xid.now flags.0) }
+        ensures err { OnErr result (SameKv self.old self.new) }
     {
-        if self.has_failed() {
+        if self.failed() {
             return Ok(Code::RmFail);
         }
         match self.store.due(verb, xid, flags) {
@@ -180,8 +180,8 @@ impl<L: LogStore> KvManager<L> {
     /// NotA: the branch is not known. Proto: a thread is in it, or its state has no such row. All but a failure
     /// now change nothing, nor does want of memory. The thread is not looked at.
     pub fn prepare(&mut self, _thread: u32, xid: &Xid, flags: Flags) -> Result<Code, AllocError>
-        ensures answer { IfOk result (Finishes self.old self.new Verb.Prepare xid.now flags.0) }
-        ensures err { OnErr result (SameManager self.old self.new) }
+        ensures answer { IfOk result (KvFinishes self.old self.new Verb.Prepare xid.now flags.0) }
+        ensures err { OnErr result (SameKv self.old self.new) }
     {
         self.finish(Verb::Prepare, xid, flags)
     }
@@ -190,24 +190,24 @@ impl<L: LogStore> KvManager<L> {
     /// answers by the decision, and the first outcome that it is told is noted. The refusals are
     /// those of `prepare`; RmErr: 2^63 - 1 commits are counted, and nothing changed.
     pub fn commit(&mut self, _thread: u32, xid: &Xid, flags: Flags) -> Result<Code, AllocError>
-        ensures answer { IfOk result (Finishes self.old self.new Verb.Commit xid.now flags.0) }
-        ensures err { OnErr result (SameManager self.old self.new) }
+        ensures answer { IfOk result (KvFinishes self.old self.new Verb.Commit xid.now flags.0) }
+        ensures err { OnErr result (SameKv self.old self.new) }
     {
         self.finish(Verb::Commit, xid, flags)
     }
 
     /// A branch rolls back; one that an operator decided as at `commit`. The refusals are those of `prepare`.
     pub fn rollback(&mut self, _thread: u32, xid: &Xid, flags: Flags) -> Result<Code, AllocError>
-        ensures answer { IfOk result (Finishes self.old self.new Verb.Rollback xid.now flags.0) }
-        ensures err { OnErr result (SameManager self.old self.new) }
+        ensures answer { IfOk result (KvFinishes self.old self.new Verb.Rollback xid.now flags.0) }
+        ensures err { OnErr result (SameKv self.old self.new) }
     {
         self.finish(Verb::Rollback, xid, flags)
     }
 
     /// An operator's decision about a branch is forgotten. The refusals are those of `prepare`.
     pub fn forget(&mut self, _thread: u32, xid: &Xid, flags: Flags) -> Result<Code, AllocError>
-        ensures answer { IfOk result (Finishes self.old self.new Verb.Forget xid.now flags.0) }
-        ensures err { OnErr result (SameManager self.old self.new) }
+        ensures answer { IfOk result (KvFinishes self.old self.new Verb.Forget xid.now flags.0) }
+        ensures err { OnErr result (SameKv self.old self.new) }
     {
         self.finish(Verb::Forget, xid, flags)
     }
@@ -216,12 +216,12 @@ impl<L: LogStore> KvManager<L> {
     /// it is forgotten. The manager need not be open. Failed, then NotInDoubt: nothing changed. Memory:
     /// nothing changed. Exhausted: 2^63 - 1 commits are counted; nothing changed. Device: it fails now.
     pub fn decide(&mut self, xid: &Xid, outcome: Outcome) -> Result<(), DecideError>
-        ensures ok { OnOk result (Decides (sight_of self.old) (sight_of self.new) xid.now outcome) }
-        ensures turn { OnOk result (Makes self.old self.new xid.now (decide_turn outcome)) }
-        ensures err { IfErr result (NotDecided (sight_of self.old) (sight_of self.new) xid.now outcome) }
-        ensures no_turn { IfErr result (NotTaken self.old self.new xid.now outcome) }
+        ensures ok { OnOk result (ManagerDecides (sight_of self.old) (sight_of self.new) xid.now outcome) }
+        ensures turn { OnOk result (KvMakes self.old self.new xid.now (decide_turn outcome)) }
+        ensures err { IfErr result (ManagerNotDecided (sight_of self.old) (sight_of self.new) xid.now outcome) }
+        ensures no_turn { IfErr result (DecisionNotTaken self.old self.new xid.now outcome) }
     {
-        if self.has_failed() {
+        if self.failed() {
             return Err(DecideError::Failed);
         }
         let Some((place, state)) = self.store.find(xid) else {
@@ -232,7 +232,7 @@ impl<L: LogStore> KvManager<L> {
         }
         self.store.reserve_decision()?;
         let written = self.store.writes_place(xid);
-        let answer = self.take(xid, place, written, Turn::decide(outcome))?;
+        let answer = self.take(xid, place, written, CallRow::decide(outcome))?;
         decided(answer)
     }
 }

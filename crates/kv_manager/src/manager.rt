@@ -1,43 +1,43 @@
 //! A key store with a log, as an XA manager.
 
 ghost use Rattle.log_text.specs.Forms.{log_form};
-ghost use Rattle.tree_model.specs.declared.records.LogRecord.{LogRecord as AnyRecord};
+ghost use Rattle.protocol.specs.declared.records.LogRecord.{LogRecord as AnyRecord};
 ghost use Rattle.std.specs.Prelude.{◌≡◌, ◌<◌, ◌+◌, ◌++◌, [], length, false, true, List, IfOk, IfErr, OnOk, OnErr, Err, Some, None};
-ghost use Rattle.key_tables.specs.declared.holders.Mode.TheVariants as mode;
-ghost use Rattle.kv_core.specs.Stores.{MovesTables, state_of};
-ghost use Rattle.kv_core.specs.Works.{Reads, Writes, WorksIdle, work_refusal};
-ghost use Rattle.kv_core.specs.Ends.{known_of};
-ghost use Rattle.xa_branch.specs.Branches.{AreListedOnce};
-ghost use Rattle.xa_heur.specs.Decisions.{decision_at};
-ghost use Rattle.xa_assoc.specs.Answers.{Answers, BeginsIdle, Closes, Opens, Recovers, Wanted, map_ok};
-ghost use Rattle.xa_assoc.specs.Associations.{IsListed};
+ghost use Rattle.key_lists.specs.declared.holders.Mode.TheVariants as mode;
+ghost use Rattle.kv_state.specs.Stores.{MovesTables, state_of};
+ghost use Rattle.kv_state.specs.Works.{ReadsKey, WritesKey, KeyStoreWorksIdle, work_refusal};
+ghost use Rattle.kv_state.specs.Ends.{known_of};
+ghost use Rattle.xa_branch.specs.Branches.{AreBranchesListedOnce};
+ghost use Rattle.xa_branch.specs.Decisions.{decision_at};
+ghost use Rattle.xa_assoc.specs.Answers.{AnswersCall, BeginsIdle, Closes, OpensManager, Recovers, Wanted, map_ok};
+ghost use Rattle.xa_assoc.specs.Associations.{IsAssocList};
 ghost use Rattle.xa_assoc.specs.Ready.{is_work_verb, leaves};
 ghost use Rattle.xa_tables.specs.Calls.{legal};
 ghost use Rattle.kv_manager.specs.Resources.{sight_of};
-ghost use Rattle.kv_manager.specs.Sights.{SameManager, are_ordered};
-ghost use Rattle.manager_model.specs.Opening.{IsNew};
+ghost use Rattle.kv_manager.specs.Sights.{SameKv, are_ordered};
+ghost use Rattle.resource_manager.specs.Opening.{IsNewManager};
 ghost use Rattle.std.specs.List.{AllByRecursion};
 ghost use Rattle.log_rules.specs.sound.Sound.{IsSound};
-ghost use Rattle.rec_log.specs.Sights.{IsFront, ReadsAs, left_by, log_state, records_of, whole_within};
-ghost use Rattle.tree_model.specs.declared.names.Kind.TheVariants as kind;
-ghost use Rattle.kv_manager.specs.Restarts.{IsReady, LeavesNone, NotReady, NotRestarted, NotRestored, Restarted, RestoredFrom, StartsOver};
-ghost use Rattle.kv_core.specs.Remembered.{Remembers};
-ghost use Rattle.kv_manager.specs.Turns.{Calls, Refuses};
+ghost use Rattle.log_records.specs.Sights.{IsLogFront, ReadsAs, left_by, log_state, records_of, whole_within};
+ghost use Rattle.protocol.specs.declared.names.Kind.TheVariants as kind;
+ghost use Rattle.kv_manager.specs.Restarts.{IsReady, LeavesNone, NotReady, KvNotRestarted, NotRestored, Restarted, RestoredFrom, StartsOver};
+ghost use Rattle.kv_state.specs.Remembered.{RemembersData};
+ghost use Rattle.kv_manager.specs.Turns.{KvCalls, RefusesWork};
 
 use crate::remembered::FrontedLog;
 use crate::restart::{Ready, RecordsError, made_ready, started};
-use kv_core::{KeyStore, Remembered};
+use kv_state::{KeyStore, RememberedData};
+use log_records::{LogOpenError, RecLog};
 use log_store::{LogStore, MemoryStore};
-use manager_model::RestartError;
-use rec_log::{OpenError, RecLog};
+use protocol::{Bytes, Kind, LogRecord, Op, ProcessId};
+use resource_manager::RestartError;
 use std::alloc::{AllocError, Global};
 use std::marker::Model;
 use std::mem;
 use thiserror::Error;
-use tree_model::{Bytes, Kind, LogRecord, Op, ProcessId};
 use xa_assoc::WorkError;
+use xa_branch::Decision;
 use xa_codes::{Code, Flags};
-use xa_heur::Decision;
 use xa_tables::{BranchState, Verb};
 use xa_xid::Xid;
 
@@ -46,7 +46,7 @@ use xa_xid::Xid;
 pub enum RestoreError {
     /// The bytes are no log, or it could not be opened.
     #[error("the log does not open: {0}")]
-    Log(OpenError),
+    Log(LogOpenError),
     /// The log's records leave no manager, or the record of the boot could not be written.
     #[error("the log leaves no manager: {0}")]
     Records(RecordsError),
@@ -73,13 +73,13 @@ impl<L: LogStore + Drop> Drop for KvManager<L> {
 }
 
 impl<L: LogStore> Model for KvManager<L> {
-    ghost use Rattle.kv_manager.specs.Sights.{IsKept, KvSight};
+    ghost use Rattle.kv_manager.specs.Sights.{IsKvManager, KvSight};
 
     ghost Value = { KvSight };
 
     ghost view = { λ m. record { store = m.store; log = m.log; boot = m.boot } };
 
-    ghost invariant = { λ m. IsKept (record { store = m.store; log = m.log; boot = m.boot }) };
+    ghost invariant = { λ m. IsKvManager (record { store = m.store; log = m.log; boot = m.boot }) };
 }
 
 impl<L: LogStore> KvManager<L> {
@@ -108,11 +108,11 @@ impl<L: LogStore> KvManager<L> {
 
     /// How many of the records after the forced ones a crash would leave that keeps N bytes after
     /// the forced front.
-    pub fn left_behind(&self, keep: usize) -> Result<usize, AllocError>
+    pub fn unforced_left(&self, keep: usize) -> Result<usize, AllocError>
         ensures { IfOk result (λ count. count
             ≡ length (whole_within (self.now.log.sight.behind + keep) self.now.log.sight.kept.unforced)) }
     {
-        self.log.log().left_behind(keep, self.alloc)
+        self.log.log().unforced_left(keep, self.alloc)
     }
 
     /// Each record of its log can be in a manager's log.
@@ -124,20 +124,20 @@ impl<L: LogStore> KvManager<L> {
 
     /// Each branch that it knows is listed once, and none that is in S0.
     pub fn branches_are_listed_once(&self)
-        ensures { AreListedOnce self.now.store.tables.branches.branches }
+        ensures { AreBranchesListedOnce self.now.store.tables.branches.branches }
     {
         self.store.branches_are_listed_once();
     }
 
     /// Each thread that holds associations is listed once, and a branch as suspended for migration only if it is.
     pub fn associations_are_listed_once(&self)
-        ensures { IsListed self.now.store.tables.associations }
+        ensures { IsAssocList self.now.store.tables.associations }
     {
         self.store.associations_are_listed_once();
     }
 
     /// The records of its log may follow one another, also where its device has failed.
-    pub fn records_are_ordered(&self)
+    pub fn records_are_in_order(&self)
         ensures { are_ordered (records_of self.now.log.sight.kept) ≡ true }
     {
         let _ = &self.alloc;
@@ -169,14 +169,14 @@ impl<L: LogStore> KvManager<L> {
     /// Of the records that a crash would leave that keeps N bytes after the forced front, those after the first ones, if the
     /// header and the first ones, all of them forced, are `size` bytes.
     pub fn kept_after(&self, size: usize, keep: usize) -> Result<Vec<LogRecord>, AllocError>
-        ensures { IfOk result (λ records. (first : List AnyRecord) → IsFront self.now.log.sight size first
+        ensures { IfOk result (λ records. (first : List AnyRecord) → IsLogFront self.now.log.sight size first
             → first ++ records.items ≡ left_by self.now.log.sight keep) }
     {
         self.log.log().kept_after(size, keep, self.alloc)
     }
 
     /// Whether its device has failed: it answers nothing until a restart.
-    pub fn has_failed(&self) -> bool
+    pub fn failed(&self) -> bool
         ensures { result ≡ self.now.log.sight.failed }
     {
         self.log.log().failed()
@@ -200,12 +200,12 @@ impl<L: LogStore> KvManager<L> {
     /// Reads a key for a thread's branch, which holds it from then on, at least shared. RmFail,
     /// NotAssociated, RollbackOnly, TooLong, Locked, in this order. A refusal changes nothing.
     pub fn get(&mut self, thread: u32, key: &[u8]) -> Result<Option<Bytes>, WorkError>
-        ensures ok { IfOk result (λ found. Calls self.old self.new ⊥
-            (λ before behind. Reads before behind thread key.now found)) }
-        ensures err { IfErr result (λ e. Refuses self.old self.new
+        ensures ok { IfOk result (λ found. KvCalls self.old self.new ⊥
+            (λ before behind. ReadsKey before behind thread key.now found)) }
+        ensures err { IfErr result (λ e. RefusesWork self.old self.new
             (work_refusal self.old.store thread key.now None mode.Shared) e) }
     {
-        if self.has_failed() {
+        if self.failed() {
             return Err(WorkError::RmFail);
         }
         self.store.get(thread, key)
@@ -214,10 +214,10 @@ impl<L: LogStore> KvManager<L> {
     /// Opens the manager, which migrates associations or not. RmFail: it has failed. Inval, Async: the flags.
     /// A refusal changes nothing.
     pub fn open(&mut self, flags: Flags, migrates: bool) -> Code
-        ensures { Calls self.old self.new (result ≡ Code.RmFail)
-            (λ before behind. MovesTables before behind (λ old new. Opens old new flags.0 migrates result)) }
+        ensures { KvCalls self.old self.new (result ≡ Code.RmFail)
+            (λ before behind. MovesTables before behind (λ old new. OpensManager old new flags.0 migrates result)) }
     {
-        if self.has_failed() {
+        if self.failed() {
             return Code::RmFail;
         }
         self.store.open(flags, migrates)
@@ -226,12 +226,12 @@ impl<L: LogStore> KvManager<L> {
     /// Writes a value at a key for a thread's branch. RmFail, NotAssociated, RollbackOnly, TooLong, Locked,
     /// TooManyWrites, in this order. A refusal changes nothing.
     pub fn put(&mut self, thread: u32, key: &[u8], value: &[u8]) -> Result<(), WorkError>
-        ensures ok { OnOk result (Calls self.old self.new ⊥
-            (λ before behind. Writes before behind thread key.now (Some value.now))) }
-        ensures err { IfErr result (λ e. Refuses self.old self.new
+        ensures ok { OnOk result (KvCalls self.old self.new ⊥
+            (λ before behind. WritesKey before behind thread key.now (Some value.now))) }
+        ensures err { IfErr result (λ e. RefusesWork self.old self.new
             (work_refusal self.old.store thread key.now (Some value.now) mode.Exclusive) e) }
     {
-        if self.has_failed() {
+        if self.failed() {
             return Err(WorkError::RmFail);
         }
         self.store.put(thread, key, value)
@@ -239,12 +239,12 @@ impl<L: LogStore> KvManager<L> {
 
     /// Deletes a key for a thread's branch, with the refusals of `put`.
     pub fn delete(&mut self, thread: u32, key: &[u8]) -> Result<(), WorkError>
-        ensures ok { OnOk result (Calls self.old self.new ⊥
-            (λ before behind. Writes before behind thread key.now None)) }
-        ensures err { IfErr result (λ e. Refuses self.old self.new
+        ensures ok { OnOk result (KvCalls self.old self.new ⊥
+            (λ before behind. WritesKey before behind thread key.now None)) }
+        ensures err { IfErr result (λ e. RefusesWork self.old self.new
             (work_refusal self.old.store thread key.now None mode.Exclusive) e) }
     {
-        if self.has_failed() {
+        if self.failed() {
             return Err(WorkError::RmFail);
         }
         self.store.delete(thread, key)
@@ -253,10 +253,10 @@ impl<L: LogStore> KvManager<L> {
     /// Closes the manager; one that is not open stays so. RmFail: it has failed. Inval, Async: the flags.
     /// Proto: there is an association. A refusal changes nothing.
     pub fn close(&mut self, flags: Flags) -> Code
-        ensures { Calls self.old self.new (result ≡ Code.RmFail)
+        ensures { KvCalls self.old self.new (result ≡ Code.RmFail)
             (λ before behind. MovesTables before behind (λ old new. Closes old new flags.0 result)) }
     {
-        if self.has_failed() {
+        if self.failed() {
             return Code::RmFail;
         }
         self.store.close(flags)
@@ -272,12 +272,12 @@ impl<L: LogStore> KvManager<L> {
     ) -> Result<Code, AllocError>
         requires { is_work_verb verb ≡ true }
         ensures answer { IfOk result (λ answer. (wanted : Wanted)
-            → Calls self.old self.new (answer ≡ Code.RmFail)
+            → KvCalls self.old self.new (answer ≡ Code.RmFail)
             (λ before behind. MovesTables before behind
-            (λ old new. Answers wanted old new verb thread xid.now flags.0 answer))) }
-        ensures err { OnErr result ((leaves (legal verb flags.0) ≡ false) × SameManager self.old self.new) }
+            (λ old new. AnswersCall wanted old new verb thread xid.now flags.0 answer))) }
+        ensures err { OnErr result ((leaves (legal verb flags.0) ≡ false) × SameKv self.old self.new) }
     {
-        if self.has_failed() {
+        if self.failed() {
             return Ok(Code::RmFail);
         }
         self.store.work_call(verb, thread, xid, flags)
@@ -292,12 +292,12 @@ impl<L: LogStore> KvManager<L> {
         count: u32,
         flags: Flags,
     ) -> Result<Result<Vec<Xid>, Code>, AllocError>
-        ensures answer { IfOk result (λ answer. Calls self.old self.new (map_ok answer ≡ Err Code.RmFail)
+        ensures answer { IfOk result (λ answer. KvCalls self.old self.new (map_ok answer ≡ Err Code.RmFail)
             (λ before behind. MovesTables before behind
             (λ old new. Recovers old new thread count flags.0 (map_ok answer)))) }
-        ensures err { OnErr result (SameManager self.old self.new) }
+        ensures err { OnErr result (SameKv self.old self.new) }
     {
-        if self.has_failed() {
+        if self.failed() {
             return Ok(Err(Code::RmFail));
         }
         self.store.recover(thread, count, flags)
@@ -308,10 +308,10 @@ impl<L: LogStore> KvManager<L> {
     /// nothing, and RbRollback, after which a resumed association is gone.
     pub fn start(&mut self, thread: u32, xid: &Xid, flags: Flags) -> Result<Code, AllocError>
         ensures answer { IfOk result (λ answer. (wanted : Wanted)
-            → Calls self.old self.new (answer ≡ Code.RmFail)
+            → KvCalls self.old self.new (answer ≡ Code.RmFail)
             (λ before behind. MovesTables before behind
-            (λ old new. Answers wanted old new Verb.Start thread xid.now flags.0 answer))) }
-        ensures err { OnErr result (SameManager self.old self.new) }
+            (λ old new. AnswersCall wanted old new Verb.Start thread xid.now flags.0 answer))) }
+        ensures err { OnErr result (SameKv self.old self.new) }
     {
         self.work_call(Verb::Start, thread, xid, flags)
     }
@@ -321,11 +321,11 @@ impl<L: LogStore> KvManager<L> {
     /// RbRollback, after which the association is gone. With TMSUCCESS and with TMFAIL it takes no memory.
     pub fn end(&mut self, thread: u32, xid: &Xid, flags: Flags) -> Result<Code, AllocError>
         ensures answer { IfOk result (λ answer. (wanted : Wanted)
-            → Calls self.old self.new (answer ≡ Code.RmFail)
+            → KvCalls self.old self.new (answer ≡ Code.RmFail)
             (λ before behind. MovesTables before behind
-            (λ old new. Answers wanted old new Verb.End thread xid.now flags.0 answer))) }
+            (λ old new. AnswersCall wanted old new Verb.End thread xid.now flags.0 answer))) }
         ensures err { OnErr result ((leaves (legal Verb.End flags.0) ≡ false)
-            × SameManager self.old self.new) }
+            × SameKv self.old self.new) }
     {
         self.work_call(Verb::End, thread, xid, flags)
     }
@@ -334,9 +334,9 @@ impl<L: LogStore> KvManager<L> {
     /// of memory.
     pub(crate) fn begin_idle(&mut self, xid: &Xid) -> Result<bool, AllocError>
         requires up { self.old.log.sight.failed ≡ false }
-        ensures begun { IfOk result (λ begun. Calls self.old self.new ⊥ (λ before behind. MovesTables before behind
+        ensures begun { IfOk result (λ begun. KvCalls self.old self.new ⊥ (λ before behind. MovesTables before behind
             (λ old new. BeginsIdle old new xid.now begun))) }
-        ensures err { OnErr result (SameManager self.old self.new) }
+        ensures err { OnErr result (SameKv self.old self.new) }
     {
         self.store.begin_idle(xid)
     }
@@ -346,19 +346,19 @@ impl<L: LogStore> KvManager<L> {
     pub(crate) fn work_idle(&mut self, xid: &Xid, op: &Op) -> Result<bool, AllocError>
         requires up { self.old.log.sight.failed ≡ false }
         requires state { state_of self.old.store xid.now ≡ BranchState.S2 }
-        ensures ok { IfOk result (λ done. Calls self.old self.new ⊥
-            (λ before behind. WorksIdle before behind xid.now op.now done)) }
-        ensures err { OnErr result (SameManager self.old self.new) }
+        ensures ok { IfOk result (λ done. KvCalls self.old self.new ⊥
+            (λ before behind. KeyStoreWorksIdle before behind xid.now op.now done)) }
+        ensures err { OnErr result (SameKv self.old self.new) }
     {
         self.store.work_idle(xid, op)
     }
 
     /// What the manager restarts as after a crash that keeps N of the log's unforced bytes, and what it is to remember of
     /// what is left; what it remembered is gone. Memory. Exhausted: no boot comes after the last one.
-    fn ready(&mut self, keep: usize) -> Result<(Ready, Remembered), RestartError>
+    fn ready(&mut self, keep: usize) -> Result<(Ready, RememberedData), RestartError>
         ensures stays { self.new ≡ self.old }
         ensures ok { IfOk result (λ r. IsReady (left_by self.old.log.sight keep) r.0) }
-        ensures remembered { IfOk result (λ r. Remembers (left_by self.old.log.sight keep) r.1) }
+        ensures remembered { IfOk result (λ r. RemembersData (left_by self.old.log.sight keep) r.1) }
         ensures err { IfErr result (NotReady (left_by self.old.log.sight keep)) }
     {
         self.records_are_sound();
@@ -377,13 +377,13 @@ impl<L: LogStore> KvManager<L> {
         &mut self,
         keep: usize,
         ready: &mut Ready,
-        remembered: Remembered,
+        remembered: RememberedData,
     ) -> Result<(), RestartError>
         requires ready { IsReady (left_by self.old.log.sight keep) ready.old }
-        requires says { Remembers (left_by self.old.log.sight keep) remembered }
+        requires says { RemembersData (left_by self.old.log.sight keep) remembered }
         ensures ok { OnOk result (Restarted self.old self.new keep ready.old.in_doubt.items) }
         ensures listed { ready.new.in_doubt.items ≡ ready.old.in_doubt.items }
-        ensures err { IfErr result (NotRestarted self.old self.new keep) }
+        ensures err { IfErr result (KvNotRestarted self.old self.new keep) }
     {
         self.log
             .restart(keep, &ready.opened, remembered, self.alloc)?;
@@ -399,7 +399,7 @@ impl<L: LogStore> KvManager<L> {
     /// the manager has failed until it is restarted.
     pub fn restart(&mut self, keep: usize) -> Result<Vec<Xid>, RestartError>
         ensures ok { IfOk result (λ given. Restarted self.old self.new keep given.items) }
-        ensures err { IfErr result (NotRestarted self.old self.new keep) }
+        ensures err { IfErr result (KvNotRestarted self.old self.new keep) }
     {
         let (mut ready, remembered) = self.ready(keep)?;
         let reopened = self.reopen(keep, &mut ready, remembered);
@@ -435,7 +435,7 @@ impl<L: LogStore + Drop> KvManager<L> {
     /// boot. The errors are those of `restore`.
     pub fn create(store: L, process: ProcessId, alloc: Global) -> Result<Self, (RestoreError, L)>
         requires { L.bytes store ≡ [] }
-        ensures ok { IfOk result (λ manager. IsNew (sight_of manager)) }
+        ensures ok { IfOk result (λ manager. IsNewManager (sight_of manager)) }
         ensures form { IfOk result (λ manager. manager.log.sight.form ≡ log_form process kind.Manager) }
         ensures failures { IfOk result (λ manager. manager.log.sight.failures ≡ L.failures store) }
         ensures err { IfErr result (λ e. NotRestored L.bytes L.forced L.failures process store e.1 e.0) }

@@ -3,19 +3,19 @@
 ghost use Rattle.std.specs.Prelude.{◌≡◌, ◌≤◌, ◌∷◌, [], IfErr, IfOk, IfSome, OnOk, false, map};
 ghost use Rattle.log_text.specs.Made.{frame_record};
 ghost use Rattle.log_text.specs.Payloads.{record_size};
-ghost use Rattle.core_log.specs.Writes.{Writes};
-ghost use Rattle.rec_log.specs.Sights.{AreRecords, Breaks, IsRecord, NotRewritten, Restarts, Rewritten, left_by, records_of};
-ghost use Rattle.rec_log.specs.Trimming.{IsSettled, Trimmed, own_data, trim_of};
-ghost use Rattle.kv_core.specs.Remembered.{LeavesNow, Remembers};
-ghost use Rattle.kv_core.specs.Replays.{Fails};
+ghost use Rattle.log_writing.specs.Writes.{WritesRecord};
+ghost use Rattle.log_records.specs.Sights.{AreRecords, Breaks, IsRecord, NotRewritten, LogRestarts, Rewritten, left_by, records_of};
+ghost use Rattle.log_records.specs.Trimming.{StaysTrimmed, LogTrimmed, own_data, trim_of};
+ghost use Rattle.kv_state.specs.Remembered.{LeavesNow, RemembersData};
+ghost use Rattle.kv_state.specs.Replays.{ReplayFails};
 ghost use Rattle.kv_manager.specs.Restarts.{FailsToRestart};
 
-use core_log::write;
-use kv_core::{Remembered, ReplayError, Replayed};
+use kv_state::{RememberedData, ReplayError, Replayed};
+use log_records::{LogError, RecLog};
 use log_store::LogStore;
 use log_text::{Frame, HEADER_SIZE};
-use manager_model::RestartError;
-use rec_log::{LogError, RecLog};
+use log_writing::write;
+use resource_manager::RestartError;
 use std::alloc::{AllocError, Global};
 use std::marker::Model;
 use std::{mem, slice};
@@ -24,18 +24,18 @@ use std::{mem, slice};
 #[derive(Drop)]
 pub(crate) struct Front {
     pub(crate) size: usize,
-    pub(crate) remembered: Remembered,
+    pub(crate) remembered: RememberedData,
 }
 
 impl Front {
     /// The header alone. It takes no memory.
     fn header(alloc: Global) -> Front
         ensures size { result.size ≡ 5 }
-        ensures says { Remembers [] result.remembered }
+        ensures says { RemembersData [] result.remembered }
     {
         Front {
             size: HEADER_SIZE,
-            remembered: Remembered::nothing(alloc),
+            remembered: RememberedData::nothing(alloc),
         }
     }
 }
@@ -49,7 +49,7 @@ pub(crate) struct FrontedLog<L: LogStore> {
 }
 
 impl<L: LogStore> Model for FrontedLog<L> {
-    ghost use Rattle.rec_log.specs.Sights.{LogState};
+    ghost use Rattle.log_records.specs.Sights.{LogState};
     ghost use Rattle.kv_manager.specs.Remembered.{IsFrontOf};
 
     ghost Value = { LogState };
@@ -100,11 +100,11 @@ impl<L: LogStore> FrontedLog<L> {
         &mut self,
         keep: usize,
         alloc: Global,
-    ) -> Result<(Replayed, Remembered), ReplayError>
+    ) -> Result<(Replayed, RememberedData), ReplayError>
         ensures stays { self.new ≡ self.old }
         ensures leaves { IfOk result (λ r. LeavesNow (left_by self.old.sight keep) r.0) }
-        ensures remembered { IfOk result (λ r. Remembers (left_by self.old.sight keep) r.1) }
-        ensures err { IfErr result (Fails (left_by self.old.sight keep)) }
+        ensures remembered { IfOk result (λ r. RemembersData (left_by self.old.sight keep) r.1) }
+        ensures err { IfErr result (ReplayFails (left_by self.old.sight keep)) }
     {
         let Front { size, remembered } = mem::replace(&mut self.front, Front::header(alloc));
         let records = self.log.kept_after(size, keep, alloc)?;
@@ -117,7 +117,7 @@ impl<L: LogStore> FrontedLog<L> {
         requires sound { AreRecords self.old.sight.form.kind (map frame_record behind.now) }
         requires own { map frame_record behind.now ≡ own_data self.old.sight }
         ensures form { self.new.sight.form ≡ self.old.sight.form }
-        ensures ok { IfOk result (λ count. Trimmed self.old self.new (map frame_record behind.now) count) }
+        ensures ok { IfOk result (λ count. LogTrimmed self.old self.new (map frame_record behind.now) count) }
         ensures err { IfErr result (λ e. NotRewritten self.old self.new
             (trim_of self.old (map frame_record behind.now)) e) }
     {
@@ -127,7 +127,7 @@ impl<L: LogStore> FrontedLog<L> {
 
     /// How many records stand, if a trim would leave the log as it is.
     pub(crate) fn trimmed(&self) -> Option<usize>
-        ensures { IfSome result (λ count. IsSettled self.now count) }
+        ensures { IfSome result (λ count. StaysTrimmed self.now count) }
     {
         self.log.trimmed()
     }
@@ -148,7 +148,7 @@ impl<L: LogStore> FrontedLog<L> {
         requires room { record_size (frame_record frame.now) ≤ self.old.room }
         requires works { self.old.sight.failed ≡ false }
         requires sound { IsRecord self.old.sight.form.kind (frame_record frame.now) }
-        ensures ok { OnOk result (Writes self.old self.new (frame_record frame.now) forced) }
+        ensures ok { OnOk result (WritesRecord self.old self.new (frame_record frame.now) forced) }
         ensures err { IfErr result (λ e. (e ≡ LogError.Device)
             × Breaks self.old self.new (frame_record frame.now ∷ [])) }
     {
@@ -160,13 +160,13 @@ impl<L: LogStore> FrontedLog<L> {
         &mut self,
         keep: usize,
         opened: &Frame,
-        remembered: Remembered,
+        remembered: RememberedData,
         alloc: Global,
     ) -> Result<(), RestartError>
         requires sound { IsRecord self.old.sight.form.kind (frame_record opened.now) }
-        requires says { Remembers (left_by self.old.sight keep) remembered }
+        requires says { RemembersData (left_by self.old.sight keep) remembered }
         ensures form { self.new.sight.form ≡ self.old.sight.form }
-        ensures ok { OnOk result (Restarts self.old self.new keep (frame_record opened.now ∷ [])) }
+        ensures ok { OnOk result (LogRestarts self.old self.new keep (frame_record opened.now ∷ [])) }
         ensures err { IfErr result (λ e. FailsToRestart self.old self.new keep (frame_record opened.now) e) }
     {
         match self.log.restart(keep, slice::from_ref(opened), alloc) {

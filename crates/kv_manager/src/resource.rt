@@ -2,12 +2,12 @@
 
 use crate::manager::KvManager;
 use log_store::LogStore;
-use manager_model::{DecideError, ResourceManager, RestartError, TrimError};
+use protocol::{LogRecord, Op, Outcome};
+use resource_manager::{DecideError, ResourceManager, RestartError, TrimError};
 use std::alloc::AllocError;
-use tree_model::{LogRecord, Op, Outcome};
 use xa_assoc::WorkError;
+use xa_branch::Decision;
 use xa_codes::{Code, Flags};
-use xa_heur::Decision;
 use xa_tables::BranchState;
 use xa_xid::Xid;
 
@@ -20,8 +20,8 @@ impl<L: LogStore> ResourceManager for KvManager<L> {
         KvManager::boot(self)
     }
 
-    fn has_failed(&self) -> bool {
-        KvManager::has_failed(self)
+    fn failed(&self) -> bool {
+        KvManager::failed(self)
     }
 
     fn state(&self, xid: &Xid) -> BranchState {
@@ -113,7 +113,7 @@ impl<L: LogStore> ResourceManager for KvManager<L> {
     }
 
     fn records_are_in_order(&self) {
-        KvManager::records_are_ordered(self);
+        KvManager::records_are_in_order(self);
     }
 
     fn branches_are_listed_once(&self) {

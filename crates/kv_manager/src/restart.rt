@@ -1,27 +1,27 @@
 //! What the records of a log leave of a manager.
 
 ghost use Rattle.std.specs.Prelude.{◌≡◌, ◌<◌, ◌^◌, true, false, IfOk, IfErr, List, OnOk};
-ghost use Rattle.tree_model.specs.declared.records.LogRecord.{LogRecord as AnyRecord};
+ghost use Rattle.protocol.specs.declared.records.LogRecord.{LogRecord as AnyRecord};
 ghost use Rattle.xa_branch.specs.Branches.{in_doubt};
 ghost use Rattle.xa_assoc.specs.declared.states.States.{States as AnyStates};
 ghost use Rattle.xa_assoc.specs.Restored.{Restored};
-ghost use Rattle.kv_core.specs.Remembered.{LeavesNow, Remembers};
-ghost use Rattle.kv_core.specs.Stores.{IsTidy, Rebuilt};
-ghost use Rattle.tree_model.specs.declared.names.Kind.TheVariants as kind;
+ghost use Rattle.kv_state.specs.Remembered.{LeavesNow, RemembersData};
+ghost use Rattle.kv_state.specs.Stores.{IsTidy, Rebuilt};
+ghost use Rattle.protocol.specs.declared.names.Kind.TheVariants as kind;
 ghost use Rattle.log_text.specs.Made.{frame_record};
-ghost use Rattle.core_log.specs.Writes.{Writes};
-ghost use Rattle.rec_log.specs.Sights.{IsRecord, left_by};
-ghost use Rattle.kv_manager.specs.Restarts.{IsReady, LeavesNone, LeavesStore, NotBegun, NotRebuilt, NotStored, StartsOver, error_of, next_boot, opened, records_number};
+ghost use Rattle.log_writing.specs.Writes.{WritesRecord};
+ghost use Rattle.log_records.specs.Sights.{IsRecord, left_by};
+ghost use Rattle.kv_manager.specs.Restarts.{IsReady, LeavesNone, LeavesStore, NotBegun, KvNotRebuilt, NotStored, StartsOver, error_of, next_boot, opened, records_number};
 
 use crate::remembered::FrontedLog;
-use core_log::write;
-use kv_core::{KeyStore, Remembered, ReplayError, Replayed, replay};
+use kv_state::{KeyStore, RememberedData, ReplayError, Replayed, replay};
+use log_records::RecLog;
 use log_store::LogStore;
 use log_text::Frame;
-use rec_log::RecLog;
+use log_writing::write;
+use protocol::{LogRecord, Record};
 use std::alloc::{AllocError, Global};
 use thiserror::Error;
-use tree_model::{LogRecord, Record};
 use xa_xid::Xid;
 
 /// Why no manager stands over the records of a log that was opened.
@@ -127,7 +127,7 @@ fn store_of(replayed: Replayed, alloc: Global) -> Result<(KeyStore, u64), Record
     requires { (ls : List AnyRecord) × LeavesNow ls replayed }
     ensures ok { IfOk result (λ made. (ls : List AnyRecord) → LeavesNow ls replayed
         → LeavesStore ls made.0 made.1) }
-    ensures err { IfErr result (λ e. (ls : List AnyRecord) → LeavesNow ls replayed → NotRebuilt ls e) }
+    ensures err { IfErr result (λ e. (ls : List AnyRecord) → LeavesNow ls replayed → KvNotRebuilt ls e) }
 {
     let Some(boot) = next_boot(replayed.boot) else {
         drop(replayed);
@@ -144,7 +144,7 @@ fn store_of(replayed: Replayed, alloc: Global) -> Result<(KeyStore, u64), Record
 /// records are gone.
 pub fn rebuilt(records: Vec<LogRecord>, alloc: Global) -> Result<(KeyStore, u64), RecordsError>
     ensures ok { IfOk result (λ made. LeavesStore records.items made.0 made.1) }
-    ensures err { IfErr result (NotRebuilt records.items) }
+    ensures err { IfErr result (KvNotRebuilt records.items) }
 {
     match replay(records, alloc) {
         Ok(replayed) => store_of(replayed, alloc),
@@ -207,7 +207,7 @@ fn announced(store: &KeyStore, boot: u64, alloc: Global) -> Result<(Vec<Xid>, Fr
 fn ready_for(replayed: Replayed, alloc: Global) -> Result<Ready, RecordsError>
     requires { (ls : List AnyRecord) × LeavesNow ls replayed }
     ensures ok { IfOk result (λ ready. (ls : List AnyRecord) → LeavesNow ls replayed → IsReady ls ready) }
-    ensures err { IfErr result (λ e. (ls : List AnyRecord) → LeavesNow ls replayed → NotRebuilt ls e) }
+    ensures err { IfErr result (λ e. (ls : List AnyRecord) → LeavesNow ls replayed → KvNotRebuilt ls e) }
 {
     let (store, boot) = store_of(replayed, alloc)?;
     match announced(&store, boot, alloc) {
@@ -230,11 +230,11 @@ pub(crate) fn made_ready<L: LogStore>(
     log: &mut FrontedLog<L>,
     keep: usize,
     alloc: Global,
-) -> Result<(Ready, Remembered), RecordsError>
+) -> Result<(Ready, RememberedData), RecordsError>
     ensures stays { log.new ≡ log.old }
     ensures ok { IfOk result (λ r. IsReady (left_by log.old.sight keep) r.0) }
-    ensures remembered { IfOk result (λ r. Remembers (left_by log.old.sight keep) r.1) }
-    ensures err { IfErr result (NotRebuilt (left_by log.old.sight keep)) }
+    ensures remembered { IfOk result (λ r. RemembersData (left_by log.old.sight keep) r.1) }
+    ensures err { IfErr result (KvNotRebuilt (left_by log.old.sight keep)) }
 {
     match log.read(keep, alloc) {
         Ok((replayed, remembered)) => match ready_for(replayed, alloc) {
@@ -257,7 +257,7 @@ fn write_boot<L: LogStore>(
     requires fits { boot < 2 ^ 63 }
     requires works { log.old.sight.failed ≡ false }
     requires kind { log.old.sight.form.kind ≡ kind.Manager }
-    ensures ok { OnOk result (Writes log.old log.new (opened boot) true) }
+    ensures ok { OnOk result (WritesRecord log.old log.new (opened boot) true) }
     ensures err { IfErr result (NotBegun log.old log.new boot) }
     ensures form { log.new.sight.form ≡ log.old.sight.form }
 {

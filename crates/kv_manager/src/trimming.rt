@@ -1,23 +1,23 @@
 //! A manager's trim.
 
 ghost use Rattle.std.specs.Prelude.{◌≡◌, IfErr, IfOk, OnErr, OnOk, false, map};
-ghost use Rattle.tree_model.specs.declared.names.Kind.TheVariants as kind;
-ghost use Rattle.tree_model.specs.Store.{base_records, data_of};
+ghost use Rattle.protocol.specs.declared.names.Kind.TheVariants as kind;
+ghost use Rattle.protocol.specs.Store.{base_records, data_of};
 ghost use Rattle.log_text.specs.Made.{frame_record};
-ghost use Rattle.rec_log.specs.Sights.{AreRecords, NotRewritten, records_of};
-ghost use Rattle.rec_log.specs.Trimming.{IsSettled, Trimmed, trim_of};
-ghost use Rattle.tree_model.specs.LogNames.{unnamed};
-ghost use Rattle.kv_core.specs.Stores.{RebasesStore};
+ghost use Rattle.log_records.specs.Sights.{AreRecords, NotRewritten, records_of};
+ghost use Rattle.log_records.specs.Trimming.{StaysTrimmed, LogTrimmed, trim_of};
+ghost use Rattle.protocol.specs.LogNames.{unnamed};
+ghost use Rattle.kv_state.specs.Stores.{RebasesStore};
 ghost use Rattle.kv_manager.specs.Resources.{sight_of, trim_error};
-ghost use Rattle.manager_model.specs.Trimming.{NotTrimmed, Trims};
+ghost use Rattle.resource_manager.specs.Trimming.{ManagerNotTrimmed, ManagerTrims};
 
 use crate::manager::KvManager;
 use crate::remembered::FrontedLog;
-use kv_core::base_frames;
+use kv_state::base_frames;
+use log_records::LogError;
 use log_store::LogStore;
 use log_text::Frame;
-use manager_model::TrimError;
-use rec_log::LogError;
+use resource_manager::TrimError;
 use std::alloc::{AllocError, Global};
 
 /// Why a manager's log was not trimmed, where it was not written.
@@ -38,9 +38,9 @@ fn trim_again<L: LogStore>(
 ) -> Result<(), LogError>
     requires works { log.old.sight.failed ≡ false }
     requires managers { log.old.sight.form.kind ≡ kind.Manager }
-    requires settled { IsSettled log.old count }
+    requires settled { StaysTrimmed log.old count }
     ensures form { log.new.sight.form ≡ log.old.sight.form }
-    ensures ok { OnOk result (Trimmed log.old log.new
+    ensures ok { OnOk result (LogTrimmed log.old log.new
         (map unnamed (base_records (data_of (records_of log.old.sight.kept)))) count) }
     ensures err { IfErr result (λ e. NotRewritten log.old log.new
         (trim_of log.old (map unnamed (base_records (data_of (records_of log.old.sight.kept))))) e) }
@@ -65,11 +65,11 @@ impl<L: LogStore> KvManager<L> {
     /// Trims its log, and nothing else moves. Gives how many records remain. A log that its last trim left as it was is
     /// put in its own place, and neither it nor the data are read. The errors are those of `trim`.
     fn trim_log(&mut self) -> Result<usize, TrimError>
-        ensures ok { IfOk result (Trims (sight_of self.old) (sight_of self.new)) }
-        ensures err { IfErr result (NotTrimmed (sight_of self.old) (sight_of self.new)) }
+        ensures ok { IfOk result (ManagerTrims (sight_of self.old) (sight_of self.new)) }
+        ensures err { IfErr result (ManagerNotTrimmed (sight_of self.old) (sight_of self.new)) }
         ensures store { self.new.store ≡ self.old.store }
     {
-        if self.has_failed() {
+        if self.failed() {
             return Err(TrimError::Failed);
         }
         self.records_are_sound();
@@ -102,9 +102,9 @@ impl<L: LogStore> KvManager<L> {
     /// in its own place, and not read. Failed, Memory: nothing changed. Device: the log stands as it was or
     /// trimmed, and the manager has failed until a restart.
     pub fn trim(&mut self) -> Result<usize, TrimError>
-        ensures ok { IfOk result (Trims (sight_of self.old) (sight_of self.new)) }
+        ensures ok { IfOk result (ManagerTrims (sight_of self.old) (sight_of self.new)) }
         ensures data { OnOk result (RebasesStore self.old.store self.new.store) }
-        ensures err { IfErr result (NotTrimmed (sight_of self.old) (sight_of self.new)) }
+        ensures err { IfErr result (ManagerNotTrimmed (sight_of self.old) (sight_of self.new)) }
         ensures store { OnErr result (self.new.store ≡ self.old.store) }
     {
         let count = self.trim_log()?;

@@ -3,8 +3,8 @@ use Rattle.std.proofs.Common.{◌≡◌, ℕ, Bool, true, false, ◌&&◌, cond,
 use Rattle.std.proofs.lemmas.Grind.{common_steps}
 use Rattle.std.proofs.lemmas.Bool.Decides.{nat_tests}
 use Rattle.std.specs.Str.{bytes_eq}
-use Rattle.tree_model.specs.Records.{same_bytes}
-use Rattle.tree_model.specs.Store.{key_below}
+use Rattle.protocol.specs.Records.{same_bytes}
+use Rattle.protocol.specs.Store.{key_below}
 
 pub below_itself : (a : List ℕ) → key_below a a ≡ false
 unfolding key_below

@@ -2,8 +2,8 @@
 use Rattle.std.proofs.Common.{◌≡◌, ◌∙◌, ℕ, Bool, true, false, not, ◌&&◌, ◌||◌, cond, Option, None, Some, List, [], ◌∷◌, ◌++◌, refl, sym, ap, subst}
 use Rattle.std.proofs.lemmas.List.{append_assoc}
 use Rattle.std.specs.List.{list_any}
-use Rattle.tree_model.specs.Records.{same_bytes}
-use Rattle.tree_model.specs.Store.{key_below}
+use Rattle.protocol.specs.Records.{same_bytes}
+use Rattle.protocol.specs.Store.{key_below}
 use Rattle.kv_store.specs.Versions.{VersionTable, value_at}
 use Rattle.kv_store.proofs.Order.{below_both, below_either, same_is}
 use Rattle.kv_store.specs.Pairs.{found_in, is_behind, is_next, keys_rise, pair_if, pairs_at}

@@ -2,9 +2,9 @@
 use Rattle.std.proofs.Common.{◌≡◌, ℕ, Bool, true, false, ◌&&◌, cond, Option, None, Some, List, [], ◌∷◌, refl, sym, ap, ◌∙◌, subst, arith}
 use Rattle.std.proofs.lemmas.Grind.{common_steps}
 use Rattle.std.specs.Prelude.{unwrap_or}
-use Rattle.tree_model.specs.declared.records.Write.{Write}
-use Rattle.tree_model.specs.Records.{same_bytes}
-use Rattle.tree_model.specs.Store.{applied, key_below, set_key, with_pair, without_key}
+use Rattle.protocol.specs.declared.records.Write.{Write}
+use Rattle.protocol.specs.Records.{same_bytes}
+use Rattle.protocol.specs.Store.{applied, key_below, set_key, with_pair, without_key}
 use Rattle.kv_store.specs.Pairs.{WritesPairs, found_in, is_behind, keys_rise}
 use Rattle.kv_store.specs.Versions.{written}
 use Rattle.kv_store.proofs.Order.{below_both, below_either, below_itself, bytes_are_same, same_is, same_itself, same_other_way}

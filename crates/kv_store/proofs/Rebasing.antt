@@ -7,9 +7,9 @@ use Rattle.std.specs.Prelude.{is_none}
 use Rattle.std.specs.List.{AllByRecursion, IsDistinct}
 use Rattle.std.specs.Map.{keys_of, lookup}
 use Rattle.std.specs.Map.Calls.{RetainsPairs}
-use Rattle.key_tables.specs.Tables.{list_at, same_key, table_of}
+use Rattle.key_lists.specs.Tables.{list_at, same_key, table_of}
 use Rattle.kv_store.specs.declared.version.Version.{Version}
-use Rattle.kv_store.specs.Versions.{AreListedOnce, IsKept, KeyTable, has_any, kept_in, kept_of, last_after, none_above, rises_from, value_by}
+use Rattle.kv_store.specs.Versions.{AreListedOnce, IsVersions, KeyTable, has_any, kept_in, kept_of, last_after, none_above, rises_from, value_by}
 use Rattle.kv_store.proofs.Values.{none_above_later}
 
 -- The versions of one key.
@@ -123,7 +123,7 @@ module _ (es : List (Vec ℕ × Vec Version)) (u : KeyTable) (n : ℕ) (once : A
   at : (k : List ℕ) → list_at u k ≡ kept_of (list_at (table_of es) k)
   at k = ap (λ (t : KeyTable). list_at t k) kept ∙ kept_at (table_of es) (once_in es once) k
 
-  pub kept_rebased : (base : ℕ) → IsKept base n false (table_of es) → IsKept n n false u
+  pub kept_rebased : (base : ℕ) → IsVersions base n false (table_of es) → IsVersions n n false u
   kept_rebased base was = record {
     starts = omega arith;
     rises = λ k. ap (rises_from 0) (at k) ∙ rises_kept (list_at (table_of es) k);
@@ -134,7 +134,7 @@ module _ (es : List (Vec ℕ × Vec Version)) (u : KeyTable) (n : ℕ) (once : A
       all : (k : List ℕ) → none_above n (list_at u k) ≡ true
       all k = ap (none_above n) (at k) ∙ none_above_kept n (list_at (table_of es) k) (was.settled refl k)
 
-  pub values_stay : (base : ℕ) → IsKept base n false (table_of es) → (k : List ℕ)
+  pub values_stay : (base : ℕ) → IsVersions base n false (table_of es) → (k : List ℕ)
       → value_by n None (list_at u k) ≡ value_by n None (list_at (table_of es) k)
   values_stay base was k = ap (value_by n None) (at k)
       ∙ value_kept n (list_at (table_of es) k) (was.settled refl k)

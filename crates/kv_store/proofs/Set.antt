@@ -2,8 +2,8 @@
 use Rattle.std.proofs.Common.{◌≡◌, ◌∙◌, ◌+◌, ◌<◌, ◌&&◌, ◌++◌, ℕ, Bool, true, false, cond, None, Some, Option, List, [], ◌∷◌, map, length, take, get_or, refl, sym, ap}
 use Rattle.std.specs.Prelude.{is_some}
 use Rattle.std.proofs.lemmas.List.{map-append, take_more}
-use Rattle.tree_model.specs.declared.records.Write.{Write}
-use Rattle.tree_model.specs.Records.{same_bytes}
+use Rattle.protocol.specs.declared.records.Write.{Write}
+use Rattle.protocol.specs.Records.{same_bytes}
 use Rattle.kv_store.specs.Pairs.{ArePairsOf, AreSet, found_in, is_behind, keys_rise}
 use Rattle.kv_store.specs.Versions.{Sets, VersionTable, pair_write, value_at, value_by, written}
 use Rattle.kv_store.proofs.Order.{bytes_are_same, same_is, same_other_way}

@@ -9,9 +9,9 @@ use Rattle.std.specs.Cmp.Lexicographic.{slice_cmp}
 use Rattle.std.specs.List.{list_any}
 use Rattle.std.specs.List.Sorted.{IsPermutation, IsSorted}
 use Rattle.std.specs.Ordering.{is_lt, nat_cmp}
-use Rattle.tree_model.specs.Records.{same_bytes}
-use Rattle.tree_model.specs.Store.{key_below}
-use Rattle.key_tables.specs.Tables.{list_at, same_key, table_of}
+use Rattle.protocol.specs.Records.{same_bytes}
+use Rattle.protocol.specs.Store.{key_below}
+use Rattle.key_lists.specs.Tables.{list_at, same_key, table_of}
 use Rattle.std.specs.Global.{Vec}
 use Rattle.std.specs.Map.{lookup}
 use Rattle.std.specs.Prelude.{unwrap_or, ◌||◌, IfOk, Result, Ok, Err}

@@ -2,10 +2,10 @@
 use Rattle.std.proofs.Common.{◌≡◌, ℕ, ◌+◌, Bool, true, false, ◌||◌, cond, None, List, [], ◌∷◌, ◌++◌, subst, refl, sym, ap, ◌∙◌, arith, rules}
 use Rattle.std.proofs.lemmas.Grind.{common_steps}
 use Rattle.std.proofs.lemmas.List.Folds.{list_any-append}
-use Rattle.tree_model.specs.declared.records.Write.{Write}
-use Rattle.key_tables.specs.Tables.{Becomes, SameLists, list_at, same_key}
+use Rattle.protocol.specs.declared.records.Write.{Write}
+use Rattle.key_lists.specs.Tables.{Becomes, SameLists, list_at, same_key}
 use Rattle.kv_store.specs.declared.version.Version.{Version}
-use Rattle.kv_store.specs.Versions.{Adds, AddsFront, Applies, IsKept, Publishes, SameData, Sets, Stages, TakesBack, VersionTable, made, names_key, none_above, rises_from, up_to, value_at, value_by, written}
+use Rattle.kv_store.specs.Versions.{Adds, AddsFront, AppliesCommit, IsVersions, Publishes, SameData, Sets, Stages, TakesBack, VersionTable, made, names_key, none_above, rises_from, up_to, value_at, value_by, written}
 use Rattle.kv_store.proofs.Values.{made_go, made_none, none_above_later, none_above_made, rises_made, value_behind, value_front, value_later, value_made}
 
 abbrev pub Table : Type 0
@@ -156,7 +156,7 @@ taken_back t u v n ws settled some back k = by_test (names_key ws k) refl
     by_test false e = back.others k e ∙ some.adds k ∙ ap (λ vs. list_at t k ++ vs)
         (made_none (n + 1) some.done k (none_done e)) ∙ append_none (list_at t k)
 
-pub kept_same : (base n : ℕ) (t u : Table) → IsKept base n false t → SameLists t u → IsKept base n false u
+pub kept_same : (base n : ℕ) (t u : Table) → IsVersions base n false t → SameLists t u → IsVersions base n false u
 kept_same base n t u kept stays = record {
   starts = kept.starts;
   rises = λ k. ap (λ vs. rises_from 0 vs) (stays k) ∙ kept.rises k;
@@ -164,8 +164,8 @@ kept_same base n t u kept stays = record {
   next = λ k. ap (none_above (n + 1)) (stays k) ∙ kept.next k;
 }
 
-pub kept_staged : (base n : ℕ) (t u : Table) (ws : List Write) → IsKept base n false t → Adds t u (n + 1) ws
-    → IsKept base n true u
+pub kept_staged : (base n : ℕ) (t u : Table) (ws : List Write) → IsVersions base n false t → Adds t u (n + 1) ws
+    → IsVersions base n true u
 kept_staged base n t u ws kept adds = record {
   starts = kept.starts;
   rises = λ k. ap (λ vs. rises_from 0 vs) (adds k)
@@ -174,7 +174,7 @@ kept_staged base n t u ws kept adds = record {
   next = λ k. ap (none_above (n + 1)) (adds k) ∙ none_above_made (n + 1) (list_at t k) ws k (kept.next k);
 }
 
-pub stages : (s s' : VersionTable) (ws : List Write) → IsKept s.base s.count false s.versions
+pub stages : (s s' : VersionTable) (ws : List Write) → IsVersions s.base s.count false s.versions
     → s'.base ≡ s.base → s'.count ≡ s.count → s'.is_staged ≡ true
     → Adds s.versions s'.versions (s.count + 1) ws → Stages s s' ws
 stages s s' ws kept base count staged adds = record {
@@ -199,7 +199,7 @@ same_data s s' base count staged stays = record {
   values = λ n k. ap (value_by n None) (stays k);
 }
 
-pub applies : (s t u : VersionTable) (ws : List Write) → Stages s t ws → Publishes t u → Applies s u ws
+pub applies : (s t u : VersionTable) (ws : List Write) → Stages s t ws → Publishes t u → AppliesCommit s u ws
 applies s t u ws staged seen = record {
   base = seen.base ∙ staged.base;
   count = seen.count ∙ ap (λ n. n + 1) staged.count;
@@ -219,7 +219,7 @@ same_lists t u k one l = by_test (same_key k l) refl
 
 -- a table that has been filled from nothing
 pub kept_filled : (n : ℕ) (t u : Table) (ws : List Write) → ((k : List ℕ) → list_at t k ≡ []) → Adds t u n ws
-    → IsKept n n false u
+    → IsVersions n n false u
 unfolding rises_from
 kept_filled n t u ws nothing adds = record {
   starts = omega arith;
@@ -240,8 +240,8 @@ pub adds_one : (t u : Table) (n : ℕ) (w : Write)
 adds_one t u n w one =
     adding_ends t u n (w ∷ []) (adding_goes_on t t u n (w ∷ []) w [] (adding_begins t n (w ∷ [])) one)
 
-pub kept_set : (base n : ℕ) (t u : Table) (ws : List Write) → IsKept base n false t
-    → Adds t u n ws → IsKept base n false u
+pub kept_set : (base n : ℕ) (t u : Table) (ws : List Write) → IsVersions base n false t
+    → Adds t u n ws → IsVersions base n false u
 kept_set base n t u ws kept adds = record {
   starts = kept.starts;
   rises = λ k. ap (rises_from 0) (adds k) ∙ rises_made n 0 (list_at t k) ws k (kept.rises k)
@@ -253,7 +253,7 @@ kept_set base n t u ws kept adds = record {
     all : (k : List ℕ) → none_above n (list_at u k) ≡ true
     all k = ap (none_above n) (adds k) ∙ none_above_made n (list_at t k) ws k (kept.settled refl k)
 
-pub sets : (s s' : VersionTable) (w : Write) → IsKept s.base s.count false s.versions
+pub sets : (s s' : VersionTable) (w : Write) → IsVersions s.base s.count false s.versions
     → s'.base ≡ s.base → s'.count ≡ s.count → s'.is_staged ≡ false
     → Adds s.versions s'.versions s.count (w ∷ []) → Sets s s' w
 sets s s' w kept base count unstaged adds = record {

@@ -3,7 +3,7 @@ use Rattle.std.proofs.Common.{◌≡◌, ℕ, zero, suc, ◌+◌, ◌-◌, ◌�
 use Rattle.std.proofs.lemmas.Grind.{common_steps}
 use Rattle.std.proofs.lemmas.Bool.Decides.{nat_tests}
 use Rattle.std.specs.List.Sorted.{IsPartitionedBy}
-use Rattle.tree_model.specs.declared.records.Write.{Write}
+use Rattle.protocol.specs.declared.records.Write.{Write}
 use Rattle.kv_store.specs.declared.version.Version.{Version}
 use Rattle.kv_store.specs.Versions.{IsPlace, is_up_to, made, names_key, none_above, rises_from, up_to, value_by, written}
 

@@ -2,9 +2,9 @@
 use Rattle.std.specs.Prelude.{◌≡◌, ℕ, Bool, true, false, ◌&&◌, if◌then◌else◌, Option, Some, None, List, [], ◌∷◌, ◌++◌, map}
 use Rattle.std.specs.List.{list_any}
 use Rattle.std.specs.Map.{lookup}
-use Rattle.tree_model.specs.declared.records.Write.{Write}
-use Rattle.tree_model.specs.Records.{same_bytes}
-use Rattle.tree_model.specs.Store.{applied, key_below}
+use Rattle.protocol.specs.declared.records.Write.{Write}
+use Rattle.protocol.specs.Records.{same_bytes}
+use Rattle.protocol.specs.Store.{applied, key_below}
 use Rattle.kv_store.specs.Versions.{VersionTable, pair_write, value_at, written}
 
 -- the value of a key

@@ -4,8 +4,8 @@ use Rattle.std.specs.Global.{Vec}
 use Rattle.std.specs.List.{IsDistinct, list_any, list_all}
 use Rattle.std.specs.Map.{keys_of}
 use Rattle.std.specs.List.Sorted.{IsPartitionPoint}
-use Rattle.key_tables.specs.Tables.{Becomes, list_at, same_key}
-use Rattle.tree_model.specs.declared.records.Write.{Write}
+use Rattle.key_lists.specs.Tables.{Becomes, list_at, same_key}
+use Rattle.protocol.specs.declared.records.Write.{Write}
 use Rattle.kv_store.specs.declared.version.Version.{Version}
 
 -- the count of the base and of the last commit, whether writes are staged, and each key's versions, rising by
@@ -59,7 +59,7 @@ pub record Publishes (old new : VersionTable) : Type 0 where
   pub values : (n : ℕ) (k : List ℕ) → value_at new n k ≡ value_at old n k
 
 -- a commit: each key has what the writes leave it, and what it was after each commit before
-pub record Applies (old new : VersionTable) (ws : List Write) : Type 0 where
+pub record AppliesCommit (old new : VersionTable) (ws : List Write) : Type 0 where
   pub base : new.base ≡ old.base
   pub count : new.count ≡ old.count + 1
   pub is_staged : new.is_staged ≡ false
@@ -147,7 +147,7 @@ pub record TakesBack (old new : KeyTable) (n : ℕ) (ws : List Write) : Type 0 w
   pub others : (k : List ℕ) → names_key ws k ≡ false → list_at new k ≡ list_at old k
 
 -- the versions rise, and none is of a later commit than the last, or the next where its writes are staged
-pub record IsKept (base count : ℕ) (is_staged : Bool) (t : KeyTable) : Type 0 where
+pub record IsVersions (base count : ℕ) (is_staged : Bool) (t : KeyTable) : Type 0 where
   pub starts : base ≤ count
   pub rises : (k : List ℕ) → rises_from 0 (list_at t k) ≡ true
   pub settled : is_staged ≡ false → (k : List ℕ) → none_above count (list_at t k) ≡ true

@@ -5,8 +5,8 @@ ghost use Rattle.kv_store.specs.Pairs.{AreKeysOf, ArePairsOf, is_next, pair_if, 
 ghost use Rattle.kv_store.specs.Versions.{value_at};
 
 use crate::versions::Versions;
+use protocol::Bytes;
 use std::alloc::{AllocError, Global};
-use tree_model::Bytes;
 
 /// The bytes of each of these keys.
 fn bytes_of(keys: &[Vec<u8>], alloc: Global) -> Result<Vec<&[u8]>, AllocError>

@@ -1,7 +1,7 @@
 //! Laws of the data as pairs.
 
 ghost use Rattle.std.specs.Prelude.{◌≡◌, ℕ, List, true};
-ghost use Rattle.tree_model.specs.declared.records.Write.{Write as AnyWrite};
+ghost use Rattle.protocol.specs.declared.records.Write.{Write as AnyWrite};
 ghost use Rattle.kv_store.specs.Pairs.{ArePairsOfValues, WritesPairs, keys_rise};
 
 /// Where the keys rise, writes leave pairs whose keys rise, and each key has what the writes leave it.

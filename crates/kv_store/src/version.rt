@@ -3,7 +3,7 @@
 ghost use Rattle.std.specs.Prelude.{◌≡◌, None, option_map, true};
 ghost use Rattle.kv_store.specs.Versions.{IsPlace, has_any, is_up_to, kept_of, rises_from, up_to, value_by};
 
-use tree_model::Bytes;
+use protocol::Bytes;
 
 /// What a key was from a commit on: a value, or nothing.
 #[derive(Drop)]

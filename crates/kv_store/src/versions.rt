@@ -1,13 +1,13 @@
 //! The versions of all keys.
 
 ghost use Rattle.std.specs.Prelude.{◌≡◌, ◌≤◌, ◌<◌, ◌+◌, ◌^◌, ◌⊎◌, ◌++◌, ◌∷◌, ℕ, List, [], true, false, IfOk, OnOk, OnErr, None, option_map};
-ghost use Rattle.key_tables.specs.Tables.{SameLists, list_at, table_of};
+ghost use Rattle.key_lists.specs.Tables.{SameLists, list_at, table_of};
 ghost use Rattle.kv_store.specs.Pairs.{ArePairsOf, AreSet, keys_rise};
 ghost use Rattle.kv_store.specs.Versions.{
   Adds,
   AddsFront,
   AddsVersion,
-  Applies,
+  AppliesCommit,
   KeepsUpTo,
   Publishes,
   ReadsAt,
@@ -27,10 +27,10 @@ ghost use Rattle.kv_store.specs.Versions.{
 use crate::data_pairs::pairs_of;
 use crate::version::{Version, keep_last, keep_up_to, value_by};
 use indexmap::IndexMap;
+use protocol::{Bytes, Write};
 use std::alloc::{AllocError, Global};
 use std::marker::Model;
 use thiserror::Error;
-use tree_model::{Bytes, Write};
 
 /// What was N commits ago is not kept, or not yet.
 #[derive(Clone, Copy, Debug, PartialEq, Eq, Error)]
@@ -51,8 +51,8 @@ pub struct Versions {
 }
 
 impl Model for Versions {
-    ghost use Rattle.key_tables.specs.Tables.{table_of};
-    ghost use Rattle.kv_store.specs.Versions.{IsKept, VersionTable};
+    ghost use Rattle.key_lists.specs.Tables.{table_of};
+    ghost use Rattle.kv_store.specs.Versions.{IsVersions, VersionTable};
 
     ghost Value = { VersionTable };
 
@@ -63,7 +63,7 @@ impl Model for Versions {
       versions = table_of v.keys.entries;
     } };
 
-    ghost invariant = { λ v. IsKept v.base v.count v.is_staged (table_of v.keys.entries) };
+    ghost invariant = { λ v. IsVersions v.base v.count v.is_staged (table_of v.keys.entries) };
 }
 
 impl Versions {
@@ -146,7 +146,7 @@ impl Versions {
         value_by(self.versions(key), count)
     }
 
-    #[tactic(auto, using(key_tables::proofs::Tables::list_at_key), unfolding(crate::specs::Versions::rises_from))]
+    #[tactic(auto, using(key_lists::proofs::Tables::list_at_key), unfolding(crate::specs::Versions::rises_from))]
     fn versions(&self, key: &[u8]) -> &[Version]
         ensures versions { result.now ≡ list_at self.now.versions key.now }
         ensures rises { rises_from 0 result.now ≡ true }
@@ -212,7 +212,7 @@ impl Versions {
     pub fn apply(&mut self, writes: &[Write]) -> Result<(), AllocError>
         requires unstaged { self.old.is_staged ≡ false }
         requires fits { self.old.count + 1 < 2 ^ 63 }
-        ensures ok { OnOk result (Applies self.old self.new writes.now) }
+        ensures ok { OnOk result (AppliesCommit self.old self.new writes.now) }
         ensures err { OnErr result (SameData self.old self.new) }
     {
         self.stage(writes)?;

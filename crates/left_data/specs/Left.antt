@@ -1,11 +1,11 @@
 -- The data that a script leaves.
 use Rattle.std.specs.Prelude.{◌≡◌, ◌⊎◌, ℕ, Option, List}
-use Rattle.tree_model.specs.declared.events.Event.{Event}
-use Rattle.tree_model.specs.declared.names.ProcessId.{ProcessId}
-use Rattle.tree_model.specs.declared.trees.TreeEntry.{TreeEntry}
-use Rattle.link_script.specs.declared.script.ScriptError.TheVariants.{Fault}
-use Rattle.link_script.specs.declared.script.ScriptFault.{ScriptFault}
-use Rattle.logs_script.specs.declared.line.ProcessLog.{ProcessLog}
+use Rattle.protocol.specs.declared.events.Event.{Event}
+use Rattle.protocol.specs.declared.names.ProcessId.{ProcessId}
+use Rattle.protocol.specs.declared.trees.TreeProcess.{TreeProcess}
+use Rattle.tree_script.specs.declared.script.ScriptError.TheVariants.{Fault}
+use Rattle.tree_script.specs.declared.script.ScriptFault.{ScriptFault}
+use Rattle.log_script.specs.declared.line.ProcessLog.{ProcessLog}
 use Rattle.reopen_script.specs.Inputs.{IsReopenError, IsReopenScript}
 use Rattle.tree_world.specs.Worlds.{logs_at, state}
 use Rattle.tree_engine.specs.declared.run.Run.{Run}
@@ -20,7 +20,7 @@ pub record LeavesFrom (first : Run) (events : List Event) (text : List ℕ) : Ty
 
 -- the input is a script of a tree, over these logs or over empty ones, and its events leave this
 pub record LeavesData (input text : List ℕ) : Type 0 where
-  pub tree : List TreeEntry
+  pub tree : List TreeProcess
   pub logs : Option (List ProcessLog)
   pub events : List Event
   pub script : IsReopenScript input tree logs events
@@ -30,7 +30,7 @@ pub record LeavesData (input text : List ℕ) : Type 0 where
 
 -- the input is a script of a tree and of logs, one of which is damaged there
 pub record HasDamage (input : List ℕ) : Type 0 where
-  pub tree : List TreeEntry
+  pub tree : List TreeProcess
   pub logs : Option (List ProcessLog)
   pub events : List Event
   pub script : IsReopenScript input tree logs events

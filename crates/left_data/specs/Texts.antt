@@ -2,12 +2,12 @@
 use Rattle.std.specs.Prelude.{ℕ, List, [], ◌∷◌, ◌++◌, codes}
 use Rattle.std.specs.List.{flat_map}
 use Rattle.std.specs.Fmt.{decimal}
-use Rattle.tree_model.specs.declared.names.Kind.{Kind}
-use Rattle.tree_model.specs.declared.names.Kind.TheVariants.{Coordinator, Manager}
-use Rattle.tree_model.specs.declared.names.ProcessId.{ProcessId}
-use Rattle.tree_model.specs.declared.records.LogRecord.{LogRecord}
-use Rattle.tree_model.specs.declared.trees.TreeEntry.{TreeEntry}
-use Rattle.tree_model.specs.Store.{data_of}
+use Rattle.protocol.specs.declared.names.Kind.{Kind}
+use Rattle.protocol.specs.declared.names.Kind.TheVariants.{Coordinator, Manager}
+use Rattle.protocol.specs.declared.names.ProcessId.{ProcessId}
+use Rattle.protocol.specs.declared.records.LogRecord.{LogRecord}
+use Rattle.protocol.specs.declared.trees.TreeProcess.{TreeProcess}
+use Rattle.protocol.specs.Store.{data_of}
 use Rattle.run_notes.specs.Words.{bytes_text}
 
 -- the line of a key and its value at a process
@@ -24,11 +24,11 @@ kind_lines Coordinator q ls = []
 kind_lines Manager q ls = pairs_text q (data_of ls).pairs
 
 -- the lines of a process whose log has these records
-abbrev pub process_lines : TreeEntry → List LogRecord → List ℕ
+abbrev pub process_lines : TreeProcess → List LogRecord → List ℕ
 process_lines e ls = kind_lines e.kind e.id ls
 
 -- the lines of these processes, whose logs have these records, in order
-unfoldable pub data_lines : List TreeEntry → List (List LogRecord) → List ℕ
+unfoldable pub data_lines : List TreeProcess → List (List LogRecord) → List ℕ
 data_lines [] logs = []
 data_lines (e ∷ es) [] = []
 data_lines (e ∷ es) (ls ∷ logs) = process_lines e ls ++ data_lines es logs

@@ -7,16 +7,16 @@ ghost use Rattle.tree_world.specs.Worlds.{logs_at, state};
 use crate::lines::push_pairs;
 use crate::pairs::pairs_in;
 use log_store::MemoryStore;
+use protocol::{Kind, LogRecord, TreeProcess};
 use report_io::Failure;
 use std::alloc::Global;
-use tree_model::{Kind, LogRecord, TreeEntry};
 use tree_world::World;
 
 /// The lines of a process whose log has these records; a coordinator has none.
 fn push_process(
     alloc: Global,
     out: &mut Vec<u8>,
-    entry: &TreeEntry,
+    entry: &TreeProcess,
     records: Vec<LogRecord>,
 ) -> Result<(), Failure>
     ensures { OnOk result (out.new.items ≡ out.old.items ++ process_lines entry.now records.items) }
@@ -34,7 +34,7 @@ fn push_process(
 fn push_all(
     alloc: Global,
     out: &mut Vec<u8>,
-    entries: &[TreeEntry],
+    entries: &[TreeProcess],
     logs: Vec<Vec<LogRecord>>,
 ) -> Result<(), Failure>
     ensures { OnOk result (out.new.items ≡ out.old.items

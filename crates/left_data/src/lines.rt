@@ -3,10 +3,10 @@
 ghost use Rattle.std.specs.Prelude.{◌≡◌, ◌++◌, OnOk};
 ghost use Rattle.left_data.specs.Texts.{pair_line, pairs_text};
 
+use protocol::{Bytes, ProcessId};
 use run_notes::push_bytes;
 use std::alloc::{AllocError, Global};
 use trace_lines::{push, push_number};
-use tree_model::{Bytes, ProcessId};
 
 /// The line of a key and its value at a process.
 fn push_pair(

@@ -2,12 +2,12 @@
 
 ghost use Rattle.std.specs.Prelude.{◌≡◌, IfOk};
 ghost use Rattle.kv_store.specs.Pairs.{ArePairsOf};
-ghost use Rattle.tree_model.specs.Store.{data_of};
+ghost use Rattle.protocol.specs.Store.{data_of};
 
-use kv_core::{ReplayError, Replayed, replay};
+use kv_state::{ReplayError, Replayed, replay};
+use protocol::{Bytes, LogRecord};
 use report_io::Failure;
 use std::alloc::{AllocError, Global};
-use tree_model::{Bytes, LogRecord};
 
 /// The keys and values that replayed records leave, keys rising.
 fn pairs_of(replayed: &Replayed) -> Result<Vec<(Bytes, Bytes)>, AllocError>

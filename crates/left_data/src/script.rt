@@ -6,12 +6,12 @@ ghost use Rattle.tree_engine.specs.Runs.{HasCome};
 ghost use Rattle.tree_world.specs.Worlds.{state};
 
 use crate::left::data_left;
-use link_script::ScriptError;
+use protocol::Event;
 use reopen_script::read_reopen;
 use report_io::Failure;
 use std::alloc::Global;
 use tree_engine::{Run, opened};
-use tree_model::Event;
+use tree_script::ScriptError;
 
 /// Makes these events, and tells the data that they leave.
 fn data_after(alloc: Global, run: &mut Run, events: &[Event]) -> Result<Vec<u8>, Failure>

@@ -2,19 +2,19 @@
 use Rattle.std.proofs.Common.{◌≡◌, ◌∙◌, inl, inr, IfOk, ℕ, Bool, Result, Ok, Err, true, false, Some, None, List, [], ◌∷◌, ◌++◌, refl, sym, ap, subst, true≢false}
 use Rattle.std.specs.List.{flat_map}
 use Rattle.std.specs.Io.KnownBytes.{Consumes}
-use Rattle.tree_model.specs.declared.events.Reaction.{Reaction}
-use Rattle.tree_model.specs.declared.names.ProcessId.{ProcessId}
-use Rattle.tree_model.specs.Trees.{root_of}
-use Rattle.file_store.specs.declared.store.FileStore.{FileStore}
-use Rattle.file_store.specs.Stores.{file_bytes, file_failures, file_forced}
+use Rattle.protocol.specs.declared.events.Reaction.{Reaction}
+use Rattle.protocol.specs.declared.names.ProcessId.{ProcessId}
+use Rattle.protocol.specs.Trees.{root_of}
+use Rattle.log_file.specs.declared.store.FileStore.{FileStore}
+use Rattle.log_file.specs.Stores.{file_bytes, file_failures, file_forced}
 use Rattle.file_calls.specs.declared.file.CalledFile.{CalledFile}
-use Rattle.core_model.specs.States.{CoreState}
-use Rattle.node_lines.specs.declared.asked.Asked.{Asked}
-use Rattle.node_lines.specs.declared.asked.Asked.TheVariants as asked
+use Rattle.process_state.specs.States.{CoreState}
+use Rattle.node_lines.specs.declared.asked.NodeLine.{NodeLine}
+use Rattle.node_lines.specs.declared.asked.NodeLine.TheVariants as asked
 use Rattle.node_lines.specs.Asked.{asked_at}
 use Rattle.node_engine.specs.declared.run.Ended.{Ended}
 use Rattle.node_engine.specs.declared.run.Ended.TheVariants.{Input, Asked as EndAsked}
-use Rattle.node_engine.specs.Answers.{Answers, AnswersLine, Asks, NodeState}
+use Rattle.node_engine.specs.Answers.{AnswersAsked, AnswersLine, AsksLine, NodeState}
 use Rattle.node_engine.specs.Runs.{ClosesLog, EndsBy, EndsInOrder, Known, Served, Serves, Stand, line_of, stand}
 use Rattle.linked_node.specs.Turns.{Closed, Ends}
 
@@ -36,10 +36,10 @@ unfolding asked_at
 empty_asks root = refl
 
 -- a line without bytes changes nothing, whether it is text or not
-stays_by : (root : ProcessId) (old new : NodeState) (text : List ℕ) (a : Asked) → Asks root [] a → Answers a old new text
+stays_by : (root : ProcessId) (old new : NodeState) (text : List ℕ) (a : NodeLine) → AsksLine root [] a → AnswersAsked a old new text
     → new ≡ old
-stays_by root old new text a (inl (is, e)) h = (subst (λ (b : Asked). Answers b old new text) (e ∙ empty_asks root) h).0
-stays_by root old new text a (inr (is, e)) h = (subst (λ (b : Asked). Answers b old new text) e h).0
+stays_by root old new text a (inl (is, e)) h = (subst (λ (b : NodeLine). AnswersAsked b old new text) (e ∙ empty_asks root) h).0
+stays_by root old new text a (inr (is, e)) h = (subst (λ (b : NodeLine). AnswersAsked b old new text) e h).0
 
 stays : (old new : NodeState) (text : List ℕ) → AnswersLine [] old new text → new ≡ old
 stays old new text h = stays_by (root_of old.tree) old new text h.asked h.asks h.answers

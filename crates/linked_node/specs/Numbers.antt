@@ -12,10 +12,10 @@ failure_number Device = 23
 failure_number Exhausted = 24
 
 -- of an answer: it is there, or it waits for calls of the log's file
-abbrev pub IsTold : ℕ → Type 0
-IsTold n = (n ≡ 0) ⊎ (n ≡ 27)
+abbrev pub IsAnswerNumber : ℕ → Type 0
+IsAnswerNumber n = (n ≡ 0) ⊎ (n ≡ 27)
 
 -- of what is refused
-pub record IsRefused (n : ℕ) : Type 0 where
+pub record IsRefusalNumber (n : ℕ) : Type 0 where
   pub not_told : n ≡ 0 → ⊥
   pub not_waiting : n ≡ 27 → ⊥

@@ -2,8 +2,8 @@
 use Rattle.std.specs.Prelude.{◌≡◌, ◌≢◌, ◌≤◌, ◌++◌, ℕ, List, [], length, drop, Option, Some, None, true, false}
 use Rattle.script_words.specs.Steps.{same}
 use Rattle.log_store.specs.Stores.{Forces}
-use Rattle.file_store.specs.declared.store.FileStore.{FileStore}
-use Rattle.file_store.specs.Stores.{file_bytes, file_failures, file_forced}
+use Rattle.log_file.specs.declared.store.FileStore.{FileStore}
+use Rattle.log_file.specs.Stores.{file_bytes, file_failures, file_forced}
 use Rattle.file_calls.specs.declared.file.CalledFile.{CalledFile}
 use Rattle.node_lines.specs.Asked.{end_word}
 use Rattle.node_answers.specs.Texts.{ok_text}
@@ -12,9 +12,9 @@ use Rattle.node_engine.specs.declared.failure.NodeFailure.TheVariants as failure
 use Rattle.node_engine.specs.Answers.{AnswersLine, NodeState, TakesLine, state_of}
 use Rattle.node_engine.specs.Runs.{ClosesLog}
 use Rattle.linked_node.specs.declared.kept.Kept.{Kept}
-use Rattle.linked_node.specs.declared.kept.Life.{Life}
-use Rattle.linked_node.specs.declared.kept.Life.TheVariants.{Serves, Failed, Ended}
-use Rattle.linked_node.specs.Numbers.{IsTold, failure_number}
+use Rattle.linked_node.specs.declared.kept.KeptLife.{KeptLife}
+use Rattle.linked_node.specs.declared.kept.KeptLife.TheVariants.{Serves, Failed, Ended}
+use Rattle.linked_node.specs.Numbers.{IsAnswerNumber, failure_number}
 
 -- why a step failed: the calls of the file are asked for in it and made after it, and what is written goes to memory, so
 -- what fails of either is memory
@@ -26,12 +26,12 @@ told_of failure.Write = failure.Memory
 told_of failure.Exhausted = failure.Exhausted
 
 -- a line is answered
-abbrev pub Answered : List ℕ → Life → Life → List ℕ → Type 0
+abbrev pub Answered : List ℕ → KeptLife → KeptLife → List ℕ → Type 0
 Answered line (Serves old) (Serves new) text = AnswersLine line (state_of old.value) (state_of new.value) text
 Answered line _ _ text = ⊥
 
 -- a line is not answered, nor is any other from then on, for the reason of this number
-abbrev pub Unanswered : List ℕ → Life → Life → ℕ → Type 0
+abbrev pub Unanswered : List ℕ → KeptLife → KeptLife → ℕ → Type 0
 Unanswered line (Serves old) new number = (why : NodeFailure) × (s : NodeState)
     × TakesLine line (state_of old.value) s why × (new ≡ Failed (told_of why))
     × (number ≡ failure_number (told_of why))
@@ -49,12 +49,12 @@ pub record Ends (s : NodeState) : Type 0 where
   pub closed : Closed store
 
 -- a node has ended in order
-abbrev pub HasEnded : Life → Life → Type 0
+abbrev pub HasEnded : KeptLife → KeptLife → Type 0
 HasEnded (Serves old) new = (new ≡ Ended) × Ends (state_of old.value)
 HasEnded _ new = ⊥
 
 -- it has not, and no longer answers a line, for the reason of this number
-abbrev pub HasNotEnded : Life → Life → ℕ → Type 0
+abbrev pub HasNotEnded : KeptLife → KeptLife → ℕ → Type 0
 HasNotEnded (Serves old) new number = (why : NodeFailure) × (new ≡ Failed why) × (number ≡ failure_number why)
 HasNotEnded (Failed why) new number = (new ≡ Failed why) × (number ≡ failure_number why)
 HasNotEnded Ended new number = (new ≡ Ended) × (number ≡ 25)
@@ -62,20 +62,20 @@ HasNotEnded Ended new number = (new ≡ Ended) × (number ≡ 25)
 -- A line was answered, or it asked the node to end, and it has; or there is no answer. Or an earlier answer waits for
 -- calls of the file, and nothing was done.
 pub data Turned (line : List ℕ) (old new : Kept) (status : ℕ) : Type 0 where
-  answers : same line end_word ≡ false → IsTold status → Answered line old.life new.life new.answer.items
+  answers : same line end_word ≡ false → IsAnswerNumber status → Answered line old.life new.life new.answer.items
       → Turned line old new status
   refuses : same line end_word ≡ false → Unanswered line old.life new.life status → new.answer.items ≡ []
       → Turned line old new status
-  ends : same line end_word ≡ true → IsTold status → HasEnded old.life new.life → new.answer.items ≡ ok_text
+  ends : same line end_word ≡ true → IsAnswerNumber status → HasEnded old.life new.life → new.answer.items ≡ ok_text
       → Turned line old new status
   fails : same line end_word ≡ true → HasNotEnded old.life new.life status → new.answer.items ≡ []
       → Turned line old new status
   waits : status ≡ 28 → new ≡ old → Turned line old new status
 
 -- how the last answer of a node is told: by its failure, or else at once or after calls of the file
-abbrev pub TellsBy : Life → ℕ → Type 0
+abbrev pub TellsBy : KeptLife → ℕ → Type 0
 TellsBy (Failed why) status = status ≡ failure_number why
-TellsBy _ status = IsTold status
+TellsBy _ status = IsAnswerNumber status
 
 -- a text is at the front of a room, if the room holds it
 abbrev pub Fills : (text old new : List ℕ) → Type 0

@@ -5,7 +5,7 @@ ghost use Rattle.node_engine.specs.Answers.{state_of};
 ghost use Rattle.node_answers.specs.Texts.{ok_text};
 ghost use Rattle.script_words.specs.Steps.{same};
 ghost use Rattle.node_lines.specs.Asked.{end_word};
-ghost use Rattle.linked_node.specs.Numbers.{IsTold};
+ghost use Rattle.linked_node.specs.Numbers.{IsAnswerNumber};
 ghost use Rattle.linked_node.specs.Turns.{
   Answered,
   Closed as IsClosed,
@@ -23,20 +23,20 @@ ghost use Rattle.linked_node.specs.Turns.{
 
 use crate::numbers::{CALLS, DONE, ENDED, NO_CALL, WAITS, failure_number};
 use file_calls::{CalledFile, Calls};
-use file_store::FileStore;
+use log_file::FileStore;
 use node_answers::obeyed_text;
 use node_engine::{Nobody, NodeFailure, Serving, run_node};
 use node_lines::asks_end;
+use protocol::{Reaction, Sequence};
 use std::alloc::Global;
 use std::mem;
-use tree_model::{Reaction, Sequence};
 
 /// A node over a file whose calls somebody else makes.
 pub type FileNode = Serving<FileStore<CalledFile>>;
 
 /// How far a node is.
 #[derive(Drop)]
-pub enum Life {
+pub enum KeptLife {
     /// It answers lines.
     Serves(Box<FileNode>),
     /// It no longer answers a line, for this reason.
@@ -47,7 +47,7 @@ pub enum Life {
 
 /// A node with its last answer.
 pub struct Kept {
-    pub life: Life,
+    pub life: KeptLife,
     pub answer: Vec<u8>,
     pub calls: Calls,
 }
@@ -75,20 +75,20 @@ fn told_of(failure: NodeFailure) -> NodeFailure
 }
 
 /// Makes the answer to a line that does not ask the node to end. Err: by which number there is none.
-fn step(life: &mut Life, line: &[u8]) -> Result<Vec<u8>, u32>
+fn step(life: &mut KeptLife, line: &[u8]) -> Result<Vec<u8>, u32>
     ensures ok { IfOk result (λ text. Answered line.now life.old life.new text.items) }
     ensures err { IfErr result (Unanswered line.now life.old life.new) }
 {
     let failure = match life {
-        Life::Serves(node) => match node.answer(line) {
+        KeptLife::Serves(node) => match node.answer(line) {
             Ok(text) => return Ok(text),
             Err(failure) => failure,
         },
-        Life::Failed(failure) => return Err(failure_number(*failure)),
-        Life::Ended => return Err(ENDED),
+        KeptLife::Failed(failure) => return Err(failure_number(*failure)),
+        KeptLife::Ended => return Err(ENDED),
     };
     let why = told_of(failure);
-    *life = Life::Failed(why);
+    *life = KeptLife::Failed(why);
     Err(failure_number(why))
 }
 
@@ -156,19 +156,19 @@ fn end_node(alloc: Global, node: FileNode) -> Result<Vec<u8>, NodeFailure>
 fn let_go(_node: FileNode) {}
 
 /// Ends a node in order. Err: by which number it has not.
-fn end(alloc: Global, life: &mut Life) -> Result<Vec<u8>, u32>
+fn end(alloc: Global, life: &mut KeptLife) -> Result<Vec<u8>, u32>
     ensures ok { IfOk result (λ text. (text.items ≡ ok_text) × HasEnded life.old life.new) }
     ensures err { IfErr result (HasNotEnded life.old life.new) }
 {
-    let failure = match mem::replace(life, Life::Ended) {
-        Life::Serves(node) => match end_node(alloc, Box::into_inner(node)) {
+    let failure = match mem::replace(life, KeptLife::Ended) {
+        KeptLife::Serves(node) => match end_node(alloc, Box::into_inner(node)) {
             Ok(text) => return Ok(text),
             Err(failure) => told_of(failure),
         },
-        Life::Failed(failure) => failure,
-        Life::Ended => return Err(ENDED),
+        KeptLife::Failed(failure) => failure,
+        KeptLife::Ended => return Err(ENDED),
     };
-    *life = Life::Failed(failure);
+    *life = KeptLife::Failed(failure);
     Err(failure_number(failure))
 }
 
@@ -192,7 +192,7 @@ pub fn release(_kept: Box<Kept>) {}
 impl Kept {
     /// Whether the answer waits for calls of the file.
     fn said(&self) -> u32
-        ensures { IsTold result }
+        ensures { IsAnswerNumber result }
     {
         if self.calls.len() == 0 { DONE } else { CALLS }
     }
@@ -209,7 +209,7 @@ impl Kept {
     /// Keeps what a line was answered by, or by which number it was not.
     fn keep(&mut self, made: Result<Vec<u8>, u32>) -> u32
         ensures life { self.new.life ≡ self.old.life }
-        ensures ok { IfOk made (λ text. (self.new.answer.items ≡ text.items) × IsTold result) }
+        ensures ok { IfOk made (λ text. (self.new.answer.items ≡ text.items) × IsAnswerNumber result) }
         ensures err { IfErr made (λ number. (self.new.answer.items ≡ []) × (result ≡ number)) }
     {
         match made {
@@ -272,8 +272,8 @@ impl Kept {
         ensures { TellsBy self.now.life result }
     {
         match &self.life {
-            Life::Failed(failure) => failure_number(*failure),
-            Life::Serves(_) | Life::Ended => self.said(),
+            KeptLife::Failed(failure) => failure_number(*failure),
+            KeptLife::Serves(_) | KeptLife::Ended => self.said(),
         }
     }
 
@@ -289,7 +289,7 @@ impl Kept {
             self.calls.pass();
             return DONE;
         }
-        self.life = Life::Failed(NodeFailure::Device);
+        self.life = KeptLife::Failed(NodeFailure::Device);
         self.forget();
         failure_number(NodeFailure::Device)
     }

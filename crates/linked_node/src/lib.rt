@@ -7,6 +7,6 @@ mod kept;
 mod numbers;
 mod opening;
 
-pub use kept::{FileNode, Kept, Life, copy_into, release};
+pub use kept::{FileNode, Kept, KeptLife, copy_into, release};
 pub use numbers::{CALLS, DONE, FOREIGN, HOW, IO, MEMORY, NO_CALL, NO_CASE};
 pub use opening::opened;

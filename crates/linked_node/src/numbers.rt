@@ -3,9 +3,9 @@
 ghost use Rattle.std.specs.Prelude.{◌≡◌};
 ghost use Rattle.linked_node.specs.Numbers.{failure_number as number_of_failure};
 
-use file_store::OpenError;
+use log_file::FileOpenError;
 use node_engine::{NodeFailure, StartError};
-use tree_node::ReopenError;
+use tree_process::ProcessReopenError;
 
 /// The call was made.
 pub const DONE: u32 = 0;
@@ -66,16 +66,16 @@ pub fn failure_number(failure: NodeFailure) -> u32
 }
 
 /// The number of why the bytes of a file are no log's.
-pub fn file_number(error: OpenError) -> u32 {
+pub fn file_number(error: FileOpenError) -> u32 {
     match error {
-        OpenError::Memory => 21,
-        OpenError::Busy => 5,
-        OpenError::Missing => 6,
-        OpenError::Exists => 7,
-        OpenError::Damaged => 8,
-        OpenError::Io(_) => IO,
-        OpenError::NoFile => 14,
-        OpenError::Linked => 15,
+        FileOpenError::Memory => 21,
+        FileOpenError::Busy => 5,
+        FileOpenError::Missing => 6,
+        FileOpenError::Exists => 7,
+        FileOpenError::Damaged => 8,
+        FileOpenError::Io(_) => IO,
+        FileOpenError::NoFile => 14,
+        FileOpenError::Linked => 15,
     }
 }
 
@@ -84,9 +84,9 @@ pub fn file_number(error: OpenError) -> u32 {
 pub fn start_number(error: StartError) -> u32 {
     match error {
         StartError::Stranger => 10,
-        StartError::Reopen(ReopenError::Damaged(_)) => 11,
-        StartError::Reopen(ReopenError::Unfit) => 12,
-        StartError::Reopen(ReopenError::OldFormat) => 13,
-        StartError::Reopen(ReopenError::Memory | ReopenError::Device) => MEMORY,
+        StartError::Reopen(ProcessReopenError::Damaged(_)) => 11,
+        StartError::Reopen(ProcessReopenError::Unfit) => 12,
+        StartError::Reopen(ProcessReopenError::OldFormat) => 13,
+        StartError::Reopen(ProcessReopenError::Memory | ProcessReopenError::Device) => MEMORY,
     }
 }

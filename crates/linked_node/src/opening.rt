@@ -1,24 +1,24 @@
 //! Opening a node over the bytes of its log's file.
 
 ghost use Rattle.std.specs.Prelude.{◌≡◌, IfOk, length};
-ghost use Rattle.file_store.specs.Stores.{file_bytes, file_failures, file_forced};
+ghost use Rattle.log_file.specs.Stores.{file_bytes, file_failures, file_forced};
 ghost use Rattle.linked_node.specs.Openings.{Boxes, FoundIn, IsTreeOf, Opened, ServesAfter};
 
-use crate::kept::{FileNode, Kept, Life};
+use crate::kept::{FileNode, Kept, KeptLife};
 use crate::numbers::{
     EXHAUSTED, MEMORY, NO_PROCESS, TREE, TREE_TEXT, TREE_UTF8, failure_number, file_number,
     start_number,
 };
 use file_calls::{CalledFile, Calls};
-use file_store::{FileStore, found_in};
-use link_script::{ScriptError, ScriptFault, read_front};
+use log_file::{FileStore, found_in};
+use log_records::RecLog;
 use log_store::MemoryStore;
 use node_engine::{StartError, start};
-use rec_log::RecLog;
+use protocol::{ProcessId, Reaction, Tree, TreeProcess};
 use std::alloc::{AllocError, Global};
 use std::io::ErrorKind;
-use tree_model::{ProcessId, Reaction, Tree, TreeEntry};
-use tree_node::ReopenError;
+use tree_process::ProcessReopenError;
+use tree_script::{ScriptError, ScriptFault, read_front};
 
 /// The number of why a text is no tree's.
 fn tree_number(error: ScriptError) -> u32 {
@@ -106,7 +106,7 @@ fn kept_of(
     ensures { IfOk result (λ kept. Boxes node.value answer.items kept.value) }
 {
     let kept = Kept {
-        life: Life::Serves(node),
+        life: KeptLife::Serves(node),
         answer,
         calls,
     };
@@ -135,12 +135,12 @@ fn shown(
 const FIRST_FRAME: usize = 5;
 
 /// Whether these bytes begin as the log of this process: with a header and a record of its own.
-fn begins_as(alloc: Global, entry: &TreeEntry, bytes: &[u8]) -> Result<bool, AllocError> {
+fn begins_as(alloc: Global, entry: &TreeProcess, bytes: &[u8]) -> Result<bool, AllocError> {
     let copy = MemoryStore::from_bytes(Vec::from_slice(alloc, bytes)?);
     match RecLog::open(copy, entry.id, entry.kind, alloc) {
         Ok(_) => Ok(true),
-        Err((rec_log::OpenError::Damaged(place), _)) => Ok(place > FIRST_FRAME),
-        Err((rec_log::OpenError::Memory, _)) => Err(AllocError),
+        Err((log_records::LogOpenError::Damaged(place), _)) => Ok(place > FIRST_FRAME),
+        Err((log_records::LogOpenError::Memory, _)) => Err(AllocError),
         Err((_, _)) => Ok(false),
     }
 }
@@ -149,7 +149,7 @@ fn begins_as(alloc: Global, entry: &TreeEntry, bytes: &[u8]) -> Result<bool, All
 fn is_of_another(
     alloc: Global,
     tree: &Tree,
-    me: &TreeEntry,
+    me: &TreeProcess,
     bytes: &[u8],
 ) -> Result<bool, AllocError> {
     for entry in tree.entries() {
@@ -161,8 +161,14 @@ fn is_of_another(
 }
 
 /// The number of why no node was started over the log in this file.
-fn not_started(alloc: Global, tree: &Tree, me: &TreeEntry, file: &[u8], error: StartError) -> u32 {
-    let StartError::Reopen(ReopenError::Damaged(_)) = error else {
+fn not_started(
+    alloc: Global,
+    tree: &Tree,
+    me: &TreeProcess,
+    file: &[u8],
+    error: StartError,
+) -> u32 {
+    let StartError::Reopen(ProcessReopenError::Damaged(_)) = error else {
         return start_number(error);
     };
     let Ok(found) = found_in(alloc, Some(file)) else {

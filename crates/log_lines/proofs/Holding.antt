@@ -1,14 +1,14 @@
 -- What a log holds, as it was found.
 use Rattle.std.proofs.Common.{◌≡◌, ℕ, List, [], ◌∷◌, ◌++◌, map, refl, ap, ◌∙◌, append-nil, append_assoc}
-use Rattle.tree_model.specs.declared.names.ProcessId.{ProcessId}
-use Rattle.tree_model.specs.declared.records.LogRecord.{LogRecord}
+use Rattle.protocol.specs.declared.names.ProcessId.{ProcessId}
+use Rattle.protocol.specs.declared.records.LogRecord.{LogRecord}
 use Rattle.log_text.specs.declared.form.LogForm.{LogForm}
 use Rattle.log_rules.specs.order.Logs.{LogReading, Whole, read_log}
-use Rattle.rec_log.specs.declared.opening.Found.{Found}
-use Rattle.rec_log.specs.declared.opening.Found.TheVariants.{Empty, Sound}
-use Rattle.rec_log.specs.Openings.{IsFound}
-use Rattle.logs_script.specs.Places.{Placed, placed_records}
-use Rattle.logs_script.proofs.PlaceLaws.{places_tell}
+use Rattle.log_records.specs.declared.opening.StoreText.{StoreText}
+use Rattle.log_records.specs.declared.opening.StoreText.TheVariants.{Empty, Sound}
+use Rattle.log_records.specs.Openings.{IsLogFound}
+use Rattle.log_script.specs.Places.{Placed, placed_records}
+use Rattle.log_script.proofs.PlaceLaws.{places_tell}
 use Rattle.log_lines.specs.Held.{heading_text, held_text, records_text, tail_text, torn_text}
 
 nothing_placed : (xs : List Placed) → map (λ x. x.read) xs ≡ [] → xs ≡ []
@@ -40,7 +40,7 @@ held_some p bytes ls torn is = ap (λ r. heading_text p.process ++ records_text 
 
 -- What was found of a log that is sound.
 
-pub held_empty : (p : LogForm) (bytes : List ℕ) (found : Found) → IsFound p bytes found
+pub held_empty : (p : LogForm) (bytes : List ℕ) (found : StoreText) → IsLogFound p bytes found
     → found ≡ Empty → held_text p bytes ≡ heading_text p.process
 held_empty p bytes Empty h e = held_none p bytes h.1
 held_empty p bytes (Sound torn) h e = absurd (cc)
@@ -48,8 +48,8 @@ held_empty p bytes (Sound torn) h e = absurd (cc)
 sound_torn : (a b : ℕ) → Sound a ≡ Sound b → a ≡ b
 sound_torn a b e = cc
 
-pub held_sound : (p : LogForm) (bytes : List ℕ) (found : Found) (torn : ℕ)
-    → IsFound p bytes found → found ≡ Sound torn
+pub held_sound : (p : LogForm) (bytes : List ℕ) (found : StoreText) (torn : ℕ)
+    → IsLogFound p bytes found → found ≡ Sound torn
     → held_text p bytes ≡ heading_text p.process ++ records_text (placed_records p bytes) ++ torn_text torn
 held_sound p bytes Empty torn h e = absurd (cc)
 held_sound p bytes (Sound found) torn h e =

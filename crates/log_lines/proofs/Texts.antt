@@ -1,8 +1,8 @@
 -- The text of records, one by one.
 use Rattle.std.proofs.Common.{◌≡◌, ℕ, List, [], ◌∷◌, ◌++◌, sym, ap, ◌∙◌, append-nil, append_assoc}
-use Rattle.tree_model.specs.declared.records.LogRecord.{LogRecord}
+use Rattle.protocol.specs.declared.records.LogRecord.{LogRecord}
 use Rattle.log_lines.specs.Held.{placed_text, records_text}
-use Rattle.logs_script.specs.Places.{Placed, placed}
+use Rattle.log_script.specs.Places.{Placed, placed}
 
 pub text_ends : (out total : List ℕ) (xs : List Placed) → xs ≡ [] → out ++ records_text xs ≡ total
     → out ≡ total

@@ -2,13 +2,13 @@
 use Rattle.std.specs.Prelude.{ℕ, ◌==◌, if◌then◌else◌, List, [], ◌++◌, codes}
 use Rattle.std.specs.List.{flat_map}
 use Rattle.std.specs.Fmt.{decimal}
-use Rattle.tree_model.specs.declared.names.ProcessId.{ProcessId}
-use Rattle.tree_model.specs.declared.records.Record.{Record}
-use Rattle.tree_model.specs.Records.{kind_of}
-use Rattle.tree_model.specs.Texts.{kind_word}
+use Rattle.protocol.specs.declared.names.ProcessId.{ProcessId}
+use Rattle.protocol.specs.declared.records.Record.{Record}
+use Rattle.protocol.specs.Records.{kind_of}
+use Rattle.protocol.specs.Texts.{kind_word}
 use Rattle.log_text.specs.declared.form.LogForm.{LogForm}
 use Rattle.log_rules.specs.order.Logs.{LogReading, Whole, Damaged, read_log}
-use Rattle.logs_script.specs.Places.{Placed, placed_records}
+use Rattle.log_script.specs.Places.{Placed, placed_records}
 use Rattle.log_lines.specs.Words.{record_words}
 
 -- the line that comes before the records of a process

@@ -3,16 +3,16 @@ use Rattle.std.specs.Prelude.{ℕ, List, ◌++◌, codes, Option, Some, None, if
 use Rattle.std.specs.List.{flat_map}
 use Rattle.hex.specs.Hex.{encode_lower}
 use Rattle.xa_xid.specs.Text.{xid_text}
-use Rattle.tree_model.specs.declared.names.Ticket.{Ticket}
-use Rattle.tree_model.specs.declared.records.Branch.{Branch}
-use Rattle.tree_model.specs.declared.records.Branch.TheVariants.{Case as CaseBranch, Foreign}
-use Rattle.tree_model.specs.declared.records.Record.{Record}
-use Rattle.tree_model.specs.declared.records.Record.TheVariants.{Opened, Collecting, Prepare, Commit, Abort, End, Prepared, Committed, RolledBack, Direct, HeurCommit, HeurRollback, Told, Forgot, Base, Pair, Cleared}
-use Rattle.tree_model.specs.declared.records.Write.{Write}
-use Rattle.tree_model.specs.Texts.{ticket_text, outcome_word}
+use Rattle.protocol.specs.declared.names.Ticket.{Ticket}
+use Rattle.protocol.specs.declared.records.BranchName.{BranchName}
+use Rattle.protocol.specs.declared.records.BranchName.TheVariants.{Case as CaseBranch, Foreign}
+use Rattle.protocol.specs.declared.records.Record.{Record}
+use Rattle.protocol.specs.declared.records.Record.TheVariants.{Opened, Collecting, Prepare, Commit, Abort, End, Prepared, Committed, RolledBack, Direct, HeurCommit, HeurRollback, Told, Forgot, Base, Pair, Cleared}
+use Rattle.protocol.specs.declared.records.Write.{Write}
+use Rattle.protocol.specs.Texts.{ticket_text, outcome_word}
 use Rattle.trace_lines.specs.Trace.{case_word, number_word}
-use Rattle.tree_model.specs.declared.records.Reports.{Reports}
-use Rattle.tree_model.specs.Records.{none_of}
+use Rattle.protocol.specs.declared.records.Reports.{Reports}
+use Rattle.protocol.specs.Records.{none_of}
 
 -- Words, each after a space.
 
@@ -21,7 +21,7 @@ abbrev pub bytes_word : List ℕ → List ℕ
 bytes_word bytes = codes " " ++ encode_lower bytes
 
 -- the name of a branch: its case, or its XID where it is a transaction manager's own
-abbrev pub branch_word : Branch → List ℕ
+abbrev pub branch_word : BranchName → List ℕ
 branch_word (CaseBranch c) = case_word c
 branch_word (Foreign x) = codes " " ++ xid_text x
 

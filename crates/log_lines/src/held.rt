@@ -2,15 +2,15 @@
 
 ghost use Rattle.std.specs.Prelude.{◌≡◌, ◌++◌, OnOk, drop};
 ghost use Rattle.log_lines.specs.Held.{heading_text, held_text, listed_text, placed_text, records_text, torn_text};
-ghost use Rattle.logs_script.specs.Places.{placed_in};
-ghost use Rattle.rec_log.specs.Openings.{IsFound};
+ghost use Rattle.log_script.specs.Places.{placed_in};
+ghost use Rattle.log_records.specs.Openings.{IsLogFound};
 
 use crate::words::push_words;
+use log_records::StoreText;
 use log_text::{HEADER_SIZE, LogForm, ReadFault, first_frame, read_record};
-use rec_log::Found;
+use protocol::{ProcessId, Record};
 use std::alloc::{AllocError, Global};
 use trace_lines::{kind_word, push, push_number};
-use tree_model::{ProcessId, Record};
 
 /// Adds what a sound log holds, as it was found: a line `log P`, a line for each record with the place of its first
 /// byte, and `torn N` where the log has a torn tail.
@@ -19,15 +19,15 @@ pub fn push_held(
     out: &mut Vec<u8>,
     form: LogForm,
     bytes: &[u8],
-    found: Found,
+    found: StoreText,
 ) -> Result<(), AllocError>
-    requires { IsFound form bytes.now found }
+    requires { IsLogFound form bytes.now found }
     ensures { OnOk result (out.new.items ≡ out.old.items ++ held_text form bytes.now) }
 {
     push_heading(out, form.process)?;
     match found {
-        Found::Empty => Ok(()),
-        Found::Sound(torn) => {
+        StoreText::Empty => Ok(()),
+        StoreText::Sound(torn) => {
             let (_, frames) = bytes.split_at(HEADER_SIZE);
             push_records(alloc, out, form, frames)?;
             push_torn(out, torn)?;

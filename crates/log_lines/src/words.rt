@@ -3,10 +3,10 @@
 ghost use Rattle.std.specs.Prelude.{◌≡◌, ◌++◌, OnOk};
 ghost use Rattle.log_lines.specs.Words.{branch_word, listed_words, record_words, reports_words, ticket_words, write_words, writes_words, bytes_word};
 
+use protocol::{BranchName, Case, Record, Reports, Ticket, Write};
 use spellings::hexadecimal::Hexadecimal;
 use std::alloc::{AllocError, Global};
 use trace_lines::{kind_word, outcome_word, push, push_case_word, push_number_word, push_ticket};
-use tree_model::{Branch, Case, Record, Reports, Ticket, Write};
 
 /// A space and bytes in hexadecimal.
 pub fn push_bytes_word(alloc: Global, out: &mut Vec<u8>, bytes: &[u8]) -> Result<(), AllocError>
@@ -18,12 +18,12 @@ pub fn push_bytes_word(alloc: Global, out: &mut Vec<u8>, bytes: &[u8]) -> Result
 }
 
 /// A space and a branch: its case, or its XID.
-fn push_branch_word(alloc: Global, out: &mut Vec<u8>, branch: &Branch) -> Result<(), AllocError>
+fn push_branch_word(alloc: Global, out: &mut Vec<u8>, branch: &BranchName) -> Result<(), AllocError>
     ensures { OnOk result (out.new.items ≡ out.old.items ++ branch_word branch.now) }
 {
     match branch {
-        Branch::Case(case) => push_case_word(out, case),
-        Branch::Foreign(xid) => {
+        BranchName::Case(case) => push_case_word(out, case),
+        BranchName::Foreign(xid) => {
             let text = format!(in alloc; " {xid}")?;
             push(out, &text)
         }
@@ -42,7 +42,7 @@ fn push_tickets(out: &mut Vec<u8>, tickets: &[Ticket]) -> Result<(), AllocError>
 }
 
 /// A word, and the tickets after it; nothing if there are none.
-#[tactic(auto, unfolding(tree_model::specs::Records::none_of))]
+#[tactic(auto, unfolding(protocol::specs::Records::none_of))]
 pub fn push_listed(out: &mut Vec<u8>, word: &str, tickets: &[Ticket]) -> Result<(), AllocError>
     ensures { OnOk result (out.new.items ≡ out.old.items ++ listed_words word.now tickets.now) }
 {

@@ -1,7 +1,7 @@
 -- The payload of a branch's record is the bytes of its XID and what is after them.
 use Rattle.std.proofs.Common.{◌≡◌, ◌++◌, ap, sym, ◌∙◌, append-nil}
 use Rattle.xa_xid.specs.Bytes.{xid_bytes}
-use Rattle.tree_model.specs.declared.records.Branch.{Branch}
+use Rattle.protocol.specs.declared.records.BranchName.{BranchName}
 use Rattle.xa_xid.specs.Xids.{XidParts}
 use Rattle.log_text.specs.declared.branch.BranchEntry.{BranchEntry}
 use Rattle.log_text.specs.declared.branch.BranchEntry.TheVariants.{Prepared, Committed, RolledBack, Direct, HeurCommit, HeurRollback, Told, Forgot}
@@ -22,7 +22,7 @@ payload_is HeurCommit x = ap xid_bytes (name_again x) ∙ sym (append-nil (xid_b
 payload_is HeurRollback x = ap xid_bytes (name_again x) ∙ sym (append-nil (xid_bytes x))
 payload_is Forgot x = ap xid_bytes (name_again x) ∙ sym (append-nil (xid_bytes x))
 
-pub sized_rest : (e : BranchEntry) (b : Branch) → IsSized (entry_under e b) → IsSizedRest e
+pub sized_rest : (e : BranchEntry) (b : BranchName) → IsSized (entry_under e b) → IsSizedRest e
 sized_rest (Prepared ws) b h = h
 sized_rest (Direct ws) b h = h
 sized_rest (Told o) b h = tt

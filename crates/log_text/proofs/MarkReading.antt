@@ -5,25 +5,25 @@ use Rattle.std.proofs.lemmas.Bool.Decides.{nat_tests}
 use Rattle.xa_xid.specs.declared.error.XidError.{XidError}
 use Rattle.xa_xid.specs.Bytes.{front_fault, xid_bytes}
 use Rattle.xa_xid.specs.Xids.{IsXid, XidParts}
-use Rattle.tree_model.specs.declared.names.Case.{Case}
-use Rattle.tree_model.specs.declared.names.Kind.{Kind}
-use Rattle.tree_model.specs.declared.names.Kind.TheVariants.{Coordinator, Manager}
-use Rattle.tree_model.specs.declared.names.Outcome.TheVariants.{Committed as CommittedOutcome, Aborted as AbortedOutcome}
-use Rattle.tree_model.specs.declared.names.ProcessId.{ProcessId}
-use Rattle.tree_model.specs.declared.names.Ticket.{Ticket}
-use Rattle.tree_model.specs.declared.records.Branch.{Branch}
-use Rattle.tree_model.specs.declared.records.Branch.TheVariants.{Case as CaseBranch, Foreign}
-use Rattle.tree_model.specs.declared.records.LogRecord.{LogRecord}
-use Rattle.tree_model.specs.declared.records.Record.{Record}
-use Rattle.tree_model.specs.declared.records.Record.TheVariants.{Opened, Collecting, Prepare, Commit, Abort, End, Prepared, Committed, RolledBack, Direct, HeurCommit, HeurRollback, Told, Forgot, Base, Pair, Cleared}
-use Rattle.tree_model.specs.declared.records.Reports.{Reports}
-use Rattle.tree_model.specs.declared.records.Write.{Write}
-use Rattle.tree_model.specs.LogNames.{name_by, name_xid, record_name, unnamed}
-use Rattle.tree_model.specs.Records.{branch_case, none_of}
+use Rattle.protocol.specs.declared.names.Case.{Case}
+use Rattle.protocol.specs.declared.names.Kind.{Kind}
+use Rattle.protocol.specs.declared.names.Kind.TheVariants.{Coordinator, Manager}
+use Rattle.protocol.specs.declared.names.Outcome.TheVariants.{Committed as CommittedOutcome, Aborted as AbortedOutcome}
+use Rattle.protocol.specs.declared.names.ProcessId.{ProcessId}
+use Rattle.protocol.specs.declared.names.Ticket.{Ticket}
+use Rattle.protocol.specs.declared.records.BranchName.{BranchName}
+use Rattle.protocol.specs.declared.records.BranchName.TheVariants.{Case as CaseBranch, Foreign}
+use Rattle.protocol.specs.declared.records.LogRecord.{LogRecord}
+use Rattle.protocol.specs.declared.records.Record.{Record}
+use Rattle.protocol.specs.declared.records.Record.TheVariants.{Opened, Collecting, Prepare, Commit, Abort, End, Prepared, Committed, RolledBack, Direct, HeurCommit, HeurRollback, Told, Forgot, Base, Pair, Cleared}
+use Rattle.protocol.specs.declared.records.Reports.{Reports}
+use Rattle.protocol.specs.declared.records.Write.{Write}
+use Rattle.protocol.specs.LogNames.{name_by, name_xid, record_name, unnamed}
+use Rattle.protocol.specs.Records.{branch_case, none_of}
 use Rattle.log_text.specs.declared.form.LogForm.{LogForm}
-use Rattle.log_text.specs.declared.mark.Deed.{Deed}
-use Rattle.log_text.specs.declared.mark.Deed.TheVariants as deed
-use Rattle.log_text.specs.declared.mark.Mark.{Mark}
+use Rattle.log_text.specs.declared.mark.MarkDeed.{MarkDeed}
+use Rattle.log_text.specs.declared.mark.MarkDeed.TheVariants as deed
+use Rattle.log_text.specs.declared.mark.TrimMark.{TrimMark}
 use Rattle.log_text.specs.Marks.{decision_by, decision_in, deed_in, deed_of, mark_of, nameless}
 use Rattle.log_text.specs.Parts.{Front, Name, alone, and_more, front_of, key_at, name_at, name_in, reports_of, ticket_at, tickets_of, value_at, with_first, writes_of, xid_at}
 use Rattle.log_text.specs.Reading.{alone_record, bare, below, branch_record, case_record, coordinator_record, kind_record, listing, manager_record, named, of_branch, of_case, of_name, opened_boot, pair_by, pair_of, read_record, told, writing}
@@ -79,11 +79,11 @@ decided (suc n ∷ rest) ts e = names_first (ticket_at rest) (front_of ticket_at
 -- Records with a name.
 
 -- the mark of a record of this kind under this name, with these bytes after it
-abbrev IsMarked : Option ProcessId → Branch → ℕ → List ℕ → LogRecord → Type 0
-IsMarked p b kind rest l = ◌≡◌ {A = Mark} (record { name = Some (name_xid p b); deed = deed_in kind rest }) (mark_of l)
+abbrev IsMarked : Option ProcessId → BranchName → ℕ → List ℕ → LogRecord → Type 0
+IsMarked p b kind rest l = ◌≡◌ {A = TrimMark} (record { name = Some (name_xid p b); deed = deed_in kind rest }) (mark_of l)
 
 -- of a record that is known, by its kind
-marked_as : (p : Option ProcessId) (b : Branch) (kind n : ℕ) (rest : List ℕ) (l r : LogRecord) → kind ≡ n → r ≡ l
+marked_as : (p : Option ProcessId) (b : BranchName) (kind n : ℕ) (rest : List ℕ) (l r : LogRecord) → kind ≡ n → r ≡ l
     → IsMarked p b n rest r → IsMarked p b kind rest l
 marked_as p b kind n rest l r is e m =
     subst (λ (k : LogRecord). IsMarked p b kind rest k) e
@@ -95,7 +95,7 @@ listed_mark : (kind : ℕ) (p : Option ProcessId) (c : Case) (rest : List ℕ) (
     → IsMarked p (CaseBranch c) kind rest l
 listed_mark kind p c rest l ts bounds is e = by_tests (kind == 2) (kind == 3) (kind == 4) refl refl refl e
   where
-    named_as : Mark → Deed → Mark
+    named_as : TrimMark → MarkDeed → TrimMark
     named_as m d = record { name = m.name; deed = d }
 
     by_tests : (a b d : Bool) → (kind == 2) ≡ a → (kind == 3) ≡ b → (kind == 4) ≡ d
@@ -146,17 +146,17 @@ case_mark kind p c rest l e = by_kind (kind == 6) (kind == 7) (kind == 8) (nat_l
 
 -- Records of branches.
 
-branch_name : (b : Branch) → name_by (branch_case b) (Some b) ≡ Some b
+branch_name : (b : BranchName) → name_by (branch_case b) (Some b) ≡ Some b
 branch_name (CaseBranch c) = refl
 branch_name (Foreign x) = refl
 
 -- of a record of a branch that is known, by its kind
-branch_as : (p : Option ProcessId) (b : Branch) (kind n : ℕ) (rest : List ℕ) (r s : Record) → kind ≡ n → s ≡ r
+branch_as : (p : Option ProcessId) (b : BranchName) (kind n : ℕ) (rest : List ℕ) (r s : Record) → kind ≡ n → s ≡ r
     → record_name s ≡ Some b → deed_of s ≡ deed_in n rest → IsMarked p b kind rest (named p r)
 branch_as p b kind n rest r s is e name does = marked_as p b kind n rest (named p r) (named p s) is (ap (named p) e)
     (λ i. record { name = option_map (name_xid p) (sym name i); deed = sym does i })
 
-bare_mark : (p : Option ProcessId) (b : Branch) (kind : ℕ) (rest : List ℕ) (r : Record) → bare kind b ≡ Some r
+bare_mark : (p : Option ProcessId) (b : BranchName) (kind : ℕ) (rest : List ℕ) (r : Record) → bare kind b ≡ Some r
     → IsMarked p b kind rest (named p r)
 bare_mark p b kind rest r e = by_tests (kind == 18) (kind == 19) (kind == 21) (kind == 22) (kind == 24)
     refl refl refl refl refl e
@@ -177,7 +177,7 @@ bare_mark p b kind rest r e = by_tests (kind == 18) (kind == 19) (kind == 21) (k
         branch_as p b kind 24 rest r _ (is_number kind 24 n) (some_is _ _ q) (branch_name b) refl
     by_tests false false false false false i j k m n q = absurd (none_some r q)
 
-told_mark : (p : Option ProcessId) (b : Branch) (kind : ℕ) (rest : List ℕ) (r : Record) → kind ≡ 23
+told_mark : (p : Option ProcessId) (b : BranchName) (kind : ℕ) (rest : List ℕ) (r : Record) → kind ≡ 23
     → told b rest ≡ Some r → IsMarked p b kind rest (named p r)
 told_mark p b kind [] r is e = absurd (none_some r e)
 told_mark p b kind (o ∷ q ∷ rest) r is e = absurd (none_some r e)
@@ -190,7 +190,7 @@ told_mark p b kind (o ∷ []) r is e = by_tests (o == 1) (o == 0) e
     by_tests false true f = branch_as p b kind 23 (o ∷ []) r _ is (some_is _ _ f) (branch_name b) refl
     by_tests false false f = absurd (none_some r f)
 
-writing_mark : (p : Option ProcessId) (b : Branch) (kind : ℕ) (rest : List ℕ) (r : Record) (o : Option (List Write))
+writing_mark : (p : Option ProcessId) (b : BranchName) (kind : ℕ) (rest : List ℕ) (r : Record) (o : Option (List Write))
     → ((kind == 17) || (kind == 20)) ≡ true → option_map (writing kind b) o ≡ Some r
     → IsMarked p b kind rest (named p r)
 writing_mark p b kind rest r None of e = absurd (none_some r e)
@@ -202,7 +202,7 @@ writing_mark p b kind rest r (Some ws) of e = by_kind (kind == 17) refl (some_is
     by_kind false i f = branch_as p b kind 20 rest r _
         (is_number kind 20 (ap (λ a. a || (kind == 20)) (sym i) ∙ of)) f (branch_name b) refl
 
-branch_mark : (p : Option ProcessId) (b : Branch) (kind : ℕ) (rest : List ℕ) (r : Record)
+branch_mark : (p : Option ProcessId) (b : BranchName) (kind : ℕ) (rest : List ℕ) (r : Record)
     → branch_record kind b rest ≡ Some r → IsMarked p b kind rest (named p r)
 branch_mark p b kind rest r e = by_tests ((kind == 17) || (kind == 20)) (kind == 23) (length rest == 0) refl refl e
   where
@@ -217,12 +217,12 @@ branch_mark p b kind rest r e = by_tests ((kind == 17) || (kind == 20)) (kind ==
 
 -- A record after a name.
 
-of_case_mark : (kind : ℕ) (p : Option ProcessId) (b : Branch) (rest : List ℕ) (l : LogRecord)
+of_case_mark : (kind : ℕ) (p : Option ProcessId) (b : BranchName) (rest : List ℕ) (l : LogRecord)
     → of_case kind p b rest ≡ Some l → IsMarked p b kind rest l
 of_case_mark kind p (CaseBranch c) rest l e = case_mark kind p c rest l e
 of_case_mark kind p (Foreign x) rest l e = absurd (none_some l e)
 
-of_branch_mark : (kind : ℕ) (p : Option ProcessId) (b : Branch) (rest : List ℕ) (l : LogRecord) (o : Option Record)
+of_branch_mark : (kind : ℕ) (p : Option ProcessId) (b : BranchName) (rest : List ℕ) (l : LogRecord) (o : Option Record)
     → branch_record kind b rest ≡ o → option_map (named p) o ≡ Some l → IsMarked p b kind rest l
 of_branch_mark kind p b rest l None is e = absurd (none_some l e)
 of_branch_mark kind p b rest l (Some r) is e =
@@ -288,7 +288,7 @@ not_opened f kind payload e = ap (λ b. cond b (option_map (λ n. unnamed (Opene
 -- the mark of a record with a name
 named_mark : (f : LogForm) (kind : ℕ) (payload : List ℕ) (x : XidParts) (rest : List ℕ) (l : LogRecord)
     → nameless kind ≡ None → xid_at payload ≡ Some (x, rest) → read_record f kind payload ≡ Some l
-    → ◌≡◌ {A = Mark} (record { name = Some x; deed = deed_in kind rest }) (mark_of l)
+    → ◌≡◌ {A = TrimMark} (record { name = Some x; deed = deed_in kind rest }) (mark_of l)
 named_mark f kind payload x rest l none at e =
     let h = has_name kind none in
     ap (λ (y : XidParts). record { name = Some y; deed = deed_in kind rest }) (sym (name_again x))
@@ -305,27 +305,27 @@ no_named f kind payload l none at e =
 -- Records without a name.
 
 opened_mark : (o : Option ℕ) (l : LogRecord) → option_map (λ n. unnamed (Opened n)) o ≡ Some l
-    → ◌≡◌ {A = Mark} (record { name = None; deed = deed.Opens }) (mark_of l)
+    → ◌≡◌ {A = TrimMark} (record { name = None; deed = deed.Opens }) (mark_of l)
 opened_mark None l e = absurd (none_some l e)
 opened_mark (Some n) l e = ap mark_of (some_is _ _ e)
 
 base_mark : (o : Option ℕ) (l : LogRecord) → option_map (λ n. unnamed (Base n)) o ≡ Some l
-    → ◌≡◌ {A = Mark} (record { name = None; deed = deed.Nothing }) (mark_of l)
+    → ◌≡◌ {A = TrimMark} (record { name = None; deed = deed.Nothing }) (mark_of l)
 base_mark None l e = absurd (none_some l e)
 base_mark (Some n) l e = ap mark_of (some_is _ _ e)
 
 pair_of_mark : (k : List ℕ) (o : Front (List ℕ)) (l : LogRecord) → pair_of k o ≡ Some l
-    → ◌≡◌ {A = Mark} (record { name = None; deed = deed.Nothing }) (mark_of l)
+    → ◌≡◌ {A = TrimMark} (record { name = None; deed = deed.Nothing }) (mark_of l)
 pair_of_mark k None l e = absurd (none_some l e)
 pair_of_mark k (Some v) l e = by_rest (length v.1 == 0) e
   where
     by_rest : (b : Bool) → cond b (Some (unnamed (Pair k v.0))) None ≡ Some l
-        → ◌≡◌ {A = Mark} (record { name = None; deed = deed.Nothing }) (mark_of l)
+        → ◌≡◌ {A = TrimMark} (record { name = None; deed = deed.Nothing }) (mark_of l)
     by_rest true f = ap mark_of (some_is _ _ f)
     by_rest false f = absurd (none_some l f)
 
 pair_mark : (o : Front (List ℕ)) (l : LogRecord) → pair_by o ≡ Some l
-    → ◌≡◌ {A = Mark} (record { name = None; deed = deed.Nothing }) (mark_of l)
+    → ◌≡◌ {A = TrimMark} (record { name = None; deed = deed.Nothing }) (mark_of l)
 pair_mark None l e = absurd (none_some l e)
 pair_mark (Some k) l e = pair_of_mark k.0 (value_at k.1) l e
 
@@ -334,7 +334,7 @@ no_base : (o : Front Name) (l : LogRecord) → of_name 25 o ≡ Some l → ⊥
 no_base None l e = none_some l e
 no_base (Some n) l e = by_name n.0.1 e
   where
-    by_name : (b : Branch) → of_case 25 n.0.0 b n.1 ≡ Some l → ⊥
+    by_name : (b : BranchName) → of_case 25 n.0.0 b n.1 ≡ Some l → ⊥
     by_name (CaseBranch c) f = none_some l f
     by_name (Foreign x) f = none_some l f
 
@@ -342,38 +342,38 @@ no_pair : (o : Front Name) (l : LogRecord) → of_name 26 o ≡ Some l → ⊥
 no_pair None l e = none_some l e
 no_pair (Some n) l e = by_name n.0.1 e
   where
-    by_name : (b : Branch) → of_case 26 n.0.0 b n.1 ≡ Some l → ⊥
+    by_name : (b : BranchName) → of_case 26 n.0.0 b n.1 ≡ Some l → ⊥
     by_name (CaseBranch c) f = none_some l f
     by_name (Foreign x) f = none_some l f
 
 base_at : (k : Kind) (payload : List ℕ) (l : LogRecord) → kind_record k 25 payload ≡ Some l
-    → ◌≡◌ {A = Mark} (record { name = None; deed = deed.Nothing }) (mark_of l)
+    → ◌≡◌ {A = TrimMark} (record { name = None; deed = deed.Nothing }) (mark_of l)
 unfolding coordinator_record manager_record
 base_at Coordinator payload l e = absurd (no_base (name_at payload) l e)
 base_at Manager payload l e = base_mark (below payload) l e
 
 pair_in : (k : Kind) (payload : List ℕ) (l : LogRecord) → kind_record k 26 payload ≡ Some l
-    → ◌≡◌ {A = Mark} (record { name = None; deed = deed.Nothing }) (mark_of l)
+    → ◌≡◌ {A = TrimMark} (record { name = None; deed = deed.Nothing }) (mark_of l)
 unfolding coordinator_record manager_record
 pair_in Coordinator payload l e = absurd (no_pair (name_at payload) l e)
 pair_in Manager payload l e = pair_mark (key_at payload) l e
 
 -- the mark of a record without a name
-pub unnamed_mark : (f : LogForm) (kind : ℕ) (payload : List ℕ) (d : Deed) (l : LogRecord)
+pub unnamed_mark : (f : LogForm) (kind : ℕ) (payload : List ℕ) (d : MarkDeed) (l : LogRecord)
     → nameless kind ≡ Some d → read_record f kind payload ≡ Some l
-    → ◌≡◌ {A = Mark} (record { name = None; deed = d }) (mark_of l)
+    → ◌≡◌ {A = TrimMark} (record { name = None; deed = d }) (mark_of l)
 unfolding read_record
 unnamed_mark f kind payload d l none e = by_tests (kind == 1) (kind == 25) (kind == 26) refl refl refl none e
   where
-    as_deed : (c : Deed) → c ≡ d → ◌≡◌ {A = Mark} (record { name = None; deed = c }) (mark_of l)
-        → ◌≡◌ {A = Mark} (record { name = None; deed = d }) (mark_of l)
-    as_deed c same m = subst (λ (b : Deed). ◌≡◌ {A = Mark} (record { name = None; deed = b }) (mark_of l)) same m
+    as_deed : (c : MarkDeed) → c ≡ d → ◌≡◌ {A = TrimMark} (record { name = None; deed = c }) (mark_of l)
+        → ◌≡◌ {A = TrimMark} (record { name = None; deed = d }) (mark_of l)
+    as_deed c same m = subst (λ (b : MarkDeed). ◌≡◌ {A = TrimMark} (record { name = None; deed = b }) (mark_of l)) same m
 
     by_tests : (a b c : Bool) → (kind == 1) ≡ a → (kind == 25) ≡ b → (kind == 26) ≡ c
         → cond a (Some deed.Opens) (cond (b || c) (Some deed.Nothing) None) ≡ Some d
         → cond a (option_map (λ n. unnamed (Opened n)) (opened_boot f payload)) (kind_record f.kind kind payload)
         ≡ Some l
-        → ◌≡◌ {A = Mark} (record { name = None; deed = d }) (mark_of l)
+        → ◌≡◌ {A = TrimMark} (record { name = None; deed = d }) (mark_of l)
     by_tests true b c i j k q g = as_deed _ (some_is _ _ q) (opened_mark (opened_boot f payload) l g)
     by_tests false true c i j k q g = as_deed _ (some_is _ _ q)
         (base_at f.kind payload l (ap (λ n. kind_record f.kind n payload) (sym (is_number kind 25 j)) ∙ g))
@@ -387,16 +387,16 @@ no_xid : (payload : List ℕ) (fault : XidError) → front_fault payload ≡ Som
 unfolding xid_at
 no_xid payload fault e = rw e refl
 
-pub front_mark : (f : LogForm) (kind : ℕ) (payload : List ℕ) (x : XidParts) (size : ℕ) (rest : List ℕ) (d : Deed)
+pub front_mark : (f : LogForm) (kind : ℕ) (payload : List ℕ) (x : XidParts) (size : ℕ) (rest : List ℕ) (d : MarkDeed)
     (l : LogRecord) → nameless kind ≡ None → IsXid x → size ≡ length (xid_bytes x)
     → payload ≡ xid_bytes x ++ drop size payload → rest ≡ drop size payload → d ≡ deed_in kind rest
-    → read_record f kind payload ≡ Some l → ◌≡◌ {A = Mark} (record { name = Some x; deed = d }) (mark_of l)
+    → read_record f kind payload ≡ Some l → ◌≡◌ {A = TrimMark} (record { name = Some x; deed = d }) (mark_of l)
 front_mark f kind payload x size rest d l none is s w r is_deed e =
     let at = xid_front x payload is (w ∙ ap (λ k. xid_bytes x ++ drop k payload) s) in
-    ap (λ (c : Deed). record { name = Some x; deed = c })
+    ap (λ (c : MarkDeed). record { name = Some x; deed = c })
     (is_deed ∙ ap (deed_in kind) (r ∙ ap (λ k. drop k payload) s))
     ∙ named_mark f kind payload x (drop (length (xid_bytes x)) payload) l none at e
 
-pub fault_mark : (f : LogForm) (kind : ℕ) (payload : List ℕ) (fault : XidError) (m : Mark) (l : LogRecord)
+pub fault_mark : (f : LogForm) (kind : ℕ) (payload : List ℕ) (fault : XidError) (m : TrimMark) (l : LogRecord)
     → nameless kind ≡ None → front_fault payload ≡ Some fault → read_record f kind payload ≡ Some l → m ≡ mark_of l
 fault_mark f kind payload fault m l none w e = absurd (no_named f kind payload l none (no_xid payload fault w) e)

@@ -10,15 +10,15 @@ use Rattle.byteorder.specs.Numbers.{big_from-lt}
 use Rattle.xa_xid.specs.Xids.{XidParts, FitsParts, IsXid}
 use Rattle.xa_xid.specs.Bytes.{xid_bytes, front_fault, front_parts}
 use Rattle.xa_xid.proofs.Reading.{begins}
-use Rattle.tree_model.specs.declared.names.ProcessId.{ProcessId}
-use Rattle.tree_model.specs.declared.names.Presumption.{Presumption}
-use Rattle.tree_model.specs.declared.names.Presumption.TheVariants.{PresumeAbort, PresumeCommit}
-use Rattle.tree_model.specs.declared.names.Ticket.{Ticket}
-use Rattle.tree_model.specs.declared.names.Txn.{Txn}
-use Rattle.tree_model.specs.declared.records.Branch.TheVariants.{Foreign}
-use Rattle.tree_model.specs.Branches.{branch_format, branch_parts, below_bytes, txn_bytes, ticket_bytes, FitsTxn, FitsBelow}
-use Rattle.tree_model.specs.LogNames.{name_xid}
-use Rattle.tree_model.specs.Records.{same_bytes, same_xid}
+use Rattle.protocol.specs.declared.names.ProcessId.{ProcessId}
+use Rattle.protocol.specs.declared.names.Presumption.{Presumption}
+use Rattle.protocol.specs.declared.names.Presumption.TheVariants.{PresumeAbort, PresumeCommit}
+use Rattle.protocol.specs.declared.names.Ticket.{Ticket}
+use Rattle.protocol.specs.declared.names.Txn.{Txn}
+use Rattle.protocol.specs.declared.records.BranchName.TheVariants.{Foreign}
+use Rattle.protocol.specs.Branches.{branch_format, branch_parts, below_bytes, txn_bytes, ticket_bytes, FitsTxn, FitsBelow}
+use Rattle.protocol.specs.LogNames.{name_xid}
+use Rattle.protocol.specs.Records.{same_bytes, same_xid}
 use Rattle.log_text.proofs.xids.BranchLaws.{txn_again, ticket_again, txn_is, ticket_is, length-ticket_bytes}
 use Rattle.log_text.specs.Parts.{Front, Name, below_in, case_name, name_by, name_at, name_in, presumption_in, txn_in, xid_at}
 

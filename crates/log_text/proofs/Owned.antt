@@ -1,11 +1,11 @@
 -- Opened as it is laid out in the log of a process, and other records, which are alike in all.
 use Rattle.std.proofs.Common.{◌≡◌, ℕ, List, [], ◌∷◌, ◌++◌, length, slice_index_or, Option, Some, None, refl, sym, ap, ◌∙◌}
 use Rattle.byteorder.specs.Endian.{big_bytes}
-use Rattle.tree_model.specs.LogNames.{unnamed}
-use Rattle.tree_model.specs.declared.names.ProcessId.{ProcessId}
-use Rattle.tree_model.specs.declared.records.LogRecord.{LogRecord}
-use Rattle.tree_model.specs.declared.records.Record.{Record}
-use Rattle.tree_model.specs.declared.records.Record.TheVariants.{Opened, Collecting, Prepare, Commit, Abort, End, Prepared, Committed, RolledBack, Direct, HeurCommit, HeurRollback, Told, Forgot, Base, Pair, Cleared}
+use Rattle.protocol.specs.LogNames.{unnamed}
+use Rattle.protocol.specs.declared.names.ProcessId.{ProcessId}
+use Rattle.protocol.specs.declared.records.LogRecord.{LogRecord}
+use Rattle.protocol.specs.declared.records.Record.{Record}
+use Rattle.protocol.specs.declared.records.Record.TheVariants.{Opened, Collecting, Prepare, Commit, Abort, End, Prepared, Committed, RolledBack, Direct, HeurCommit, HeurRollback, Told, Forgot, Base, Pair, Cleared}
 use Rattle.log_text.specs.declared.form.LogForm.{LogForm}
 use Rattle.log_text.specs.declared.form.LogFormat.{LogFormat}
 use Rattle.log_text.specs.declared.form.LogFormat.TheVariants.{Second}

@@ -2,17 +2,17 @@
 use Rattle.std.specs.Prelude.{◌<◌, ⊤, ℕ, List, [], ◌∷◌, length}
 use Rattle.std.specs.List.{All}
 use Rattle.xa_xid.specs.Xids.{XidParts}
-use Rattle.tree_model.specs.declared.records.Branch.{Branch}
-use Rattle.tree_model.specs.declared.records.LogRecord.{LogRecord}
-use Rattle.tree_model.specs.declared.records.Record.{Record}
-use Rattle.tree_model.specs.declared.records.Record.TheVariants as record_of
+use Rattle.protocol.specs.declared.records.BranchName.{BranchName}
+use Rattle.protocol.specs.declared.records.LogRecord.{LogRecord}
+use Rattle.protocol.specs.declared.records.Record.{Record}
+use Rattle.protocol.specs.declared.records.Record.TheVariants as record_of
 use Rattle.log_text.specs.Parts.{name_in}
 use Rattle.log_text.specs.Payloads.{SizedWrite, outcome_byte, writes_text}
 use Rattle.log_text.specs.declared.branch.BranchEntry.{BranchEntry}
 use Rattle.log_text.specs.declared.branch.BranchEntry.TheVariants.{Prepared, Committed, RolledBack, Direct, HeurCommit, HeurRollback, Told, Forgot}
 
 -- the record under a name
-abbrev pub entry_under : BranchEntry → Branch → Record
+abbrev pub entry_under : BranchEntry → BranchName → Record
 entry_under (Prepared ws) b = record_of.Prepared b ws.now
 entry_under Committed b = record_of.Committed b
 entry_under RolledBack b = record_of.RolledBack b

@@ -1,5 +1,5 @@
 -- The record that a frame is of.
-use Rattle.tree_model.specs.declared.records.LogRecord.{LogRecord}
+use Rattle.protocol.specs.declared.records.LogRecord.{LogRecord}
 use Rattle.log_text.specs.declared.encode.Frame.{Frame}
 
 -- the record that a frame is of

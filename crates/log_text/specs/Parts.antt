@@ -4,17 +4,17 @@ use Rattle.std.specs.Ordering.{int_eq}
 use Rattle.byteorder.specs.Endian.{big_number}
 use Rattle.xa_xid.specs.Xids.{XidParts}
 use Rattle.xa_xid.specs.Bytes.{xid_bytes, front_fault, front_parts}
-use Rattle.tree_model.specs.declared.names.ProcessId.{ProcessId}
-use Rattle.tree_model.specs.declared.names.Presumption.{Presumption}
-use Rattle.tree_model.specs.declared.names.Presumption.TheVariants.{PresumeAbort, PresumeCommit}
-use Rattle.tree_model.specs.declared.names.Ticket.{Ticket}
-use Rattle.tree_model.specs.declared.names.Txn.{Txn}
-use Rattle.tree_model.specs.declared.records.Branch.{Branch}
-use Rattle.tree_model.specs.declared.records.Branch.TheVariants.{Case as CaseBranch, Foreign}
-use Rattle.tree_model.specs.declared.records.Reports.{Reports}
-use Rattle.tree_model.specs.declared.records.Write.{Write}
-use Rattle.tree_model.specs.Branches.{branch_parts}
-use Rattle.tree_model.specs.Records.{same_xid}
+use Rattle.protocol.specs.declared.names.ProcessId.{ProcessId}
+use Rattle.protocol.specs.declared.names.Presumption.{Presumption}
+use Rattle.protocol.specs.declared.names.Presumption.TheVariants.{PresumeAbort, PresumeCommit}
+use Rattle.protocol.specs.declared.names.Ticket.{Ticket}
+use Rattle.protocol.specs.declared.names.Txn.{Txn}
+use Rattle.protocol.specs.declared.records.BranchName.{BranchName}
+use Rattle.protocol.specs.declared.records.BranchName.TheVariants.{Case as CaseBranch, Foreign}
+use Rattle.protocol.specs.declared.records.Reports.{Reports}
+use Rattle.protocol.specs.declared.records.Write.{Write}
+use Rattle.protocol.specs.Branches.{branch_parts}
+use Rattle.protocol.specs.Records.{same_xid}
 
 -- what is read of a payload's front, and the bytes after it
 abbrev pub Front : Type 0 → Type 0
@@ -57,7 +57,7 @@ presumption_in format = if int_eq format (pos 4002) then PresumeCommit else Pres
 
 -- a name: the branch, and the parent of a case below the root
 abbrev pub Name : Type 0
-Name = Option ProcessId × Branch
+Name = Option ProcessId × BranchName
 
 -- the name of a case: alone at the root, else with its parent and its ticket
 abbrev pub case_name : Txn → Option (ProcessId × Ticket) → Name

@@ -1,19 +1,19 @@
 -- The record that a payload is exactly, at each sort of process.
 use Rattle.std.specs.Prelude.{ℕ, ◌^◌, ◌&&◌, ◌||◌, ◌==◌, nat_lt, nat_le, if◌then◌else◌, List, [], ◌∷◌, Option, Some, None, bytes_eq, drop, length, option_map, take}
 use Rattle.byteorder.specs.Endian.{big_number}
-use Rattle.tree_model.specs.declared.names.Case.{Case}
-use Rattle.tree_model.specs.declared.names.Kind.{Kind}
-use Rattle.tree_model.specs.declared.names.Kind.TheVariants.{Coordinator, Manager}
-use Rattle.tree_model.specs.declared.names.Outcome.TheVariants.{Committed as CommittedOutcome, Aborted as AbortedOutcome}
-use Rattle.tree_model.specs.declared.names.ProcessId.{ProcessId}
-use Rattle.tree_model.specs.declared.names.Ticket.{Ticket}
-use Rattle.tree_model.specs.declared.records.Branch.{Branch}
-use Rattle.tree_model.specs.declared.records.Branch.TheVariants.{Case as CaseBranch, Foreign}
-use Rattle.tree_model.specs.declared.records.LogRecord.{LogRecord}
-use Rattle.tree_model.specs.declared.records.Record.{Record}
-use Rattle.tree_model.specs.declared.records.Record.TheVariants.{Opened, Collecting, Prepare, Commit, Abort, End, Prepared, Committed, RolledBack, Direct, HeurCommit, HeurRollback, Told, Forgot, Base, Pair, Cleared}
-use Rattle.tree_model.specs.declared.records.Write.{Write}
-use Rattle.tree_model.specs.LogNames.{unnamed}
+use Rattle.protocol.specs.declared.names.Case.{Case}
+use Rattle.protocol.specs.declared.names.Kind.{Kind}
+use Rattle.protocol.specs.declared.names.Kind.TheVariants.{Coordinator, Manager}
+use Rattle.protocol.specs.declared.names.Outcome.TheVariants.{Committed as CommittedOutcome, Aborted as AbortedOutcome}
+use Rattle.protocol.specs.declared.names.ProcessId.{ProcessId}
+use Rattle.protocol.specs.declared.names.Ticket.{Ticket}
+use Rattle.protocol.specs.declared.records.BranchName.{BranchName}
+use Rattle.protocol.specs.declared.records.BranchName.TheVariants.{Case as CaseBranch, Foreign}
+use Rattle.protocol.specs.declared.records.LogRecord.{LogRecord}
+use Rattle.protocol.specs.declared.records.Record.{Record}
+use Rattle.protocol.specs.declared.records.Record.TheVariants.{Opened, Collecting, Prepare, Commit, Abort, End, Prepared, Committed, RolledBack, Direct, HeurCommit, HeurRollback, Told, Forgot, Base, Pair, Cleared}
+use Rattle.protocol.specs.declared.records.Write.{Write}
+use Rattle.protocol.specs.LogNames.{unnamed}
 use Rattle.log_text.specs.declared.form.LogForm.{LogForm}
 use Rattle.log_text.specs.declared.form.LogFormat.{LogFormat}
 use Rattle.log_text.specs.declared.form.LogFormat.TheVariants.{First, Second}
@@ -52,7 +52,7 @@ case_record kind p c rest =
     else None
 
 -- a coordinator's record of what it names: a case, and nothing foreign
-abbrev pub of_case : ℕ → Option ProcessId → Branch → List ℕ → Option LogRecord
+abbrev pub of_case : ℕ → Option ProcessId → BranchName → List ℕ → Option LogRecord
 of_case kind p (CaseBranch c) rest = case_record kind p c rest
 of_case kind p (Foreign x) rest = None
 
@@ -68,24 +68,24 @@ coordinator_record kind payload = of_name kind (name_at payload)
 -- Managers.
 
 -- the record of a kind that says nothing but its branch
-abbrev pub bare : ℕ → Branch → Option Record
+abbrev pub bare : ℕ → BranchName → Option Record
 bare kind b =
     if kind == 18 then Some (Committed b) else if kind == 19 then Some (RolledBack b)
     else if kind == 21 then Some (HeurCommit b)
     else if kind == 22 then Some (HeurRollback b) else if kind == 24 then Some (Forgot b) else None
 
 -- the record of a kind that carries a branch's writes
-abbrev pub writing : ℕ → Branch → List Write → Record
+abbrev pub writing : ℕ → BranchName → List Write → Record
 writing kind b ws = if kind == 17 then Prepared b ws else Direct b ws
 
 -- the outcome that a branch was told: one byte
-abbrev pub told : Branch → List ℕ → Option Record
+abbrev pub told : BranchName → List ℕ → Option Record
 told b (o ∷ []) = if o == 1 then Some (Told b CommittedOutcome)
     else if o == 0 then Some (Told b AbortedOutcome) else None
 told b _ = None
 
 -- a manager's record of a branch, by its kind and what is left after the name
-abbrev pub branch_record : ℕ → Branch → List ℕ → Option Record
+abbrev pub branch_record : ℕ → BranchName → List ℕ → Option Record
 branch_record kind b rest =
     if (kind == 17) || (kind == 20) then option_map (writing kind b) (writes_of rest)
     else if kind == 23 then told b rest

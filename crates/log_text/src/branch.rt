@@ -1,7 +1,7 @@
 //! The records of a branch.
 
 ghost use Rattle.std.specs.Prelude.{◌≡◌, ◌++◌, IfOk, OnOk};
-ghost use Rattle.tree_model.specs.declared.records.Branch.{Branch};
+ghost use Rattle.protocol.specs.declared.records.BranchName.{BranchName};
 ghost use Rattle.log_text.specs.Branches.{IsSizedRest, branch_record, entry_under, rest_text};
 ghost use Rattle.log_text.specs.Forms.{unowned};
 ghost use Rattle.log_text.specs.Parts.{name_in};
@@ -9,8 +9,8 @@ ghost use Rattle.log_text.specs.Payloads.{FitsFrame, IsSized, kind_byte, payload
 
 use crate::encode::{FRAME, push_head, push_writes, push_xid, write_length};
 use crate::form::LogFormat;
+use protocol::{Outcome, Write};
 use std::alloc::{AllocError, Global};
-use tree_model::{Outcome, Write};
 use xa_xid::Xid;
 
 /// A record of a branch, but for the branch's name.
@@ -37,7 +37,7 @@ pub enum BranchEntry<'a> {
 impl BranchEntry<'_> {
     /// The byte of the record's kind.
     fn kind(&self) -> u8
-        ensures { (b : Branch) → result ≡ kind_byte (entry_under self.now b) }
+        ensures { (b : BranchName) → result ≡ kind_byte (entry_under self.now b) }
     {
         match self {
             BranchEntry::Prepared(_) => 0x11,

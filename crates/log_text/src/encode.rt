@@ -4,8 +4,8 @@ ghost use Rattle.std.specs.Prelude.{◌≡◌, ◌<◌, ◌≤◌, ◌+◌, ◌-
 ghost use Rattle.std.specs.List.{All};
 ghost use Rattle.byteorder.specs.Endian.{big_bytes};
 ghost use Rattle.xa_xid.specs.Bytes.{xid_bytes};
-ghost use Rattle.tree_model.specs.LogNames.{name_xid};
-ghost use Rattle.tree_model.specs.declared.records.Branch.TheVariants.{Case as CaseBranch};
+ghost use Rattle.protocol.specs.LogNames.{name_xid};
+ghost use Rattle.protocol.specs.declared.records.BranchName.TheVariants.{Case as CaseBranch};
 ghost use Rattle.log_text.specs.Forms.{size_bytes, size_limit, unowned};
 ghost use Rattle.log_text.specs.Payloads.{
   FitsFrame,
@@ -34,10 +34,10 @@ use crate::branch::{BranchEntry, branch_bytes};
 use crate::form::{LogForm, LogFormat};
 use crate::ghosts::GhostRecord;
 use crate::xids::{branch_xid, format_of, ticket_name, txn_name};
-use std::alloc::{AllocError, Global};
-use tree_model::{
-    Branch, Bytes, Case, LogRecord, Outcome, ProcessId, Record, Reports, Ticket, Tickets, Write,
+use protocol::{
+    BranchName, Bytes, Case, LogRecord, Outcome, ProcessId, Record, Reports, Ticket, Tickets, Write,
 };
+use std::alloc::{AllocError, Global};
 use xa_xid::Xid;
 
 /// How many bytes a frame is thought to have. A longer one grows.
@@ -45,15 +45,15 @@ pub(crate) const FRAME: usize = 128;
 
 /// The XID that a log writes for a name: a branch, and the parent of a case below the root. It takes no
 /// memory.
-pub fn name_xid(parent: Option<ProcessId>, branch: Branch) -> Xid
+pub fn name_xid(parent: Option<ProcessId>, branch: BranchName) -> Xid
     ensures { result ≡ name_xid parent branch }
 {
     match branch {
-        Branch::Case(case) => match (case.ticket, parent) {
+        BranchName::Case(case) => match (case.ticket, parent) {
             (Some(ticket), Some(parent)) => branch_xid(case.txn, Some((parent, ticket))),
             _ => branch_xid(case.txn, None),
         },
-        Branch::Foreign(xid) => xid,
+        BranchName::Foreign(xid) => xid,
     }
 }
 
@@ -96,13 +96,13 @@ fn push_case(text: &mut Vec<u8>, parent: Option<ProcessId>, case: &Case) -> Resu
 fn push_name(
     text: &mut Vec<u8>,
     parent: Option<ProcessId>,
-    branch: &Branch,
+    branch: &BranchName,
 ) -> Result<(), AllocError>
     ensures { OnOk result (text.new.items ≡ text.old.items ++ name_text parent branch.now) }
 {
     match branch {
-        Branch::Case(case) => push_case(text, parent, case),
-        Branch::Foreign(xid) => push_xid(text, xid),
+        BranchName::Case(case) => push_case(text, parent, case),
+        BranchName::Foreign(xid) => push_xid(text, xid),
     }
 }
 

@@ -1,12 +1,12 @@
 //! The form of a log: its format, and whose it is.
 
 ghost use Rattle.std.specs.Prelude.{◌≡◌, ◌+◌};
-ghost use Rattle.tree_model.specs.LogNames.{unnamed};
-ghost use Rattle.tree_model.specs.declared.records.Record.TheVariants.{Opened};
+ghost use Rattle.protocol.specs.LogNames.{unnamed};
+ghost use Rattle.protocol.specs.declared.records.Record.TheVariants.{Opened};
 ghost use Rattle.log_text.specs.Forms.{form_in, format_in, header as header_of, log_form, old_form, size_bytes, unowned};
 ghost use Rattle.log_text.specs.Payloads.{owner_text, record_text};
 
-use tree_model::{Kind, ProcessId};
+use protocol::{Kind, ProcessId};
 
 /// The format of a log, which its header names.
 #[derive(Clone, Copy, PartialEq, Eq)]

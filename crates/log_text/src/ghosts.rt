@@ -2,11 +2,11 @@
 
 ghost use Rattle.std.specs.Prelude.{◌≡◌};
 ghost use base.Fml.{ftrue};
-ghost use Rattle.tree_model.specs.declared.records.LogRecord.{LogRecord};
+ghost use Rattle.protocol.specs.declared.records.LogRecord.{LogRecord};
 
 use crate::branch::BranchEntry;
+use protocol::{ProcessId, Record};
 use std::marker::Model;
-use tree_model::{ProcessId, Record};
 use xa_xid::Xid;
 
 /// A record as clauses see it. It has no bytes: a frame keeps so which record it is of, and no copy of it is made.

@@ -18,6 +18,6 @@ pub use branch::BranchEntry;
 pub use encode::{Frame, name_xid};
 pub use form::{HEADER_SIZE, LogForm, LogFormat};
 pub use frames::first_frame;
-pub use mark::{Deed, Mark};
+pub use mark::{MarkDeed, TrimMark};
 pub use names::name_in;
 pub use records::{ReadFault, read_record};

@@ -5,8 +5,8 @@ ghost use Rattle.log_text.specs.Parts.{all_of, front_of, key_at, left_at, piece_
 
 use crate::records::ReadFault;
 use byteorder::{BigEndian, ByteOrder};
+use protocol::{Bytes, ProcessId, Reports, Sequence, Ticket, Tickets, Write, Writes};
 use std::alloc::{AllocError, Global};
-use tree_model::{Bytes, ProcessId, Reports, Sequence, Ticket, Tickets, Write, Writes};
 
 /// Numbers of boots and tickets are below this.
 pub const LIMIT: u64 = 1 << 63;

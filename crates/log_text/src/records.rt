@@ -8,9 +8,9 @@ use crate::form::{LogForm, LogFormat};
 use crate::names::name_at;
 use crate::parts::{LIMIT, bytes_of, key_at, reports_of, tickets_of, value_at, writes_of};
 use byteorder::{BigEndian, ByteOrder};
+use protocol::{BranchName, Case, Kind, LogRecord, Outcome, ProcessId, Record};
 use std::alloc::{AllocError, AllocFailed, Global};
 use thiserror::Error;
-use tree_model::{Branch, Case, Kind, LogRecord, Outcome, ProcessId, Record};
 
 /// Why no record is read.
 #[derive(Clone, Copy, Debug, PartialEq, Eq, Error)]
@@ -87,13 +87,20 @@ fn coordinator_record(kind: u8, payload: &[u8], alloc: Global) -> Result<LogReco
     ensures err { IfErr result (λ e. e ≡ ReadFault.Malformed → coordinator_record kind payload.now ≡ None) }
 {
     match name_at(payload) {
-        Some(((parent, Branch::Case(case)), rest)) => case_record(kind, parent, case, rest, alloc),
+        Some(((parent, BranchName::Case(case)), rest)) => case_record(
+            kind, parent, case, rest, alloc,
+        ),
         _ => Err(ReadFault::Malformed),
     }
 }
 
 /// A record of a branch, by its kind and what is left after its name.
-fn branch_record(kind: u8, branch: Branch, rest: &[u8], alloc: Global) -> Result<Record, ReadFault>
+fn branch_record(
+    kind: u8,
+    branch: BranchName,
+    rest: &[u8],
+    alloc: Global,
+) -> Result<Record, ReadFault>
     ensures ok { IfOk result (λ r. branch_record kind branch rest.now ≡ Some r) }
     ensures err { IfErr result (λ e. e ≡ ReadFault.Malformed → branch_record kind branch rest.now ≡ None) }
 {

@@ -1,8 +1,8 @@
 -- A log that was migrated reads as the same records, and is migrated to itself.
 use Rattle.std.proofs.Common.{◌≡◌, ◌∙◌, ◌⊎◌, ℕ, Bool, true, false, List, [], ◌++◌, length, take, drop, inl, inr, refl, sym, ap, subst, nat_lt, if◌then◌else◌}
 use Rattle.std.specs.List.{AllByRecursion}
-use Rattle.tree_model.specs.declared.records.LogRecord.{LogRecord}
-use Rattle.tree_model.specs.Records.{same_bytes}
+use Rattle.protocol.specs.declared.records.LogRecord.{LogRecord}
+use Rattle.protocol.specs.Records.{same_bytes}
 use Rattle.log_text.specs.declared.form.LogForm.{LogForm}
 use Rattle.log_text.specs.declared.form.LogFormat.TheVariants.{Second}
 use Rattle.log_text.specs.Forms.{form_in, header, log_form}
@@ -12,11 +12,11 @@ use Rattle.log_rules.specs.order.Orders.{nothing_seen}
 use Rattle.log_rules.specs.sound.Sound.{IsSound}
 use Rattle.log_rules.specs.sound.Written.{AreBytes}
 use Rattle.log_rules.proofs.sound.Cuts.{bytes_behind, first_bytes}
-use Rattle.rec_log.proofs.Carrying.{behind_header, read_again, read_records}
-use Rattle.rec_log.proofs.SoundRecords.{sound_in}
-use Rattle.logs_script.specs.declared.line.ProcessLog.{ProcessLog}
-use Rattle.logs_script.specs.Lines.{process_log}
-use Rattle.logs_script.proofs.Formats.{second_form}
+use Rattle.log_records.proofs.Carrying.{behind_header, read_again, read_records}
+use Rattle.log_records.proofs.SoundRecords.{sound_in}
+use Rattle.log_script.specs.declared.line.ProcessLog.{ProcessLog}
+use Rattle.log_script.specs.Lines.{process_log}
+use Rattle.log_script.proofs.Formats.{second_form}
 use Rattle.migrate_engine.specs.Laws.{MigratedStays, SameRecords}
 use Rattle.migrate_engine.specs.Migrations.{MigratesTo, migrated_log, text_by}
 

@@ -7,14 +7,14 @@ ghost use Rattle.migrate_engine.specs.Migrations.{IsMigrated, IsMigration, Migra
 ghost use Rattle.report_io.specs.Streams.{IsInput, WritesFront};
 ghost use Rattle.report_io.specs.declared.status.Status.{Status as AnyStatus};
 
-use link_script::ScriptError;
+use log_records::{MigrateError, RecLog};
+use log_script::{ProcessLog, bytes_of, damaged, logs_text, read_logs, refusal};
 use log_store::{LogStore, MemoryStore};
-use logs_script::{ProcessLog, bytes_of, damaged, logs_text, read_logs, refusal};
-use rec_log::{MigrateError, RecLog};
+use protocol::{Sequence, TreeProcess};
 use report_io::{Failure, Status, read_all, write_all};
 use std::alloc::{AllocError, Global};
 use std::io::{Read, Write};
-use tree_model::{Sequence, TreeEntry};
+use tree_script::ScriptError;
 
 /// Reads a tree with its logs, of either format, and writes the same tree and its logs by the second format,
 /// in the order of the tree: the same records, without a torn tail; an empty log is its header alone. Or one
@@ -60,7 +60,7 @@ fn answer(alloc: Global, input: &[u8]) -> Result<(Vec<u8>, Status), AllocError>
 /// These processes and their logs by the second format; or the line of the first that is damaged.
 fn migrated(
     alloc: Global,
-    entries: &[TreeEntry],
+    entries: &[TreeProcess],
     logs: &[ProcessLog],
 ) -> Result<(Vec<u8>, Status), AllocError>
     ensures { IfOk result (λ r. IsMigrated r.1 entries.now logs.now r.0.items) }
@@ -80,7 +80,7 @@ fn migrated(
 }
 
 /// The log of a process by the second format.
-fn migrate(alloc: Global, entry: &TreeEntry, bytes: &[u8]) -> Result<ProcessLog, MigrateError>
+fn migrate(alloc: Global, entry: &TreeProcess, bytes: &[u8]) -> Result<ProcessLog, MigrateError>
     ensures ok { IfOk result (λ log. MigratesTo entry.now bytes.now log) }
     ensures err { IfErr result (λ e. NotMigrated entry.now bytes.now e) }
 {

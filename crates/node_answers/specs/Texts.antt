@@ -2,26 +2,26 @@
 use Rattle.std.specs.Prelude.{ℕ, Some, List, [], ◌++◌, codes}
 use Rattle.std.specs.List.{flat_map}
 use Rattle.std.specs.Fmt.{decimal}
-use Rattle.tree_model.specs.declared.names.Case.{Case}
-use Rattle.tree_model.specs.declared.names.Txn.{Txn}
-use Rattle.tree_model.specs.declared.events.Reaction.{Reaction}
-use Rattle.tree_model.specs.declared.events.StepError.{StepError}
-use Rattle.tree_model.specs.declared.events.StepError.TheVariants.{Memory, Device, UnknownTxn, NotAChild, Closed, Failed, NotInDoubt, NothingToForget, NoSuch, Exhausted}
-use Rattle.tree_model.specs.Errors.{step_error_number}
-use Rattle.tree_model.specs.Names.{root_case}
-use Rattle.tree_model.specs.Texts.{case_text, kept_lines, outcome_word, reaction_lines}
+use Rattle.protocol.specs.declared.names.Case.{Case}
+use Rattle.protocol.specs.declared.names.Txn.{Txn}
+use Rattle.protocol.specs.declared.events.Reaction.{Reaction}
+use Rattle.protocol.specs.declared.events.StepError.{StepError}
+use Rattle.protocol.specs.declared.events.StepError.TheVariants.{Memory, Device, UnknownTxn, NotAChild, Closed, Failed, NotInDoubt, NothingToForget, NoSuch, Exhausted}
+use Rattle.protocol.specs.Errors.{step_error_number}
+use Rattle.protocol.specs.Names.{root_case}
+use Rattle.protocol.specs.Texts.{case_text, kept_lines, outcome_word, reaction_lines}
 use Rattle.trace_lines.specs.Trace.{lines_text}
 use Rattle.log_text.specs.declared.form.LogForm.{LogForm}
 use Rattle.log_lines.specs.Held.{listed_text}
 use Rattle.log_lines.specs.Words.{bytes_word}
-use Rattle.log_news.specs.declared.doubts.Decision.{Decision}
-use Rattle.node_answers.specs.declared.status.Status.{Status}
+use Rattle.log_outcomes.specs.declared.doubts.LoggedDecision.{LoggedDecision}
+use Rattle.node_answers.specs.declared.status.NodeStatus.{NodeStatus}
 use Rattle.node_answers.specs.declared.refusing.Manner.{Manner}
 use Rattle.node_answers.specs.declared.refusing.Manner.TheVariants.{Numbers, Words}
 use Rattle.node_answers.specs.declared.refusing.Nothing.{Nothing}
 use Rattle.node_answers.specs.declared.refusing.Nothing.TheVariants.{NoText, NoLine}
-use Rattle.log_news.specs.declared.news.News.{News}
-use Rattle.log_news.specs.declared.news.News.TheVariants as news
+use Rattle.log_outcomes.specs.declared.news.News.{News}
+use Rattle.log_outcomes.specs.declared.news.News.TheVariants as news
 
 -- the end of an answer to a line that was made
 abbrev pub ok_text : List ℕ
@@ -38,7 +38,7 @@ help_text =
 
 -- how a log stands: the boot; how many records it has, and how many of them are not forced; how many bytes; how many
 -- cases are in doubt by it, and how many an operator decided that wait to be told
-abbrev pub status_text : Status → List ℕ
+abbrev pub status_text : NodeStatus → List ℕ
 status_text s =
     codes "status boot " ++ decimal s.boot ++ codes " records " ++ decimal s.records ++ codes " unforced "
     ++ decimal s.unforced ++ codes " bytes " ++ decimal s.bytes ++ codes " in-doubt " ++ decimal s.doubts
@@ -113,11 +113,11 @@ abbrev pub doubts_text : List Case → List ℕ
 doubts_text cs = flat_map doubt_line cs
 
 -- the line of a case that an operator decided and that waits to be told
-abbrev pub decision_line : Decision → List ℕ
+abbrev pub decision_line : LoggedDecision → List ℕ
 decision_line d = codes "decided " ++ case_text d.case ++ codes " " ++ outcome_word d.outcome ++ codes "\n"
 
 -- the lines of such cases
-abbrev pub decisions_text : List Decision → List ℕ
+abbrev pub decisions_text : List LoggedDecision → List ℕ
 decisions_text ds = flat_map decision_line ds
 
 -- how a transaction ended, as far as is known, and the end of the line

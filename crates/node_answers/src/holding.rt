@@ -5,9 +5,9 @@ ghost use Rattle.node_answers.specs.Texts.{data_text, log_text, pair_line, pairs
 
 use log_lines::{push_bytes_word, push_lines};
 use log_text::LogForm;
+use protocol::Bytes;
 use std::alloc::{AllocError, Global};
 use trace_lines::push;
-use tree_model::Bytes;
 
 /// A line `log P` and a line for each record of these bytes of a log, as `rstar log` writes them, and `ok`.
 pub fn log_text(alloc: Global, form: LogForm, bytes: &[u8]) -> Result<Vec<u8>, AllocError>

@@ -10,5 +10,5 @@ mod text;
 
 pub use holding::{data_text, log_text};
 pub use refusing::{Manner, Nothing, error_text, refused_text};
-pub use status::{Status, help_text, status_text};
+pub use status::{NodeStatus, help_text, status_text};
 pub use text::{doubt_text, obeyed_text, outcome_text, shown_text, trimmed_text};

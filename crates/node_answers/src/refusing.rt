@@ -3,9 +3,9 @@
 ghost use Rattle.std.specs.Prelude.{◌≡◌, IfOk};
 ghost use Rattle.node_answers.specs.Texts.{error_text, nothing_word, refusal_word, refused_text, step_error_word};
 
+use protocol::StepError;
 use std::alloc::{AllocError, Global};
 use trace_lines::{push, push_number};
-use tree_model::StepError;
 
 /// How much a node says of a line that it refuses, or does not know.
 #[derive(Clone, Copy, Debug, PartialEq, Eq)]

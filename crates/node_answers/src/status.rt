@@ -9,7 +9,7 @@ use trace_lines::{push, push_number};
 
 /// How a log stands.
 #[derive(Clone, Copy)]
-pub struct Status {
+pub struct NodeStatus {
     /// The boot of its process.
     pub boot: u64,
     /// How many records it has.
@@ -33,7 +33,7 @@ fn push_count(out: &mut Vec<u8>, words: &str, number: u64) -> Result<(), AllocEr
 }
 
 /// How a log stands, and `ok`.
-pub fn status_text(alloc: Global, status: &Status) -> Result<Vec<u8>, AllocError>
+pub fn status_text(alloc: Global, status: &NodeStatus) -> Result<Vec<u8>, AllocError>
     ensures { IfOk result (λ text. text.items ≡ status_text status.now) }
 {
     let mut out = Vec::new(alloc);

@@ -2,7 +2,7 @@
 
 ghost use Rattle.std.specs.Prelude.{◌≡◌, ◌++◌, ◌<◌, ◌+◌, ◌^◌, IfOk, OnOk, length};
 ghost use Rattle.trace_lines.specs.Trace.{lines_text};
-ghost use Rattle.tree_model.specs.Texts.{reaction_lines};
+ghost use Rattle.protocol.specs.Texts.{reaction_lines};
 ghost use Rattle.node_answers.specs.Texts.{
   decision_line,
   decisions_text,
@@ -15,13 +15,13 @@ ghost use Rattle.node_answers.specs.Texts.{
   trimmed_text,
 };
 
-use log_news::{Decision, News};
+use log_outcomes::{LoggedDecision, News};
+use protocol::{Case, ProcessId, Reaction, Txn};
 use std::alloc::{AllocError, Global};
 use trace_lines::{
     outcome_word, push, push_begun, push_case, push_conclusion, push_kept, push_messages,
     push_number, push_written,
 };
-use tree_model::{Case, ProcessId, Reaction, Txn};
 
 /// Adds the lines of a reaction, before which N messages were sent.
 fn push_reaction(
@@ -95,7 +95,7 @@ fn push_doubts(out: &mut Vec<u8>, cases: &[Case]) -> Result<(), AllocError>
     Ok(())
 }
 
-fn push_decision(out: &mut Vec<u8>, decision: &Decision) -> Result<(), AllocError>
+fn push_decision(out: &mut Vec<u8>, decision: &LoggedDecision) -> Result<(), AllocError>
     ensures { OnOk result (out.new.items ≡ out.old.items ++ decision_line decision.now) }
 {
     push(out, "decided ")?;
@@ -105,7 +105,7 @@ fn push_decision(out: &mut Vec<u8>, decision: &Decision) -> Result<(), AllocErro
     push(out, "\n")
 }
 
-fn push_decisions(out: &mut Vec<u8>, decisions: &[Decision]) -> Result<(), AllocError>
+fn push_decisions(out: &mut Vec<u8>, decisions: &[LoggedDecision]) -> Result<(), AllocError>
     ensures { OnOk result (out.new.items ≡ out.old.items ++ decisions_text decisions.now) }
 {
     for decision in decisions {
@@ -118,7 +118,7 @@ fn push_decisions(out: &mut Vec<u8>, decisions: &[Decision]) -> Result<(), Alloc
 pub fn doubt_text(
     alloc: Global,
     cases: &[Case],
-    decisions: &[Decision],
+    decisions: &[LoggedDecision],
 ) -> Result<Vec<u8>, AllocError>
     ensures { IfOk result (λ text. text.items
         ≡ doubts_text cases.now ++ decisions_text decisions.now ++ ok_text) }

@@ -1,12 +1,12 @@
 -- What a desk says to a node, and what it tells of the answers.
 use Rattle.std.specs.Prelude.{◌≡◌, ◌⊎◌, ◌-◌, ◌==◌, ℕ, Bool, not, List, [], ◌++◌, codes, decimal, drop, length, take, Option, Some, None, if◌then◌else◌}
 use Rattle.std.specs.Str.{IsUtf8}
-use Rattle.tree_model.specs.declared.names.Case.{Case}
-use Rattle.tree_model.specs.declared.names.ProcessId.{ProcessId}
-use Rattle.tree_model.specs.declared.messages.Envelope.{Envelope}
-use Rattle.tree_model.specs.declared.messages.Message.{Message}
-use Rattle.tree_model.specs.declared.messages.Message.TheVariants.{Joined}
-use Rattle.tree_model.specs.Texts.{case_text}
+use Rattle.protocol.specs.declared.names.Case.{Case}
+use Rattle.protocol.specs.declared.names.ProcessId.{ProcessId}
+use Rattle.protocol.specs.declared.messages.Envelope.{Envelope}
+use Rattle.protocol.specs.declared.messages.Message.{Message}
+use Rattle.protocol.specs.declared.messages.Message.TheVariants.{Joined}
+use Rattle.protocol.specs.Texts.{case_text}
 use Rattle.script_words.specs.Steps.{same}
 use Rattle.node_lines.specs.Lines.{line_at}
 use Rattle.node_answers.specs.Texts.{ok_text}
@@ -51,8 +51,8 @@ abbrev pub joining_at : ProcessId → List ℕ → Option Joining
 joining_at root line = joining_of (line_at root line)
 
 -- who has joined, by a line, if it is a text
-abbrev pub Joins : ProcessId → List ℕ → Option Joining → Type 0
-Joins root line j = (IsUtf8 line × (j ≡ joining_at root line)) ⊎ ((IsUtf8 line → ⊥) × (j ≡ None))
+abbrev pub JoinsByLine : ProcessId → List ℕ → Option Joining → Type 0
+JoinsByLine root line j = (IsUtf8 line × (j ≡ joining_at root line)) ⊎ ((IsUtf8 line → ⊥) × (j ≡ None))
 
 -- the case of the child
 abbrev pub child_case : Joining → Case

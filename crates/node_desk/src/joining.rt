@@ -2,7 +2,7 @@
 
 ghost use Rattle.std.specs.Prelude.{◌≡◌, IfOk};
 ghost use Rattle.node_desk.specs.Words.{
-  Joins,
+  JoinsByLine,
   child_case as case_of_child,
   join_line as join_line_of,
   joined_line as joined_line_of,
@@ -11,10 +11,10 @@ ghost use Rattle.node_desk.specs.Words.{
 };
 
 use node_lines::line_of;
+use protocol::{Case, Envelope, Message, ProcessId, Ticket};
 use std::alloc::{AllocError, Global};
 use std::str;
 use trace_lines::{push, push_case, push_number};
-use tree_model::{Case, Envelope, Message, ProcessId, Ticket};
 
 /// A child that has joined a case, by this ticket.
 #[derive(Clone, Copy)]
@@ -54,7 +54,7 @@ pub fn joining_in(
     root: ProcessId,
     line: &[u8],
 ) -> Result<Option<Joining>, AllocError>
-    ensures { IfOk result (Joins root line.now) }
+    ensures { IfOk result (JoinsByLine root line.now) }
 {
     match str::from_utf8(line) {
         Ok(line) => joining_at(alloc, root, line),

@@ -5,9 +5,9 @@ ghost use Rattle.node_desk.specs.Ways.{ways_of};
 
 use crate::growth::Growth;
 use crate::waits::Waits;
+use protocol::ProcessId;
 use std::time::{Duration, Instant};
 use std::{fs, io};
-use tree_model::ProcessId;
 
 /// What a desk does beside the lines of the input.
 #[derive(Clone, Copy)]

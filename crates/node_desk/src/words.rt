@@ -3,9 +3,9 @@
 ghost use Rattle.std.specs.Prelude.{◌≡◌, IfOk};
 ghost use Rattle.node_desk.specs.Words.{ask_line as ask_line_of, messages_in as messages_of, takes as takes_by};
 
+use protocol::Case;
 use std::alloc::{AllocError, Global};
 use trace_lines::{push, push_case};
-use tree_model::Case;
 
 /// The line that trims a log.
 pub const TRIM: &str = "trim";

@@ -3,32 +3,32 @@ use Rattle.std.proofs.Common.{◌≡◌, ◌∙◌, ◌++◌, ◌⊎◌, ℕ, Bo
 use Rattle.std.specs.Prelude.{IfErr, IfOk, OnErr, OnOk}
 use Rattle.std.specs.Result.{IsErrAnd}
 use Rattle.std.specs.Str.{IsUtf8}
-use Rattle.tree_model.specs.declared.messages.Envelope.{Envelope}
-use Rattle.tree_model.specs.declared.names.ProcessId.{ProcessId}
-use Rattle.tree_model.specs.declared.events.Input.{Input}
-use Rattle.tree_model.specs.declared.events.Input.TheVariants.{Act as ActInput, Message as MessageInput}
-use Rattle.tree_model.specs.declared.events.Reaction.{Reaction}
-use Rattle.tree_model.specs.declared.events.StepError.{StepError}
-use Rattle.tree_model.specs.declared.events.StepError.TheVariants.{Memory, Device, NoSuch}
-use Rattle.tree_model.specs.Names.{same_process}
-use Rattle.tree_model.specs.Plays.{process_of_act}
-use Rattle.tree_model.specs.Trees.{root_of}
-use Rattle.core_model.specs.States.{CoreState}
-use Rattle.core_law.specs.worlds.Worlds.{HandlesInput}
-use Rattle.manager_model.specs.Data.{ManagerData}
-use Rattle.tree_node.specs.Nodes.{NotHandled, SpellsLog}
-use Rattle.tree_node.specs.Restarts.{NoTrim}
-use Rattle.tree_node.proofs.Same.{rests, same_core}
-use Rattle.node_lines.specs.declared.asked.Asked.{Asked}
-use Rattle.node_lines.specs.declared.asked.Asked.TheVariants as asked
+use Rattle.protocol.specs.declared.messages.Envelope.{Envelope}
+use Rattle.protocol.specs.declared.names.ProcessId.{ProcessId}
+use Rattle.protocol.specs.declared.events.Input.{Input}
+use Rattle.protocol.specs.declared.events.Input.TheVariants.{Act as ActInput, Message as MessageInput}
+use Rattle.protocol.specs.declared.events.Reaction.{Reaction}
+use Rattle.protocol.specs.declared.events.StepError.{StepError}
+use Rattle.protocol.specs.declared.events.StepError.TheVariants.{Memory, Device, NoSuch}
+use Rattle.protocol.specs.Names.{same_process}
+use Rattle.protocol.specs.Plays.{process_of_act}
+use Rattle.protocol.specs.Trees.{root_of}
+use Rattle.process_state.specs.States.{CoreState}
+use Rattle.tree_state.specs.Worlds.{HandlesInput}
+use Rattle.resource_manager.specs.Data.{ManagerData}
+use Rattle.tree_process.specs.Nodes.{NotHandled, SpellsLog}
+use Rattle.tree_process.specs.Restarts.{NoTrim}
+use Rattle.tree_process.proofs.Same.{rests, same_core}
+use Rattle.node_lines.specs.declared.asked.NodeLine.{NodeLine}
+use Rattle.node_lines.specs.declared.asked.NodeLine.TheVariants as asked
 use Rattle.node_lines.specs.Asked.{asked_at}
 use Rattle.node_engine.specs.declared.failure.NodeFailure.{NodeFailure}
 use Rattle.node_engine.specs.declared.failure.NodeFailure.TheVariants as failure
-use Rattle.node_engine.specs.Answers.{Answers, AnswersIf, AnswersInput, AnswersLine, AnswersTrim, IsRefusal, IsUnrefused, IsUnshown, NodeState, Shows, Takes, TakesAgain, TakesIf, TakesInput, TakesLine, TakesTrim, TellsOutcome, TellsStatus, hears, leaves_it, owed_at, records_at, status_by, takes_it}
-use Rattle.node_answers.specs.declared.status.Status.{Status}
+use Rattle.node_engine.specs.Answers.{AnswersAsked, AnswersIf, AnswersInput, AnswersLine, AnswersTrim, IsRefusal, IsUnrefused, IsUnshown, NodeState, Shows, NodeTakes, TakesAgain, TakesIf, TakesInput, TakesLine, TakesTrim, TellsOutcome, TellsStatus, hears, leaves_it, owed_at, records_at, status_by, takes_it}
+use Rattle.node_answers.specs.declared.status.NodeStatus.{NodeStatus}
 use Rattle.node_answers.specs.Texts.{news_text, ok_text, refused_text, status_text}
-use Rattle.log_news.specs.News.{news_in}
-use Rattle.tree_model.specs.declared.names.Txn.{Txn}
+use Rattle.log_outcomes.specs.News.{news_in}
+use Rattle.protocol.specs.declared.names.Txn.{Txn}
 
 -- the same node, whose process keeps this
 abbrev pub moved : NodeState → CoreState → ManagerData → NodeState
@@ -168,7 +168,7 @@ module _ {A E : Type 0} (items : A → List ℕ) (x : Txn) (s : NodeState) where
 -- How the log stands.
 
 module _ {A E : Type 0} (items : A → List ℕ) (s : NodeState) (log : List ℕ) (spells : SpellsLog s.core log) where
-  pub status_told : (t : Status) (r : Result A E) → t ≡ status_by s (length log)
+  pub status_told : (t : NodeStatus) (r : Result A E) → t ≡ status_by s (length log)
       → IfOk r (λ text. items text ≡ status_text t) → IfOk r (λ text. TellsStatus s (items text))
   status_told t (Ok text) is h = record { log = log; spells = spells; told = h ∙ ap status_text is }
   status_told t (Err e) is h = tt
@@ -190,7 +190,7 @@ again_nothing : (o : Option (List Envelope)) (s : NodeState) → TakesAgain o s 
 again_nothing None s = (refl, refl)
 again_nothing (Some es) s = (refl, tt)
 
-pub takes_nothing : (a : Asked) (s : NodeState) → Takes a s s failure.Memory
+pub takes_nothing : (a : NodeLine) (s : NodeState) → NodeTakes a s s failure.Memory
 takes_nothing asked.Nothing s = (refl, refl)
 takes_nothing (asked.Act a) s = if_nothing (same_process (process_of_act (root_of s.tree) a) s.me) s (ActInput a)
 takes_nothing (asked.Message n e) s = if_nothing (hears s e) s (MessageInput n e.message)
@@ -212,18 +212,18 @@ takes_nothing (asked.Resolve name) s = (refl, refl)
 takes_nothing asked.Unknown s = (refl, refl)
 takes_nothing asked.NoText s = (refl, refl)
 
-module _ {A E : Type 0} (items : A → List ℕ) (line : List ℕ) (a : Asked) (old new : NodeState)
+module _ {A E : Type 0} (items : A → List ℕ) (line : List ℕ) (a : NodeLine) (old new : NodeState)
     (r : Result A E) (text : IsUtf8 line) (is : a ≡ asked_at (root_of old.tree) line) where
-  pub line_answered : IfOk r (λ t. Answers a old new (items t)) → IfOk r (λ t. AnswersLine line old new (items t))
+  pub line_answered : IfOk r (λ t. AnswersAsked a old new (items t)) → IfOk r (λ t. AnswersLine line old new (items t))
   line_answered h = by_result r h
     where
-      by_result : (q : Result A E) → IfOk q (λ t. Answers a old new (items t))
+      by_result : (q : Result A E) → IfOk q (λ t. AnswersAsked a old new (items t))
           → IfOk q (λ t. AnswersLine line old new (items t))
       by_result (Ok t) g = record { asked = a; asks = inl (text, is); answers = g }
       by_result (Err e) g = tt
 
-module _ {A : Type 0} (line : List ℕ) (a : Asked) (old new : NodeState) (text : IsUtf8 line)
+module _ {A : Type 0} (line : List ℕ) (a : NodeLine) (old new : NodeState) (text : IsUtf8 line)
     (is : a ≡ asked_at (root_of old.tree) line) where
-  pub line_taken : (r : Result A NodeFailure) → IfErr r (Takes a old new) → IfErr r (TakesLine line old new)
+  pub line_taken : (r : Result A NodeFailure) → IfErr r (NodeTakes a old new) → IfErr r (TakesLine line old new)
   line_taken (Ok t) h = tt
   line_taken (Err e) h = record { asked = a; asks = inl (text, is); takes = h }

@@ -2,20 +2,20 @@
 use Rattle.std.proofs.Common.{◌≡◌, ◌≤◌, ◌∙◌, ℕ, Bool, true, false, Some, List, length, take, nat_lt, inl, refl, sym, ap, subst, arith}
 use Rattle.std.specs.List.{list_all}
 use Rattle.std.proofs.lemmas.Bool.Decides.{nat_tests}
-use Rattle.tree_model.specs.declared.records.LogRecord.{LogRecord}
-use Rattle.tree_model.specs.declared.trees.TreeEntry.{TreeEntry}
-use Rattle.tree_model.specs.Records.{same_bytes}
+use Rattle.protocol.specs.declared.records.LogRecord.{LogRecord}
+use Rattle.protocol.specs.declared.trees.TreeProcess.{TreeProcess}
+use Rattle.protocol.specs.Records.{same_bytes}
 use Rattle.log_text.specs.declared.form.LogForm.{LogForm}
 use Rattle.log_text.specs.declared.form.LogFormat.{LogFormat}
 use Rattle.log_text.specs.declared.form.LogFormat.TheVariants.{First, Second}
 use Rattle.log_text.specs.Forms.{header}
 use Rattle.log_rules.specs.order.Logs.{Damaged as DamagedLog, Whole, read_log}
-use Rattle.rec_log.specs.Openings.{Opens, is_old}
-use Rattle.rec_log.specs.Sights.{LogState, records_of}
-use Rattle.rec_log.proofs.Carrying.{old_long}
-use Rattle.rec_log.proofs.Settling.{same_bytes_is}
-use Rattle.tree_node.specs.declared.reopening.ReopenError.TheVariants.{Memory, Device, Damaged, Unfit, OldFormat}
-use Rattle.tree_node.specs.Reopenings.{form_by}
+use Rattle.log_records.specs.Openings.{OpensLog, is_old}
+use Rattle.log_records.specs.Sights.{LogState, records_of}
+use Rattle.log_records.proofs.Carrying.{old_long}
+use Rattle.log_records.proofs.Settling.{same_bytes_is}
+use Rattle.tree_process.specs.declared.reopening.ProcessReopenError.TheVariants.{Memory, Device, Damaged, Unfit, OldFormat}
+use Rattle.tree_process.specs.Reopenings.{form_by}
 use Rattle.node_engine.specs.declared.starting.StartError.{StartError}
 use Rattle.node_engine.specs.declared.starting.StartError.TheVariants.{Reopen, Stranger}
 use Rattle.node_engine.specs.Starts.{CopyOpens, NamesOthers, NamesOwn, NoStart, NotHome, is_own_record}
@@ -61,7 +61,7 @@ old_is_none p bytes second old ls torn whole = not_old p bytes second old ls tor
 same_records : (a b : List LogRecord) (m n : ℕ) → Whole a m ≡ Whole b n → a ≡ b
 same_records a b m n e = cc
 
-module _ (tree : List TreeEntry) (e : TreeEntry) (bytes : List ℕ) where
+module _ (tree : List TreeProcess) (e : TreeProcess) (bytes : List ℕ) where
   pub none_names_own : ((ls : List LogRecord) (torn : ℕ) → read_log (form_by e) bytes ≡ Whole ls torn → ⊥)
       → NamesOwn tree e bytes
   none_names_own none = record { at_home = λ ls torn read. absurd (none ls torn read) }
@@ -84,7 +84,7 @@ module _ (tree : List TreeEntry) (e : TreeEntry) (bytes : List ℕ) where
   }
 
 -- a refusal is passed on
-pub not_started : {L : Type 0} (bytes : L → List ℕ) (forced failures : L → ℕ) (tree : List TreeEntry) (e : TreeEntry)
+pub not_started : {L : Type 0} (bytes : L → List ℕ) (forced failures : L → ℕ) (tree : List TreeProcess) (e : TreeProcess)
     (store : L) (error : StartError) → NotHome tree e (bytes store) error
     → NoStart bytes forced failures tree e store error
 not_started bytes forced failures tree e store Stranger h = h

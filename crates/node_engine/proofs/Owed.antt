@@ -2,20 +2,20 @@
 use Rattle.std.proofs.Common.{◌≡◌, ◌∙◌, Option, Some, None, Result, Ok, Err, List, filter, map, refl, ap, unwrap_or}
 use Rattle.std.specs.Prelude.{IfOk}
 use Rattle.std.specs.Map.{lookup}
-use Rattle.tree_model.specs.declared.messages.Envelope.{Envelope}
-use Rattle.tree_model.specs.declared.names.Case.{Case}
-use Rattle.tree_model.specs.declared.names.Outcome.{Outcome}
-use Rattle.tree_model.specs.declared.names.ProcessId.{ProcessId}
-use Rattle.tree_model.specs.declared.names.Ticket.{Ticket}
-use Rattle.tree_model.specs.declared.records.Record.{Record}
-use Rattle.tree_model.specs.declared.standings.Standing.{Standing}
-use Rattle.tree_model.specs.declared.standings.Standing.TheVariants.{Unknown, Active, Collecting, Prepared, Committing, Aborting, Heuristic}
-use Rattle.tree_model.specs.Records.{in_list}
-use Rattle.tree_model.specs.Restarts.{recorded_view}
-use Rattle.tree_model.specs.Standings.{CoordinatorView, known_view}
-use Rattle.inquire_core.specs.Readings.{ReadLog, Table, reading_of, same, view_in}
-use Rattle.inquire_core.specs.Summaries.{Summary, no_records, restored_view, standing_of, view_of}
-use Rattle.inquire_core.proofs.Readings.{view_is}
+use Rattle.protocol.specs.declared.messages.Envelope.{Envelope}
+use Rattle.protocol.specs.declared.names.Case.{Case}
+use Rattle.protocol.specs.declared.names.Outcome.{Outcome}
+use Rattle.protocol.specs.declared.names.ProcessId.{ProcessId}
+use Rattle.protocol.specs.declared.names.Ticket.{Ticket}
+use Rattle.protocol.specs.declared.records.Record.{Record}
+use Rattle.protocol.specs.declared.standings.Standing.{Standing}
+use Rattle.protocol.specs.declared.standings.Standing.TheVariants.{Unknown, Active, Collecting, Prepared, Committing, Aborting, Heuristic}
+use Rattle.protocol.specs.Records.{in_list}
+use Rattle.protocol.specs.Restarts.{recorded_view}
+use Rattle.protocol.specs.Standings.{CoordinatorView, known_view}
+use Rattle.coord_records.specs.Readings.{ReadLog, SummaryTable, reading_of, same, view_in}
+use Rattle.coord_records.specs.Summaries.{Summary, no_records, restored_view, standing_of, view_of}
+use Rattle.coord_records.proofs.Readings.{view_is}
 use Rattle.node_engine.specs.Again.{decided_by, still_owing, telling, tellings_by}
 
 -- the decision, told to these
@@ -41,7 +41,7 @@ pub by_summary : (me : ProcessId) (c : Case) (owed : List Ticket) (s : Summary)
 by_summary me c owed s = by_standing me c owed s (standing_of s)
 
 -- of a case of which nothing was read
-pub nothing_read_of : (me : ProcessId) (c : Case) (owed : List Ticket) (t : Table) → lookup (same c) t ≡ None
+pub nothing_read_of : (me : ProcessId) (c : Case) (owed : List Ticket) (t : SummaryTable) → lookup (same c) t ≡ None
     → tellings_by me c (still_owing owed (view_in t c)) (view_in t c).standing ≡ None
 nothing_read_of me c owed t e =
     ap (λ (o : Option Summary). tellings_by me c (still_owing owed (view_of (unwrap_or o no_records)))

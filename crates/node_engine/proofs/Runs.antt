@@ -6,24 +6,24 @@ use Rattle.std.specs.List.{AllByRecursion, flat_map}
 use Rattle.std.specs.Io.KnownBytes.{Appends, Consumes, IsAtEnd}
 use Rattle.std.proofs.lemmas.List.{append-nil}
 use Rattle.std.proofs.lemmas.Grind.{flat_map-append}
-use Rattle.tree_model.specs.declared.messages.Envelope.{Envelope}
-use Rattle.tree_model.specs.declared.events.Input.{Input as AnyInput}
-use Rattle.tree_model.specs.declared.events.Input.TheVariants.{Act as ActInput, Message as MessageInput}
-use Rattle.tree_model.specs.declared.events.Reaction.{Reaction}
-use Rattle.tree_model.specs.declared.events.StepError.{StepError}
-use Rattle.tree_model.specs.Names.{same_process}
-use Rattle.tree_model.specs.Plays.{process_of_act}
-use Rattle.tree_model.specs.Trees.{root_of}
-use Rattle.node_lines.specs.declared.asked.Asked.{Asked}
-use Rattle.node_lines.specs.declared.asked.Asked.TheVariants as asked
-use Rattle.core_model.specs.States.{CoreState}
+use Rattle.protocol.specs.declared.messages.Envelope.{Envelope}
+use Rattle.protocol.specs.declared.events.Input.{Input as AnyInput}
+use Rattle.protocol.specs.declared.events.Input.TheVariants.{Act as ActInput, Message as MessageInput}
+use Rattle.protocol.specs.declared.events.Reaction.{Reaction}
+use Rattle.protocol.specs.declared.events.StepError.{StepError}
+use Rattle.protocol.specs.Names.{same_process}
+use Rattle.protocol.specs.Plays.{process_of_act}
+use Rattle.protocol.specs.Trees.{root_of}
+use Rattle.node_lines.specs.declared.asked.NodeLine.{NodeLine}
+use Rattle.node_lines.specs.declared.asked.NodeLine.TheVariants as asked
+use Rattle.process_state.specs.States.{CoreState}
 use Rattle.node_engine.specs.declared.run.Ended.{Ended}
 use Rattle.node_engine.specs.declared.run.Ended.TheVariants.{Input, Asked as EndAsked}
 use Rattle.node_lines.specs.Asked.{end_word}
 use Rattle.script_words.specs.Steps.{same}
 use Rattle.node_engine.specs.declared.failure.NodeFailure.{NodeFailure}
 use Rattle.node_engine.specs.declared.failure.NodeFailure.TheVariants.{Read, Memory, Write, Device, Exhausted}
-use Rattle.node_engine.specs.Answers.{AnswersLine, IsUnrefused, IsUnshown, NodeState, Shows, Takes, TakesAgain, TakesIf, TakesLine, Untold, UntoldTrim, hears, leaves_it, owed_at, resends, takes_it}
+use Rattle.node_engine.specs.Answers.{AnswersLine, IsUnrefused, IsUnshown, NodeState, Shows, NodeTakes, TakesAgain, TakesIf, TakesLine, Untold, UntoldTrim, hears, leaves_it, owed_at, resends, takes_it}
 use Rattle.node_engine.specs.Runs.{ClosesLog, EndedEarly, EndsBy, EndsInOrder, FailsToEnd, GoesOn, IsPiece, Known, ReadsAll, Served, Serves, Stand, Stops, Unanswered, end_text, line_of, stand}
 use Rattle.node_engine.proofs.Answering.{passed_on}
 
@@ -214,7 +214,7 @@ again_own : (o : Option (List Envelope)) (old new : NodeState) (why : NodeFailur
 again_own None old new why h = memory_own why h.1
 again_own (Some es) old new why h = unshown_own old.sent (resends es) why h.1
 
-taken_own : (a : Asked) (old new : NodeState) (why : NodeFailure) → Takes a old new why → IsOwn why
+taken_own : (a : NodeLine) (old new : NodeState) (why : NodeFailure) → NodeTakes a old new why → IsOwn why
 taken_own asked.Nothing old new why h = memory_own why h.1
 taken_own (asked.Act a) old new why h =
     input_own (same_process (process_of_act (root_of old.tree) a) old.me) old new (ActInput a) why h

@@ -1,21 +1,21 @@
 -- What is sent once more: a decision, to those who owe an acknowledgement of it by the log.
 use Rattle.std.specs.Prelude.{Option, Some, None, List, filter, map}
-use Rattle.tree_model.specs.declared.names.Case.{Case}
-use Rattle.tree_model.specs.declared.names.Outcome.{Outcome}
-use Rattle.tree_model.specs.declared.names.Outcome.TheVariants as outcome
-use Rattle.tree_model.specs.declared.names.ProcessId.{ProcessId}
-use Rattle.tree_model.specs.declared.names.Ticket.{Ticket}
-use Rattle.tree_model.specs.declared.messages.Envelope.{Envelope}
-use Rattle.tree_model.specs.declared.records.LogRecord.{LogRecord}
-use Rattle.tree_model.specs.declared.standings.Standing.{Standing}
-use Rattle.tree_model.specs.declared.standings.Standing.TheVariants.{Committing, Aborting}
-use Rattle.tree_model.specs.CoordinatorRows.{post, tells_outcome}
-use Rattle.tree_model.specs.LogNames.{own_records}
-use Rattle.tree_model.specs.Names.{child_case}
-use Rattle.tree_model.specs.Nodes.{Place}
-use Rattle.tree_model.specs.Records.{in_list}
-use Rattle.tree_model.specs.Restarts.{recorded_view}
-use Rattle.tree_model.specs.Standings.{CoordinatorView}
+use Rattle.protocol.specs.declared.names.Case.{Case}
+use Rattle.protocol.specs.declared.names.Outcome.{Outcome}
+use Rattle.protocol.specs.declared.names.Outcome.TheVariants as outcome
+use Rattle.protocol.specs.declared.names.ProcessId.{ProcessId}
+use Rattle.protocol.specs.declared.names.Ticket.{Ticket}
+use Rattle.protocol.specs.declared.messages.Envelope.{Envelope}
+use Rattle.protocol.specs.declared.records.LogRecord.{LogRecord}
+use Rattle.protocol.specs.declared.standings.Standing.{Standing}
+use Rattle.protocol.specs.declared.standings.Standing.TheVariants.{Committing, Aborting}
+use Rattle.protocol.specs.CoordinatorRows.{post, tells_outcome}
+use Rattle.protocol.specs.LogNames.{own_records}
+use Rattle.protocol.specs.Names.{child_case}
+use Rattle.protocol.specs.Nodes.{Place}
+use Rattle.protocol.specs.Records.{in_list}
+use Rattle.protocol.specs.Restarts.{recorded_view}
+use Rattle.protocol.specs.Standings.{CoordinatorView}
 
 -- the outcome of a case that waits for acknowledgements
 abbrev pub decided_by : Standing → Option Outcome

@@ -1,48 +1,48 @@
 -- What a node makes of a line, and what it answers.
 use Rattle.std.specs.Prelude.{◌≡◌, ◌≢◌, ◌≤◌, ◌+◌, ◌^◌, ◌⊎◌, ⊤, ℕ, Bool, true, false, ◌&&◌, is_none, Option, Some, None, option_map, string_bytes, Result, Ok, Err, List, [], ◌++◌, length}
 use Rattle.std.specs.Str.{IsUtf8}
-use Rattle.tree_model.specs.declared.messages.Envelope.{Envelope}
-use Rattle.tree_model.specs.declared.names.ProcessId.{ProcessId}
-use Rattle.tree_model.specs.declared.names.Case.{Case}
-use Rattle.tree_model.specs.declared.names.Txn.{Txn}
-use Rattle.tree_model.specs.declared.trees.TreeEntry.{TreeEntry}
-use Rattle.tree_model.specs.declared.events.Input.{Input}
-use Rattle.tree_model.specs.declared.events.Input.TheVariants.{Act as ActInput, Message as MessageInput}
-use Rattle.tree_model.specs.declared.events.Reaction.{Reaction}
-use Rattle.tree_model.specs.declared.events.StepError.{StepError}
-use Rattle.tree_model.specs.declared.events.StepError.TheVariants.{Memory, Device, NoSuch}
-use Rattle.tree_model.specs.declared.records.LogRecord.{LogRecord}
-use Rattle.tree_model.specs.Names.{same_process}
-use Rattle.tree_model.specs.Nodes.{Place, reaction_of}
-use Rattle.tree_model.specs.Plays.{process_of_act}
-use Rattle.tree_model.specs.Reactions.{sends_only}
-use Rattle.tree_model.specs.Trees.{parent_of, root_of}
-use Rattle.rec_log.specs.Sights.{records_of}
-use Rattle.core_model.specs.States.{CoreState, form_of}
-use Rattle.inquire_core.specs.Readings.{place_below}
-use Rattle.core_law.specs.worlds.Worlds.{HandlesInput}
-use Rattle.manager_model.specs.Data.{ManagerData}
-use Rattle.tree_node.specs.declared.node.Node.{Node}
-use Rattle.tree_node.specs.Nodes.{NotHandled, SpellsLog, core_of, data_of}
-use Rattle.tree_node.specs.Restarts.{NoTrim, TrimsNode}
-use Rattle.node_lines.specs.declared.asked.Asked.{Asked}
-use Rattle.node_lines.specs.declared.asked.Asked.TheVariants as asked
+use Rattle.protocol.specs.declared.messages.Envelope.{Envelope}
+use Rattle.protocol.specs.declared.names.ProcessId.{ProcessId}
+use Rattle.protocol.specs.declared.names.Case.{Case}
+use Rattle.protocol.specs.declared.names.Txn.{Txn}
+use Rattle.protocol.specs.declared.trees.TreeProcess.{TreeProcess}
+use Rattle.protocol.specs.declared.events.Input.{Input}
+use Rattle.protocol.specs.declared.events.Input.TheVariants.{Act as ActInput, Message as MessageInput}
+use Rattle.protocol.specs.declared.events.Reaction.{Reaction}
+use Rattle.protocol.specs.declared.events.StepError.{StepError}
+use Rattle.protocol.specs.declared.events.StepError.TheVariants.{Memory, Device, NoSuch}
+use Rattle.protocol.specs.declared.records.LogRecord.{LogRecord}
+use Rattle.protocol.specs.Names.{same_process}
+use Rattle.protocol.specs.Nodes.{Place, reaction_of}
+use Rattle.protocol.specs.Plays.{process_of_act}
+use Rattle.protocol.specs.Reactions.{sends_only}
+use Rattle.protocol.specs.Trees.{parent_of, root_of}
+use Rattle.log_records.specs.Sights.{records_of}
+use Rattle.process_state.specs.States.{CoreState, form_of}
+use Rattle.coord_records.specs.Readings.{place_below}
+use Rattle.tree_state.specs.Worlds.{HandlesInput}
+use Rattle.resource_manager.specs.Data.{ManagerData}
+use Rattle.tree_process.specs.declared.node.Process.{Process}
+use Rattle.tree_process.specs.Nodes.{NotHandled, SpellsLog, core_of, data_of}
+use Rattle.tree_process.specs.Restarts.{NoTrim, TrimsNode}
+use Rattle.node_lines.specs.declared.asked.NodeLine.{NodeLine}
+use Rattle.node_lines.specs.declared.asked.NodeLine.TheVariants as asked
 use Rattle.node_lines.specs.Asked.{asked_at}
 use Rattle.node_lines.specs.Speakers.{may_speak}
 use Rattle.node_engine.specs.Again.{owed_again}
 use Rattle.node_engine.specs.DataTexts.{TellsData}
-use Rattle.node_engine.specs.Branches.{IsAnswer, name_text, own_logs, trust_of}
+use Rattle.node_engine.specs.Branches.{IsBranchAnswer, name_text, own_logs, trust_of}
 use Rattle.branch_names.specs.declared.cases.Naming.{Naming}
 use Rattle.branch_names.specs.Cases.{IsNaming}
-use Rattle.resolve_engine.specs.declared.answer.Answer.{Answer}
+use Rattle.resolve_engine.specs.declared.answer.BranchAnswer.{BranchAnswer}
 use Rattle.node_engine.specs.declared.failure.NodeFailure.{NodeFailure}
 use Rattle.node_engine.specs.declared.failure.NodeFailure.TheVariants as failure
 use Rattle.node_engine.specs.declared.serving.Serving.{Serving}
-use Rattle.log_news.specs.Boots.{boot_in}
-use Rattle.log_news.specs.Doubts.{decisions_in, doubts_in}
-use Rattle.log_news.specs.News.{news_in}
+use Rattle.log_outcomes.specs.Boots.{boot_in}
+use Rattle.log_outcomes.specs.Doubts.{decisions_in, doubts_in}
+use Rattle.log_outcomes.specs.News.{news_in}
 use Rattle.node_answers.specs.Texts.{decisions_text, doubts_text, error_text, help_text, log_text, news_text, ok_text, refused_text, shown_text, status_text, trimmed_text}
-use Rattle.node_answers.specs.declared.status.Status.{Status}
+use Rattle.node_answers.specs.declared.status.NodeStatus.{NodeStatus}
 use Rattle.node_answers.specs.declared.refusing.Manner.{Manner}
 use Rattle.node_answers.specs.declared.refusing.Manner.TheVariants.{Numbers}
 use Rattle.node_answers.specs.declared.refusing.Nothing.TheVariants.{NoLine, NoText}
@@ -50,7 +50,7 @@ use Rattle.node_answers.specs.declared.refusing.Nothing.TheVariants.{NoLine, NoT
 -- the tree, and the process; what it keeps and, at a manager, its data; how many messages it sent since it opened; how much it
 -- says of a line that it refuses; and the name of the tree in the names of branches in databases, if it has one
 pub record NodeState : Type 0 where
-  pub tree : List TreeEntry
+  pub tree : List TreeProcess
   pub me : ProcessId
   pub core : CoreState
   pub holdings : ManagerData
@@ -71,7 +71,7 @@ state_of s = record {
 }
 
 -- the node of a process of this tree, which has sent nothing yet, says numbers alone and knows no name of the tree
-abbrev pub opened : {L : Type 0} → List TreeEntry → ProcessId → Node L → NodeState
+abbrev pub opened : {L : Type 0} → List TreeProcess → ProcessId → Process L → NodeState
 opened tree me node = record {
   tree = tree;
   me = me;
@@ -187,9 +187,9 @@ TakesFor p old new input why = TakesIf (same_process p old.me) old new input why
 -- Trims.
 
 -- the log was trimmed, or the trim was refused
-abbrev pub Trimmed : NodeState → NodeState → Result ℕ StepError → Type 0
-Trimmed old new (Ok remain) = TrimsNode old.core new.core old.holdings new.holdings remain
-Trimmed old new (Err e) = NoTrim old.core new.core old.holdings new.holdings e
+abbrev pub NodeTrimmed : NodeState → NodeState → Result ℕ StepError → Type 0
+NodeTrimmed old new (Ok remain) = TrimsNode old.core new.core old.holdings new.holdings remain
+NodeTrimmed old new (Err e) = NoTrim old.core new.core old.holdings new.holdings e
 
 -- what is told of a trim
 abbrev pub ToldOfTrim : NodeState → List ℕ → Result ℕ StepError → Type 0
@@ -205,7 +205,7 @@ UntoldTrim (Err e) why = IsUnrefused e why
 pub record TakesTrim (old new : NodeState) (why : NodeFailure) : Type 0 where
   pub seat : SameSeat old new
   pub end : Result ℕ StepError
-  pub took : Trimmed old new end
+  pub took : NodeTrimmed old new end
   pub untold : UntoldTrim end why
 
 -- the log was trimmed or not, and that is told
@@ -213,7 +213,7 @@ pub record AnswersTrim (old new : NodeState) (text : List ℕ) : Type 0 where
   pub seat : SameSeat old new
   pub sent : new.sent ≡ old.sent
   pub end : Result ℕ StepError
-  pub took : Trimmed old new end
+  pub took : NodeTrimmed old new end
   pub told : ToldOfTrim old text end
 
 -- What the log tells.
@@ -236,7 +236,7 @@ abbrev pub doubt_text : NodeState → List ℕ
 doubt_text s = doubts_text (doubts_in (records_at s)) ++ decisions_text (decisions_in (records_at s)) ++ ok_text
 
 -- how the log stands that has N bytes
-abbrev pub status_by : NodeState → ℕ → Status
+abbrev pub status_by : NodeState → ℕ → NodeStatus
 status_by s bytes = record {
   boot = boot_in (records_at s);
   records = length (records_at s);
@@ -287,17 +287,17 @@ TakesAgain (Some es) old new why = (new ≡ old) × IsUnshown old.sent (resends 
 -- Branches.
 
 -- this is answered of what a name is of, by the log of the process alone, if its bytes read
-pub record Finds (s : NodeState) (of : Naming) (answer : Option Answer) : Type 0 where
+pub record FindsInLog (s : NodeState) (of : Naming) (answer : Option BranchAnswer) : Type 0 where
   pub log : List ℕ
   pub spells : SpellsLog s.core log
-  pub is_answer : IsAnswer s.tree (own_logs s.me log) (trust_of (is_root s) s.core of) of answer
+  pub is_answer : IsBranchAnswer s.tree (own_logs s.me log) (trust_of (is_root s) s.core of) of answer
 
 -- this tells what is to be done with a branch of this name
 pub record Resolves (s : NodeState) (name text : List ℕ) : Type 0 where
   pub of : Naming
   pub named : IsNaming s.tree s.name name of
-  pub answer : Option Answer
-  pub finds : Finds s of answer
+  pub answer : Option BranchAnswer
+  pub finds : FindsInLog s of answer
   pub told : text ≡ name_text s.manner name answer
 
 -- the same of bytes, which are a name if they are a text
@@ -308,43 +308,43 @@ TellsName s name text =
 -- Lines.
 
 -- what was asked is answered
-abbrev pub Answers : Asked → NodeState → NodeState → List ℕ → Type 0
-Answers asked.Nothing old new text = Tells old new text []
-Answers (asked.Act a) old new text = AnswersFor (process_of_act (root_of old.tree) a) old new (ActInput a) text
-Answers (asked.Message n e) old new text = AnswersIf (hears old e) old new (MessageInput n e.message) text
-Answers asked.Trim old new text = AnswersTrim old new text
-Answers asked.Doubt old new text = Tells old new text (doubt_text old)
-Answers (asked.Outcome x) old new text = TellsOutcome (is_root old) x old new text
-Answers (asked.Again c) old new text = AnswersAgain (owed_at old c) old new text
-Answers asked.Status old new text = (new ≡ old) × TellsStatus old text
-Answers asked.Log old new text = (new ≡ old) × TellsLog old text
-Answers asked.Data old new text = (new ≡ old) × TellsData old.manner (records_at old) text
-Answers asked.Help old new text = Tells old new text help_text
-Answers asked.End old new text = Tells old new text ok_text
-Answers (asked.Resolve name) old new text = (new ≡ old) × TellsName old name text
-Answers asked.Unknown old new text = Tells old new text (error_text old.manner NoLine)
-Answers asked.NoText old new text = Tells old new text (error_text old.manner NoText)
+abbrev pub AnswersAsked : NodeLine → NodeState → NodeState → List ℕ → Type 0
+AnswersAsked asked.Nothing old new text = Tells old new text []
+AnswersAsked (asked.Act a) old new text = AnswersFor (process_of_act (root_of old.tree) a) old new (ActInput a) text
+AnswersAsked (asked.Message n e) old new text = AnswersIf (hears old e) old new (MessageInput n e.message) text
+AnswersAsked asked.Trim old new text = AnswersTrim old new text
+AnswersAsked asked.Doubt old new text = Tells old new text (doubt_text old)
+AnswersAsked (asked.Outcome x) old new text = TellsOutcome (is_root old) x old new text
+AnswersAsked (asked.Again c) old new text = AnswersAgain (owed_at old c) old new text
+AnswersAsked asked.Status old new text = (new ≡ old) × TellsStatus old text
+AnswersAsked asked.Log old new text = (new ≡ old) × TellsLog old text
+AnswersAsked asked.Data old new text = (new ≡ old) × TellsData old.manner (records_at old) text
+AnswersAsked asked.Help old new text = Tells old new text help_text
+AnswersAsked asked.End old new text = Tells old new text ok_text
+AnswersAsked (asked.Resolve name) old new text = (new ≡ old) × TellsName old name text
+AnswersAsked asked.Unknown old new text = Tells old new text (error_text old.manner NoLine)
+AnswersAsked asked.NoText old new text = Tells old new text (error_text old.manner NoText)
 
 -- what was asked is made or not, and for this reason not answered
-abbrev pub Takes : Asked → NodeState → NodeState → NodeFailure → Type 0
-Takes (asked.Act a) old new why = TakesFor (process_of_act (root_of old.tree) a) old new (ActInput a) why
-Takes (asked.Message n e) old new why = TakesIf (hears old e) old new (MessageInput n e.message) why
-Takes asked.Trim old new why = TakesTrim old new why
-Takes (asked.Again c) old new why = TakesAgain (owed_at old c) old new why
-Takes _ old new why = TellsNothing old new why
+abbrev pub NodeTakes : NodeLine → NodeState → NodeState → NodeFailure → Type 0
+NodeTakes (asked.Act a) old new why = TakesFor (process_of_act (root_of old.tree) a) old new (ActInput a) why
+NodeTakes (asked.Message n e) old new why = TakesIf (hears old e) old new (MessageInput n e.message) why
+NodeTakes asked.Trim old new why = TakesTrim old new why
+NodeTakes (asked.Again c) old new why = TakesAgain (owed_at old c) old new why
+NodeTakes _ old new why = TellsNothing old new why
 
 -- what a line asks, if it is a text
-abbrev pub Asks : ProcessId → List ℕ → Asked → Type 0
-Asks root line a = (IsUtf8 line × (a ≡ asked_at root line)) ⊎ ((IsUtf8 line → ⊥) × (a ≡ asked.NoText))
+abbrev pub AsksLine : ProcessId → List ℕ → NodeLine → Type 0
+AsksLine root line a = (IsUtf8 line × (a ≡ asked_at root line)) ⊎ ((IsUtf8 line → ⊥) × (a ≡ asked.NoText))
 
 -- a line is answered
 pub record AnswersLine (line : List ℕ) (old new : NodeState) (text : List ℕ) : Type 0 where
-  pub asked : Asked
-  pub asks : Asks (root_of old.tree) line asked
-  pub answers : Answers asked old new text
+  pub asked : NodeLine
+  pub asks : AsksLine (root_of old.tree) line asked
+  pub answers : AnswersAsked asked old new text
 
 -- a line is made or not, and for this reason not answered
 pub record TakesLine (line : List ℕ) (old new : NodeState) (why : NodeFailure) : Type 0 where
-  pub asked : Asked
-  pub asks : Asks (root_of old.tree) line asked
-  pub takes : Takes asked old new why
+  pub asked : NodeLine
+  pub asks : AsksLine (root_of old.tree) line asked
+  pub takes : NodeTakes asked old new why

@@ -1,9 +1,9 @@
 -- The data of a manager, as a node tells them.
 use Rattle.std.specs.Prelude.{◌≡◌, ◌⊎◌, ℕ, Option, Some, None, List}
-use Rattle.tree_model.specs.declared.records.LogRecord.{LogRecord}
-use Rattle.tree_model.specs.declared.events.StepError.TheVariants.{Exhausted}
-use Rattle.tree_model.specs.Store.{data_of}
-use Rattle.kv_core.specs.Replays.{AreMalformed, CountTooFar}
+use Rattle.protocol.specs.declared.records.LogRecord.{LogRecord}
+use Rattle.protocol.specs.declared.events.StepError.TheVariants.{Exhausted}
+use Rattle.protocol.specs.Store.{data_of}
+use Rattle.kv_state.specs.Replays.{AreMalformed, CountTooFar}
 use Rattle.node_answers.specs.declared.refusing.Manner.{Manner}
 use Rattle.node_answers.specs.Texts.{data_text, refused_text}
 

@@ -4,12 +4,12 @@ use Rattle.std.specs.List.{AllByRecursion, flat_map}
 use Rattle.std.specs.Io.{StopsAt}
 use Rattle.std.specs.Io.BufRead.{strip_last, ends_with_byte}
 use Rattle.std.specs.Io.KnownBytes.{Appends, Consumes}
-use Rattle.tree_model.specs.declared.events.Reaction.{Reaction}
+use Rattle.protocol.specs.declared.events.Reaction.{Reaction}
 use Rattle.log_store.specs.Stores.{Forces}
 use Rattle.report_io.specs.Streams.{WritesFront}
 use Rattle.script_words.specs.Steps.{same}
-use Rattle.core_model.specs.States.{CoreState}
-use Rattle.tree_node.specs.Nodes.{HoldsLog}
+use Rattle.process_state.specs.States.{CoreState}
+use Rattle.tree_process.specs.Nodes.{HoldsLog}
 use Rattle.node_answers.specs.Texts.{ok_text}
 use Rattle.node_lines.specs.Asked.{end_word}
 use Rattle.node_engine.specs.declared.failure.NodeFailure.{NodeFailure}

@@ -2,9 +2,9 @@
 
 ghost use Rattle.std.specs.Prelude.{◌≡◌, IfOk, filter, map, option_map};
 ghost use Rattle.std.specs.Map.{lookup};
-ghost use Rattle.tree_model.specs.Records.{in_list};
-ghost use Rattle.inquire_core.specs.Readings.{place_below, same, view_in};
-ghost use Rattle.inquire_core.specs.Summaries.{view_of};
+ghost use Rattle.protocol.specs.Records.{in_list};
+ghost use Rattle.coord_records.specs.Readings.{place_below, same, view_in};
+ghost use Rattle.coord_records.specs.Summaries.{view_of};
 ghost use Rattle.node_engine.specs.Again.{
   decided_by,
   owed_again as messages_again,
@@ -13,12 +13,12 @@ ghost use Rattle.node_engine.specs.Again.{
   tellings_by,
 };
 
-use inquire_core::{Reading, Recorded};
-use std::alloc::{AllocError, Global};
-use tree_model::{
+use coord_records::{CaseReading, Recorded};
+use protocol::{
     Case, Envelope, Envelopes, LogRecord, Message, Outcome, ProcessId, Sequence, Standing, Ticket,
     Tree,
 };
+use std::alloc::{AllocError, Global};
 
 /// The outcome of a case that waits for acknowledgements.
 fn decided(standing: Standing) -> Option<Outcome>
@@ -68,7 +68,7 @@ fn tellings(
 }
 
 /// Whether the ticket is among these.
-#[tactic(auto, unfolding(tree_model::specs::Records::in_list))]
+#[tactic(auto, unfolding(protocol::specs::Records::in_list))]
 fn is_in(tickets: &[Ticket], ticket: &Ticket) -> bool
     ensures { result ≡ in_list tickets.now ticket.now }
 {
@@ -115,7 +115,7 @@ fn owed_by(
 }
 
 /// What the records say of a case, if there are any of it.
-fn recorded_of<'a>(reading: &'a Reading, case: &Case) -> Option<&'a Recorded>
+fn recorded_of<'a>(reading: &'a CaseReading, case: &Case) -> Option<&'a Recorded>
     ensures { option_map (λ r. r.now) result ≡ lookup (same case.now) reading.now.table }
 {
     reading.cases().get(case)
@@ -127,7 +127,7 @@ fn owed_in(
     alloc: Global,
     me: ProcessId,
     case: &Case,
-    reading: &Reading,
+    reading: &CaseReading,
     owed: &[Ticket],
 ) -> Result<Option<Envelopes>, AllocError>
     ensures { IfOk result (λ told. told ≡ tellings_by me case.now
@@ -154,6 +154,6 @@ pub(crate) fn owed_again(
     ensures { IfOk result (λ told. told
         ≡ messages_again (place_below me parent tree.now) records.now owed.now case.now) }
 {
-    let reading = Reading::of(alloc, me, parent, tree, records)?;
+    let reading = CaseReading::of(alloc, me, parent, tree, records)?;
     owed_in(alloc, me, case, &reading, owed)
 }

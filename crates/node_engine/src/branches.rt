@@ -2,16 +2,16 @@
 
 ghost use Rattle.std.specs.Prelude.{◌≡◌, IfOk, option_map};
 ghost use Rattle.branch_names.specs.Cases.{IsPlaced};
-ghost use Rattle.node_engine.specs.Branches.{IsAnswer, name_text as text_of_name, own_logs, trust_by as trust_in};
+ghost use Rattle.node_engine.specs.Branches.{IsBranchAnswer, name_text as text_of_name, own_logs, trust_by as trust_in};
 
+use audit_tree::AuditError;
 use branch_names::Naming;
-use logs_script::ProcessLog;
+use log_script::ProcessLog;
 use node_answers::{Manner, refused_text};
-use resolve_engine::{Answer, Trust, answer_named, push_answer};
+use protocol::{ProcessId, Sequence, Standing, StepError, Tree};
+use resolve_engine::{BranchAnswer, Trust, answer_named, push_answer};
 use std::alloc::{AllocError, Global};
 use trace_lines::push;
-use tree_audit::AuditError;
-use tree_model::{ProcessId, Sequence, Standing, StepError, Tree};
 
 /// How far the log of a process counts, by whether it is the root of a branch below it, and by where the root's case of the
 /// transaction is there.
@@ -44,9 +44,9 @@ fn answered(
     logs: &[ProcessLog],
     trust: Trust,
     naming: Naming,
-) -> Result<Option<Answer>, AllocError>
+) -> Result<Option<BranchAnswer>, AllocError>
     requires { IsPlaced tree.now naming }
-    ensures { IfOk result (IsAnswer tree.now logs.now trust naming) }
+    ensures { IfOk result (IsBranchAnswer tree.now logs.now trust naming) }
 {
     match tree.check() {
         Err(_) => Ok(None),
@@ -66,9 +66,9 @@ pub(crate) fn found_in(
     log: Vec<u8>,
     trust: Trust,
     naming: Naming,
-) -> Result<Option<Answer>, AllocError>
+) -> Result<Option<BranchAnswer>, AllocError>
     requires { IsPlaced tree.now naming }
-    ensures { IfOk result (IsAnswer tree.now (own_logs me log.items) trust naming) }
+    ensures { IfOk result (IsBranchAnswer tree.now (own_logs me log.items) trust naming) }
 {
     let logs = own(alloc, me, log)?;
     answered(alloc, tree, &logs, trust, naming)
@@ -79,7 +79,7 @@ pub(crate) fn name_text(
     alloc: Global,
     manner: Manner,
     name: &str,
-    answer: &Option<Answer>,
+    answer: &Option<BranchAnswer>,
 ) -> Result<Vec<u8>, AllocError>
     ensures { IfOk result (λ text. text.items ≡ text_of_name manner name.now answer.now) }
 {

@@ -4,10 +4,10 @@ ghost use Rattle.std.specs.Prelude.{◌≡◌, IfOk, option_map};
 ghost use Rattle.kv_store.specs.Pairs.{ArePairsOf};
 ghost use Rattle.node_engine.specs.DataTexts.{DataAre, data_answer};
 
-use kv_core::{ReplayError, Replayed, replay};
+use kv_state::{ReplayError, Replayed, replay};
 use node_answers::{Manner, data_text, refused_text};
+use protocol::{Bytes, LogRecord, StepError};
 use std::alloc::{AllocError, Global};
-use tree_model::{Bytes, LogRecord, StepError};
 
 /// The keys and values that replayed records leave, keys rising.
 fn pairs_of(replayed: &Replayed) -> Result<Vec<(Bytes, Bytes)>, AllocError>

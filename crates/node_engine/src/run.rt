@@ -4,7 +4,7 @@ ghost use Rattle.std.specs.Prelude.{◌≡◌, ◌⊎◌, ℕ, [], length, IfErr
 ghost use Rattle.std.specs.Io.KnownBytes.{Appends, Consumes, IsAtEnd};
 ghost use Rattle.report_io.specs.Streams.{WritesFront};
 ghost use Rattle.std.specs.Io.BufRead.{strip_last};
-ghost use Rattle.tree_model.specs.declared.events.Reaction.{Reaction as AnyReaction};
+ghost use Rattle.protocol.specs.declared.events.Reaction.{Reaction as AnyReaction};
 ghost use Rattle.node_engine.specs.Answers.{state_of};
 ghost use Rattle.node_answers.specs.Texts.{ok_text};
 ghost use Rattle.node_engine.specs.Runs.{
@@ -30,10 +30,10 @@ use crate::serving::Serving;
 use crate::witness::Witness;
 use log_store::LogStore;
 use node_lines::asks_end;
+use protocol::Reaction;
 use report_io::write_all;
 use std::alloc::Global;
 use std::io::{BufRead, Write};
-use tree_model::Reaction;
 
 /// How the input of a node ended.
 #[derive(Clone, Copy, Debug, PartialEq, Eq)]

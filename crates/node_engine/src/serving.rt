@@ -1,29 +1,29 @@
 //! A node: what it makes of a line.
 
 ghost use Rattle.std.specs.Prelude.{◌≡◌, ◌++◌, IfErr, IfOk, OnErr, OnOk, option_map, string_bytes};
-ghost use Rattle.tree_model.specs.declared.events.StepError.TheVariants.{NoSuch};
+ghost use Rattle.protocol.specs.declared.events.StepError.TheVariants.{NoSuch};
 ghost use Rattle.branch_names.specs.Cases.{IsPlaced};
-ghost use Rattle.tree_model.specs.Names.{root_case, same_process};
-ghost use Rattle.tree_model.specs.Plays.{process_of_act};
-ghost use Rattle.tree_model.specs.Trees.{root_of};
-ghost use Rattle.tree_node.specs.Nodes.{core_of, data_of};
-ghost use Rattle.core_model.specs.Inputs.{input_of};
-ghost use Rattle.core_model.specs.States.{form_of as form_at};
+ghost use Rattle.protocol.specs.Names.{root_case, same_process};
+ghost use Rattle.protocol.specs.Plays.{process_of_act};
+ghost use Rattle.protocol.specs.Trees.{root_of};
+ghost use Rattle.tree_process.specs.Nodes.{core_of, data_of};
+ghost use Rattle.process_state.specs.Inputs.{input_of};
+ghost use Rattle.process_state.specs.States.{form_of as form_at};
 ghost use Rattle.node_engine.specs.Answers.{
-  Answers,
+  AnswersAsked,
   AnswersAgain,
   AnswersFor,
   AnswersIf,
   AnswersInput,
   AnswersLine,
   AnswersTrim,
-  Finds,
+  FindsInLog,
   IsRefusal,
   IsUnrefused,
   IsUnshown,
   Resolves,
   Shows,
-  Takes,
+  NodeTakes,
   TakesAgain,
   TakesFor,
   TakesIf,
@@ -46,8 +46,8 @@ ghost use Rattle.node_engine.specs.Answers.{
 };
 ghost use Rattle.node_engine.specs.Branches.{trust_of};
 ghost use Rattle.node_engine.specs.DataTexts.{TellsData};
-ghost use Rattle.tree_model.specs.declared.events.Input.TheVariants.{Act as ActInput, Message as MessageInput};
-ghost use Rattle.log_news.specs.News.{news_in};
+ghost use Rattle.protocol.specs.declared.events.Input.TheVariants.{Act as ActInput, Message as MessageInput};
+ghost use Rattle.log_outcomes.specs.News.{news_in};
 ghost use Rattle.node_answers.specs.Texts.{news_text, ok_text, refused_text as text_of_refusal};
 
 use crate::again::owed_again;
@@ -55,23 +55,23 @@ use crate::branches::{found_in, name_text, trust_by};
 use crate::data::{answer, pairs_in};
 use crate::failure::NodeFailure;
 use branch_names::{Naming, case_named};
-use core_model::InputRef;
-use log_news::{boot_of, decisions_of, doubts_of, news_of};
+use log_outcomes::{boot_of, decisions_of, doubts_of, news_of};
 use log_store::LogStore;
 use log_text::LogForm;
 use node_answers::{
-    Manner, Nothing, Status, doubt_text, error_text, help_text, log_text, obeyed_text,
+    Manner, NodeStatus, Nothing, doubt_text, error_text, help_text, log_text, obeyed_text,
     outcome_text, refused_text, shown_text, status_text, trimmed_text,
 };
-use node_lines::{Asked, asked_of, may_speak};
-use resolve_engine::{Answer, Trust};
-use std::alloc::Global;
-use std::str;
-use tree_model::{
+use node_lines::{NodeLine, asked_of, may_speak};
+use process_state::InputRef;
+use protocol::{
     Act, Bytes, Case, Envelope, Envelopes, Kind, ProcessId, Reaction, Sequence, Standing,
     StepError, Ticket, Tree, Txn,
 };
-use tree_node::Node;
+use resolve_engine::{BranchAnswer, Trust};
+use std::alloc::Global;
+use std::str;
+use tree_process::Process;
 
 /// A process of a tree that answers lines. Its messages are numbered from 1, from where it opened.
 #[derive(Drop)]
@@ -79,7 +79,7 @@ pub struct Serving<L: LogStore> {
     pub(crate) alloc: Global,
     pub(crate) tree: Tree,
     pub(crate) me: ProcessId,
-    pub(crate) node: Node<L>,
+    pub(crate) node: Process<L>,
     pub(crate) sent: u64,
     pub(crate) manner: Manner,
     /// The name of the tree, as the names of its branches in databases begin.
@@ -118,12 +118,12 @@ fn refusal(alloc: Global, manner: Manner, error: StepError) -> Result<Vec<u8>, N
 }
 
 /// The form of the log of a process.
-fn form_of<L: LogStore>(node: &Node<L>) -> LogForm
+fn form_of<L: LogStore>(node: &Process<L>) -> LogForm
     ensures { result ≡ form_at (core_of node.now).place }
 {
     match node {
-        Node::Coordinator(coordinator) => LogForm::of(coordinator.me(), Kind::Coordinator),
-        Node::Manager(manager) => LogForm::of(manager.me(), Kind::Manager),
+        Process::Coordinator(coordinator) => LogForm::of(coordinator.me(), Kind::Coordinator),
+        Process::Manager(manager) => LogForm::of(manager.me(), Kind::Manager),
     }
 }
 
@@ -142,7 +142,7 @@ fn repeated(alloc: Global, messages: Envelopes) -> Reaction
 
 impl<L: LogStore> Serving<L> {
     /// The process `me` of this tree, which has sent nothing yet, says numbers alone and knows no name of the tree.
-    pub fn new(alloc: Global, tree: Tree, me: ProcessId, node: Node<L>) -> Self
+    pub fn new(alloc: Global, tree: Tree, me: ProcessId, node: Process<L>) -> Self
         ensures { state_of result ≡ opened tree me node }
     {
         Serving {
@@ -166,7 +166,7 @@ impl<L: LogStore> Serving<L> {
     }
 
     /// The process.
-    pub fn node(&self) -> &Node<L>
+    pub fn node(&self) -> &Process<L>
         ensures core { core_of result.now ≡ (state_of self.now).core }
         ensures holdings { data_of result.now ≡ (state_of self.now).holdings }
     {
@@ -202,7 +202,7 @@ impl<L: LogStore> Serving<L> {
     }
 
     /// Whether it is this process.
-    #[tactic(auto, unfolding(tree_model::specs::Names::same_process))]
+    #[tactic(auto, unfolding(protocol::specs::Names::same_process))]
     fn is(&self, process: ProcessId) -> bool
         ensures { result ≡ same_process process self.now.me }
     {
@@ -279,7 +279,7 @@ impl<L: LogStore> Serving<L> {
         let unforced = self.node.unforced_sizes(self.alloc)?;
         let doubts = doubts_of(self.alloc, &records)?;
         let decisions = decisions_of(self.alloc, &records)?;
-        let status = Status {
+        let status = NodeStatus {
             boot: boot_of(&records),
             records: records.len() as u64,
             unforced: unforced.len() as u64,
@@ -314,8 +314,8 @@ impl<L: LogStore> Serving<L> {
         ensures { result.now ≡ ((state_of self.now).core.view_of case.now).owed }
     {
         match &self.node {
-            Node::Coordinator(coordinator) => coordinator.owed(case),
-            Node::Manager(_) => &[],
+            Process::Coordinator(coordinator) => coordinator.owed(case),
+            Process::Manager(_) => &[],
         }
     }
 
@@ -391,8 +391,8 @@ impl<L: LogStore> Serving<L> {
         ensures { result ≡ ((state_of self.now).core.view_of (root_case txn)).standing }
     {
         match &self.node {
-            Node::Coordinator(coordinator) => coordinator.standing(&Case { txn, ticket: None }),
-            Node::Manager(_) => Standing::Unknown,
+            Process::Coordinator(coordinator) => coordinator.standing(&Case { txn, ticket: None }),
+            Process::Manager(_) => Standing::Unknown,
         }
     }
 
@@ -421,9 +421,9 @@ impl<L: LogStore> Serving<L> {
 
     /// The answer to what a name is of; None, if the log does not read.
     #[tactic(auto, using(crate::proofs::Resolving::found_at))]
-    fn found(&self, naming: Naming) -> Result<Option<Answer>, NodeFailure>
+    fn found(&self, naming: Naming) -> Result<Option<BranchAnswer>, NodeFailure>
         requires { IsPlaced self.now.tree naming }
-        ensures ok { IfOk result (Finds (state_of self.now) naming) }
+        ensures ok { IfOk result (FindsInLog (state_of self.now) naming) }
         ensures err { IfErr result (λ e. e ≡ NodeFailure.Memory) }
     {
         let log = self.node.log_text()?;
@@ -456,27 +456,27 @@ impl<L: LogStore> Serving<L> {
     }
 
     /// The answer to what was asked.
-    fn answer_asked(&mut self, asked: &Asked) -> Result<Vec<u8>, NodeFailure>
+    fn answer_asked(&mut self, asked: &NodeLine) -> Result<Vec<u8>, NodeFailure>
         ensures ok { IfOk result (λ text.
-            Answers asked.now (state_of self.old) (state_of self.new) text.items) }
-        ensures err { IfErr result (Takes asked.now (state_of self.old) (state_of self.new)) }
+            AnswersAsked asked.now (state_of self.old) (state_of self.new) text.items) }
+        ensures err { IfErr result (NodeTakes asked.now (state_of self.old) (state_of self.new)) }
     {
         match asked {
-            Asked::Nothing => Ok(Vec::new(self.alloc)),
-            Asked::Act(act) => self.act(act),
-            Asked::Message(number, envelope) => self.hear(*number, envelope),
-            Asked::Trim => self.trim(),
-            Asked::Doubt => self.doubt(),
-            Asked::Outcome(txn) => self.tell(txn),
-            Asked::Again(case) => self.again(case),
-            Asked::Resolve(name) => self.resolve(name),
-            Asked::Status => self.status(),
-            Asked::Log => self.log(),
-            Asked::Data => self.data(),
-            Asked::Help => Ok(help_text(self.alloc)?),
-            Asked::End => Ok(obeyed_text(self.alloc)?),
-            Asked::Unknown => Ok(error_text(self.alloc, self.manner, Nothing::NoLine)?),
-            Asked::NoText => Ok(error_text(self.alloc, self.manner, Nothing::NoText)?),
+            NodeLine::Nothing => Ok(Vec::new(self.alloc)),
+            NodeLine::Act(act) => self.act(act),
+            NodeLine::Message(number, envelope) => self.hear(*number, envelope),
+            NodeLine::Trim => self.trim(),
+            NodeLine::Doubt => self.doubt(),
+            NodeLine::Outcome(txn) => self.tell(txn),
+            NodeLine::Again(case) => self.again(case),
+            NodeLine::Resolve(name) => self.resolve(name),
+            NodeLine::Status => self.status(),
+            NodeLine::Log => self.log(),
+            NodeLine::Data => self.data(),
+            NodeLine::Help => Ok(help_text(self.alloc)?),
+            NodeLine::End => Ok(obeyed_text(self.alloc)?),
+            NodeLine::Unknown => Ok(error_text(self.alloc, self.manner, Nothing::NoLine)?),
+            NodeLine::NoText => Ok(error_text(self.alloc, self.manner, Nothing::NoText)?),
         }
     }
 

@@ -2,9 +2,9 @@
 
 ghost use Rattle.std.specs.Prelude.{◌≡◌, IfErr, IfOk, OnOk};
 ghost use Rattle.std.specs.List.{list_all};
-ghost use Rattle.rec_log.specs.Sights.{records_of};
-ghost use Rattle.tree_node.specs.Reopenings.{form_by, kind_by};
-ghost use Rattle.tree_model.specs.Records.{record_case};
+ghost use Rattle.log_records.specs.Sights.{records_of};
+ghost use Rattle.tree_process.specs.Reopenings.{form_by, kind_by};
+ghost use Rattle.protocol.specs.Records.{record_case};
 ghost use Rattle.node_engine.specs.Starts.{
   CopyOpens,
   IsStart,
@@ -18,13 +18,13 @@ ghost use Rattle.node_engine.specs.Starts.{
 };
 
 use crate::serving::Serving;
-use inquire_core::is_own;
+use coord_records::is_own;
+use log_records::{LogOpenError, RecLog};
 use log_store::{LogStore, MemoryStore};
-use rec_log::{OpenError, RecLog};
+use protocol::{Kind, LogRecord, ProcessId, Reaction, Record, Ticket, Tree, TreeProcess};
 use std::alloc::{AllocError, Global};
 use thiserror::Error;
-use tree_model::{Kind, LogRecord, ProcessId, Reaction, Record, Ticket, Tree, TreeEntry};
-use tree_node::{ReopenError, copied_tree, reopen_node};
+use tree_process::{ProcessReopenError, copied_tree, reopen_node};
 
 /// Why no node was started.
 #[derive(Clone, Copy, Debug, PartialEq, Eq, Error)]
@@ -35,18 +35,18 @@ pub enum StartError {
     Stranger,
     /// The process does not go on over the log.
     #[error("{0}")]
-    Reopen(ReopenError),
+    Reopen(ProcessReopenError),
 }
 
 impl From<AllocError> for StartError {
-    ghost use Rattle.tree_node.specs.declared.reopening.ReopenError.TheVariants.{Memory};
+    ghost use Rattle.tree_process.specs.declared.reopening.ProcessReopenError.TheVariants.{Memory};
     ghost use Rattle.node_engine.specs.declared.starting.StartError.TheVariants.{Reopen};
     ghost use Rattle.std.specs.Prelude.{◌≡◌};
 
     ghost from_gives = { λ _ e. e ≡ Reopen Memory };
 
     fn from(_e: AllocError) -> StartError {
-        StartError::Reopen(ReopenError::Memory)
+        StartError::Reopen(ProcessReopenError::Memory)
     }
 }
 
@@ -61,7 +61,7 @@ fn kind_of(kind: Kind, parent: Option<ProcessId>) -> Kind
 }
 
 /// Whether a ticket is of a child of this process.
-#[tactic(auto, unfolding(tree_model::specs::Names::same_process))]
+#[tactic(auto, unfolding(protocol::specs::Names::same_process))]
 fn is_of_child(tree: &Tree, me: ProcessId, ticket: &Ticket) -> bool
     ensures { result ≡ is_childs tree.now me ticket.now }
 {
@@ -121,7 +121,7 @@ fn name_own(me: ProcessId, parent: Option<ProcessId>, tree: &Tree, records: &[Lo
 #[tactic(auto, using(crate::proofs::Homes::damaged_is_none, crate::proofs::Homes::old_is_none))]
 fn copied_log(
     alloc: Global,
-    entry: &TreeEntry,
+    entry: &TreeProcess,
     bytes: &[u8],
 ) -> Result<Option<RecLog<MemoryStore>>, AllocError>
     ensures { IfOk result (CopyOpens (form_by entry.now) bytes.now) }
@@ -129,10 +129,10 @@ fn copied_log(
     let copy = MemoryStore::from_bytes(Vec::from_slice(alloc, bytes)?);
     match RecLog::open(copy, entry.id, kind_of(entry.kind, entry.parent), alloc) {
         Ok(log) => Ok(Some(log)),
-        Err((OpenError::Damaged(_), _)) => Ok(None),
-        Err((OpenError::OldFormat, _)) => Ok(None),
+        Err((LogOpenError::Damaged(_), _)) => Ok(None),
+        Err((LogOpenError::OldFormat, _)) => Ok(None),
         // A store in memory has no device that fails.
-        Err((OpenError::Memory | OpenError::Device, _)) => Err(AllocError),
+        Err((LogOpenError::Memory | LogOpenError::Device, _)) => Err(AllocError),
     }
 }
 
@@ -140,7 +140,7 @@ fn copied_log(
 fn is_own_log(
     alloc: Global,
     tree: &Tree,
-    entry: &TreeEntry,
+    entry: &TreeProcess,
     log: &RecLog<MemoryStore>,
 ) -> Result<bool, AllocError>
     ensures { IfOk result (λ own. own ≡ list_all (is_own_record entry.now.id entry.now.parent tree.now)
@@ -153,7 +153,12 @@ fn is_own_log(
 /// That the log which these bytes are is the process's own, as far as its records tell; bytes that are none name
 /// nobody.
 #[tactic(auto, using(crate::proofs::Homes::none_names_own, crate::proofs::Homes::opened_names_own, crate::proofs::Homes::opened_names_others,))]
-fn check_home(alloc: Global, tree: &Tree, entry: &TreeEntry, bytes: &[u8]) -> Result<(), StartError>
+fn check_home(
+    alloc: Global,
+    tree: &Tree,
+    entry: &TreeProcess,
+    bytes: &[u8],
+) -> Result<(), StartError>
     ensures ok { OnOk result (NamesOwn tree.now entry.now bytes.now) }
     ensures err { IfErr result (NotHome tree.now entry.now bytes.now) }
 {
@@ -175,7 +180,7 @@ fn check_home(alloc: Global, tree: &Tree, entry: &TreeEntry, bytes: &[u8]) -> Re
 pub fn start<L: LogStore + Drop>(
     alloc: Global,
     tree: &Tree,
-    entry: &TreeEntry,
+    entry: &TreeProcess,
     store: L,
 ) -> Result<(Serving<L>, Reaction), StartError>
     ensures ok { IfOk result (λ made. IsStart tree.now entry.now

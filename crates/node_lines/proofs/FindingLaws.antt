@@ -11,17 +11,17 @@ use Rattle.std.proofs.lemmas.List.Splits.{join_with_byte-slice_split, length-sli
 use Rattle.std.proofs.lemmas.List.Sums.{position_or_len_is}
 use Rattle.std.proofs.Math.Seq.{drop-append_seam, get_or-append_seam, take-append_seam}
 use Rattle.spellings.proofs.Cuts.{some_is}
-use Rattle.tree_model.specs.declared.names.Ticket.{Ticket}
-use Rattle.tree_model.specs.declared.messages.Finding.{Finding}
-use Rattle.tree_model.specs.declared.messages.Finding.TheVariants.{Mixed, Unreported}
-use Rattle.tree_model.specs.Records.{in_order, mixed_of, unreported_of}
-use Rattle.tree_model.specs.Texts.{findings_text, is_mixed, is_unreported, mixed_word, ticket_text, unreported_word}
+use Rattle.protocol.specs.declared.names.Ticket.{Ticket}
+use Rattle.protocol.specs.declared.messages.Finding.{Finding}
+use Rattle.protocol.specs.declared.messages.Finding.TheVariants.{Mixed, Unreported}
+use Rattle.protocol.specs.Records.{in_order, mixed_of, unreported_of}
+use Rattle.protocol.specs.Texts.{findings_text, is_mixed, is_unreported, mixed_word, ticket_text, unreported_word}
 use Rattle.script_words.specs.Steps.{same}
-use Rattle.link_script.specs.Names.{ticket_at}
-use Rattle.link_script.specs.Spellings.{FitsTicket}
-use Rattle.link_script.proofs.LineLaws.{chosen}
-use Rattle.link_script.proofs.Misses.{bind_some, blank, misses, not_at, same_tells}
-use Rattle.link_script.proofs.NameLaws.{ticket_again, ticket_misses, ticket_takes}
+use Rattle.tree_script.specs.Names.{ticket_at}
+use Rattle.tree_script.specs.Spellings.{FitsTicket}
+use Rattle.tree_script.proofs.LineLaws.{chosen}
+use Rattle.tree_script.proofs.Misses.{bind_some, blank, misses, not_at, same_tells}
+use Rattle.tree_script.proofs.NameLaws.{ticket_again, ticket_misses, ticket_takes}
 use Rattle.node_lines.specs.Findings.{begins_unreported, findings_at, found_at, part_at, parts_at, some_tickets_at, tickets_at, words_in}
 use Rattle.node_lines.specs.Spellings.{FitsFindings}
 

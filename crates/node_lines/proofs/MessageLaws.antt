@@ -8,21 +8,21 @@ use Rattle.spellings.specs.Numerals.{number_at}
 use Rattle.spellings.specs.Words.{cut_at}
 use Rattle.spellings.proofs.Numerals.{number_takes, number_again}
 use Rattle.spellings.proofs.Cuts.{cut_takes, cut_again, some_is}
-use Rattle.tree_model.specs.declared.names.ProcessId.{ProcessId}
-use Rattle.tree_model.specs.declared.names.Outcome.{Outcome}
-use Rattle.tree_model.specs.declared.names.Outcome.TheVariants.{Committed, Aborted}
-use Rattle.tree_model.specs.declared.names.Case.{Case}
-use Rattle.tree_model.specs.declared.names.Ticket.{Ticket}
-use Rattle.tree_model.specs.declared.messages.Op.{Op}
-use Rattle.tree_model.specs.declared.messages.Envelope.{Envelope}
-use Rattle.tree_model.specs.declared.messages.Message.{Message}
-use Rattle.tree_model.specs.declared.messages.Message.TheVariants.{Join, Joined, Work, Prepare, Yes, No, Read, Commit, Abort, Ack, Inquire}
-use Rattle.tree_model.specs.Texts.{case_text, ticket_text, op_text, outcome_word, message_text, findings_text}
-use Rattle.link_script.specs.Names.{after_at, process_at, case_at, ticket_at}
-use Rattle.link_script.specs.Spellings.{process_text, FitsProcess, FitsCase, FitsOp, FitsTicket, ReadIsSpelled, SpelledIsRead}
-use Rattle.link_script.proofs.Misses.{bind_some, cut_none, misses, misses_append, misses_without, decimal_misses, same_tells, blank, IsMark}
-use Rattle.link_script.proofs.NameLaws.{process_takes, process_again, process_misses, ticket_takes, ticket_again, case_takes, case_again}
-use Rattle.link_script.proofs.LineLaws.{chosen, two_words, three_words, two_form, three_form, case_cut, op_takes, op_again}
+use Rattle.protocol.specs.declared.names.ProcessId.{ProcessId}
+use Rattle.protocol.specs.declared.names.Outcome.{Outcome}
+use Rattle.protocol.specs.declared.names.Outcome.TheVariants.{Committed, Aborted}
+use Rattle.protocol.specs.declared.names.Case.{Case}
+use Rattle.protocol.specs.declared.names.Ticket.{Ticket}
+use Rattle.protocol.specs.declared.messages.Op.{Op}
+use Rattle.protocol.specs.declared.messages.Envelope.{Envelope}
+use Rattle.protocol.specs.declared.messages.Message.{Message}
+use Rattle.protocol.specs.declared.messages.Message.TheVariants.{Join, Joined, Work, Prepare, Yes, No, Read, Commit, Abort, Ack, Inquire}
+use Rattle.protocol.specs.Texts.{case_text, ticket_text, op_text, outcome_word, message_text, findings_text}
+use Rattle.tree_script.specs.Names.{after_at, process_at, case_at, ticket_at}
+use Rattle.tree_script.specs.Spellings.{process_text, FitsProcess, FitsCase, FitsOp, FitsTicket, ReadIsSpelled, SpelledIsRead}
+use Rattle.tree_script.proofs.Misses.{bind_some, cut_none, misses, misses_append, misses_without, decimal_misses, same_tells, blank, IsMark}
+use Rattle.tree_script.proofs.NameLaws.{process_takes, process_again, process_misses, ticket_takes, ticket_again, case_takes, case_again}
+use Rattle.tree_script.proofs.LineLaws.{chosen, two_words, three_words, two_form, three_form, case_cut, op_takes, op_again}
 use Rattle.script_words.specs.Steps.{same}
 use Rattle.script_words.specs.Operations.{op_at}
 use Rattle.node_lines.specs.Findings.{found_at}

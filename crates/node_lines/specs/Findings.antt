@@ -1,11 +1,11 @@
 -- Reading what an acknowledgement found from left to right.
 use Rattle.std.specs.Prelude.{ℕ, List, [], ◌∷◌, ◌++◌, Bool, codes, drop, map, Option, Some, None, ◌==◌, if◌then◌else◌}
 use Rattle.std.specs.List.{before_first, position_or_len, slice_split}
-use Rattle.tree_model.specs.declared.names.Ticket.{Ticket}
-use Rattle.tree_model.specs.declared.messages.Finding.{Finding}
-use Rattle.tree_model.specs.declared.messages.Finding.TheVariants.{Mixed, Unreported}
+use Rattle.protocol.specs.declared.names.Ticket.{Ticket}
+use Rattle.protocol.specs.declared.messages.Finding.{Finding}
+use Rattle.protocol.specs.declared.messages.Finding.TheVariants.{Mixed, Unreported}
 use Rattle.script_words.specs.Steps.{◌>>=◌, same}
-use Rattle.link_script.specs.Names.{ticket_at}
+use Rattle.tree_script.specs.Names.{ticket_at}
 
 -- the words of a text, with one blank between any two
 abbrev pub words_in : List ℕ → List (List ℕ)

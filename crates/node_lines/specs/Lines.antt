@@ -3,10 +3,10 @@ use Rattle.std.specs.Prelude.{ℕ, List, Option, Some}
 use Rattle.std.specs.Borrow.{Bor}
 use Rattle.spellings.specs.Numerals.{number_at}
 use Rattle.spellings.specs.Words.{cut_at}
-use Rattle.tree_model.specs.declared.names.ProcessId.{ProcessId}
-use Rattle.tree_model.specs.declared.messages.Envelope.{Envelope}
+use Rattle.protocol.specs.declared.names.ProcessId.{ProcessId}
+use Rattle.protocol.specs.declared.messages.Envelope.{Envelope}
 use Rattle.script_words.specs.Steps.{◌>>=◌}
-use Rattle.link_script.specs.Names.{after_at, process_at}
+use Rattle.tree_script.specs.Names.{after_at, process_at}
 use Rattle.node_lines.specs.Messages.{message_at}
 
 -- a sender and a receiver, with `->` between them

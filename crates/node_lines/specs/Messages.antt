@@ -3,16 +3,16 @@ use Rattle.std.specs.Prelude.{ℕ, List, codes, Option, Some, None, option_map, 
 use Rattle.std.specs.Borrow.{Bor}
 use Rattle.spellings.specs.Numerals.{number_at}
 use Rattle.spellings.specs.Words.{cut_at}
-use Rattle.tree_model.specs.declared.names.Case.{Case}
-use Rattle.tree_model.specs.declared.names.Outcome.{Outcome}
-use Rattle.tree_model.specs.declared.names.Outcome.TheVariants.{Committed, Aborted}
-use Rattle.tree_model.specs.declared.names.ProcessId.{ProcessId}
-use Rattle.tree_model.specs.declared.messages.Message.{Message}
-use Rattle.tree_model.specs.declared.messages.Message.TheVariants.{Join, Joined, Work, Prepare, Yes, No, Read, Commit, Abort, Ack, Inquire}
+use Rattle.protocol.specs.declared.names.Case.{Case}
+use Rattle.protocol.specs.declared.names.Outcome.{Outcome}
+use Rattle.protocol.specs.declared.names.Outcome.TheVariants.{Committed, Aborted}
+use Rattle.protocol.specs.declared.names.ProcessId.{ProcessId}
+use Rattle.protocol.specs.declared.messages.Message.{Message}
+use Rattle.protocol.specs.declared.messages.Message.TheVariants.{Join, Joined, Work, Prepare, Yes, No, Read, Commit, Abort, Ack, Inquire}
 use Rattle.script_words.specs.declared.operation.Task.{Task}
 use Rattle.script_words.specs.Operations.{op_at, op_view}
 use Rattle.script_words.specs.Steps.{◌>>=◌, same}
-use Rattle.link_script.specs.Names.{case_at, ticket_at}
+use Rattle.tree_script.specs.Names.{case_at, ticket_at}
 use Rattle.node_lines.specs.Findings.{found_at}
 
 -- `JOINED`: the parent's case, and the child's ticket

@@ -1,17 +1,17 @@
 -- Which messages have a text that is read back, and a line.
 use Rattle.std.specs.Prelude.{◌≡◌, ◌<◌, ◌^◌, ℕ, List, [], ◌∷◌}
-use Rattle.tree_model.specs.declared.names.Case.{Case}
-use Rattle.tree_model.specs.declared.names.ProcessId.{ProcessId}
-use Rattle.tree_model.specs.declared.names.Ticket.{Ticket}
-use Rattle.tree_model.specs.declared.messages.Envelope.{Envelope}
-use Rattle.tree_model.specs.declared.messages.Finding.{Finding}
-use Rattle.tree_model.specs.declared.messages.Finding.TheVariants.{Mixed, Unreported}
-use Rattle.tree_model.specs.declared.messages.Message.{Message}
-use Rattle.tree_model.specs.declared.messages.Message.TheVariants.{Join, Joined, Work, Prepare, Yes, No, Read, Commit, Abort, Ack, Inquire}
-use Rattle.tree_model.specs.declared.messages.Op.{Op}
-use Rattle.tree_model.specs.Records.{in_order}
-use Rattle.tree_model.specs.Texts.{envelope_text}
-use Rattle.link_script.specs.Spellings.{FitsCase, FitsOp, FitsProcess, FitsTicket}
+use Rattle.protocol.specs.declared.names.Case.{Case}
+use Rattle.protocol.specs.declared.names.ProcessId.{ProcessId}
+use Rattle.protocol.specs.declared.names.Ticket.{Ticket}
+use Rattle.protocol.specs.declared.messages.Envelope.{Envelope}
+use Rattle.protocol.specs.declared.messages.Finding.{Finding}
+use Rattle.protocol.specs.declared.messages.Finding.TheVariants.{Mixed, Unreported}
+use Rattle.protocol.specs.declared.messages.Message.{Message}
+use Rattle.protocol.specs.declared.messages.Message.TheVariants.{Join, Joined, Work, Prepare, Yes, No, Read, Commit, Abort, Ack, Inquire}
+use Rattle.protocol.specs.declared.messages.Op.{Op}
+use Rattle.protocol.specs.Records.{in_order}
+use Rattle.protocol.specs.Texts.{envelope_text}
+use Rattle.tree_script.specs.Spellings.{FitsCase, FitsOp, FitsProcess, FitsTicket}
 
 -- what a `JOINED` names has a spelling
 pub record FitsJoined (root : ProcessId) (c : Case) (t : Ticket) : Type 0 where

@@ -15,15 +15,15 @@ ghost use Rattle.node_lines.specs.Asked.{
 };
 
 use crate::line::line_of;
-use link_script::{case_of, event_of, txn_of};
+use protocol::{Act, Bytes, Case, Envelope, Event, ProcessId, Txn};
 use script_words::says_nothing;
 use spellings::word::cut;
 use std::alloc::{AllocError, Global};
-use tree_model::{Act, Bytes, Case, Envelope, Event, ProcessId, Txn};
+use tree_script::{case_of, event_of, txn_of};
 
 /// What a line asks of a node.
 #[derive(Drop)]
-pub enum Asked {
+pub enum NodeLine {
     /// Nothing: it is empty, or a remark.
     Nothing,
     /// An act of an application or an operator.
@@ -58,26 +58,26 @@ pub enum Asked {
 
 /// What a line asks, over a tree with this root.
 #[tactic(auto, unfolding(crate::specs::Asked::asked_at))]
-pub fn asked_of(alloc: Global, root: ProcessId, line: &str) -> Result<Asked, AllocError>
+pub fn asked_of(alloc: Global, root: ProcessId, line: &str) -> Result<NodeLine, AllocError>
     ensures { IfOk result (λ asked. asked ≡ asked_at root line.now) }
 {
     if says_nothing(line) {
-        return Ok(Asked::Nothing);
+        return Ok(NodeLine::Nothing);
     }
     match line {
-        "trim" => Ok(Asked::Trim),
-        "doubt" => Ok(Asked::Doubt),
-        "status" => Ok(Asked::Status),
-        "log" => Ok(Asked::Log),
-        "data" => Ok(Asked::Data),
-        "help" => Ok(Asked::Help),
-        "end" => Ok(Asked::End),
+        "trim" => Ok(NodeLine::Trim),
+        "doubt" => Ok(NodeLine::Doubt),
+        "status" => Ok(NodeLine::Status),
+        "log" => Ok(NodeLine::Log),
+        "data" => Ok(NodeLine::Data),
+        "help" => Ok(NodeLine::Help),
+        "end" => Ok(NodeLine::End),
         _ => longer_of(alloc, root, line),
     }
 }
 
 /// What a line asks that is no word alone.
-fn longer_of(alloc: Global, root: ProcessId, line: &str) -> Result<Asked, AllocError>
+fn longer_of(alloc: Global, root: ProcessId, line: &str) -> Result<NodeLine, AllocError>
     ensures { IfOk result (λ asked. asked ≡ longer_asked root line.now) }
 {
     match named_of(alloc, root, line)? {
@@ -88,7 +88,7 @@ fn longer_of(alloc: Global, root: ProcessId, line: &str) -> Result<Asked, AllocE
 
 /// What a line asks that is a word and a name: `outcome TXN`, `again CASE` or `resolve NAME`.
 #[tactic(auto, unfolding(crate::specs::Asked::named_asked))]
-fn named_of(alloc: Global, root: ProcessId, line: &str) -> Result<Option<Asked>, AllocError>
+fn named_of(alloc: Global, root: ProcessId, line: &str) -> Result<Option<NodeLine>, AllocError>
     ensures { IfOk result (λ asked. asked ≡ named_asked root line.now) }
 {
     match cut(line, ' ') {
@@ -101,47 +101,47 @@ fn named_of(alloc: Global, root: ProcessId, line: &str) -> Result<Option<Asked>,
 }
 
 /// The outcome of the transaction of this name.
-fn outcome_of(root: ProcessId, name: &str) -> Option<Asked>
+fn outcome_of(root: ProcessId, name: &str) -> Option<NodeLine>
     ensures { result ≡ outcome_asked root name.now }
 {
-    Some(Asked::Outcome(txn_of(root, name)?))
+    Some(NodeLine::Outcome(txn_of(root, name)?))
 }
 
 /// The decision of the case of this name, once more.
-fn again_of(root: ProcessId, name: &str) -> Option<Asked>
+fn again_of(root: ProcessId, name: &str) -> Option<NodeLine>
     ensures { result ≡ again_asked root name.now }
 {
-    Some(Asked::Again(case_of(root, name)?))
+    Some(NodeLine::Again(case_of(root, name)?))
 }
 
 /// What is to be done with a branch of this name, if there is one.
-fn resolve_of(alloc: Global, name: &str) -> Result<Option<Asked>, AllocError>
+fn resolve_of(alloc: Global, name: &str) -> Result<Option<NodeLine>, AllocError>
     ensures { IfOk result (λ asked. asked ≡ resolve_asked name.now) }
 {
     if name.is_empty() {
         return Ok(None);
     }
     let name = Bytes::from_slice(alloc, name.as_bytes())?;
-    Ok(Some(Asked::Resolve(name)))
+    Ok(Some(NodeLine::Resolve(name)))
 }
 
 /// A message or an act.
-fn sent_of(alloc: Global, root: ProcessId, line: &str) -> Result<Asked, AllocError>
+fn sent_of(alloc: Global, root: ProcessId, line: &str) -> Result<NodeLine, AllocError>
     ensures { IfOk result (λ asked. asked ≡ sent_asked root line.now) }
 {
     match line_of(alloc, root, line)? {
-        Some((number, envelope)) => Ok(Asked::Message(number, envelope)),
+        Some((number, envelope)) => Ok(NodeLine::Message(number, envelope)),
         None => act_of(alloc, root, line),
     }
 }
 
 /// An act; no other event of a script is asked of a node.
-fn act_of(alloc: Global, root: ProcessId, line: &str) -> Result<Asked, AllocError>
+fn act_of(alloc: Global, root: ProcessId, line: &str) -> Result<NodeLine, AllocError>
     ensures { IfOk result (λ asked. asked ≡ act_asked root line.now) }
 {
     match event_of(alloc, root, line)? {
-        Some(Event::Act(act)) => Ok(Asked::Act(act)),
-        _ => Ok(Asked::Unknown),
+        Some(Event::Act(act)) => Ok(NodeLine::Act(act)),
+        _ => Ok(NodeLine::Unknown),
     }
 }
 

@@ -10,11 +10,11 @@ ghost use Rattle.node_lines.specs.Findings.{
   tickets_at,
   words_in,
 };
-ghost use Rattle.tree_model.specs.declared.messages.Finding.TheVariants.{Mixed, Unreported};
+ghost use Rattle.protocol.specs.declared.messages.Finding.TheVariants.{Mixed, Unreported};
 
-use link_script::ticket_of;
+use protocol::{Finding, Findings, Sequence, Ticket};
 use std::alloc::{AllocError, Global};
-use tree_model::{Finding, Findings, Sequence, Ticket};
+use tree_script::ticket_of;
 
 /// What an acknowledgement found, by the text after its outcome, if there is one; None if the text tells
 /// of no findings.

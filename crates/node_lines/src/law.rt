@@ -1,8 +1,8 @@
 //! Laws of the reading of messages. The functions do nothing: each one's contract is a law.
 
-ghost use Rattle.tree_model.specs.declared.names.ProcessId.{ProcessId};
-ghost use Rattle.tree_model.specs.Texts.{message_text};
-ghost use Rattle.link_script.specs.Spellings.{ReadIsSpelled, SpelledIsRead};
+ghost use Rattle.protocol.specs.declared.names.ProcessId.{ProcessId};
+ghost use Rattle.protocol.specs.Texts.{message_text};
+ghost use Rattle.tree_script.specs.Spellings.{ReadIsSpelled, SpelledIsRead};
 ghost use Rattle.node_lines.specs.Messages.{message_at};
 ghost use Rattle.node_lines.specs.Lines.{line_at};
 ghost use Rattle.node_lines.specs.Spellings.{FitsLine, FitsMessage, spelled_line};

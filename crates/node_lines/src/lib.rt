@@ -11,7 +11,7 @@ mod line;
 mod message;
 mod speakers;
 
-pub use asked::{Asked, asked_of, asks_end};
+pub use asked::{NodeLine, asked_of, asks_end};
 pub use line::line_of;
 pub use message::message_of;
 pub use speakers::may_speak;

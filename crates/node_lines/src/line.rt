@@ -4,11 +4,11 @@ ghost use Rattle.std.specs.Prelude.{◌≡◌, IfOk, option_map};
 ghost use Rattle.node_lines.specs.Lines.{head_at, head_view, line_at, way_at};
 
 use crate::message::message_of;
-use link_script::{after, process_of};
+use protocol::{Envelope, ProcessId};
 use spellings::numeral::number_of;
 use spellings::word::cut;
 use std::alloc::{AllocError, Global};
-use tree_model::{Envelope, ProcessId};
+use tree_script::{after, process_of};
 
 /// The message of a line and its number, over a tree with this root; None if it is not a message.
 pub fn line_of(

@@ -16,12 +16,12 @@ ghost use Rattle.node_lines.specs.Messages.{
 };
 
 use crate::findings::found_in;
-use link_script::{case_of, ticket_of};
+use protocol::{Case, Message, Outcome, ProcessId};
 use script_words::{Task, task_of};
 use spellings::numeral::number_of;
 use spellings::word::cut;
 use std::alloc::{AllocError, Global};
-use tree_model::{Case, Message, Outcome, ProcessId};
+use tree_script::{case_of, ticket_of};
 
 /// The message of a transaction of this root that a text is; None if it is the text of no message.
 #[tactic(auto, unfolding(crate::specs::Messages::message_at))]

@@ -1,18 +1,18 @@
 //! Who may send a message.
 
 ghost use Rattle.std.specs.Prelude.{◌≡◌};
-ghost use Rattle.tree_model.specs.Nodes.{is_parent};
-ghost use Rattle.tree_model.specs.Trees.{parent_of};
+ghost use Rattle.protocol.specs.Nodes.{is_parent};
+ghost use Rattle.protocol.specs.Trees.{parent_of};
 ghost use Rattle.node_lines.specs.Speakers.{
   goes_down as goes_down_in,
   goes_up as goes_up_in,
   may_speak as may_speak_in,
 };
 
-use tree_model::{Case, Envelope, Message, ProcessId, Tree};
+use protocol::{Case, Envelope, Message, ProcessId, Tree};
 
 /// Whether a process is the child of another one.
-#[tactic(auto, unfolding(tree_model::specs::Names::same_process))]
+#[tactic(auto, unfolding(protocol::specs::Names::same_process))]
 fn is_below(tree: &Tree, child: ProcessId, parent: ProcessId) -> bool
     ensures { result ≡ is_parent parent (parent_of tree.now child) }
 {
@@ -23,7 +23,7 @@ fn is_below(tree: &Tree, child: ProcessId, parent: ProcessId) -> bool
 }
 
 /// Whether the case is the sender's, which tells its parent of it.
-#[tactic(auto, unfolding(tree_model::specs::Names::same_process))]
+#[tactic(auto, unfolding(protocol::specs::Names::same_process))]
 fn goes_up(tree: &Tree, envelope: &Envelope, case: &Case) -> bool
     ensures { result ≡ goes_up_in tree.now envelope.now case.now }
 {
@@ -31,7 +31,7 @@ fn goes_up(tree: &Tree, envelope: &Envelope, case: &Case) -> bool
 }
 
 /// Whether the case is the receiver's, which is told by its parent.
-#[tactic(auto, unfolding(tree_model::specs::Names::same_process))]
+#[tactic(auto, unfolding(protocol::specs::Names::same_process))]
 fn goes_down(tree: &Tree, envelope: &Envelope, case: &Case) -> bool
     ensures { result ≡ goes_down_in tree.now envelope.now case.now }
 {
@@ -41,7 +41,7 @@ fn goes_down(tree: &Tree, envelope: &Envelope, case: &Case) -> bool
 /// Whether the sender of a message may send it to its receiver in this tree. JOIN comes from the parent whose case it
 /// names, and JOINED from the child that its ticket names; works, PREPARE and an outcome come from the parent, and
 /// votes, acknowledgements and questions from the child, whose ticket the case names.
-#[tactic(auto, unfolding(crate::specs::Speakers::may_speak, tree_model::specs::Names::same_process))]
+#[tactic(auto, unfolding(crate::specs::Speakers::may_speak, protocol::specs::Names::same_process))]
 pub fn may_speak(tree: &Tree, envelope: &Envelope) -> bool
     ensures { result ≡ may_speak_in tree.now envelope.now }
 {

@@ -3,14 +3,14 @@ use Rattle.std.proofs.Common.{◌≡◌, ◌<◌, ◌∙◌, ◌++◌, ℕ, fals
 use Rattle.std.specs.Prelude.{All}
 use Rattle.std.proofs.lemmas.Bool.{cases_lt}
 use Rattle.std.proofs.lemmas.List.{get_or_past}
-use Rattle.tree_model.specs.declared.records.LogRecord.{LogRecord}
+use Rattle.protocol.specs.declared.records.LogRecord.{LogRecord}
 use Rattle.log_text.specs.declared.form.LogForm.{LogForm}
 use Rattle.log_text.specs.Forms.{header}
 use Rattle.log_text.specs.Payloads.{records_text}
 use Rattle.log_text.proofs.NumberBytes.{bytes_behind}
 use Rattle.log_rules.specs.sound.Written.{AreBytes}
-use Rattle.log_grammar.proofs.Wholes.{whole_is_text}
-use Rattle.rec_log.specs.Sights.{ReadsAs}
+use Rattle.proof_log_grammar.proofs.Wholes.{whole_is_text}
+use Rattle.log_records.specs.Sights.{ReadsAs}
 
 -- each number of a list is a byte, where each that is there is
 pub each_byte : (xs : List ℕ) → All (λ b. b < 256) xs → AreBytes xs

@@ -1,22 +1,22 @@
 -- One script, one text of logs.
 use Rattle.std.proofs.Common.{◌≡◌, ◌∙◌, ◌⊎◌, inl, inr, false, ℕ, Some, None, List, ◌++◌, refl, sym, ap, subst}
-use Rattle.tree_model.specs.declared.events.Event.{Event}
-use Rattle.tree_model.specs.declared.trees.TreeEntry.{TreeEntry}
-use Rattle.tree_model.specs.Trees.{IsTree}
-use Rattle.logs_script.specs.declared.line.ProcessLog.{ProcessLog}
-use Rattle.logs_script.specs.Trees.{logs_text}
-use Rattle.core_law.specs.worlds.Refusals.{LeadsTo, Refusal}
-use Rattle.core_law.specs.worlds.Runs.{IsOpened, Leads}
-use Rattle.core_law.specs.worlds.Worlds.{WorldState}
-use Rattle.core_law.proofs.worlds.AlikeTrees.{leads_alike, opened_alike}
-use Rattle.left_logs.proofs.Entries.{none_failed}
-use Rattle.left_logs.proofs.Unfailed.{all_up}
+use Rattle.protocol.specs.declared.events.Event.{Event}
+use Rattle.protocol.specs.declared.trees.TreeProcess.{TreeProcess}
+use Rattle.protocol.specs.Trees.{IsTree}
+use Rattle.log_script.specs.declared.line.ProcessLog.{ProcessLog}
+use Rattle.log_script.specs.Trees.{logs_text}
+use Rattle.proof_runs.specs.worlds.Refusals.{LeadsTo, Refusal}
+use Rattle.tree_state.specs.Runs.{IsOpenedTree, EventsLead}
+use Rattle.tree_state.specs.Worlds.{WorldState}
+use Rattle.proof_runs.proofs.worlds.AlikeTrees.{leads_alike, opened_alike}
+use Rattle.proof_left_logs.proofs.Entries.{none_failed}
+use Rattle.proof_left_logs.proofs.Unfailed.{all_up}
 use Rattle.reopen_script.specs.Laws.{BeginsWithNone}
 use Rattle.reopen_script.proofs.Alike.{none_begin}
 use Rattle.report_io.specs.declared.status.Status.{Status}
 use Rattle.report_io.specs.declared.status.Status.TheVariants.{Ended, Refused, Stopped}
 use Rattle.tree_world.specs.LogsLeft.{AreLogs}
-use Rattle.tree_engine.specs.declared.tree.Output.TheVariants.{Logs, Trace}
+use Rattle.tree_engine.specs.declared.tree.TreeOutput.TheVariants.{Logs, Trace}
 use Rattle.tree_engine.specs.Logs.{LeavesLogs}
 use Rattle.tree_engine.specs.Reports.{IsTreeReport, ReopensScript}
 use Rattle.tree_engine.specs.Trees.{RunsScript, Tells, ending, last_line, trace_by}
@@ -29,16 +29,16 @@ use Rattle.one_text.proofs.Processes.{same_logs}
 -- Runs to their end.
 
 -- the logs that the same events leave are the same text
-one_logs : (tree : List TreeEntry) (s t v w : WorldState) (events : List Event) (text second : List ℕ) → IsTree tree
-    → IsOpened s tree → IsOpened t tree → Leads s events v → Leads t events w → LeavesLogs v text → LeavesLogs w second
+one_logs : (tree : List TreeProcess) (s t v w : WorldState) (events : List Event) (text second : List ℕ) → IsTree tree
+    → IsOpenedTree s tree → IsOpenedTree t tree → EventsLead s events v → EventsLead t events w → LeavesLogs v text → LeavesLogs w second
     → second ≡ text
 one_logs tree s t v w events text second is_tree a b h k one two =
     let alike = leads_alike s v t w events (opened_alike tree s t is_tree a b) h k in
     let none = none_failed tree s v events alike.moves a h alike.here.shown in
     let up = all_up v.tree alike.moves alike.world alike.here.follows.is_run none in
-    let are : AreLogs w v.tree two.logs = subst (λ (es : List TreeEntry). AreLogs w es two.logs) alike.tree two.are in
+    let are : AreLogs w v.tree two.logs = subst (λ (es : List TreeProcess). AreLogs w es two.logs) alike.tree two.are in
     let logs = same_logs v w alike up v.tree one.logs two.logs one.bytes two.bytes one.are are in
-    two.is ∙ ap (λ (es : List TreeEntry). logs_text es two.logs) alike.tree
+    two.is ∙ ap (λ (es : List TreeProcess). logs_text es two.logs) alike.tree
     ∙ ap (λ (ls : List ProcessLog). logs_text v.tree ls) logs ∙ sym one.is
 
 to_the_end : (r : Refusal) → Ended ≡ ending r → r ≡ None
@@ -51,13 +51,13 @@ ended input text second h k =
     let one = one_script input h.tree k.tree h.events k.events h.script k.script in
     let here = to_the_end h.runs.refusal h.runs.status_is in
     let there = to_the_end k.runs.refusal k.runs.status_is in
-    let leads : Leads h.runs.start h.events h.runs.end =
+    let leads : EventsLead h.runs.start h.events h.runs.end =
     subst (λ (r : Refusal). LeadsTo h.runs.start h.events r h.runs.end) here h.runs.leads in
-    let leads' : Leads k.runs.start h.events k.runs.end =
+    let leads' : EventsLead k.runs.start h.events k.runs.end =
     subst (λ (es : List Event). LeadsTo k.runs.start es None k.runs.end) one.1
     (subst (λ (r : Refusal). LeadsTo k.runs.start k.events r k.runs.end) there k.runs.leads) in
-    let opens : IsOpened k.runs.start h.tree =
-    subst (λ (es : List TreeEntry). IsOpened k.runs.start es) one.0 k.runs.opens in
+    let opens : IsOpenedTree k.runs.start h.tree =
+    subst (λ (es : List TreeProcess). IsOpenedTree k.runs.start es) one.0 k.runs.opens in
     one_logs h.tree h.runs.start k.runs.start h.runs.end k.runs.end h.events text second
     (script_tree input h.tree h.events h.script) h.runs.opens opens leads leads'
     (subst (λ (r : Refusal). Tells false Logs h.events h.runs.end r text) here h.runs.tells)

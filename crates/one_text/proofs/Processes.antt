@@ -1,21 +1,21 @@
 -- Two states to which the same events led keep the same logs, if no device failed in the run.
 use Rattle.std.proofs.Common.{◌≡◌, ◌<◌, ◌∙◌, ◌++◌, ℕ, Bool, true, false, Option, Some, None, List, [], ◌∷◌, refl, sym, ap, subst}
 use Rattle.std.specs.Prelude.{All, is_some, map}
-use Rattle.tree_model.specs.LogNames.{in_log, parent_of}
-use Rattle.tree_model.specs.declared.names.ProcessId.{ProcessId}
-use Rattle.tree_model.specs.declared.records.LogRecord.{LogRecord}
-use Rattle.tree_model.specs.declared.trees.TreeEntry.{TreeEntry}
-use Rattle.tree_model.specs.Nodes.{Node, Place, is_listed, place_of}
+use Rattle.protocol.specs.LogNames.{in_log, parent_of}
+use Rattle.protocol.specs.declared.names.ProcessId.{ProcessId}
+use Rattle.protocol.specs.declared.records.LogRecord.{LogRecord}
+use Rattle.protocol.specs.declared.trees.TreeProcess.{TreeProcess}
+use Rattle.protocol.specs.Nodes.{Node, Place, is_listed, place_of}
 use Rattle.log_text.specs.Forms.{header}
 use Rattle.log_text.specs.Payloads.{records_text}
-use Rattle.rec_log.specs.Sights.{ReadsAs, records_of}
-use Rattle.logs_script.specs.declared.line.ProcessLog.{ProcessLog}
-use Rattle.logs_script.specs.Lines.{process_log}
-use Rattle.core_model.specs.States.{CoreState, form_of, logged}
-use Rattle.core_law.specs.worlds.Ties.{StandsAt}
-use Rattle.core_law.specs.worlds.Worlds.{WorldState}
-use Rattle.core_law.proofs.worlds.AlikeTrees.{AlikeTrees}
-use Rattle.tree_node.specs.Nodes.{SpellsLog}
+use Rattle.log_records.specs.Sights.{ReadsAs, records_of}
+use Rattle.log_script.specs.declared.line.ProcessLog.{ProcessLog}
+use Rattle.log_script.specs.Lines.{process_log}
+use Rattle.process_state.specs.States.{CoreState, form_of, logged}
+use Rattle.proof_runs.specs.worlds.Follows.{StandsAt}
+use Rattle.tree_state.specs.Worlds.{WorldState}
+use Rattle.proof_runs.proofs.worlds.AlikeTrees.{AlikeTrees}
+use Rattle.tree_process.specs.Nodes.{SpellsLog}
 use Rattle.tree_world.specs.LogsLeft.{AreByteLogs, AreLogs}
 use Rattle.tree_world.specs.Nodes.{SpellsLogBy}
 use Rattle.one_text.proofs.Bytes.{log_is}
@@ -48,7 +48,7 @@ module _ (v w : WorldState) (alike : AlikeTrees v w) (up : (q : ProcessId) → (
       let one = alike.here.follows.nodes q c here in
       let two = alike.there.follows.nodes q d there in
       let place : d.place ≡ c.place =
-      two.place ∙ ap (λ (es : List TreeEntry). place_of es q) alike.tree ∙ sym one.place in
+      two.place ∙ ap (λ (es : List TreeProcess). place_of es q) alike.tree ∙ sym one.place in
       spells (record w { entries = _ }) q d b two ys k
       ∙ ap (λ (p : Place). spelled p (alike.world.at q)) place
       ∙ sym (spells (record v { entries = _ }) q c a one xs h)
@@ -56,7 +56,7 @@ module _ (v w : WorldState) (alike : AlikeTrees v w) (up : (q : ProcessId) → (
   -- a process is there in both states, or in none
   both_there : (q : ProcessId) → is_some (w.node_at q) ≡ is_some (v.node_at q)
   both_there q =
-      alike.there.follows.listed q ∙ ap (λ (es : List TreeEntry). is_listed es q) alike.tree
+      alike.there.follows.listed q ∙ ap (λ (es : List TreeProcess). is_listed es q) alike.tree
       ∙ sym (alike.here.follows.listed q)
 
   same_log : (q : ProcessId) (o p : Option CoreState) (a b : List ℕ) → v.node_at q ≡ o → w.node_at q ≡ p
@@ -69,7 +69,7 @@ module _ (v w : WorldState) (alike : AlikeTrees v w) (up : (q : ProcessId) → (
       let both : false ≡ true = sym (ap is_some there) ∙ both_there q ∙ ap is_some here in absurd (cc)
 
   -- the logs of these processes are the same
-  pub same_logs : (es : List TreeEntry) (ls ms : List ProcessLog) → AreByteLogs ls → AreByteLogs ms
+  pub same_logs : (es : List TreeProcess) (ls ms : List ProcessLog) → AreByteLogs ls → AreByteLogs ms
       → AreLogs v es ls → AreLogs w es ms → ms ≡ ls
   same_logs [] [] [] xs ys h k = refl
   same_logs [] [] (m ∷ ms) xs ys h k = elim k [ ]

@@ -2,7 +2,7 @@
 use Rattle.std.specs.Prelude.{◌≡◌, ℕ, List}
 use Rattle.report_io.specs.declared.status.Status.{Status}
 use Rattle.reopen_script.specs.Laws.{BeginsWithNone}
-use Rattle.tree_engine.specs.declared.tree.Output.TheVariants.{Logs}
+use Rattle.tree_engine.specs.declared.tree.TreeOutput.TheVariants.{Logs}
 use Rattle.tree_engine.specs.Reports.{IsTreeReport}
 
 -- what is written with the logs asked for, of an input without logs ahead of its events, is one text and one status: of a

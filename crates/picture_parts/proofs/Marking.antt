@@ -3,31 +3,31 @@ use Rattle.std.proofs.Common.{◌≡◌, ◌∙◌, ap, sym, subst, refl, arith,
 use Rattle.std.specs.List.{sum_by}
 use Rattle.std.specs.Prelude.{cond, count_by, fold, slice_get}
 use Rattle.std.proofs.lemmas.List.Sums.{fold-append, sum_by-append}
-use Rattle.tree_model.specs.declared.events.Entry.{Entry}
-use Rattle.tree_model.specs.declared.names.ProcessId.{ProcessId}
-use Rattle.tree_model.specs.declared.names.Txn.{Txn}
-use Rattle.tree_model.specs.Names.{same_process}
-use Rattle.tree_model.specs.NameLaws.{same_process_tells}
+use Rattle.protocol.specs.declared.events.JournalEntry.{JournalEntry}
+use Rattle.protocol.specs.declared.names.ProcessId.{ProcessId}
+use Rattle.protocol.specs.declared.names.Txn.{Txn}
+use Rattle.protocol.specs.Names.{same_process}
+use Rattle.protocol.specs.NameLaws.{same_process_tells}
 use Rattle.picture_parts.specs.declared.belonging.Choice.{Choice}
 use Rattle.picture_parts.specs.declared.belonging.Choice.TheVariants.{Between, OfTxn}
-use Rattle.picture_parts.specs.declared.belonging.Marked.{Marked}
+use Rattle.picture_parts.specs.declared.belonging.Belonging.{Belonging}
 use Rattle.picture_parts.specs.Belonging.{AddsPart, AddsParts, TookPart, is_among, is_of, is_of_at, is_restart, is_shown, marks_of, with_mark}
 use Rattle.tree_engine.proofs.Traces.{taken_at}
 
 -- before all steps
-pub none_marked : (choice : Choice) (ms : List Marked) → ms ≡ [] → ms ≡ marks_of choice []
+pub none_marked : (choice : Choice) (ms : List Belonging) → ms ≡ [] → ms ≡ marks_of choice []
 unfolding marks_of
 none_marked choice ms is = is
 
 -- one more step
-pub marked_more : (choice : Choice) (es : List Entry) (k : ℕ) (e : Entry) (old new : List Marked)
+pub marked_more : (choice : Choice) (es : List JournalEntry) (k : ℕ) (e : JournalEntry) (old new : List Belonging)
     → slice_get es k ≡ Some e → old ≡ marks_of choice (take k es) → new ≡ with_mark choice old e
     → new ≡ marks_of choice (take (k + 1) es)
 unfolding marks_of
 marked_more choice es k e old new at so is =
-    is ∙ ap (λ (ms : List Marked). with_mark choice ms e) so
+    is ∙ ap (λ (ms : List Belonging). with_mark choice ms e) so
     ∙ sym (fold-append (with_mark choice) [] (take k es) (e ∷ []))
-    ∙ ap (λ (xs : List Entry). fold (with_mark choice) [] xs) (sym (taken_at es k e at))
+    ∙ ap (λ (xs : List JournalEntry). fold (with_mark choice) [] xs) (sym (taken_at es k e at))
 
 -- Who took part.
 
@@ -48,10 +48,10 @@ none_took (OfTxn t) = λ p. refl
 none_took (Between from to) = tt
 
 -- before all steps nobody took part
-pub nobody_took : (choice : Choice) (ms : List Marked) (ps : List ProcessId) → ms ≡ [] → ps ≡ []
+pub nobody_took : (choice : Choice) (ms : List Belonging) (ps : List ProcessId) → ms ≡ [] → ps ≡ []
     → TookPart choice ms ps
 nobody_took choice ms ps no_steps no_parts =
-    subst (λ (xs : List Marked). TookPart choice xs ps) (sym no_steps)
+    subst (λ (xs : List Belonging). TookPart choice xs ps) (sym no_steps)
     (subst (λ (qs : List ProcessId). TookPart choice [] qs) (sym no_parts) (none_took choice))
 
 -- a process that is added
@@ -71,7 +71,7 @@ part_there q ps there p = by (same_process q p) refl
     by false is = grind arith
 
 -- a step is drawn, if the processes that took part are known
-pub shown_so : (choice : Choice) (t : Txn) (before : List Marked) (ps : List ProcessId) (e : Entry) (b : Bool)
+pub shown_so : (choice : Choice) (t : Txn) (before : List Belonging) (ps : List ProcessId) (e : JournalEntry) (b : Bool)
     → choice ≡ OfTxn t → TookPart choice before ps
     → b ≡ (is_of t e || (is_restart e.step.happening && is_among e.step.process ps))
     → b ≡ is_shown choice before e
@@ -83,7 +83,7 @@ shown_so choice t before ps e b is took made =
     shown ∙ ap (λ c. is_shown c before e) (sym is)
 
 -- of one more step
-pub parts_more : (choice : Choice) (before : List Marked) (old new : List ProcessId) (e : Entry) (shown : Bool)
+pub parts_more : (choice : Choice) (before : List Belonging) (old new : List ProcessId) (e : JournalEntry) (shown : Bool)
     → TookPart choice before old → AddsParts choice e old new
     → TookPart choice (before ++ record { entry = e; shown = shown } ∷ []) new
 parts_more (OfTxn t) before old new e shown took adds = λ p.

@@ -1,19 +1,19 @@
 -- The steps of a part of a run, as they are drawn.
 use Rattle.std.specs.Prelude.{ℕ, ◌+◌, ◌-◌, Bool, true, false, ◌==◌, ◌&&◌, if◌then◌else◌, Option, Some, None, List, [], ◌∷◌, ◌++◌, count_by, drop, filter, flat_map, fold, map, slice_get, unwrap_or}
-use Rattle.tree_model.specs.declared.events.Entry.{Entry}
-use Rattle.tree_model.specs.declared.events.Happening.{Happening}
-use Rattle.tree_model.specs.declared.events.Happening.TheVariants as happening
-use Rattle.tree_model.specs.declared.events.Input.TheVariants as input
-use Rattle.tree_model.specs.declared.events.Reaction.{Reaction}
-use Rattle.tree_model.specs.declared.messages.Envelope.{Envelope}
-use Rattle.tree_model.specs.declared.names.ProcessId.{ProcessId}
-use Rattle.tree_model.specs.declared.names.Txn.{Txn}
-use Rattle.tree_model.specs.declared.records.Logged.{Logged}
-use Rattle.tree_model.specs.declared.records.Subject.{Subject}
-use Rattle.tree_model.specs.declared.records.Subject.TheVariants as subject
-use Rattle.tree_model.specs.Names.{same_process, same_txn}
+use Rattle.protocol.specs.declared.events.JournalEntry.{JournalEntry}
+use Rattle.protocol.specs.declared.events.Happening.{Happening}
+use Rattle.protocol.specs.declared.events.Happening.TheVariants as happening
+use Rattle.protocol.specs.declared.events.Input.TheVariants as input
+use Rattle.protocol.specs.declared.events.Reaction.{Reaction}
+use Rattle.protocol.specs.declared.messages.Envelope.{Envelope}
+use Rattle.protocol.specs.declared.names.ProcessId.{ProcessId}
+use Rattle.protocol.specs.declared.names.Txn.{Txn}
+use Rattle.protocol.specs.declared.records.ShownRecord.{ShownRecord}
+use Rattle.protocol.specs.declared.records.Subject.{Subject}
+use Rattle.protocol.specs.declared.records.Subject.TheVariants as subject
+use Rattle.protocol.specs.Names.{same_process, same_txn}
 use Rattle.picture_parts.specs.Belonging.{message_is_of}
-use Rattle.picture_parts.specs.declared.belonging.Marked.{Marked}
+use Rattle.picture_parts.specs.declared.belonging.Belonging.{Belonging}
 
 -- What is drawn of a step: all of it, or what is of one transaction.
 
@@ -23,7 +23,7 @@ subject_stays t (subject.Boot n) = true
 subject_stays t (subject.Case c) = same_txn c.txn t
 subject_stays t subject.Other = true
 
-abbrev pub record_stays : Option Txn → Logged → Bool
+abbrev pub record_stays : Option Txn → ShownRecord → Bool
 record_stays None l = true
 record_stays (Some t) l = subject_stays t l.subject
 
@@ -45,11 +45,11 @@ cut only r = record {
 -- The messages that are drawn are numbered from 1, in the order in which they are sent.
 
 -- of each message of a step, whether it is drawn
-unfoldable pub drawn_messages : Option Txn → Marked → List Bool
+unfoldable pub drawn_messages : Option Txn → Belonging → List Bool
 drawn_messages only m = map (λ e. m.shown && message_stays only e) m.entry.reaction.messages
 
 -- of each message of a run, in the order of their numbers
-unfoldable pub drawn_sent : Option Txn → List Marked → List Bool
+unfoldable pub drawn_sent : Option Txn → List Belonging → List Bool
 drawn_sent only ms = flat_map (drawn_messages only) ms
 
 -- how many messages are drawn, and the numbers of all in the picture
@@ -91,7 +91,7 @@ with_record false true t = record { own = t.own + 1; all = t.all ++ true ∷ [] 
 with_record false false t = record { own = t.own; all = t.all ++ false ∷ [] }
 
 -- with the records of a step that is drawn or not
-abbrev pub with_records : Option Txn → Bool → TailState → List Logged → TailState
+abbrev pub with_records : Option Txn → Bool → TailState → List ShownRecord → TailState
 with_records only shown t ls = fold (λ t l. with_record l.forced (shown && record_stays only l) t) t ls
 
 -- a restart and a trim leave none, either
@@ -101,11 +101,11 @@ begun_by shown (happening.Restart k) t = with_record true shown t
 begun_by shown happening.Trim t = with_record true shown t
 
 -- with a step of a process
-abbrev pub with_step : Option Txn → TailState → Marked → TailState
+abbrev pub with_step : Option Txn → TailState → Belonging → TailState
 with_step only t m = with_records only m.shown (begun_by m.shown m.entry.step.happening t) m.entry.reaction.written
 
 -- with one more step, if it is of this process
-unfoldable pub with_step_at : Option Txn → ProcessId → TailState → Marked → TailState
+unfoldable pub with_step_at : Option Txn → ProcessId → TailState → Belonging → TailState
 with_step_at only p t m = if same_process m.entry.step.process p then with_step only t m else t
 
 -- there are none
@@ -113,7 +113,7 @@ abbrev pub no_tail : TailState
 no_tail = record { own = 0; all = [] }
 
 -- those of a process after these steps
-unfoldable pub tail_at : Option Txn → ProcessId → List Marked → TailState
+unfoldable pub tail_at : Option Txn → ProcessId → List Belonging → TailState
 tail_at only p ms = fold (with_step_at only p) no_tail ms
 
 -- how many of those that are drawn a crash leaves that leaves N of all
@@ -128,7 +128,7 @@ drawn_happening numbers tail (happening.Input (input.Message n m)) =
 drawn_happening numbers tail (happening.Restart k) = happening.Restart (own_left tail k)
 drawn_happening numbers tail happening.Trim = happening.Trim
 
-unfoldable pub drawn_entry : Option Txn → List ℕ → TailState → Entry → Entry
+unfoldable pub drawn_entry : Option Txn → List ℕ → TailState → JournalEntry → JournalEntry
 drawn_entry only numbers tail e = record {
   step = record {
     process = e.step.process;
@@ -139,24 +139,24 @@ drawn_entry only numbers tail e = record {
 }
 
 -- a step as it is drawn after these
-abbrev pub drawn_after : Option Txn → List ℕ → List Marked → Entry → Entry
+abbrev pub drawn_after : Option Txn → List ℕ → List Belonging → JournalEntry → JournalEntry
 drawn_after only numbers before e = drawn_entry only numbers (tail_at only e.step.process before) e
 
 -- steps that were gone over, and those of them that are drawn, as they are drawn
 pub record Drawn : Type 0 where
-  pub before : List Marked
-  pub entries : List Entry
+  pub before : List Belonging
+  pub entries : List JournalEntry
 
-abbrev pub with_drawn : Option Txn → List ℕ → Drawn → Marked → Drawn
+abbrev pub with_drawn : Option Txn → List ℕ → Drawn → Belonging → Drawn
 with_drawn only numbers d m = record {
   before = d.before ++ m ∷ [];
   entries = if m.shown then d.entries ++ drawn_after only numbers d.before m.entry ∷ [] else d.entries;
 }
 
-abbrev pub drawn_by : Option Txn → List ℕ → List Marked → Drawn
+abbrev pub drawn_by : Option Txn → List ℕ → List Belonging → Drawn
 drawn_by only numbers ms = fold (with_drawn only numbers) (record { before = []; entries = [] }) ms
 
 -- The steps that are drawn of a run, in order: what is of one transaction, if only that is drawn, or all; their messages
 -- with their numbers in the picture, and their crashes with the records that they leave of those that are drawn.
-unfoldable pub drawn_from : Option Txn → List Marked → List Entry
+unfoldable pub drawn_from : Option Txn → List Belonging → List JournalEntry
 drawn_from only ms = (drawn_by only (numbers_of (drawn_sent only ms)) ms).entries

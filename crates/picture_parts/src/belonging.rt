@@ -1,15 +1,16 @@
 //! Which steps of a run are of a transaction.
 
 ghost use Rattle.std.specs.Prelude.{◌≡◌, ◌&&◌, ◌||◌, IfOk, OnOk};
-ghost use Rattle.tree_model.specs.Names.{same_process};
+ghost use Rattle.protocol.specs.Names.{same_process};
 ghost use Rattle.tree_world.specs.Worlds.{state};
 ghost use Rattle.picture_parts.specs.Belonging.{AddsPart, AddsParts, TookPart, act_is_of, is_among as is_among_by, is_of as is_by, is_restart as restarts, is_shown, is_txn as is_txn_by, marks_of as marks_by, message_case, message_is_of, names as names_by, record_is_of, with_mark};
 
 use log_store::MemoryStore;
-use std::alloc::{AllocError, Global};
-use tree_model::{
-    Act, Case, Entry, Envelope, Happening, Input, Logged, Message, ProcessId, Subject, Txn,
+use protocol::{
+    Act, Case, Envelope, Happening, Input, JournalEntry, Message, ProcessId, ShownRecord, Subject,
+    Txn,
 };
+use std::alloc::{AllocError, Global};
 use tree_world::World;
 
 /// The case that a message names.
@@ -70,7 +71,7 @@ fn names(txn: &Txn, begun: Option<Txn>, happening: &Happening) -> bool
 }
 
 /// Whether a record is of a case of the transaction.
-pub(crate) fn is_record_of(txn: &Txn, logged: &Logged) -> bool
+pub(crate) fn is_record_of(txn: &Txn, logged: &ShownRecord) -> bool
     ensures { result ≡ record_is_of txn.now logged.now }
 {
     match logged.subject {
@@ -89,7 +90,7 @@ pub(crate) fn is_message_of(txn: &Txn, envelope: &Envelope) -> bool
 
 /// Whether a step is of a transaction: it handles an act or a message of it, or makes a record or a message of it.
 #[tactic(auto, unfolding(crate::specs::Belonging::is_of))]
-pub(crate) fn is_of(txn: &Txn, entry: &Entry) -> bool
+pub(crate) fn is_of(txn: &Txn, entry: &JournalEntry) -> bool
     ensures { result ≡ is_by txn.now entry.now }
 {
     let reaction = &entry.reaction;
@@ -110,8 +111,8 @@ pub(crate) fn is_of(txn: &Txn, entry: &Entry) -> bool
 
 /// A step of a run, and whether it is drawn.
 #[derive(Drop)]
-pub struct Marked {
-    pub entry: Entry,
+pub struct Belonging {
+    pub entry: JournalEntry,
     pub shown: bool,
 }
 
@@ -132,7 +133,7 @@ fn is_among(process: ProcessId, parts: &[ProcessId]) -> bool
 }
 
 /// Whether two processes are one.
-#[tactic(auto, unfolding(tree_model::specs::Names::same_process))]
+#[tactic(auto, unfolding(protocol::specs::Names::same_process))]
 fn is_same(part: ProcessId, process: ProcessId) -> bool
     ensures { result ≡ same_process part process }
 {
@@ -161,7 +162,7 @@ fn is_restart(happening: &Happening) -> bool
 }
 
 /// Whether a step is drawn of a transaction in which these processes took part before.
-fn shows_txn(txn: &Txn, parts: &[ProcessId], entry: &Entry) -> bool
+fn shows_txn(txn: &Txn, parts: &[ProcessId], entry: &JournalEntry) -> bool
     ensures { result ≡ (is_by txn.now entry.now || (restarts entry.now.step.happening
         && is_among_by entry.now.step.process parts.now)) }
 {
@@ -171,7 +172,7 @@ fn shows_txn(txn: &Txn, parts: &[ProcessId], entry: &Entry) -> bool
 impl Choice {
     /// Whether the step after these is drawn, in which these processes took part.
     #[tactic(auto, unfolding(crate::specs::Belonging::is_shown))]
-    fn shows(&self, before: &[Marked], parts: &[ProcessId], entry: &Entry) -> bool
+    fn shows(&self, before: &[Belonging], parts: &[ProcessId], entry: &JournalEntry) -> bool
         requires { TookPart self.now before.now parts.now }
         ensures { result ≡ is_shown self.now before.now entry.now }
     {
@@ -183,7 +184,7 @@ impl Choice {
 
     /// Adds the process of a step to those that took part, if it takes part in it.
     #[tactic(auto, unfolding(crate::specs::Belonging::is_of_at))]
-    fn add_parts(&self, parts: &mut Vec<ProcessId>, entry: &Entry) -> Result<(), AllocError>
+    fn add_parts(&self, parts: &mut Vec<ProcessId>, entry: &JournalEntry) -> Result<(), AllocError>
         ensures { OnOk result (AddsParts self.now entry.now parts.old.items parts.new.items) }
     {
         match self {
@@ -202,9 +203,9 @@ impl Choice {
 #[tactic(auto, using(crate::proofs::Marking::parts_more))]
 fn push_mark(
     choice: &Choice,
-    marks: &mut Vec<Marked>,
+    marks: &mut Vec<Belonging>,
     parts: &mut Vec<ProcessId>,
-    entry: Entry,
+    entry: JournalEntry,
 ) -> Result<(), AllocError>
     requires { TookPart choice.now marks.old.items parts.old.items }
     ensures marked { OnOk result (marks.new.items ≡ with_mark choice.now marks.old.items entry) }
@@ -212,7 +213,7 @@ fn push_mark(
 {
     let shown = choice.shows(marks, parts, &entry);
     choice.add_parts(parts, &entry)?;
-    marks.push(Marked { entry, shown })?;
+    marks.push(Belonging { entry, shown })?;
     Ok(())
 }
 
@@ -222,7 +223,7 @@ pub(crate) fn marks_of(
     alloc: Global,
     world: &World<MemoryStore>,
     choice: &Choice,
-) -> Result<Vec<Marked>, AllocError>
+) -> Result<Vec<Belonging>, AllocError>
     ensures { IfOk result (λ marks. marks.items ≡ marks_by choice.now (state world.now).entries) }
 {
     let mut marks = Vec::new(alloc);

@@ -5,10 +5,10 @@ ghost use Rattle.picture_parts.specs.Captions.{Surrounds};
 
 use crate::part::Range;
 use picture_shapes::{push_pair, push_word};
+use protocol::{Presumption, Txn};
 use std::alloc::{AllocError, Global};
 use std::str;
 use trace_lines::{push, push_number};
-use tree_model::{Presumption, Txn};
 
 /// The height of a caption.
 const HEIGHT: u64 = 30;

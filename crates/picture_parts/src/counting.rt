@@ -4,11 +4,11 @@ ghost use Rattle.std.specs.Prelude.{◌≡◌, [], OnOk};
 ghost use Rattle.picture_parts.specs.Cut.{begun_by, own_left, record_stays as stays_by, with_record, with_records, with_step};
 ghost use Rattle.picture_parts.specs.Tails.{AddsStep, KeepsTails, seen, tail_in};
 
-use crate::belonging::Marked;
+use crate::belonging::Belonging;
 use indexmap::IndexMap;
+use protocol::{Happening, ProcessId, ShownRecord, Subject, Txn};
 use report_io::Failure;
 use std::alloc::{AllocError, Global};
-use tree_model::{Happening, Logged, ProcessId, Subject, Txn};
 
 /// Of the records of a process that a crash may take: of each, whether it is drawn; and how many of those that are drawn a
 /// crash could take, if the process had no others.
@@ -19,7 +19,7 @@ struct Tail {
 }
 
 /// Whether a record is of no other transaction than this one, if only that is drawn.
-pub(crate) fn record_stays(only: Option<Txn>, logged: &Logged) -> bool
+pub(crate) fn record_stays(only: Option<Txn>, logged: &ShownRecord) -> bool
     ensures { result ≡ stays_by only logged.now }
 {
     match only {
@@ -65,7 +65,12 @@ impl Tail {
     }
 
     /// Adds the records of a step that is drawn or not.
-    fn add_all(&mut self, only: Option<Txn>, shown: bool, written: &[Logged]) -> Result<(), Failure>
+    fn add_all(
+        &mut self,
+        only: Option<Txn>,
+        shown: bool,
+        written: &[ShownRecord],
+    ) -> Result<(), Failure>
         ensures { OnOk result (seen self.new ≡ with_records only shown (seen self.old) written.now) }
     {
         for logged in written {
@@ -86,7 +91,7 @@ impl Tail {
     }
 
     /// A step of the process.
-    fn add_step(&mut self, only: Option<Txn>, marked: &Marked) -> Result<(), Failure>
+    fn add_step(&mut self, only: Option<Txn>, marked: &Belonging) -> Result<(), Failure>
         ensures { OnOk result (seen self.new ≡ with_step only (seen self.old) marked.now) }
     {
         self.begin(marked.shown, &marked.entry.step.happening)?;
@@ -125,7 +130,7 @@ impl Tails {
     }
 
     /// Takes out what is kept of a process.
-    #[tactic(auto, unfolding(tree_model::specs::Names::same_process))]
+    #[tactic(auto, unfolding(protocol::specs::Names::same_process))]
     fn remove(&mut self, process: ProcessId) -> Tail
         ensures own { seen result ≡ tail_in self.old.tails.entries process }
         ensures others { KeepsTails process self.old.tails.entries self.new.tails.entries }
@@ -137,7 +142,7 @@ impl Tails {
     }
 
     /// Keeps this of a process.
-    #[tactic(auto, unfolding(tree_model::specs::Names::same_process))]
+    #[tactic(auto, unfolding(protocol::specs::Names::same_process))]
     fn insert(&mut self, process: ProcessId, tail: Tail) -> Result<(), AllocError>
         ensures own { OnOk result (tail_in self.new.tails.entries process ≡ seen tail) }
         ensures others { OnOk result (KeepsTails process self.old.tails.entries self.new.tails.entries) }
@@ -147,7 +152,7 @@ impl Tails {
     }
 
     /// Adds a step.
-    pub(crate) fn add(&mut self, only: Option<Txn>, marked: &Marked) -> Result<(), Failure>
+    pub(crate) fn add(&mut self, only: Option<Txn>, marked: &Belonging) -> Result<(), Failure>
         ensures { OnOk result (AddsStep only marked.now self.old.tails.entries self.new.tails.entries) }
     {
         let process = marked.entry.step.process;

@@ -4,13 +4,13 @@ ghost use Rattle.std.specs.Prelude.{◌≡◌, ◌+◌, ◌++◌, ◌∷◌, [],
 ghost use Rattle.picture_parts.specs.Cut.{cut as cut_by, drawn_entry as drawn_by, drawn_from as drawn_part, drawn_happening, drawn_messages, drawn_sent, message_stays as message_by, number_in, numbers_of as numbers_by, record_stays as record_by};
 ghost use Rattle.picture_parts.specs.Tails.{tail_in};
 
-use crate::belonging::{Marked, is_message_of};
+use crate::belonging::{Belonging, is_message_of};
 use crate::counting::{Tails, record_stays};
+use protocol::{
+    Envelope, Happening, Input, JournalEntry, ProcessId, Reaction, Sequence, ShownRecord, Step, Txn,
+};
 use report_io::Failure;
 use std::alloc::{AllocError, Global};
-use tree_model::{
-    Entry, Envelope, Happening, Input, Logged, ProcessId, Reaction, Sequence, Step, Txn,
-};
 
 /// Whether a message is of no other transaction than this one, if only that is drawn.
 fn message_stays(only: Option<Txn>, envelope: &Envelope) -> bool
@@ -26,8 +26,8 @@ fn message_stays(only: Option<Txn>, envelope: &Envelope) -> bool
 fn records_of(
     alloc: Global,
     only: Option<Txn>,
-    written: &[Logged],
-) -> Result<Vec<Logged>, AllocError>
+    written: &[ShownRecord],
+) -> Result<Vec<ShownRecord>, AllocError>
     ensures { IfOk result (λ stay. stay.items ≡ filter (record_by only) written.now) }
 {
     let mut stay = Vec::new(alloc);
@@ -73,7 +73,7 @@ fn cut(alloc: Global, only: Option<Txn>, reaction: &Reaction) -> Result<Reaction
 
 /// Adds of each message of a step whether it is drawn.
 #[tactic(auto, unfolding(crate::specs::Cut::drawn_messages))]
-fn push_drawn(sent: &mut Vec<bool>, only: Option<Txn>, marked: &Marked) -> Result<(), AllocError>
+fn push_drawn(sent: &mut Vec<bool>, only: Option<Txn>, marked: &Belonging) -> Result<(), AllocError>
     ensures { OnOk result (sent.new.items ≡ sent.old.items ++ drawn_messages only marked.now) }
 {
     for envelope in marked.entry.reaction.messages.as_slice() {
@@ -87,7 +87,7 @@ fn push_drawn(sent: &mut Vec<bool>, only: Option<Txn>, marked: &Marked) -> Resul
 pub(crate) fn sent_of(
     alloc: Global,
     only: Option<Txn>,
-    marks: &[Marked],
+    marks: &[Belonging],
 ) -> Result<Vec<bool>, AllocError>
     ensures { IfOk result (λ sent. sent.items ≡ drawn_sent only marks.now) }
 {
@@ -170,15 +170,15 @@ fn entry_of(
     only: Option<Txn>,
     numbers: &[u64],
     tails: &Tails,
-    entry: &Entry,
-) -> Result<Entry, AllocError>
+    entry: &JournalEntry,
+) -> Result<JournalEntry, AllocError>
     ensures { IfOk result (λ drawn. drawn ≡ drawn_by only numbers.now
         (tail_in tails.now.tails.entries entry.now.step.process) entry.now) }
 {
     let process = entry.step.process;
     let happening = happening_of(alloc, numbers, tails, process, &entry.step.happening)?;
     let reaction = cut(alloc, only, &entry.reaction)?;
-    Ok(Entry {
+    Ok(JournalEntry {
         step: Step {
             process,
             happening,
@@ -191,11 +191,11 @@ fn entry_of(
 /// Adds a step as it is drawn, if it is, before which a crash could take these records.
 fn push_entry(
     alloc: Global,
-    drawn: &mut Vec<Entry>,
+    drawn: &mut Vec<JournalEntry>,
     only: Option<Txn>,
     numbers: &[u64],
     tails: &Tails,
-    marked: &Marked,
+    marked: &Belonging,
 ) -> Result<(), AllocError>
     ensures { OnOk result (drawn.new.items ≡ (if marked.now.shown then drawn.old.items ++ drawn_by only numbers.now
         (tail_in tails.now.tails.entries marked.now.entry.step.process) marked.now.entry ∷ [] else drawn.old.items)) }
@@ -208,7 +208,11 @@ fn push_entry(
 
 /// The steps that are drawn of a run, as they are drawn: what is of one transaction, if only that is drawn, or all.
 #[tactic(auto, unfolding(crate::specs::Cut::drawn_from))]
-pub fn drawn_from(alloc: Global, only: Option<Txn>, marks: &[Marked]) -> Result<Vec<Entry>, Failure>
+pub fn drawn_from(
+    alloc: Global,
+    only: Option<Txn>,
+    marks: &[Belonging],
+) -> Result<Vec<JournalEntry>, Failure>
     ensures { IfOk result (λ drawn. drawn.items ≡ drawn_part only marks.now) }
 {
     let numbers = numbers_of(alloc, &sent_of(alloc, only, marks)?)?;

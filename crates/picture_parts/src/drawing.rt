@@ -1,29 +1,29 @@
 //! Draws a part of a run.
 
 ghost use Rattle.std.specs.Prelude.{◌≡◌, IfNone, IfOk, IfSome, Option, length};
-ghost use Rattle.tree_model.specs.declared.events.Event.{Event as AnyEvent};
-ghost use Rattle.run_picture.specs.Pictures.{IsPicture};
+ghost use Rattle.protocol.specs.declared.events.Event.{Event as AnyEvent};
+ghost use Rattle.picture_run.specs.Pictures.{IsPicture};
 ghost use Rattle.tree_world.specs.Worlds.{state};
 ghost use Rattle.tree_engine.specs.Trees.{ending};
 ghost use Rattle.picture_parts.specs.Parts.{Answers, HasPicture, count_at as count_by};
 ghost use Rattle.picture_parts.specs.Drawn.{AnswersFrom, AnswersScript, HasNoRun, IsNotTooLarge, IsTooLarge};
 
-use crate::belonging::{Choice, Marked, marks_of};
+use crate::belonging::{Belonging, Choice, marks_of};
 use crate::caption::{caption_of_case, caption_of_events, captioned};
 use crate::cutting::{drawn_from, sent_of};
 use crate::events::make_events;
 use crate::fault::PartFault;
-use crate::part::{MOST_EVENTS, MOST_PROCESSES, Part, Range, Turns, at_root, is_there};
-use link_script::ScriptError;
+use crate::part::{MOST_EVENTS, MOST_PROCESSES, PicturePart, Range, Turns, at_root, is_there};
 use log_store::MemoryStore;
-use picture_rows::{PictureError, Turn};
+use picture_layout::{EventSteps, PictureError};
+use picture_run::{Scene, picture};
+use protocol::{Event, JournalEntry, LogRecord, ProcessId, Txn};
 use reopen_script::read_reopen;
 use report_io::{Failure, Status};
 use run_notes::Notes;
-use run_picture::{Scene, picture};
 use std::alloc::{AllocError, Global};
 use tree_engine::{Refusal, cause_of, opened, status_of};
-use tree_model::{Entry, Event, LogRecord, ProcessId, Txn};
+use tree_script::ScriptError;
 use tree_world::World;
 
 /// A picture and how its run ended, or why it is not drawn.
@@ -66,7 +66,7 @@ fn events_at(alloc: Global, events: &[Event], places: &[usize]) -> Result<Vec<Ev
 }
 
 /// What is told of each of the steps that are drawn.
-fn notes_shown(alloc: Global, run: &Run, marks: &[Marked]) -> Result<Vec<Vec<u8>>, AllocError> {
+fn notes_shown(alloc: Global, run: &Run, marks: &[Belonging]) -> Result<Vec<Vec<u8>>, AllocError> {
     let mut notes = Notes::new(alloc, run.world.tree().entries(), run.logs)?;
     let mut shown = Vec::new(alloc);
     for marked in marks {
@@ -87,8 +87,8 @@ fn draw_steps(
     alloc: Global,
     run: &Run,
     events: &[Event],
-    turns: &[Turn],
-    entries: &[Entry],
+    turns: &[EventSteps],
+    entries: &[JournalEntry],
     notes: &[Vec<u8>],
 ) -> Result<Vec<u8>, Failure>
     ensures { IfOk result (λ text. (refused : Option AnyEvent)
@@ -114,8 +114,8 @@ fn draw_turns(
     alloc: Global,
     run: &Run,
     turns: &Turns,
-    marks: &[Marked],
-    entries: &[Entry],
+    marks: &[Belonging],
+    entries: &[JournalEntry],
     caption: &[u8],
 ) -> Result<Vec<u8>, Failure>
     ensures { IfOk result (λ text. HasPicture (state run.now.world.now).tree entries.now text.items) }
@@ -134,7 +134,7 @@ fn draw_case(
     start: usize,
     txn: &Txn,
 ) -> Result<Result<Vec<u8>, PartFault>, Failure>
-    ensures { IfOk result (Answers (Part.Case txn.now) (state run.now.world.now).tree root start
+    ensures { IfOk result (Answers (PicturePart.Case txn.now) (state run.now.world.now).tree root start
         (state run.now.world.now).entries run.now.counts.now) }
 {
     let txn = at_root(root, txn);
@@ -162,7 +162,7 @@ fn draw_range(
     start: usize,
     range: &Range,
 ) -> Result<Result<Vec<u8>, PartFault>, Failure>
-    ensures { IfOk result (Answers (Part.Events range.now) (state run.now.world.now).tree root start
+    ensures { IfOk result (Answers (PicturePart.Events range.now) (state run.now.world.now).tree root start
         (state run.now.world.now).entries run.now.counts.now) }
 {
     let counts = run.counts;
@@ -189,14 +189,14 @@ fn draw_part(
     run: &Run,
     root: ProcessId,
     start: usize,
-    part: &Part,
+    part: &PicturePart,
 ) -> Result<Result<Vec<u8>, PartFault>, Failure>
     ensures { IfOk result (Answers part.now (state run.now.world.now).tree root start
         (state run.now.world.now).entries run.now.counts.now) }
 {
     match part {
-        Part::Case(txn) => draw_case(alloc, run, root, start, txn),
-        Part::Events(range) => draw_range(alloc, run, root, start, range),
+        PicturePart::Case(txn) => draw_case(alloc, run, root, start, txn),
+        PicturePart::Events(range) => draw_range(alloc, run, root, start, range),
     }
 }
 
@@ -206,7 +206,7 @@ fn draw_events(
     world: &mut World<MemoryStore>,
     root: ProcessId,
     events: &[Event],
-    part: &Part,
+    part: &PicturePart,
 ) -> Result<Picture, Failure>
     ensures { IfOk result (AnswersFrom part.now root (state world.old) events.now) }
 {
@@ -233,7 +233,11 @@ fn draw_events(
 /// steps what is of no other. Messages are numbered from 1 in the picture. None: the script is refused, or a log that it
 /// begins with is damaged. An error says that memory was refused, or why an event could not be made.
 #[tactic(auto, using(crate::proofs::Answering::answers_script))]
-pub fn picture_of(alloc: Global, input: &[u8], part: &Part) -> Result<Option<Picture>, Failure>
+pub fn picture_of(
+    alloc: Global,
+    input: &[u8],
+    part: &PicturePart,
+) -> Result<Option<Picture>, Failure>
     ensures answer { IfOk result (λ found. IfSome found (AnswersScript part.now input.now)) }
     ensures none { IfOk result (λ found. IfNone found (HasNoRun input.now)) }
 {

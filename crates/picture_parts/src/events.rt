@@ -1,16 +1,16 @@
 //! Events that are made one after another, with how many steps are made after each.
 
 ghost use Rattle.std.specs.Prelude.{◌≡◌, ◌++◌, ◌∷◌, [], IfErr, IfOk, OnOk, length};
-ghost use Rattle.core_law.specs.worlds.Worlds.{Applies, Stops};
+ghost use Rattle.tree_state.specs.Worlds.{Applies, Stops};
 ghost use Rattle.tree_engine.specs.Runs.{IsOwn};
 ghost use Rattle.tree_world.specs.Worlds.{state};
 ghost use Rattle.picture_parts.specs.Counted.{CountsTo};
 
 use log_store::MemoryStore;
+use protocol::{Event, StepError};
 use report_io::Failure;
 use std::alloc::Global;
 use tree_engine::{Refusal, own_refusal};
-use tree_model::{Event, StepError};
 use tree_world::World;
 
 /// Makes an event, and adds how many steps are made then. Tells why the event is refused, if it is.

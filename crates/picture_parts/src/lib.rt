@@ -13,8 +13,8 @@ mod events;
 mod fault;
 mod part;
 
-pub use belonging::Marked;
+pub use belonging::Belonging;
 pub use cutting::drawn_from;
 pub use drawing::{Picture, picture_of, whole_fault};
 pub use fault::PartFault;
-pub use part::{MOST_EVENTS, MOST_PROCESSES, Part, Range, range_of};
+pub use part::{MOST_EVENTS, MOST_PROCESSES, PicturePart, Range, range_of};

@@ -3,11 +3,11 @@
 ghost use Rattle.std.specs.Prelude.{◌≡◌, ◌≤◌, ◌+◌, IfOk, IfSome, OnOk, length};
 ghost use Rattle.picture_parts.specs.Parts.{at_root as at_root_by, events_shown, is_there as is_there_by, shown_within as shown_by};
 
-use crate::belonging::Marked;
-use picture_rows::Turn;
+use crate::belonging::Belonging;
+use picture_layout::EventSteps;
+use protocol::{ProcessId, Txn};
 use spellings::numeral::number_of;
 use std::alloc::{AllocError, Global};
-use tree_model::{ProcessId, Txn};
 
 /// The most processes and the most events of a picture.
 pub const MOST_PROCESSES: usize = 40;
@@ -23,7 +23,7 @@ pub struct Range {
 
 /// A part of a run.
 #[derive(Clone, Copy, PartialEq, Eq)]
-pub enum Part {
+pub enum PicturePart {
     /// The steps of a transaction of this presumption, boot and number, and the restarts of the processes that took part
     /// in it before.
     Case(Txn),
@@ -57,7 +57,7 @@ pub(crate) fn at_root(root: ProcessId, txn: &Txn) -> Txn
 }
 
 /// How many of the steps from a place on, up to another, are drawn.
-fn shown_within(marks: &[Marked], from: usize, to: usize) -> usize
+fn shown_within(marks: &[Belonging], from: usize, to: usize) -> usize
     ensures { result ≡ shown_by marks.now from to }
 {
     if from <= to && to <= marks.len() {
@@ -68,7 +68,7 @@ fn shown_within(marks: &[Marked], from: usize, to: usize) -> usize
 }
 
 /// Whether a step is drawn.
-pub(crate) fn is_there(marks: &[Marked]) -> bool
+pub(crate) fn is_there(marks: &[Belonging]) -> bool
     ensures { result ≡ is_there_by marks.now }
 {
     marks.iter().filter(|marked| marked.shown).count() != 0
@@ -78,7 +78,7 @@ pub(crate) fn is_there(marks: &[Marked]) -> bool
 #[derive(Drop)]
 pub(crate) struct Turns {
     pub(crate) places: Vec<usize>,
-    pub(crate) turns: Vec<Turn>,
+    pub(crate) turns: Vec<EventSteps>,
 }
 
 impl Turns {
@@ -96,7 +96,7 @@ impl Turns {
         ensures { OnOk result (length self.new.turns.items ≡ length self.old.turns.items + 1) }
     {
         self.places.push(place)?;
-        self.turns.push(Turn { steps, refused })?;
+        self.turns.push(EventSteps { steps, refused })?;
         Ok(())
     }
 
@@ -123,7 +123,7 @@ impl Turns {
     pub(crate) fn of_shown(
         alloc: Global,
         counts: &[usize],
-        marks: &[Marked],
+        marks: &[Belonging],
         refused: bool,
     ) -> Result<Turns, AllocError>
         ensures { IfOk result (λ turns. length turns.turns.items ≡ events_shown marks.now counts.now) }

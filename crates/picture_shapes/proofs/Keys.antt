@@ -2,7 +2,7 @@
 use Rattle.std.proofs.Common.{◌≡◌, ◌∙◌, ap, sym, arith, ℕ, ◌+◌, ◌<◌, ◌≤◌, true, false, if◌then◌else◌, List, [], ◌∷◌, ◌++◌, length, map, get_or, take, take_all, Bor}
 use Rattle.std.proofs.lemmas.List.{append-nil, append_assoc, length-append, map-append, take_more}
 use Rattle.std.proofs.lemmas.List.Elements.{filter-append}
-use Rattle.picture_shapes.specs.declared.frame.Frame.{Frame}
+use Rattle.picture_shapes.specs.declared.frame.PictureFrame.{PictureFrame}
 use Rattle.picture_shapes.specs.declared.signs.Sign.{Sign}
 use Rattle.picture_shapes.specs.declared.signs.Signs.{Signs}
 use Rattle.picture_shapes.specs.Head.{Key, has, key_of, key_text, keys_among, keys_text}
@@ -35,12 +35,12 @@ no_more s xs n d there is =
     ∙ append-nil (first s xs n)
 
 -- before the first there is no text
-pub none : (f : Frame) (begin : List ℕ) → begin ≡ begin ++ keys_text f 0 []
+pub none : (f : PictureFrame) (begin : List ℕ) → begin ≡ begin ++ keys_text f 0 []
 unfolding keys_text
 none f begin = sym (append-nil begin)
 
 -- the text of entries and of one more
-text_more : (f : Frame) (n : ℕ) (ks : List Key) (k : Key)
+text_more : (f : PictureFrame) (n : ℕ) (ks : List Key) (k : Key)
     → keys_text f n (ks ++ k ∷ []) ≡ keys_text f n ks ++ key_text f (n + length ks) k.drawn k.meaning
 unfolding keys_text
 text_more f n [] k =
@@ -54,7 +54,7 @@ text_more f n (x ∷ ks) k =
     ∙ ap (λ m. (key_text f n x.drawn x.meaning ++ keys_text f (n + 1) ks) ++ key_text f m k.drawn k.meaning) there
 
 -- a text with one more entry of a legend
-pub added : (f : Frame) (begin old new : List ℕ) (ks more : List Key) (k : Key) (n : ℕ)
+pub added : (f : PictureFrame) (begin old new : List ℕ) (ks more : List Key) (k : Key) (n : ℕ)
     → old ≡ begin ++ keys_text f 0 ks → n ≡ length ks → new ≡ old ++ key_text f n k.drawn k.meaning → more ≡ ks ++ k ∷ []
     → new ≡ begin ++ keys_text f 0 more
 added f begin old new ks more k n were counted is with_it =

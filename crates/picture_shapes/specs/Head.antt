@@ -2,7 +2,7 @@
 use Rattle.std.specs.Borrow.{Bor}
 use Rattle.std.specs.Prelude.{ℕ, ◌+◌, ◌-◌, ◌*◌, ◌/◌, ◌%◌, Bool, min, max, List, [], ◌∷◌, ◌++◌, codes, filter, map}
 use Rattle.picture_shapes.specs.declared.fixed.TheConstants.{LEGEND, STYLE}
-use Rattle.picture_shapes.specs.declared.frame.Frame.{Frame}
+use Rattle.picture_shapes.specs.declared.frame.PictureFrame.{PictureFrame}
 use Rattle.picture_shapes.specs.declared.head.Summary.{Summary}
 use Rattle.picture_shapes.specs.declared.signs.Sign.{Sign}
 use Rattle.picture_shapes.specs.declared.signs.Sign.TheVariants as sign
@@ -13,19 +13,19 @@ use Rattle.picture_shapes.specs.Words.{pair_text, word_text}
 -- Where its parts are.
 
 -- a picture reaches one gap beyond its last line
-abbrev pub width_of : Frame → ℕ
+abbrev pub width_of : PictureFrame → ℕ
 width_of f = line_at f.grid f.processes
 
 -- as many entries of the legend as have room are in a line: 236 pixels each, at least one, and at most 19
-unfoldable pub keys_in_line : Frame → ℕ
+unfoldable pub keys_in_line : PictureFrame → ℕ
 keys_in_line f = max (min ((width_of f - 20) / 236) 19) 1
 
 -- the left of the entry with a number, from 0
-abbrev pub key_x : Frame → ℕ → ℕ
+abbrev pub key_x : PictureFrame → ℕ → ℕ
 key_x f entry = 20 + 236 * (entry % keys_in_line f)
 
 -- the line of the entry: lines are 22 pixels high
-abbrev pub key_y : Frame → ℕ → ℕ
+abbrev pub key_y : PictureFrame → ℕ → ℕ
 key_y f entry = 64 + 22 * (entry / keys_in_line f)
 
 -- Size, title and ground.
@@ -105,23 +105,23 @@ abbrev pub keys_of : Signs → List Key
 keys_of s = keys_among s all_keys
 
 -- an entry: the sign as it is drawn, and what it means
-unfoldable pub key_text : Frame → ℕ → List ℕ → List ℕ → List ℕ
+unfoldable pub key_text : PictureFrame → ℕ → List ℕ → List ℕ → List ℕ
 key_text f entry drawn meaning =
     pair_text (codes "<g transform=\"translate(") (key_x f entry) (key_y f entry) ++ codes ")\">" ++ drawn
     ++ codes "<text x=\"50\" y=\"4\" class=\"dim\">" ++ meaning ++ codes "</text></g>\n"
 
 -- entries, the first of which has this number
-unfoldable pub keys_text : Frame → ℕ → List Key → List ℕ
+unfoldable pub keys_text : PictureFrame → ℕ → List Key → List ℕ
 keys_text f entry [] = []
 keys_text f entry (k ∷ ks) = key_text f entry k.drawn k.meaning ++ keys_text f (entry + 1) ks
 
 -- the legend
-abbrev pub legend_text : Frame → Signs → List ℕ
+abbrev pub legend_text : PictureFrame → Signs → List ℕ
 legend_text f s = keys_text f 0 (keys_of s)
 
 -- All that is before the shapes: the size, the title, the style, the ground and the legend. Its words and drawings are those
 -- that are written here and in the constants `STYLE` and `LEGEND`, and nothing else is among it.
-unfoldable pub head_text : Frame → ℕ → Summary → Signs → List ℕ
+unfoldable pub head_text : PictureFrame → ℕ → Summary → Signs → List ℕ
 head_text f height summary s =
     size_text (width_of f) height ++ summary_text summary ++ STYLE.now ++ ground_text (width_of f) height summary
     ++ legend_text f s

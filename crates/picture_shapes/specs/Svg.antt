@@ -1,8 +1,8 @@
 -- The text of each shape.
 use Rattle.std.specs.Prelude.{ℕ, ◌-◌, Bool, true, false, if◌then◌else◌, List, [], ◌∷◌, ◌++◌, codes}
 use Rattle.std.specs.List.{flat_map}
-use Rattle.picture_rows.specs.declared.stretches.Band.{Band}
-use Rattle.picture_rows.specs.declared.stretches.Band.TheVariants.{Doubt, Operator as ByOperator}
+use Rattle.picture_layout.specs.declared.stretches.Band.{Band}
+use Rattle.picture_layout.specs.declared.stretches.Band.TheVariants.{Doubt, Operator as ByOperator}
 use Rattle.picture_shapes.specs.declared.shapes.Tone.{Tone}
 use Rattle.picture_shapes.specs.declared.shapes.Tone.TheVariants.{Ink, Dim, Vote, Yes, No, Ask, Operator}
 use Rattle.picture_shapes.specs.declared.shapes.Look.{Look}
@@ -13,7 +13,7 @@ use Rattle.picture_shapes.specs.declared.shapes.Label.{Label}
 use Rattle.picture_shapes.specs.declared.shapes.Path.{Path}
 use Rattle.picture_shapes.specs.declared.shapes.Stroke.{Stroke}
 use Rattle.picture_shapes.specs.declared.shapes.EventRule.{EventRule}
-use Rattle.picture_shapes.specs.declared.shapes.Life.{Life}
+use Rattle.picture_shapes.specs.declared.shapes.PictureLife.{PictureLife}
 use Rattle.picture_shapes.specs.declared.shapes.Joint.{Joint}
 use Rattle.picture_shapes.specs.declared.shapes.Plate.{Plate}
 use Rattle.picture_shapes.specs.declared.shapes.Patch.{Patch}
@@ -79,7 +79,7 @@ rule_text r =
     ++ escaped r.line.items ++ codes "</text>"
 
 -- a part of a process's line
-unfoldable pub life_text : Life → List ℕ
+unfoldable pub life_text : PictureLife → List ℕ
 life_text l =
     pair_text (codes "<path class=\"l life\" d=\"M") l.x l.y ++ word_text (codes "V") l.end ++ codes "\"/>"
 

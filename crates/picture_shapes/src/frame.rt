@@ -25,7 +25,7 @@ pub const WIDE: usize = 60;
 
 /// For N characters each column has room.
 #[derive(Clone, Copy)]
-pub struct Room {
+pub struct PictureRoom {
     /// The lines of events, at the left.
     pub events: usize,
     /// What is asked of the root and what it tells.
@@ -34,10 +34,10 @@ pub struct Room {
     pub messages: usize,
 }
 
-impl Room {
+impl PictureRoom {
     /// The least room.
-    pub fn narrow() -> Room {
-        Room {
+    pub fn narrow() -> PictureRoom {
+        PictureRoom {
             events: NARROW,
             calls: NARROW - 2,
             messages: NARROW,
@@ -59,9 +59,9 @@ pub struct Grid {
 /// How many processes a picture has, for how many characters there is room, how many entries its legend has, and where
 /// its lines and rows are.
 #[derive(Clone, Copy)]
-pub struct Frame {
+pub struct PictureFrame {
     pub processes: u32,
-    pub room: Room,
+    pub room: PictureRoom,
     pub keys: u64,
     pub grid: Grid,
 }
@@ -72,7 +72,7 @@ pub fn width_of(characters: usize) -> u64 {
 }
 
 /// Where the application's line is, with this room.
-fn application_in(room: Room) -> u64 {
+fn application_in(room: PictureRoom) -> u64 {
     width_of(room.events).saturating_add(70)
 }
 
@@ -86,9 +86,9 @@ fn pixels(number: u64) -> u32
     }
 }
 
-impl Frame {
+impl PictureFrame {
     /// A picture of N processes on so many levels, with this room, and so many entries in its legend.
-    pub fn new(processes: u32, levels: u32, room: Room, keys: u64) -> Frame
+    pub fn new(processes: u32, levels: u32, room: PictureRoom, keys: u64) -> PictureFrame
         ensures apart { 0 < result.grid.gap }
         ensures processes { result.processes ≡ processes }
         ensures keys { result.keys ≡ keys }
@@ -97,7 +97,7 @@ impl Frame {
         let root = application
             .saturating_add(width_of(room.calls))
             .saturating_add(32);
-        let mut frame = Frame {
+        let mut frame = PictureFrame {
             processes,
             room,
             keys,

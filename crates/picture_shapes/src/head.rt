@@ -16,7 +16,7 @@ ghost use Rattle.picture_shapes.specs.Head.{
 };
 
 use crate::fixed::{Key, LEGEND, STYLE};
-use crate::frame::Frame;
+use crate::frame::PictureFrame;
 use crate::signs::Signs;
 use crate::words::{push_pair, push_word};
 use std::alloc::AllocError;
@@ -97,7 +97,7 @@ fn push_ground(
 #[tactic(auto, unfolding(crate::specs::Head::key_text))]
 fn push_key(
     out: &mut Vec<u8>,
-    frame: Frame,
+    frame: PictureFrame,
     entry: u32,
     drawn: &str,
     meaning: &str,
@@ -136,7 +136,7 @@ pub fn keys_of(signs: &Signs) -> u64
 /// Those of these entries that explain these signs.
 fn push_keys(
     out: &mut Vec<u8>,
-    frame: Frame,
+    frame: PictureFrame,
     signs: &Signs,
     keys: &[Key; 20],
 ) -> Result<(), AllocError>
@@ -154,7 +154,7 @@ fn push_keys(
 }
 
 /// The legend: of each sign that the picture has, what it means.
-fn push_legend(out: &mut Vec<u8>, frame: Frame, signs: &Signs) -> Result<(), AllocError>
+fn push_legend(out: &mut Vec<u8>, frame: PictureFrame, signs: &Signs) -> Result<(), AllocError>
     ensures { OnOk result (out.new.items ≡ out.old.items ++ legend_text frame signs.now) }
 {
     push_keys(out, frame, signs, &LEGEND)
@@ -164,7 +164,7 @@ fn push_legend(out: &mut Vec<u8>, frame: Frame, signs: &Signs) -> Result<(), All
 #[tactic(auto, unfolding(crate::specs::Head::head_text))]
 pub fn push_head(
     out: &mut Vec<u8>,
-    frame: Frame,
+    frame: PictureFrame,
     height: u64,
     summary: &Summary,
     signs: &Signs,

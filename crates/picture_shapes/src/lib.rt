@@ -13,11 +13,11 @@ mod strokes;
 mod svg;
 mod words;
 
-pub use frame::{Frame, Grid, ROW, Room, WIDE, width_of};
+pub use frame::{Grid, PictureFrame, PictureRoom, ROW, WIDE, width_of};
 pub use head::{Summary, keys_of, push_head};
 pub use shapes::{
-    Bar, Dot, EventRule, Joint, Label, Life, Look, Note, Patch, Path, Plate, Ring, Shape, Spot,
-    Square, Stroke, Tip, Tone, Torn,
+    Bar, Dot, EventRule, Joint, Label, Look, Note, Patch, Path, PictureLife, Plate, Ring, Shape,
+    Spot, Square, Stroke, Tip, Tone, Torn,
 };
 pub use signs::Signs;
 pub use strokes::push_strokes;

@@ -1,6 +1,6 @@
 //! What a picture is made of: shapes at pixels, x from the left and y from the top.
 
-use picture_rows::Band;
+use picture_layout::Band;
 
 /// What a shape is about, which gives it its colour.
 #[derive(Clone, Copy, PartialEq, Eq)]
@@ -90,7 +90,7 @@ pub struct EventRule {
 
 /// A part of a process's line.
 #[derive(Clone, Copy)]
-pub struct Life {
+pub struct PictureLife {
     pub x: u64,
     pub y: u64,
     pub end: u64,
@@ -193,7 +193,7 @@ pub struct Spot {
 #[derive(Drop)]
 pub enum Shape {
     Rule(EventRule),
-    Life(Life),
+    Life(PictureLife),
     Joint(Joint),
     Plate(Plate),
     Patch(Patch),

@@ -5,11 +5,11 @@ ghost use Rattle.picture_shapes.specs.Svg.{anchor_text, band_begin, band_words a
 
 use crate::parts::{push_circle, push_place, push_size, push_title, push_tone, push_words};
 use crate::shapes::{
-    Bar, Dot, EventRule, Joint, Label, Life, Look, Note, Patch, Plate, Ring, Shape, Spot, Square,
-    Torn,
+    Bar, Dot, EventRule, Joint, Label, Look, Note, Patch, PictureLife, Plate, Ring, Shape, Spot,
+    Square, Torn,
 };
 use crate::words::{push_pair, push_word};
-use picture_rows::Band;
+use picture_layout::Band;
 use std::alloc::AllocError;
 use trace_lines::push;
 
@@ -43,7 +43,7 @@ fn push_rule(out: &mut Vec<u8>, rule: &EventRule) -> Result<(), AllocError>
 }
 
 #[tactic(auto, unfolding(crate::specs::Svg::life_text))]
-fn push_life(out: &mut Vec<u8>, life: &Life) -> Result<(), AllocError>
+fn push_life(out: &mut Vec<u8>, life: &PictureLife) -> Result<(), AllocError>
     ensures { OnOk result (out.new.items ≡ out.old.items ++ life_text life.now) }
 {
     push_pair(out, "<path class=\"l life\" d=\"M", life.x, life.y)?;

@@ -1,15 +1,15 @@
 -- The words of messages and records.
 use Rattle.std.specs.Prelude.{ℕ, ◌-◌, nat_lt, if◌then◌else◌, Option, None, Some, List, [], ◌++◌, codes, length, take}
 use Rattle.std.specs.Fmt.{decimal}
-use Rattle.tree_model.specs.declared.names.Txn.{Txn}
-use Rattle.tree_model.specs.declared.messages.Envelope.{Envelope}
-use Rattle.tree_model.specs.declared.messages.Message.{Message}
-use Rattle.tree_model.specs.declared.messages.Message.TheVariants.{Join, Joined, Work, Prepare, Yes, No, Read, Commit, Abort, Ack, Inquire}
-use Rattle.tree_model.specs.declared.records.Logged.{Logged}
-use Rattle.tree_model.specs.declared.records.Subject.{Subject}
-use Rattle.tree_model.specs.declared.records.Subject.TheVariants.{Boot, Case as OfCase, Other}
-use Rattle.tree_model.specs.Plays.{sent_as}
-use Rattle.tree_model.specs.Texts.{case_text, envelope_text, findings_text, kind_word, op_text, outcome_word}
+use Rattle.protocol.specs.declared.names.Txn.{Txn}
+use Rattle.protocol.specs.declared.messages.Envelope.{Envelope}
+use Rattle.protocol.specs.declared.messages.Message.{Message}
+use Rattle.protocol.specs.declared.messages.Message.TheVariants.{Join, Joined, Work, Prepare, Yes, No, Read, Commit, Abort, Ack, Inquire}
+use Rattle.protocol.specs.declared.records.ShownRecord.{ShownRecord}
+use Rattle.protocol.specs.declared.records.Subject.{Subject}
+use Rattle.protocol.specs.declared.records.Subject.TheVariants.{Boot, Case as OfCase, Other}
+use Rattle.protocol.specs.Plays.{sent_as}
+use Rattle.protocol.specs.Texts.{case_text, envelope_text, findings_text, kind_word, op_text, outcome_word}
 
 -- a transaction's name, which is that of the root's case
 abbrev pub txn_name : Txn → List ℕ
@@ -22,7 +22,7 @@ subject_name (OfCase c) = codes " " ++ txn_name c.txn
 subject_name Other = []
 
 -- the name of a record
-unfoldable pub record_name : Logged → List ℕ
+unfoldable pub record_name : ShownRecord → List ℕ
 record_name l = kind_word l.kind ++ subject_name l.subject
 
 -- all of a message with this number, if there is one

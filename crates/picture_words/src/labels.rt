@@ -2,20 +2,20 @@
 
 ghost use Rattle.std.specs.Prelude.{◌≡◌, ◌-◌, ◌++◌, IfOk, OnOk, codes, decimal};
 ghost use Rattle.std.specs.Option.{option_copied};
-ghost use Rattle.tree_model.specs.Plays.{sent_as};
-ghost use Rattle.tree_model.specs.Texts.{case_text as text_of_case, conclusion_word as word_of_conclusion, envelope_text, message_text, op_text, told_text};
-ghost use Rattle.link_script.specs.Spellings.{act_text, decision_word as word_of_decision, event_text};
+ghost use Rattle.protocol.specs.Plays.{sent_as};
+ghost use Rattle.protocol.specs.Texts.{case_text as text_of_case, word_of_conclusion, envelope_text, message_text, op_text, told_text};
+ghost use Rattle.tree_script.specs.Spellings.{act_text, decision_word as word_of_decision, event_text};
 ghost use Rattle.picture_words.specs.Labels.{in_room, message_name, number_text, record_name as name_of_record, subject_name, title_in, txn_name};
 
 use picture_shapes::{Tone, push_word};
+use protocol::{
+    Act, Case, Conclusion, Envelope, Event, Message, Op, Outcome, Presumption, RecordKind,
+    ShownRecord, StepError, Subject, Told, Txn,
+};
 use std::alloc::{AllocError, Global};
 use trace_lines::{
     kind_word, outcome_word, push, push_case, push_case_word, push_findings, push_number,
     push_number_word, push_ticket,
-};
-use tree_model::{
-    Act, Case, Conclusion, Envelope, Event, Logged, Message, Op, Outcome, Presumption, RecordKind,
-    StepError, Subject, Told, Txn,
 };
 
 /// Words with so much room: where they are longer, two dots stand for the rest.
@@ -244,7 +244,7 @@ fn push_subject(out: &mut Vec<u8>, subject: &Subject) -> Result<(), AllocError>
 
 /// A record's kind, and what it is of.
 #[tactic(auto, unfolding(crate::specs::Labels::record_name))]
-fn push_record_name(out: &mut Vec<u8>, logged: &Logged) -> Result<(), AllocError>
+fn push_record_name(out: &mut Vec<u8>, logged: &ShownRecord) -> Result<(), AllocError>
     ensures { OnOk result (out.new.items ≡ out.old.items ++ name_of_record logged.now) }
 {
     push(out, kind_word(logged.kind))?;
@@ -252,7 +252,7 @@ fn push_record_name(out: &mut Vec<u8>, logged: &Logged) -> Result<(), AllocError
 }
 
 /// The name of a record.
-pub fn record_name(alloc: Global, logged: &Logged) -> Result<Vec<u8>, AllocError>
+pub fn record_name(alloc: Global, logged: &ShownRecord) -> Result<Vec<u8>, AllocError>
     ensures { IfOk result (λ name. name.items ≡ name_of_record logged.now) }
 {
     let mut out = Vec::new(alloc);
@@ -261,7 +261,7 @@ pub fn record_name(alloc: Global, logged: &Logged) -> Result<Vec<u8>, AllocError
 }
 
 /// The names of records, with a comma between two.
-pub fn record_names(alloc: Global, records: &[Logged]) -> Result<Vec<u8>, AllocError> {
+pub fn record_names(alloc: Global, records: &[ShownRecord]) -> Result<Vec<u8>, AllocError> {
     let mut out = Vec::new(alloc);
     for logged in records {
         if !out.is_empty() {

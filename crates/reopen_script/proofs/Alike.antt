@@ -1,16 +1,16 @@
 -- Without logs ahead of its events a script is the same script.
 use Rattle.std.proofs.Common.{◌≡◌, ◌∙◌, ◌+◌, ◌<◌, ◌≤◌, ◌⊎◌, inl, inr, ap, sym, subst, refl, ℕ, Bool, true, false, if◌then◌else◌, List, [], ◌∷◌, length, Option, None, Some, Result, Ok, Err, arith}
 use Rattle.std.specs.Str.Lines.{lines_of_parts}
-use Rattle.tree_model.specs.declared.events.Event.{Event}
-use Rattle.tree_model.specs.declared.trees.TreeEntry.{TreeEntry}
-use Rattle.tree_model.specs.Trees.{root_of}
+use Rattle.protocol.specs.declared.events.Event.{Event}
+use Rattle.protocol.specs.declared.trees.TreeProcess.{TreeProcess}
+use Rattle.protocol.specs.Trees.{root_of}
 use Rattle.script_words.specs.Lines.{asked_in}
-use Rattle.link_script.specs.declared.script.ScriptFault.{ScriptFault}
-use Rattle.link_script.specs.declared.script.ScriptFault.TheVariants.{Utf8, TreeText, Tree, TooLong, Line}
-use Rattle.link_script.specs.Events.{event_at}
-use Rattle.link_script.specs.Inputs.{IsFront, IsScript, IsScriptFault, asked_by, script_events}
-use Rattle.link_script.specs.Script.{events_at}
-use Rattle.logs_script.specs.declared.line.ProcessLog.{ProcessLog}
+use Rattle.tree_script.specs.declared.script.ScriptFault.{ScriptFault}
+use Rattle.tree_script.specs.declared.script.ScriptFault.TheVariants.{Utf8, TreeText, Tree, TooLong, Line}
+use Rattle.tree_script.specs.Events.{event_at}
+use Rattle.tree_script.specs.Inputs.{IsTreeFront, IsScript, IsScriptFault, asked_by, script_events}
+use Rattle.tree_script.specs.Script.{events_at}
+use Rattle.log_script.specs.declared.line.ProcessLog.{ProcessLog}
 use Rattle.reopen_script.specs.Ahead.{ahead_in, are_of_all, behind_in, leading, logs_ahead, logs_in, logs_said, set_line, taken}
 use Rattle.reopen_script.specs.Inputs.{IsReopenFault, IsReopenScript, lines_behind}
 use Rattle.reopen_script.specs.Laws.{BeginsWithNone, FaultsAreThese, ScriptsAreThese}
@@ -19,7 +19,7 @@ use Rattle.reopen_script.proofs.Skipped.{AllSkipped, ahead_size, all_skipped, as
 
 -- Lines, of which those ahead of the events are skipped.
 
-module _ (tree : List TreeEntry) (rule : ℕ) (lines : List (List ℕ)) (h : AllSkipped (ahead_in lines)) where
+module _ (tree : List TreeProcess) (rule : ℕ) (lines : List (List ℕ)) (h : AllSkipped (ahead_in lines)) where
   asked_alike : asked_in lines ≡ asked_in (behind_in lines)
   asked_alike =
       ap asked_in (sym (both_parts lines)) ∙ asked_behind (ahead_in lines) (behind_in lines) h
@@ -44,12 +44,12 @@ some_taken ls n true h = absurd cc
 some_taken ls n false h = absurd cc
 
 -- no logs were said
-none_taken : (es : List TreeEntry) (n : ℕ) (r : Result (List ProcessLog) ℕ) → taken es n r ≡ Ok None → r ≡ Ok []
+none_taken : (es : List TreeProcess) (n : ℕ) (r : Result (List ProcessLog) ℕ) → taken es n r ≡ Ok None → r ≡ Ok []
 none_taken es n (Err k) h = absurd cc
 none_taken es n (Ok []) h = refl
 none_taken es n (Ok (l ∷ ls)) h = absurd (some_taken (l ∷ ls) n (are_of_all es (l ∷ ls)) h)
 
-skipped_by_none : (tree : List TreeEntry) (rule : ℕ) (lines : List (List ℕ)) → logs_ahead tree rule lines ≡ Ok None
+skipped_by_none : (tree : List TreeProcess) (rule : ℕ) (lines : List (List ℕ)) → logs_ahead tree rule lines ≡ Ok None
     → AllSkipped (ahead_in lines)
 unfolding logs_said
 skipped_by_none tree rule lines h =
@@ -58,8 +58,8 @@ skipped_by_none tree rule lines h =
 
 -- Scripts.
 
-front_of : (bytes : List ℕ) (tree : List TreeEntry) (events : List Event) → IsScript bytes tree events
-    → (rule : ℕ) × (lines : List (List ℕ)) × IsFront bytes tree rule lines × (asked_in lines ≤ 100000)
+front_of : (bytes : List ℕ) (tree : List TreeProcess) (events : List Event) → IsScript bytes tree events
+    → (rule : ℕ) × (lines : List (List ℕ)) × IsTreeFront bytes tree rule lines × (asked_in lines ≤ 100000)
     × (events_at (event_at (root_of tree)) (rule + 1) lines ≡ Ok events)
 front_of bytes tree events (fronts, behind, text, is, few, asks) = (
   length fronts + 1,
@@ -69,7 +69,7 @@ front_of bytes tree events (fronts, behind, text, is, few, asks) = (
   asks,
 )
 
-script_here : (bytes : List ℕ) (tree : List TreeEntry) (events : List Event) → IsScript bytes tree events
+script_here : (bytes : List ℕ) (tree : List TreeProcess) (events : List Event) → IsScript bytes tree events
     → IsReopenScript bytes tree None events
 script_here bytes tree events script =
     let (rule, lines, front, few, asks) = front_of bytes tree events script in
@@ -83,14 +83,14 @@ script_here bytes tree events script =
     }
 
 -- what the lines of an input ask for, in the words of its text
-events_of : (bytes : List ℕ) (tree : List TreeEntry) (rule : ℕ) (lines : List (List ℕ))
-    (front : IsFront bytes tree rule lines)
+events_of : (bytes : List ℕ) (tree : List TreeProcess) (rule : ℕ) (lines : List (List ℕ))
+    (front : IsTreeFront bytes tree rule lines)
     → script_events front.fronts front.behind tree ≡ events_at (event_at (root_of tree)) (rule + 1) lines
 events_of bytes tree rule lines front =
     ap (λ (k : ℕ). events_at (event_at (root_of tree)) (k + 1) (lines_of_parts front.behind)) (sym front.rule_is)
     ∙ ap (events_at (event_at (root_of tree)) (rule + 1)) (sym front.lines_are)
 
-pub script_there : (bytes : List ℕ) (tree : List TreeEntry) (events : List Event)
+pub script_there : (bytes : List ℕ) (tree : List TreeProcess) (events : List Event)
     → IsReopenScript bytes tree None events → IsScript bytes tree events
 script_there bytes tree events s =
     let front = s.has.front in
@@ -110,7 +110,7 @@ scripts_alike = record { here = script_here; there = script_there }
 -- Faults.
 
 module _ (bytes : List ℕ) (none : BeginsWithNone bytes) where
-  module _ (tree : List TreeEntry) (rule : ℕ) (lines : List (List ℕ)) (front : IsFront bytes tree rule lines) where
+  module _ (tree : List TreeProcess) (rule : ℕ) (lines : List (List ℕ)) (front : IsTreeFront bytes tree rule lines) where
     skipped : AllSkipped (ahead_in lines)
     skipped = skipped_without_logs lines (none tree rule lines front)
 
@@ -121,7 +121,7 @@ module _ (bytes : List ℕ) (none : BeginsWithNone bytes) where
   fault_here TooLong (fronts, behind, tree, text, is, many) =
       let rule = length fronts + 1 in
       let lines = lines_of_parts behind in
-      let front : IsFront bytes tree rule lines = record {
+      let front : IsTreeFront bytes tree rule lines = record {
         fronts = fronts;
         behind = behind;
         has_text = text;
@@ -138,7 +138,7 @@ module _ (bytes : List ℕ) (none : BeginsWithNone bytes) where
   fault_here (Line n) (fronts, behind, tree, text, is, few, wrong) =
       let rule = length fronts + 1 in
       let lines = lines_of_parts behind in
-      let front : IsFront bytes tree rule lines = record {
+      let front : IsTreeFront bytes tree rule lines = record {
         fronts = fronts;
         behind = behind;
         has_text = text;
@@ -191,7 +191,7 @@ module _ (bytes : List ℕ) (none : BeginsWithNone bytes) where
       asks none (inr (logs, is, wrong)) = wrong
 
 -- there are no logs where no line ahead of the events begins with the word `log`
-pub none_begin : (bytes : List ℕ) (tree : List TreeEntry) (logs : List ProcessLog) (events : List Event)
+pub none_begin : (bytes : List ℕ) (tree : List TreeProcess) (logs : List ProcessLog) (events : List Event)
     → BeginsWithNone bytes → IsReopenScript bytes tree (Some logs) events → ⊥
 none_begin bytes tree logs events none s =
     let skip = skipped_without_logs s.lines (none tree s.rule s.lines s.has.front) in

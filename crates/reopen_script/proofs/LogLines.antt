@@ -1,13 +1,13 @@
 -- The lines ahead of the events, one after another.
 use Rattle.std.proofs.Common.{◌≡◌, ◌∙◌, ◌+◌, ◌<◌, ◌≤◌, ℕ, true, false, if◌then◌else◌, get_or, drop, length, List, [], ◌∷◌, ◌++◌, Option, Some, None, Result, Ok, Err, refl, ap, sym, arith}
 use Rattle.std.proofs.lemmas.List.{drop_all, at_drop_more}
-use Rattle.tree_model.specs.declared.trees.TreeEntry.{TreeEntry}
+use Rattle.protocol.specs.declared.trees.TreeProcess.{TreeProcess}
 use Rattle.script_words.specs.Lines.{is_skipped}
-use Rattle.logs_script.specs.declared.line.ProcessLog.{ProcessLog}
-use Rattle.logs_script.specs.Lines.{log_at}
-use Rattle.link_script.specs.declared.script.ScriptError.{ScriptError}
-use Rattle.link_script.specs.declared.script.ScriptError.TheVariants.{Memory, Fault}
-use Rattle.link_script.specs.declared.script.ScriptFault.TheVariants.{Utf8, TreeText, Tree, TooLong, Line}
+use Rattle.log_script.specs.declared.line.ProcessLog.{ProcessLog}
+use Rattle.log_script.specs.Lines.{log_at}
+use Rattle.tree_script.specs.declared.script.ScriptError.{ScriptError}
+use Rattle.tree_script.specs.declared.script.ScriptError.TheVariants.{Memory, Fault}
+use Rattle.tree_script.specs.declared.script.ScriptFault.TheVariants.{Utf8, TreeText, Tree, TooLong, Line}
 use Rattle.reopen_script.specs.Ahead.{IsNumbered, are_of_all, last_said, line_then, logs_in, logs_said, set_line}
 
 -- One more line of logs.
@@ -84,25 +84,25 @@ said_all lines last n i total le so_far =
 
 -- What is read of all lines.
 
-pub wrong_line : (es : List TreeEntry) (before n : ℕ) (ahead behind : List (List ℕ))
+pub wrong_line : (es : List TreeProcess) (before n : ℕ) (ahead behind : List (List ℕ))
     → logs_in [] (before + 1) ahead ≡ Err n → logs_said es before ahead behind ≡ Err n
 unfolding logs_said
 wrong_line es before n ahead behind e = rw e refl
 
-pub none_said : (es : List TreeEntry) (before : ℕ) (ls : List ProcessLog) (ahead behind : List (List ℕ))
+pub none_said : (es : List TreeProcess) (before : ℕ) (ls : List ProcessLog) (ahead behind : List (List ℕ))
     → logs_in [] (before + 1) ahead ≡ Ok ls → length ls ≡ 0 → logs_said es before ahead behind ≡ Ok None
 unfolding logs_said
 none_said es before [] ahead behind e none = rw e refl
 none_said es before (l ∷ ls) ahead behind e none = absurd (omega (arith, none))
 
-pub all_said : (es : List TreeEntry) (before : ℕ) (ls : List ProcessLog) (ahead behind : List (List ℕ))
+pub all_said : (es : List TreeProcess) (before : ℕ) (ls : List ProcessLog) (ahead behind : List (List ℕ))
     → logs_in [] (before + 1) ahead ≡ Ok ls → (length ls ≡ 0 → ⊥) → are_of_all es ls ≡ true
     → logs_said es before ahead behind ≡ Ok (Some ls)
 unfolding logs_said
 all_said es before [] ahead behind e some all = absurd (some refl)
 all_said es before (l ∷ ls) ahead behind e some all = rw (e, all) refl
 
-pub others_said : (es : List TreeEntry) (before n : ℕ) (ls : List ProcessLog) (ahead behind : List (List ℕ))
+pub others_said : (es : List TreeProcess) (before n : ℕ) (ls : List ProcessLog) (ahead behind : List (List ℕ))
     → logs_in [] (before + 1) ahead ≡ Ok ls → (length ls ≡ 0 → ⊥) → are_of_all es ls ≡ false
     → n ≡ set_line before ahead behind
     → logs_said es before ahead behind ≡ Err n
@@ -110,7 +110,7 @@ unfolding logs_said
 others_said es before n [] ahead behind e some all at = absurd (some refl)
 others_said es before n (l ∷ ls) ahead behind e some all at = rw (e, all, at) refl
 
-pub wrong_numbered : (es : List TreeEntry) (before : ℕ) (error : ScriptError) (ahead behind : List (List ℕ))
+pub wrong_numbered : (es : List TreeProcess) (before : ℕ) (error : ScriptError) (ahead behind : List (List ℕ))
     → IsNumbered error (logs_in [] (before + 1) ahead) → IsNumbered error (logs_said es before ahead behind)
 wrong_numbered es before Memory ahead behind h = h
 wrong_numbered es before (Fault (Line n)) ahead behind h = wrong_line es before n ahead behind h

@@ -1,19 +1,19 @@
 -- A script that was opened, and what its lines ask for.
 use Rattle.std.proofs.Common.{◌≡◌, ◌∙◌, inl, ap, sym, refl, ℕ, length, List, Option, Ok, arith}
 use Rattle.std.proofs.lemmas.List.{take_all}
-use Rattle.tree_model.specs.declared.events.Event.{Event}
-use Rattle.tree_model.specs.declared.trees.TreeEntry.{TreeEntry}
-use Rattle.tree_model.specs.Trees.{IsTree}
-use Rattle.link_script.specs.Inputs.{AsksFirst, LinesState, asked_by}
-use Rattle.logs_script.specs.declared.line.ProcessLog.{ProcessLog}
-use Rattle.link_script.specs.declared.script.ScriptError.{ScriptError}
-use Rattle.link_script.specs.declared.script.ScriptError.TheVariants.{Memory, Fault}
-use Rattle.link_script.specs.declared.script.ScriptFault.TheVariants.{Utf8, TreeText, Tree, TooLong, Line}
+use Rattle.protocol.specs.declared.events.Event.{Event}
+use Rattle.protocol.specs.declared.trees.TreeProcess.{TreeProcess}
+use Rattle.protocol.specs.Trees.{IsTree}
+use Rattle.tree_script.specs.Inputs.{AsksFirst, LinesState, asked_by}
+use Rattle.log_script.specs.declared.line.ProcessLog.{ProcessLog}
+use Rattle.tree_script.specs.declared.script.ScriptError.{ScriptError}
+use Rattle.tree_script.specs.declared.script.ScriptError.TheVariants.{Memory, Fault}
+use Rattle.tree_script.specs.declared.script.ScriptFault.TheVariants.{Utf8, TreeText, Tree, TooLong, Line}
 use Rattle.reopen_script.specs.Ahead.{IsNumbered, logs_ahead}
 use Rattle.reopen_script.specs.Inputs.{HasLines, IsOpenReopen, IsReopenError, IsReopenScript, lines_behind}
 
 -- one of the lines ahead of the events is wrong
-pub wrong_ahead : (bytes : List ℕ) (tree : List TreeEntry) (rule : ℕ) (lines : List (List ℕ)) (error : ScriptError)
+pub wrong_ahead : (bytes : List ℕ) (tree : List TreeProcess) (rule : ℕ) (lines : List (List ℕ)) (error : ScriptError)
     → HasLines bytes tree rule lines → IsNumbered error (logs_ahead tree rule lines) → IsReopenError bytes error
 wrong_ahead bytes tree rule lines Memory has h = tt
 wrong_ahead bytes tree rule lines (Fault (Line n)) has h =
@@ -24,7 +24,7 @@ wrong_ahead bytes tree rule lines (Fault (Tree cause)) has h = absurd h
 wrong_ahead bytes tree rule lines (Fault TooLong) has h = absurd h
 
 -- the lines of an opened script were read
-pub script_of : (bytes : List ℕ) (tree : List TreeEntry) (logs : Option (List ProcessLog)) (s : LinesState)
+pub script_of : (bytes : List ℕ) (tree : List TreeProcess) (logs : Option (List ProcessLog)) (s : LinesState)
     (es : List Event) → IsOpenReopen bytes tree logs s → asked_by s ≡ Ok es → IsReopenScript bytes tree logs es
 script_of bytes tree logs s es o read = record {
   rule = o.rule;
@@ -35,22 +35,22 @@ script_of bytes tree logs s es o read = record {
 }
 
 -- the tree of a script passed its check
-pub opened_tree : (bytes : List ℕ) (tree : List TreeEntry) (logs : Option (List ProcessLog)) (s : LinesState)
+pub opened_tree : (bytes : List ℕ) (tree : List TreeProcess) (logs : Option (List ProcessLog)) (s : LinesState)
     → IsOpenReopen bytes tree logs s → IsTree tree
 opened_tree bytes tree logs s o = o.has.front.is_tree
 
-pub script_tree : (bytes : List ℕ) (tree : List TreeEntry) (logs : Option (List ProcessLog)) (es : List Event)
+pub script_tree : (bytes : List ℕ) (tree : List TreeProcess) (logs : Option (List ProcessLog)) (es : List Event)
     → IsReopenScript bytes tree logs es → IsTree tree
 script_tree bytes tree logs es s = s.has.front.is_tree
 
 -- a script as far as its lines, all of which ask for its events
-pub record AsksAll (bytes : List ℕ) (tree : List TreeEntry) (logs : Option (List ProcessLog))
+pub record AsksAll (bytes : List ℕ) (tree : List TreeProcess) (logs : Option (List ProcessLog))
     (es : List Event) : Type 0 where
   pub lines : LinesState
   pub opened : IsOpenReopen bytes tree logs lines
   pub asks : AsksFirst lines (length lines.lines) es
 
-pub asks_all : (bytes : List ℕ) (tree : List TreeEntry) (logs : Option (List ProcessLog)) (es : List Event)
+pub asks_all : (bytes : List ℕ) (tree : List TreeProcess) (logs : Option (List ProcessLog)) (es : List Event)
     → IsReopenScript bytes tree logs es → AsksAll bytes tree logs es
 asks_all bytes tree logs es s =
     let lines = lines_behind tree s.rule s.lines in

@@ -4,14 +4,14 @@ use Rattle.std.specs.List.{list_all, list_any}
 use Rattle.std.proofs.lemmas.List.{take-append-drop}
 use Rattle.std.proofs.lemmas.List.Folds.{length-prefix_len}
 use Rattle.std.proofs.lemmas.List.Sums.{sum_by-append}
-use Rattle.tree_model.specs.declared.names.ProcessId.{ProcessId}
-use Rattle.tree_model.specs.declared.events.Event.{Event}
+use Rattle.protocol.specs.declared.names.ProcessId.{ProcessId}
+use Rattle.protocol.specs.declared.events.Event.{Event}
 use Rattle.script_words.specs.Lines.{asked_in, is_skipped}
-use Rattle.link_script.specs.Events.{event_at}
-use Rattle.link_script.specs.Script.{events_at, line_then as event_then}
-use Rattle.link_script.proofs.Asked.{at_line as asks_line, at_skipped as asks_none}
-use Rattle.logs_script.specs.declared.line.ProcessLog.{ProcessLog}
-use Rattle.logs_script.specs.Lines.{log_at}
+use Rattle.tree_script.specs.Events.{event_at}
+use Rattle.tree_script.specs.Script.{events_at, line_then as event_then}
+use Rattle.tree_script.proofs.Asked.{at_line as asks_line, at_skipped as asks_none}
+use Rattle.log_script.specs.declared.line.ProcessLog.{ProcessLog}
+use Rattle.log_script.specs.Lines.{log_at}
 use Rattle.reopen_script.specs.Ahead.{ahead_in, behind_in, is_ahead, is_log, leading, line_then, logs_in}
 use Rattle.reopen_script.proofs.LogLines.{at_end, at_line, at_skipped}
 use Rattle.reopen_script.proofs.Words.{no_event}

@@ -1,9 +1,9 @@
 -- A line whose first word is `log` is not an event.
 use Rattle.std.proofs.Common.{◌≡◌, ◌∙◌, ap, refl, ℕ, true, codes, Option, Some, None, List}
 use Rattle.spellings.specs.Words.{cut_at}
-use Rattle.tree_model.specs.declared.names.ProcessId.{ProcessId}
-use Rattle.link_script.specs.Events.{event_at, event_parts, plain_at}
-use Rattle.link_script.proofs.Misses.{same_tells}
+use Rattle.protocol.specs.declared.names.ProcessId.{ProcessId}
+use Rattle.tree_script.specs.Events.{event_at, event_parts, plain_at}
+use Rattle.tree_script.proofs.Misses.{same_tells}
 use Rattle.reopen_script.specs.Ahead.{is_log, log_word}
 
 plain_log : (root : ProcessId) (rest : List ℕ) → plain_at root (codes "log") rest ≡ None

@@ -3,15 +3,15 @@
 use Rattle.std.specs.Prelude.{◌≡◌, ℕ, ◌+◌, ◌&&◌, ◌||◌, ◌==◌, Bool, List, [], ◌∷◌, ◌++◌, codes, drop, length, take, Option, Some, None, Result, Ok, Err, if◌then◌else◌}
 use Rattle.std.specs.List.{prefix_len}
 use Rattle.spellings.specs.Words.{cut_at}
-use Rattle.tree_model.specs.declared.trees.TreeEntry.{TreeEntry}
-use Rattle.link_script.specs.declared.script.ScriptError.{ScriptError}
-use Rattle.link_script.specs.declared.script.ScriptError.TheVariants.{Memory, Fault}
-use Rattle.link_script.specs.declared.script.ScriptFault.TheVariants.{Line}
+use Rattle.protocol.specs.declared.trees.TreeProcess.{TreeProcess}
+use Rattle.tree_script.specs.declared.script.ScriptError.{ScriptError}
+use Rattle.tree_script.specs.declared.script.ScriptError.TheVariants.{Memory, Fault}
+use Rattle.tree_script.specs.declared.script.ScriptFault.TheVariants.{Line}
 use Rattle.script_words.specs.Lines.{is_skipped}
 use Rattle.script_words.specs.Steps.{same}
-use Rattle.logs_script.specs.declared.line.ProcessLog.{ProcessLog}
-use Rattle.logs_script.specs.Lines.{log_at}
-use Rattle.logs_script.specs.Logs.{each_has_log}
+use Rattle.log_script.specs.declared.line.ProcessLog.{ProcessLog}
+use Rattle.log_script.specs.Lines.{log_at}
+use Rattle.log_script.specs.Logs.{each_has_log}
 
 -- the word `log`, alone or with something after it
 abbrev pub log_word : List ℕ → Option (List ℕ × List ℕ) → Bool
@@ -53,7 +53,7 @@ logs_in ls n (line ∷ lines) =
     else line_then ls n (log_at line) (λ more. logs_in more (n + 1) lines)
 
 -- each process of the tree has one of these logs, and no other process has one
-abbrev pub are_of_all : List TreeEntry → List ProcessLog → Bool
+abbrev pub are_of_all : List TreeProcess → List ProcessLog → Bool
 are_of_all es ls = (length ls == length es) && each_has_log es ls
 
 -- the number of the last of these lines that is not skipped, where the line before the first has this number;
@@ -70,18 +70,18 @@ set_line before ahead (line ∷ lines) = before + length ahead + 1
 
 -- what is read of the logs ahead: none, if there is none; else they, if they are those of all processes, or
 -- the number of the line that says that they are not
-abbrev pub taken : List TreeEntry → ℕ → Result (List ProcessLog) ℕ → Result (Option (List ProcessLog)) ℕ
+abbrev pub taken : List TreeProcess → ℕ → Result (List ProcessLog) ℕ → Result (Option (List ProcessLog)) ℕ
 taken es n (Err k) = Err k
 taken es n (Ok []) = Ok None
 taken es n (Ok (l ∷ ls)) = if are_of_all es (l ∷ ls) then Ok (Some (l ∷ ls)) else Err n
 
 -- the logs that the lines ahead say, none where they say none, where the line before the first has this number; or
 -- the number of the line that is wrong
-unfoldable pub logs_said : List TreeEntry → ℕ → List (List ℕ) → List (List ℕ) → Result (Option (List ProcessLog)) ℕ
+unfoldable pub logs_said : List TreeProcess → ℕ → List (List ℕ) → List (List ℕ) → Result (Option (List ProcessLog)) ℕ
 logs_said es before ahead behind = taken es (set_line before ahead behind) (logs_in [] (before + 1) ahead)
 
 -- those of the lines that stand ahead of the events
-abbrev pub logs_ahead : List TreeEntry → ℕ → List (List ℕ) → Result (Option (List ProcessLog)) ℕ
+abbrev pub logs_ahead : List TreeProcess → ℕ → List (List ℕ) → Result (Option (List ProcessLog)) ℕ
 logs_ahead es before lines = logs_said es before (ahead_in lines) (behind_in lines)
 
 -- memory was refused, or this is the number of the line that is wrong

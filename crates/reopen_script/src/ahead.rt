@@ -3,12 +3,12 @@
 ghost use Rattle.std.specs.Prelude.{◌≡◌, ◌+◌, ◌<◌, ◌≤◌, ◌^◌, [], Ok, IfOk, IfErr, length, map};
 ghost use Rattle.reopen_script.specs.Ahead.{IsNumbered, are_of_all, is_ahead, is_log, last_said, leading, logs_in, logs_said, set_line};
 
-use link_script::{ScriptError, ScriptFault};
-use logs_script::{ProcessLogs, each_has_log, log_of};
+use log_script::{ProcessLogs, each_has_log, log_of};
+use protocol::{Sequence, Tree};
 use script_words::says_nothing;
 use spellings::word::cut;
 use std::alloc::Global;
-use tree_model::{Sequence, Tree};
+use tree_script::{ScriptError, ScriptFault};
 
 /// Whether the first word of a line is `log`.
 #[tactic(auto, unfolding(crate::specs::Ahead::is_log))]

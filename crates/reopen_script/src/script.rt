@@ -4,11 +4,11 @@ ghost use Rattle.std.specs.Prelude.{IfOk, IfErr};
 ghost use Rattle.reopen_script.specs.Inputs.{IsOpenReopen, IsReopenError, IsReopenScript};
 
 use crate::ahead::{leading, logs_said};
-use link_script::{Lines, MOST_EVENTS, ScriptError, ScriptFault, read_front};
-use logs_script::ProcessLogs;
+use log_script::ProcessLogs;
+use protocol::{Event, Tree};
 use script_words::count_asked;
 use std::alloc::Global;
-use tree_model::{Event, Tree};
+use tree_script::{Lines, MOST_EVENTS, ScriptError, ScriptFault, read_front};
 
 /// The tree of a script, the logs of its processes where its events begin with such lines, and the lines after
 /// them, which are read one after another. Empty lines and lines that begin with `#` are skipped. The faults are

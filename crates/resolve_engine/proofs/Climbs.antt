@@ -1,40 +1,41 @@
 -- What the steps upward say of how a case ends, an audit says.
 use Rattle.std.proofs.Common.{◌≡◌, ◌∙◌, ℕ, zero, suc, Bool, true, false, Option, Some, None, is_none, option_map, List, ◌∷◌, fold, refl, sym, ap, subst, inl, inr}
-use Rattle.tree_model.specs.declared.names.Case.{Case}
-use Rattle.tree_model.specs.declared.names.Outcome.{Outcome}
-use Rattle.tree_model.specs.declared.names.Outcome.TheVariants.{Aborted}
-use Rattle.tree_model.specs.declared.names.ProcessId.{ProcessId}
-use Rattle.tree_model.specs.declared.names.Ticket.{Ticket}
-use Rattle.tree_model.specs.declared.names.Txn.{Txn}
-use Rattle.tree_model.specs.declared.trees.TreeEntry.{TreeEntry}
-use Rattle.tree_model.specs.Names.{presumed, process_of, same_txn}
-use Rattle.tree_model.specs.NameLaws.{same_txn_tells}
-use Rattle.tree_model.specs.Nodes.{Role, AtRoot, Below, AtLeaf, is_listed, role_of}
-use Rattle.tree_model.specs.Records.{has}
-use Rattle.tree_model.specs.Trees.{IsTree, entry_parent, level_within, parent_of}
-use Rattle.tree_model.specs.World.{Made, World}
-use Rattle.tree_nodes.specs.WorldHolds.{IsChildRole, WorldHolds, is_naming, parent_in}
-use Rattle.tree_nodes.proofs.Levels.{parent_climbs, parent_is}
-use Rattle.tree_nodes.proofs.Tests.{both}
-use Rattle.tree_headline.specs.auditor.Audits.{Logs, asked_above, decided_or, has_place, is_case_at, logs_of_world, naming_case, outcome_within, own_decision, said_above, since_promise}
-use Rattle.tree_headline.proofs.runs.Headline.{the_world_holds}
+use Rattle.protocol.specs.declared.names.Case.{Case}
+use Rattle.protocol.specs.declared.names.Outcome.{Outcome}
+use Rattle.protocol.specs.declared.names.Outcome.TheVariants.{Aborted}
+use Rattle.protocol.specs.declared.names.ProcessId.{ProcessId}
+use Rattle.protocol.specs.declared.names.Ticket.{Ticket}
+use Rattle.protocol.specs.declared.names.Txn.{Txn}
+use Rattle.protocol.specs.declared.trees.TreeProcess.{TreeProcess}
+use Rattle.protocol.specs.Names.{presumed, process_of, same_txn}
+use Rattle.protocol.specs.NameLaws.{same_txn_tells}
+use Rattle.protocol.specs.Nodes.{Role, AtRoot, Below, AtLeaf, is_listed, role_of}
+use Rattle.protocol.specs.Records.{has}
+use Rattle.protocol.specs.Trees.{IsTree, entry_parent, level_within, parent_of}
+use Rattle.protocol.specs.World.{Made, World}
+use Rattle.proof_processes.specs.WorldHolds.{IsChildRole, WorldHolds}
+use Rattle.protocol.specs.Audits.{is_naming, parent_in}
+use Rattle.proof_processes.proofs.Levels.{parent_climbs, parent_is}
+use Rattle.proof_processes.proofs.Tests.{both}
+use Rattle.protocol.specs.Audits.{KeptLogs, asked_above, decided_or, has_place, is_case_at, logs_of_world, naming_case, outcome_within, own_decision, said_above, since_promise}
+use Rattle.proof_headline.proofs.runs.Headline.{the_world_holds}
 use Rattle.audit_cases.specs.Kinds.{kinds_of}
 use Rattle.audit_cases.specs.Notes.{note_of, notes_of}
-use Rattle.logs_script.specs.declared.line.ProcessLog.{ProcessLog}
-use Rattle.logs_script.specs.Logs.{has_log}
-use Rattle.tree_audit.specs.Reports.{kept_lists}
-use Rattle.tree_audit.proofs.Outcomes.{case_at, naming_own, owner_is, place_of_case}
-use Rattle.tree_audit.proofs.TreePlaces.{listed_entry, parent_listed}
-use Rattle.audit_engine.specs.declared.steps.Found.{Found}
-use Rattle.audit_engine.specs.declared.steps.Found.TheVariants.{Kept as Finds}
+use Rattle.log_script.specs.declared.line.ProcessLog.{ProcessLog}
+use Rattle.log_script.specs.Logs.{has_log}
+use Rattle.audit_tree.specs.Reports.{kept_lists}
+use Rattle.audit_tree.proofs.Outcomes.{case_at, naming_own, owner_is, place_of_case}
+use Rattle.audit_tree.proofs.TreePlaces.{listed_entry, parent_listed}
+use Rattle.audit_engine.specs.declared.steps.StepFound.{StepFound}
+use Rattle.audit_engine.specs.declared.steps.StepFound.TheVariants.{Kept as Finds}
 use Rattle.audit_engine.specs.declared.steps.Stands.{Stands}
 use Rattle.audit_engine.specs.Chains.{asks_on, found_in, steps_by, steps_on, steps_within}
 use Rattle.audit_engine.specs.Namings.{finds, found_by, stands_in}
 use Rattle.audit_engine.proofs.ChainLaws.{no_ticket}
-use Rattle.resolve_engine.specs.declared.answer.Answer.{Answer}
+use Rattle.resolve_engine.specs.declared.answer.BranchAnswer.{BranchAnswer}
 use Rattle.resolve_engine.specs.declared.asked.Trust.{Trust}
 use Rattle.resolve_engine.specs.Answers.{not_kept, step_answer, word_by}
-use Rattle.resolve_engine.specs.Truths.{AreLeft}
+use Rattle.resolve_engine.specs.Truths.{AreLogsKept}
 use Rattle.resolve_engine.proofs.Namings.{asked_so, finds_naming, no_log_keeps, none_finds}
 use Rattle.resolve_engine.proofs.Standings.{decides, naming_no_branch, stands_decides}
 use Rattle.resolve_engine.proofs.Words.{decided_ends, if_complete_is, kept_says, undecided_asks, undecided_says, unknown_is_none}
@@ -52,7 +53,7 @@ child_role (Below p) u q h = refl
 child_role (AtLeaf p) u q h = refl
 
 -- a parent is listed
-up_listed : (tree : List TreeEntry) → IsTree tree → (q p : ProcessId) → is_listed tree q ≡ true
+up_listed : (tree : List TreeProcess) → IsTree tree → (q p : ProcessId) → is_listed tree q ≡ true
     → parent_of tree q ≡ Some p → is_listed tree p ≡ true
 unfolding parent_of
 up_listed tree t q p listed up =
@@ -61,12 +62,12 @@ up_listed tree t q p listed up =
 
 -- The climb.
 
-module _ (tree : List TreeEntry) (t : IsTree tree) (logs : List ProcessLog) (es : List Made) (w : World)
-    (left : AreLeft tree logs es w) (trust : Trust) (c : Case) (o : Outcome) where
-  abbrev keeps : Logs
+module _ (tree : List TreeProcess) (t : IsTree tree) (logs : List ProcessLog) (es : List Made) (w : World)
+    (left : AreLogsKept tree logs es w) (trust : Trust) (c : Case) (o : Outcome) where
+  abbrev keeps : KeptLogs
   keeps = kept_lists tree logs
 
-  abbrev there : Logs
+  abbrev there : KeptLogs
   there = logs_of_world w
 
   holds : WorldHolds tree w
@@ -88,13 +89,13 @@ module _ (tree : List TreeEntry) (t : IsTree tree) (logs : List ProcessLog) (es 
   abbrev Says : ℕ → Type 0
   Says k = (d : Case) → d.txn.presumption ≡ c.txn.presumption → is_listed tree (process_of d) ≡ true
       → is_case_at tree (process_of d) d ≡ true → is_none (level_within (suc k) tree (process_of d)) ≡ false
-      → (a : Answer) → (d.ticket ≡ None → a.word ≡ word_by o → Aborted ≡ o)
+      → (a : BranchAnswer) → (d.ticket ≡ None → a.word ≡ word_by o → Aborted ≡ o)
       → (fold (λ b s. step_answer trust logs c s) a (steps_within (suc k) tree (kept_lists tree logs) d)).word
       ≡ word_by o
       → asked_above (outcome_within k tree (logs_of_world w)) tree (logs_of_world w) d.txn d.ticket ≡ o
 
   -- what was found by the parent
-  abbrev Above : ℕ → ProcessId → Ticket → Case → Found → Type 0
+  abbrev Above : ℕ → ProcessId → Ticket → Case → StepFound → Type 0
   Above k p u d f = (fold (λ b s. step_answer trust logs c s)
       (step_answer trust logs c (record { ticket = u; process = p; found = f }))
       (steps_on (steps_within k tree (kept_lists tree logs)) (asks_on f))).word ≡ word_by o
@@ -176,7 +177,7 @@ module _ (tree : List TreeEntry) (t : IsTree tree) (logs : List ProcessLog) (es 
   -- by whether the case has a ticket
   by_ticket : (k : ℕ) → ((j : ℕ) → k ≡ suc j → Says j) → (d : Case) → d.txn.presumption ≡ c.txn.presumption
       → is_listed tree (process_of d) ≡ true → is_case_at tree (process_of d) d ≡ true
-      → is_none (level_within (suc k) tree (process_of d)) ≡ false → (a : Answer)
+      → is_none (level_within (suc k) tree (process_of d)) ≡ false → (a : BranchAnswer)
       → (d.ticket ≡ None → a.word ≡ word_by o → Aborted ≡ o)
       → (fold (λ b s. step_answer trust logs c s) a (steps_within (suc k) tree (kept_lists tree logs) d)).word
       ≡ word_by o

@@ -6,16 +6,16 @@ use Rattle.std.proofs.lemmas.Grind.{flat_map-append}
 use Rattle.std.proofs.lemmas.List.{append-nil, map-append, take_all, take_more}
 use Rattle.std.proofs.lemmas.List.Elements.{All-append, All-cons, All-nil, filter-append}
 use Rattle.std.proofs.lemmas.List.Folds.{list_any-append}
-use Rattle.tree_model.specs.declared.trees.TreeEntry.{TreeEntry}
-use Rattle.logs_script.specs.declared.line.ProcessLog.{ProcessLog}
-use Rattle.tree_headline.specs.auditor.Audits.{Logs}
-use Rattle.resolve_engine.specs.declared.asked.Form.{Form}
+use Rattle.protocol.specs.declared.trees.TreeProcess.{TreeProcess}
+use Rattle.log_script.specs.declared.line.ProcessLog.{ProcessLog}
+use Rattle.protocol.specs.Audits.{KeptLogs}
+use Rattle.resolve_engine.specs.declared.asked.AnswerForm.{AnswerForm}
 use Rattle.resolve_engine.specs.declared.asked.Trust.{Trust}
 use Rattle.resolve_engine.specs.Reports.{Given, Gives, GivesAll, GivesOne, IsGiven, ending_by, is_name, names_in, waits}
 
 -- no name has an answer yet
-pub none_given : (f : Form) (t : Trust) (n : Option (List ℕ)) (tree : List TreeEntry) (logs : List ProcessLog)
-    (kept : Logs) → Gives f t n tree logs kept [] false []
+pub none_given : (f : AnswerForm) (t : Trust) (n : Option (List ℕ)) (tree : List TreeProcess) (logs : List ProcessLog)
+    (kept : KeptLogs) → Gives f t n tree logs kept [] false []
 none_given f t n tree logs kept = record {
   given = [];
   each = All-nil (IsGiven f t n tree logs kept);
@@ -25,8 +25,8 @@ none_given f t n tree logs kept = record {
 }
 
 -- one more name has its answer
-pub one_more : (f : Form) (t : Trust) (n : Option (List ℕ)) (tree : List TreeEntry) (logs : List ProcessLog)
-    (kept : Logs) (names : List (List ℕ)) (line : List ℕ) (w v : Bool) (text after : List ℕ)
+pub one_more : (f : AnswerForm) (t : Trust) (n : Option (List ℕ)) (tree : List TreeProcess) (logs : List ProcessLog)
+    (kept : KeptLogs) (names : List (List ℕ)) (line : List ℕ) (w v : Bool) (text after : List ℕ)
     → Gives f t n tree logs kept names w text → GivesOne f t n tree logs kept line v text after
     → Gives f t n tree logs kept (names ++ line ∷ []) (w || v) after
 one_more f t n tree logs kept names line w v text after g o = record {
@@ -70,8 +70,8 @@ is_none ls i lt e = next_line ls i lt
     ∙ append-nil (filter is_name (take i ls))
 
 -- how the run ends
-pub ended : (f : Form) (t : Trust) (n : Option (List ℕ)) (tree : List TreeEntry) (logs : List ProcessLog)
-    (kept : Logs) (input : List ℕ) (names : List (List ℕ)) (w : Bool) (text : List ℕ)
+pub ended : (f : AnswerForm) (t : Trust) (n : Option (List ℕ)) (tree : List TreeProcess) (logs : List ProcessLog)
+    (kept : KeptLogs) (input : List ℕ) (names : List (List ℕ)) (w : Bool) (text : List ℕ)
     → names ≡ names_in input → Gives f t n tree logs kept names w text
     → GivesAll f t n tree logs kept input (ending_by w) text
 ended f t n tree logs kept input names true text e g =

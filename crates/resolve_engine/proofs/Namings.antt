@@ -1,30 +1,30 @@
 -- What a process finds of a child's case is the case that an audit asks.
 use Rattle.std.proofs.Common.{◌≡◌, ◌∙◌, ◌&&◌, ◌||◌, Bool, true, false, if◌then◌else◌, Some, option_map, List, [], ◌∷◌, find, map, refl, sym, ap}
 use Rattle.std.specs.List.{list_all, list_any}
-use Rattle.tree_model.specs.declared.names.Case.{Case}
-use Rattle.tree_model.specs.declared.names.ProcessId.{ProcessId}
-use Rattle.tree_model.specs.declared.names.Ticket.{Ticket}
-use Rattle.tree_model.specs.declared.names.Txn.{Txn}
-use Rattle.tree_model.specs.declared.records.Record.{Record}
-use Rattle.tree_model.specs.declared.trees.TreeEntry.{TreeEntry}
-use Rattle.tree_model.specs.LogNames.{own_records}
-use Rattle.tree_model.specs.Names.{same_process, same_txn}
-use Rattle.tree_model.specs.Nodes.{AtRoot, is_listed, place_of}
-use Rattle.tree_model.specs.Records.{cases_in, has, same_bytes}
-use Rattle.tree_model.specs.Trees.{IsTree}
-use Rattle.tree_nodes.specs.WorldHolds.{is_naming}
-use Rattle.tree_nodes.proofs.Tests.{both}
-use Rattle.tree_steps.proofs.crashes.Named.{named-by}
-use Rattle.tree_headline.specs.auditor.Audits.{is_case_at, naming_case}
+use Rattle.protocol.specs.declared.names.Case.{Case}
+use Rattle.protocol.specs.declared.names.ProcessId.{ProcessId}
+use Rattle.protocol.specs.declared.names.Ticket.{Ticket}
+use Rattle.protocol.specs.declared.names.Txn.{Txn}
+use Rattle.protocol.specs.declared.records.Record.{Record}
+use Rattle.protocol.specs.declared.trees.TreeProcess.{TreeProcess}
+use Rattle.protocol.specs.LogNames.{own_records}
+use Rattle.protocol.specs.Names.{same_process, same_txn}
+use Rattle.protocol.specs.Nodes.{AtRoot, is_listed, place_of}
+use Rattle.protocol.specs.Records.{cases_in, has, same_bytes}
+use Rattle.protocol.specs.Trees.{IsTree}
+use Rattle.protocol.specs.Audits.{is_naming}
+use Rattle.proof_processes.proofs.Tests.{both}
+use Rattle.proof_steps.proofs.crashes.Named.{named-by}
+use Rattle.protocol.specs.Audits.{is_case_at, naming_case}
 use Rattle.audit_cases.specs.Notes.{listed_cases, note_of, notes_of}
 use Rattle.audit_cases.specs.Sayings.{names}
 use Rattle.log_rules.specs.order.Logs.{Damaged, Whole, read_as, read_log}
-use Rattle.logs_script.specs.declared.line.ProcessLog.{ProcessLog}
-use Rattle.logs_script.specs.Logs.{bytes_of, has_log}
-use Rattle.tree_audit.specs.Reports.{kept_lists, kind_in, whole_records}
-use Rattle.tree_audit.proofs.OwnCases.{EachCase, each_if}
-use Rattle.tree_audit.proofs.Passes.{kept_own}
-use Rattle.audit_engine.specs.declared.steps.Found.TheVariants.{Nothing}
+use Rattle.log_script.specs.declared.line.ProcessLog.{ProcessLog}
+use Rattle.log_script.specs.Logs.{bytes_of, has_log}
+use Rattle.audit_tree.specs.Reports.{kept_lists, kind_in, whole_records}
+use Rattle.audit_tree.proofs.OwnCases.{EachCase, each_if}
+use Rattle.audit_tree.proofs.Passes.{kept_own}
+use Rattle.audit_engine.specs.declared.steps.StepFound.TheVariants.{Nothing}
 use Rattle.audit_engine.specs.Namings.{finds, found_by}
 
 -- A log that is not here.
@@ -41,7 +41,7 @@ no_bytes (l ∷ ls) q none = by_test (same_process l.process q) none (no_bytes l
     by_test false h rest = rest h
 
 -- a process without a log keeps nothing
-pub no_log_keeps : (tree : List TreeEntry) (logs : List ProcessLog) (q : ProcessId) → has_log logs q ≡ false
+pub no_log_keeps : (tree : List TreeProcess) (logs : List ProcessLog) (q : ProcessId) → has_log logs q ≡ false
     → kept_lists tree logs q ≡ []
 unfolding kept_lists own_records read_log
 no_log_keeps tree logs q none =
@@ -60,7 +60,7 @@ none_finds x u = refl
 
 -- The first case that names a ticket.
 
-module _ (tree : List TreeEntry) (p : ProcessId) (rs : List Record) (x : Txn) (u : Ticket) where
+module _ (tree : List TreeProcess) (p : ProcessId) (rs : List Record) (x : Txn) (u : Ticket) where
   with_true : (b c : Bool) → c ≡ true → b ≡ (b && c)
   with_true true c h = sym h
   with_true false c h = refl
@@ -88,7 +88,7 @@ module _ (tree : List TreeEntry) (p : ProcessId) (rs : List Record) (x : Txn) (u
       by_test false rest = rest
 
 -- what a listed process finds in its kept list is its case that an audit asks
-pub finds_naming : (tree : List TreeEntry) (logs : List ProcessLog) → IsTree tree → (p : ProcessId)
+pub finds_naming : (tree : List TreeProcess) (logs : List ProcessLog) → IsTree tree → (p : ProcessId)
     → is_listed tree p ≡ true → (rs : List Record) → kept_lists tree logs p ≡ rs → (x : Txn) (u : Ticket)
     → finds (notes_of rs) x u ≡ found_by (option_map (λ c. (c, note_of rs c)) (naming_case tree p x u rs))
 finds_naming tree logs t p listed rs is x u =
@@ -111,7 +111,7 @@ passes g (d ∷ cs) c h = by_test (g d) refl h (passes g cs c)
     by_test false is here rest = rest here
 
 -- it is of the transaction, and names the ticket
-pub asked_so : (tree : List TreeEntry) (p : ProcessId) (x : Txn) (u : Ticket) (rs : List Record) (c : Case)
+pub asked_so : (tree : List TreeProcess) (p : ProcessId) (x : Txn) (u : Ticket) (rs : List Record) (c : Case)
     → naming_case tree p x u rs ≡ Some c → (same_txn c.txn x && has (is_naming c u) rs) ≡ true
 asked_so tree p x u rs c is =
     (both (same_txn c.txn x && has (is_naming c u) rs) (is_case_at tree p c)

@@ -1,23 +1,23 @@
 -- Where the log of a process is sound, what it keeps is read of its bytes.
 use Rattle.std.proofs.Common.{◌≡◌, ◌∙◌, ◌+◌, ℕ, zero, suc, Bool, true, false, if◌then◌else◌, Option, Some, None, List, [], ◌∷◌, find, length, map, refl, sym, ap, subst}
-use Rattle.tree_model.specs.declared.names.Kind.{Kind}
-use Rattle.tree_model.specs.declared.names.ProcessId.{ProcessId}
-use Rattle.tree_model.specs.declared.records.LogRecord.{LogRecord}
-use Rattle.tree_model.specs.declared.trees.TreeEntry.{TreeEntry}
-use Rattle.tree_model.specs.Names.{same_process}
+use Rattle.protocol.specs.declared.names.Kind.{Kind}
+use Rattle.protocol.specs.declared.names.ProcessId.{ProcessId}
+use Rattle.protocol.specs.declared.records.LogRecord.{LogRecord}
+use Rattle.protocol.specs.declared.trees.TreeProcess.{TreeProcess}
+use Rattle.protocol.specs.Names.{same_process}
 use Rattle.log_text.specs.declared.form.LogForm.{LogForm}
 use Rattle.log_text.specs.Forms.{size_bytes}
 use Rattle.log_text.specs.Frames.{Cut, first_frame}
 use Rattle.log_text.specs.Reading.{read_record}
 use Rattle.log_rules.specs.order.Logs.{LogReading, Whole, Damaged, read_as, read_log}
-use Rattle.logs_script.specs.Faults.{damage_or, first_damage}
-use Rattle.logs_script.specs.Places.{Placed, and_placed, placed_by, placed_in}
-use Rattle.logs_script.proofs.PlaceLaws.{places_tell}
-use Rattle.logs_script.specs.declared.line.ProcessLog.{ProcessLog}
-use Rattle.logs_script.specs.Logs.{bytes_of}
-use Rattle.rec_log.specs.Sights.{body}
-use Rattle.rec_log.specs.Texts.{and_records, records_by, records_in}
-use Rattle.tree_audit.specs.Reports.{whole_records}
+use Rattle.log_script.specs.Faults.{damage_or, first_damage}
+use Rattle.log_script.specs.Places.{Placed, and_placed, placed_by, placed_in}
+use Rattle.log_script.proofs.PlaceLaws.{places_tell}
+use Rattle.log_script.specs.declared.line.ProcessLog.{ProcessLog}
+use Rattle.log_script.specs.Logs.{bytes_of}
+use Rattle.log_records.specs.Sights.{body}
+use Rattle.log_records.specs.Texts.{and_records, records_by, records_in}
+use Rattle.audit_tree.specs.Reports.{whole_records}
 
 -- Records.
 
@@ -60,11 +60,11 @@ pub record IsSoundLog (q : ProcessId) (k : Kind) (bytes : List ℕ) : Type 0 whe
   pub torn : ℕ
   pub read : read_as q k bytes ≡ Whole records torn
 
-some_entry : (a b : TreeEntry) → Some a ≡ Some b → a ≡ b
+some_entry : (a b : TreeProcess) → Some a ≡ Some b → a ≡ b
 some_entry a b e = cc
 
 -- if no log is damaged, that of a listed process is sound
-pub sound_at : (logs : List ProcessLog) (es : List TreeEntry) (q : ProcessId) (e : TreeEntry)
+pub sound_at : (logs : List ProcessLog) (es : List TreeProcess) (q : ProcessId) (e : TreeProcess)
     → first_damage es logs ≡ None → find (λ x. same_process x.id q) es ≡ Some e
     → IsSoundLog e.id e.kind (bytes_of logs e.id)
 unfolding first_damage
@@ -76,7 +76,7 @@ sound_at logs (x ∷ es) q e none found =
         → (find (λ x. same_process x.id q) es ≡ Some e → IsSoundLog e.id e.kind (bytes_of logs e.id)) → (b : Bool)
         → (if b then Some x else find (λ x. same_process x.id q) es) ≡ Some e
         → IsSoundLog e.id e.kind (bytes_of logs e.id)
-    by_found here rest true is = subst (λ (y : TreeEntry). IsSoundLog y.id y.kind
+    by_found here rest true is = subst (λ (y : TreeProcess). IsSoundLog y.id y.kind
         (bytes_of logs y.id)) (some_entry x e is) here
     by_found here rest false is = rest is
 

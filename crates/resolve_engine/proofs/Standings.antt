@@ -1,22 +1,22 @@
 -- What stands of a coordinator's case is its own decision.
 use Rattle.std.proofs.Common.{◌≡◌, ◌∙◌, ◌||◌, Bool, true, false, if◌then◌else◌, Option, Some, None, List, [], ◌∷◌, refl, sym, arith}
-use Rattle.tree_model.specs.declared.names.Case.{Case}
-use Rattle.tree_model.specs.declared.names.Outcome.{Outcome}
-use Rattle.tree_model.specs.declared.names.Outcome.TheVariants.{Committed, Aborted}
-use Rattle.tree_model.specs.declared.names.Ticket.{Ticket}
-use Rattle.tree_model.specs.declared.records.Record.{Record}
-use Rattle.tree_model.specs.Records.{has, is_committed, is_prepared, is_rolled_back}
-use Rattle.tree_model.specs.Nodes.{Role, AtRoot, Below, AtLeaf, Node, kept}
-use Rattle.tree_pairs.specs.readings.ReadingOf.{is_told_of}
-use Rattle.tree_pairs.specs.turns.Written.{is_coordinators}
-use Rattle.tree_nodes.specs.Lasts.{Lasts, logs_of}
-use Rattle.tree_nodes.specs.Marks.{is_branch_record}
-use Rattle.tree_nodes.specs.WorldHolds.{is_naming}
-use Rattle.tree_nodes.proofs.ChildOf.{no_branch}
-use Rattle.tree_nodes.proofs.Tests.{not_both, second_false}
-use Rattle.tree_nodes.proofs.Worlds.{has_other}
-use Rattle.tree_headline.specs.auditor.Audits.{decision_by, own_decision, since_promise}
-use Rattle.tree_headline.proofs.auditor.Verdicts.{none_so}
+use Rattle.protocol.specs.declared.names.Case.{Case}
+use Rattle.protocol.specs.declared.names.Outcome.{Outcome}
+use Rattle.protocol.specs.declared.names.Outcome.TheVariants.{Committed, Aborted}
+use Rattle.protocol.specs.declared.names.Ticket.{Ticket}
+use Rattle.protocol.specs.declared.records.Record.{Record}
+use Rattle.protocol.specs.Records.{has, is_committed, is_prepared, is_rolled_back}
+use Rattle.protocol.specs.Nodes.{Role, AtRoot, Below, AtLeaf, Node, kept}
+use Rattle.protocol.specs.Audits.{is_told_of}
+use Rattle.proof_pairs.specs.turns.Written.{is_coordinators}
+use Rattle.proof_processes.specs.Lasts.{Lasts, logs_of}
+use Rattle.proof_processes.specs.Marks.{is_branch_record}
+use Rattle.protocol.specs.Audits.{is_naming}
+use Rattle.proof_processes.proofs.ChildOf.{no_branch}
+use Rattle.proof_processes.proofs.Tests.{not_both, second_false}
+use Rattle.proof_processes.proofs.Worlds.{has_other}
+use Rattle.protocol.specs.Audits.{decision_by, own_decision, since_promise}
+use Rattle.proof_headline.proofs.auditor.Verdicts.{none_so}
 use Rattle.audit_cases.specs.Kinds.{kinds_of}
 use Rattle.audit_cases.proofs.KindLaws.{decision_is}
 use Rattle.audit_engine.specs.declared.steps.Stands.{Stands}

@@ -1,48 +1,48 @@
 -- An answer that says commit or rollback is true of every run that left the logs.
 use Rattle.std.proofs.Common.{◌≡◌, ◌∙◌, ◌&&◌, ◌||◌, ℕ, suc, not, Bool, true, false, if◌then◌else◌, Option, Some, None, is_none, List, [], length, refl, sym, ap}
-use Rattle.tree_model.specs.declared.names.Case.{Case}
-use Rattle.tree_model.specs.declared.names.Outcome.{Outcome}
-use Rattle.tree_model.specs.declared.names.Outcome.TheVariants.{Committed, Aborted}
-use Rattle.tree_model.specs.declared.names.Ticket.{Ticket}
-use Rattle.tree_model.specs.declared.records.Record.{Record}
-use Rattle.tree_model.specs.declared.trees.TreeEntry.{TreeEntry}
-use Rattle.tree_model.specs.Names.{process_of}
-use Rattle.tree_model.specs.Nodes.{Role, AtRoot, Below, AtLeaf, is_listed, role_of}
-use Rattle.tree_model.specs.Records.{cases_in, has}
-use Rattle.tree_model.specs.Trees.{IsTree, level_within}
-use Rattle.tree_model.specs.World.{Made, World}
-use Rattle.tree_nodes.proofs.Levels.{climbs, has_entry}
-use Rattle.tree_nodes.proofs.Tests.{both}
-use Rattle.tree_headline.specs.auditor.Audits.{AuditsAreTrue, Logs, asked_above, audited, decided_or, decision_by, has_line, has_line_in, has_place, is_case_at, logs_of_world, outcome_within, own_decision, since_promise}
-use Rattle.tree_headline.proofs.auditor.Audit.{audits_are_true}
-use Rattle.tree_headline.proofs.runs.Headline.{the_world_holds}
+use Rattle.protocol.specs.declared.names.Case.{Case}
+use Rattle.protocol.specs.declared.names.Outcome.{Outcome}
+use Rattle.protocol.specs.declared.names.Outcome.TheVariants.{Committed, Aborted}
+use Rattle.protocol.specs.declared.names.Ticket.{Ticket}
+use Rattle.protocol.specs.declared.records.Record.{Record}
+use Rattle.protocol.specs.declared.trees.TreeProcess.{TreeProcess}
+use Rattle.protocol.specs.Names.{process_of}
+use Rattle.protocol.specs.Nodes.{Role, AtRoot, Below, AtLeaf, is_listed, role_of}
+use Rattle.protocol.specs.Records.{cases_in, has}
+use Rattle.protocol.specs.Trees.{IsTree, level_within}
+use Rattle.protocol.specs.World.{Made, World}
+use Rattle.proof_processes.proofs.Levels.{climbs, has_entry}
+use Rattle.proof_processes.proofs.Tests.{both}
+use Rattle.protocol.specs.Audits.{AuditsAreTrue, KeptLogs, asked_above, audited, decided_or, decision_by, has_line, has_line_in, has_place, is_case_at, logs_of_world, outcome_within, own_decision, since_promise}
+use Rattle.proof_headline.proofs.auditor.Audit.{audits_are_true}
+use Rattle.proof_headline.proofs.runs.Headline.{the_world_holds}
 use Rattle.audit_cases.specs.declared.kinds.Kinds.{Kinds}
 use Rattle.audit_cases.specs.Kinds.{kinds_of, line_in, no_kinds}
 use Rattle.audit_cases.specs.Notes.{CaseNote, note_in, notes_of}
 use Rattle.audit_cases.proofs.KindLaws.{decision_is, line_is}
 use Rattle.audit_cases.proofs.NoteLaws.{note_is}
-use Rattle.logs_script.specs.declared.line.ProcessLog.{ProcessLog}
-use Rattle.logs_script.specs.Logs.{has_log}
-use Rattle.tree_audit.specs.Reports.{kept_lists}
-use Rattle.tree_audit.proofs.Outcomes.{place_of_case}
+use Rattle.log_script.specs.declared.line.ProcessLog.{ProcessLog}
+use Rattle.log_script.specs.Logs.{has_log}
+use Rattle.audit_tree.specs.Reports.{kept_lists}
+use Rattle.audit_tree.proofs.Outcomes.{place_of_case}
 use Rattle.audit_engine.specs.Chains.{chain_of, steps_within}
-use Rattle.resolve_engine.specs.declared.answer.Answer.{Answer}
-use Rattle.resolve_engine.specs.declared.answer.Reason.TheVariants as reason
-use Rattle.resolve_engine.specs.declared.answer.Word.TheVariants as word
+use Rattle.resolve_engine.specs.declared.answer.BranchAnswer.{BranchAnswer}
+use Rattle.resolve_engine.specs.declared.answer.AnswerReason.TheVariants as reason
+use Rattle.resolve_engine.specs.declared.answer.AnswerWord.TheVariants as word
 use Rattle.resolve_engine.specs.declared.asked.Trust.{Trust}
 use Rattle.resolve_engine.specs.Answers.{above_answer, answer_above, answer_by, answer_of, decided_by, is_promised, is_unpromised, own_answer, own_by, root_answer, word_by}
-use Rattle.resolve_engine.specs.Truths.{AnswersAreTrue, AreLeft}
+use Rattle.resolve_engine.specs.Truths.{AnswersAreTrue, AreLogsKept}
 use Rattle.resolve_engine.proofs.Namings.{no_log_keeps}
 use Rattle.resolve_engine.proofs.Climbs.{climb}
 use Rattle.resolve_engine.proofs.Words.{heuristic_commit_is_none, heuristic_rollback_is_none, if_complete_is, same_word, unknown_is_none}
 
-module _ (tree : List TreeEntry) (t : IsTree tree) (logs : List ProcessLog) (es : List Made) (w : World)
-    (left : AreLeft tree logs es w) (trust : Trust) (c : Case) (o : Outcome)
+module _ (tree : List TreeProcess) (t : IsTree tree) (logs : List ProcessLog) (es : List Made) (w : World)
+    (left : AreLogsKept tree logs es w) (trust : Trust) (c : Case) (o : Outcome)
     (line : has_line tree (logs_of_world w) c ≡ true) where
-  abbrev keeps : Logs
+  abbrev keeps : KeptLogs
   keeps = kept_lists tree logs
 
-  abbrev there : Logs
+  abbrev there : KeptLogs
   there = logs_of_world w
 
   listed : is_listed tree (process_of c) ≡ true
@@ -78,7 +78,7 @@ module _ (tree : List TreeEntry) (t : IsTree tree) (logs : List ProcessLog) (es 
       (ap (λ n. (above_answer trust logs c (steps_within n tree keeps c)).word) (sym size.1) ∙ answered)
 
   -- an answer that says how it ends is not replaced
-  promised_is : (k : Kinds) (a : Answer) → (answer_above logs c k a).word ≡ word_by o → a.word ≡ word_by o
+  promised_is : (k : Kinds) (a : BranchAnswer) → (answer_above logs c k a).word ≡ word_by o → a.word ≡ word_by o
   promised_is k a = by_test (is_unpromised logs c k a)
     where
       by_test : (b : Bool)

@@ -1,15 +1,15 @@
 -- What the words of an answer say.
 use Rattle.std.proofs.Common.{◌≡◌, ◌∙◌, Some, None, refl, sym}
-use Rattle.tree_model.specs.declared.names.Case.{Case}
-use Rattle.tree_model.specs.declared.names.Outcome.{Outcome}
-use Rattle.tree_model.specs.declared.names.Outcome.TheVariants.{Committed, Aborted}
-use Rattle.tree_model.specs.declared.names.ProcessId.{ProcessId}
-use Rattle.audit_engine.specs.declared.steps.Found.TheVariants.{Kept as Finds}
+use Rattle.protocol.specs.declared.names.Case.{Case}
+use Rattle.protocol.specs.declared.names.Outcome.{Outcome}
+use Rattle.protocol.specs.declared.names.Outcome.TheVariants.{Committed, Aborted}
+use Rattle.protocol.specs.declared.names.ProcessId.{ProcessId}
+use Rattle.audit_engine.specs.declared.steps.StepFound.TheVariants.{Kept as Finds}
 use Rattle.audit_engine.specs.declared.steps.Stands.{Stands}
 use Rattle.audit_engine.specs.declared.steps.Stands.TheVariants as stands
 use Rattle.audit_engine.specs.Chains.{asks_on}
-use Rattle.resolve_engine.specs.declared.answer.Word.{Word}
-use Rattle.resolve_engine.specs.declared.answer.Word.TheVariants as word
+use Rattle.resolve_engine.specs.declared.answer.AnswerWord.{AnswerWord}
+use Rattle.resolve_engine.specs.declared.answer.AnswerWord.TheVariants as word
 use Rattle.resolve_engine.specs.declared.asked.Trust.{Trust}
 use Rattle.resolve_engine.specs.declared.asked.Trust.TheVariants.{Complete, Parts}
 use Rattle.resolve_engine.specs.Answers.{if_complete, kept_word, word_by}
@@ -24,7 +24,7 @@ same_word Committed Aborted e = absurd (cc)
 same_word Aborted Committed e = absurd (cc)
 
 -- a word that is no outcome's
-abbrev NoOutcomes : Word → Type 0
+abbrev NoOutcomes : AnswerWord → Type 0
 NoOutcomes w = (o : Outcome) → w ≡ word_by o → ⊥
 
 pub unknown_is_none : (p : ProcessId) → NoOutcomes (word.Unknown p)

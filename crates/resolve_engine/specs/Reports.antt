@@ -3,29 +3,29 @@ use Rattle.std.specs.Prelude.{◌≡◌, ◌⊎◌, ℕ, Bool, true, false, not,
 use Rattle.std.specs.List.{All, flat_map, list_any}
 use Rattle.std.specs.Str.{IsUtf8}
 use Rattle.std.specs.Str.Lines.{lines}
-use Rattle.tree_model.specs.declared.names.Case.{Case}
-use Rattle.tree_model.specs.declared.trees.TreeEntry.{TreeEntry}
-use Rattle.logs_script.specs.declared.line.ProcessLog.{ProcessLog}
-use Rattle.link_script.specs.declared.script.ScriptFault.{ScriptFault}
-use Rattle.link_script.specs.declared.script.ScriptFault.TheVariants.{Utf8}
-use Rattle.logs_script.specs.Faults.{fault_text, first_damage}
-use Rattle.logs_script.specs.Refusals.{TellsDamage}
-use Rattle.tree_headline.specs.auditor.Audits.{Logs}
-use Rattle.tree_audit.specs.Reports.{kept_lists}
+use Rattle.protocol.specs.declared.names.Case.{Case}
+use Rattle.protocol.specs.declared.trees.TreeProcess.{TreeProcess}
+use Rattle.log_script.specs.declared.line.ProcessLog.{ProcessLog}
+use Rattle.tree_script.specs.declared.script.ScriptFault.{ScriptFault}
+use Rattle.tree_script.specs.declared.script.ScriptFault.TheVariants.{Utf8}
+use Rattle.log_script.specs.Faults.{fault_text, first_damage}
+use Rattle.log_script.specs.Refusals.{TellsDamage}
+use Rattle.protocol.specs.Audits.{KeptLogs}
+use Rattle.audit_tree.specs.Reports.{kept_lists}
 use Rattle.xa_xid.specs.Xids.{XidParts}
 use Rattle.branch_names.specs.declared.cases.Naming.{Naming}
 use Rattle.branch_names.specs.declared.cases.Naming.TheVariants as naming
 use Rattle.branch_names.specs.Cases.{IsNaming}
 use Rattle.branch_names.specs.Forms.{IsXidOf}
-use Rattle.resolve_engine.specs.declared.answer.Answer.{Answer}
-use Rattle.resolve_engine.specs.declared.answer.Reason.TheVariants as reason
-use Rattle.resolve_engine.specs.declared.answer.Word.{Word}
-use Rattle.resolve_engine.specs.declared.answer.Word.TheVariants as word
-use Rattle.resolve_engine.specs.declared.asked.Form.{Form}
-use Rattle.resolve_engine.specs.declared.asked.Form.TheVariants.{Lines, Explained, Sql}
+use Rattle.resolve_engine.specs.declared.answer.BranchAnswer.{BranchAnswer}
+use Rattle.resolve_engine.specs.declared.answer.AnswerReason.TheVariants as reason
+use Rattle.resolve_engine.specs.declared.answer.AnswerWord.{AnswerWord}
+use Rattle.resolve_engine.specs.declared.answer.AnswerWord.TheVariants as word
+use Rattle.resolve_engine.specs.declared.asked.AnswerForm.{AnswerForm}
+use Rattle.resolve_engine.specs.declared.asked.AnswerForm.TheVariants.{Lines, Explained, Sql}
 use Rattle.resolve_engine.specs.declared.asked.Trust.{Trust}
-use Rattle.resolve_engine.specs.declared.engine.Ending.{Ending}
-use Rattle.resolve_engine.specs.declared.engine.Ending.TheVariants as ending
+use Rattle.resolve_engine.specs.declared.engine.ResolveStatus.{ResolveStatus}
+use Rattle.resolve_engine.specs.declared.engine.ResolveStatus.TheVariants as ending
 use Rattle.resolve_engine.specs.Answers.{answer_of}
 use Rattle.resolve_engine.specs.Inputs.{IsSomeLogsFault, IsSomeLogsText}
 use Rattle.resolve_engine.specs.Sql.{sql_text}
@@ -34,21 +34,21 @@ use Rattle.resolve_engine.specs.Texts.{explained_text, line_text}
 -- One name.
 
 -- a name that is none of this tree
-abbrev pub foreign_answer : Answer
+abbrev pub foreign_answer : BranchAnswer
 foreign_answer = record { word = word.Foreign; reason = reason.NoName }
 
 -- a name of a tree of another name
-abbrev pub other_tree_answer : Answer
+abbrev pub other_tree_answer : BranchAnswer
 other_tree_answer = record { word = word.Foreign; reason = reason.OtherTree }
 
 -- what is answered of a name, by what it is of
-abbrev pub naming_answer : (Case → Answer) → Naming → Answer
+abbrev pub naming_answer : (Case → BranchAnswer) → Naming → BranchAnswer
 naming_answer f (naming.Case c) = f c
 naming_answer f naming.OtherTree = other_tree_answer
 naming_answer f naming.Foreign = foreign_answer
 
 -- this is written of an answer
-abbrev pub Tells : Form → List ℕ → Answer → List ℕ → Type 0
+abbrev pub Tells : AnswerForm → List ℕ → BranchAnswer → List ℕ → Type 0
 Tells Lines name a text = text ≡ line_text name a
 Tells Explained name a text = text ≡ explained_text name a
 Tells (Sql d) name a text = (x : Option XidParts) × IsXidOf name x × (text ≡ sql_text d name x a)
@@ -56,19 +56,19 @@ Tells (Sql d) name a text = (x : Option XidParts) × IsXidOf name x × (text ≡
 -- a name, its answer, and what is written of it
 pub record Given : Type 0 where
   pub name : List ℕ
-  pub answer : Answer
+  pub answer : BranchAnswer
   pub text : List ℕ
 
 -- this is answered and written of a name, by these logs, which have these kept lists
-pub record IsGiven (f : Form) (trust : Trust) (name : Option (List ℕ)) (tree : List TreeEntry) (logs : List ProcessLog)
-    (kept : Logs) (g : Given) : Type 0 where
+pub record IsGiven (f : AnswerForm) (trust : Trust) (name : Option (List ℕ)) (tree : List TreeProcess) (logs : List ProcessLog)
+    (kept : KeptLogs) (g : Given) : Type 0 where
   pub of : Naming
   pub named : IsNaming tree name g.name of
   pub answered : g.answer ≡ naming_answer (answer_of trust tree logs kept) of
   pub told : Tells f g.name g.answer g.text
 
 -- an answer has to wait, or a log is wanted for it
-abbrev pub waits : Word → Bool
+abbrev pub waits : AnswerWord → Bool
 waits word.Wait = true
 waits (word.Unknown p) = true
 waits _ = false
@@ -84,8 +84,8 @@ abbrev pub names_in : List ℕ → List (List ℕ)
 names_in input = filter is_name (lines input)
 
 -- this is answered of one more name, and whether it has to wait
-pub record GivesOne (f : Form) (trust : Trust) (name : Option (List ℕ)) (tree : List TreeEntry) (logs : List ProcessLog)
-    (kept : Logs) (line : List ℕ) (waits_now : Bool) (before after : List ℕ) : Type 0 where
+pub record GivesOne (f : AnswerForm) (trust : Trust) (name : Option (List ℕ)) (tree : List TreeProcess) (logs : List ProcessLog)
+    (kept : KeptLogs) (line : List ℕ) (waits_now : Bool) (before after : List ℕ) : Type 0 where
   pub given : Given
   pub is_given : IsGiven f trust name tree logs kept given
   pub name_is : given.name ≡ line
@@ -93,8 +93,8 @@ pub record GivesOne (f : Form) (trust : Trust) (name : Option (List ℕ)) (tree 
   pub waiting : waits given.answer.word ≡ waits_now
 
 -- these are the answers to these names, the text has them, and whether one has to wait
-pub record Gives (f : Form) (trust : Trust) (name : Option (List ℕ)) (tree : List TreeEntry) (logs : List ProcessLog)
-    (kept : Logs) (names : List (List ℕ)) (waits_any : Bool) (text : List ℕ) : Type 0 where
+pub record Gives (f : AnswerForm) (trust : Trust) (name : Option (List ℕ)) (tree : List TreeProcess) (logs : List ProcessLog)
+    (kept : KeptLogs) (names : List (List ℕ)) (waits_any : Bool) (text : List ℕ) : Type 0 where
   pub given : List Given
   pub each : All (IsGiven f trust name tree logs kept) given
   pub names_are : map (λ g. g.name) given ≡ names
@@ -102,47 +102,47 @@ pub record Gives (f : Form) (trust : Trust) (name : Option (List ℕ)) (tree : L
   pub one_waits : list_any (λ g. waits g.answer.word) given ≡ waits_any
 
 -- these are the answers to the names of an input, by how the run ends
-abbrev pub GivesAll : Form → Trust → Option (List ℕ) → List TreeEntry → List ProcessLog → Logs → List ℕ → Ending
+abbrev pub GivesAll : AnswerForm → Trust → Option (List ℕ) → List TreeProcess → List ProcessLog → KeptLogs → List ℕ → ResolveStatus
     → List ℕ → Type 0
 GivesAll f t n tree logs kept input ending.Answered text = Gives f t n tree logs kept (names_in input) false text
 GivesAll f t n tree logs kept input ending.Waits text = Gives f t n tree logs kept (names_in input) true text
 GivesAll f t n tree logs kept input ending.Refused text = ⊥
 
 -- no log is damaged, the names are text, and this has their answers
-pub record Resolves (e : Ending) (f : Form) (trust : Trust) (name : Option (List ℕ)) (tree : List TreeEntry)
+pub record Resolves (e : ResolveStatus) (f : AnswerForm) (trust : Trust) (name : Option (List ℕ)) (tree : List TreeProcess)
     (logs : List ProcessLog) (input text : List ℕ) : Type 0 where
   pub sound : first_damage tree logs ≡ None
   pub is_text : IsUtf8 input
   pub answers : GivesAll f trust name tree logs (kept_lists tree logs) input e text
 
 -- no log is damaged, and the names are no text
-pub record RefusesNames (tree : List TreeEntry) (logs : List ProcessLog) (input text : List ℕ) : Type 0 where
+pub record RefusesNames (tree : List TreeProcess) (logs : List ProcessLog) (input text : List ℕ) : Type 0 where
   pub sound : first_damage tree logs ≡ None
   pub is_no_text : IsUtf8 input → ⊥
   pub line : text ≡ fault_text Utf8
 
 -- what is written of logs that were read, and of names, by how the run ends
-abbrev pub IsResolved : Ending → Form → Trust → Option (List ℕ) → List TreeEntry → List ProcessLog → List ℕ
+abbrev pub IsResolved : ResolveStatus → AnswerForm → Trust → Option (List ℕ) → List TreeProcess → List ProcessLog → List ℕ
     → List ℕ → Type 0
 IsResolved ending.Answered f t n tree logs input text = Resolves ending.Answered f t n tree logs input text
 IsResolved ending.Waits f t n tree logs input text = Resolves ending.Waits f t n tree logs input text
 IsResolved ending.Refused f t n tree logs input text = TellsDamage tree logs text ⊎ RefusesNames tree logs input text
 
 -- how a run ends, by whether a name has to wait
-abbrev pub ending_by : Bool → Ending
+abbrev pub ending_by : Bool → ResolveStatus
 ending_by true = ending.Waits
 ending_by false = ending.Answered
 
 -- the exit status
-abbrev pub ending_number : Ending → ℕ
+abbrev pub ending_number : ResolveStatus → ℕ
 ending_number ending.Answered = 0
 ending_number ending.Refused = 1
 ending_number ending.Waits = 3
 
 -- the text is that of the names, and of the tree and the logs that the text of logs says
-pub record ResolvesBy (e : Ending) (f : Form) (t : Trust) (n : Option (List ℕ)) (text_of_logs input text : List ℕ)
+pub record ResolvesBy (e : ResolveStatus) (f : AnswerForm) (t : Trust) (n : Option (List ℕ)) (text_of_logs input text : List ℕ)
     : Type 0 where
-  pub tree : List TreeEntry
+  pub tree : List TreeProcess
   pub logs : List ProcessLog
   pub says : IsSomeLogsText text_of_logs tree logs
   pub resolved : IsResolved e f t n tree logs input text
@@ -154,7 +154,7 @@ pub record RefusesLogs (text_of_logs text : List ℕ) : Type 0 where
   pub line : text ≡ fault_text fault
 
 -- what is written, by how the run ends
-abbrev pub IsResolveReport : Ending → Form → Trust → Option (List ℕ) → List ℕ → List ℕ → List ℕ → Type 0
+abbrev pub IsResolveReport : ResolveStatus → AnswerForm → Trust → Option (List ℕ) → List ℕ → List ℕ → List ℕ → Type 0
 IsResolveReport ending.Answered f t n logs input text = ResolvesBy ending.Answered f t n logs input text
 IsResolveReport ending.Waits f t n logs input text = ResolvesBy ending.Waits f t n logs input text
 IsResolveReport ending.Refused f t n logs input text =

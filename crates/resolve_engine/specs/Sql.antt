@@ -5,15 +5,15 @@ use Rattle.std.specs.Fmt.{decimal}
 use Rattle.hex.specs.Hex.{encode_upper}
 use Rattle.xa_xid.specs.Xids.{XidParts}
 use Rattle.branch_names.specs.Forms.{IsXidOf}
-use Rattle.resolve_engine.specs.declared.answer.Answer.{Answer}
-use Rattle.resolve_engine.specs.declared.answer.Word.{Word}
-use Rattle.resolve_engine.specs.declared.answer.Word.TheVariants as word
+use Rattle.resolve_engine.specs.declared.answer.BranchAnswer.{BranchAnswer}
+use Rattle.resolve_engine.specs.declared.answer.AnswerWord.{AnswerWord}
+use Rattle.resolve_engine.specs.declared.answer.AnswerWord.TheVariants as word
 use Rattle.resolve_engine.specs.declared.asked.Database.{Database}
 use Rattle.resolve_engine.specs.declared.asked.Database.TheVariants.{PostgreSql, MariaDb}
 use Rattle.resolve_engine.specs.Texts.{answer_text, why_text}
 
 -- a branch is to be committed, or rolled back, or neither is to be done now
-abbrev pub commits : Word → Option Bool
+abbrev pub commits : AnswerWord → Option Bool
 commits word.Commit = Some true
 commits word.Rollback = Some false
 commits _ = None
@@ -62,9 +62,9 @@ statement_text d name x None = []
 statement_text d name x (Some c) = statement_by d name x c
 
 -- the comment of an answer: the answer, and the reason
-abbrev pub comment_text : List ℕ → Answer → List ℕ
+abbrev pub comment_text : List ℕ → BranchAnswer → List ℕ
 comment_text name a = codes "-- " ++ answer_text name a.word ++ codes ": " ++ why_text a ++ codes "\n"
 
 -- the line of an answer: its statement, and the reason as a comment
-abbrev pub sql_text : Database → List ℕ → Option XidParts → Answer → List ℕ
+abbrev pub sql_text : Database → List ℕ → Option XidParts → BranchAnswer → List ℕ
 sql_text d name x a = statement_text d name x (commits a.word) ++ comment_text name a

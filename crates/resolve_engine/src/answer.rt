@@ -4,11 +4,11 @@ ghost use Rattle.std.specs.Prelude.{◌≡◌};
 ghost use Rattle.resolve_engine.specs.Answers.{word_by};
 
 use audit_engine::Stands;
-use tree_model::{Case, Outcome, Presumption, ProcessId};
+use protocol::{Case, Outcome, Presumption, ProcessId};
 
 /// What is to be done with a branch.
 #[derive(Clone, Copy, PartialEq, Eq)]
-pub enum Word {
+pub enum AnswerWord {
     /// Its transaction committed.
     Commit,
     /// Its transaction aborted.
@@ -27,7 +27,7 @@ pub enum Word {
 
 /// Why.
 #[derive(Clone, Copy, PartialEq, Eq)]
-pub enum Reason {
+pub enum AnswerReason {
     /// The log of its own process says so.
     Own,
     /// An operator decided it there.
@@ -50,17 +50,17 @@ pub enum Reason {
 
 /// What is answered of a name, and why.
 #[derive(Clone, Copy, PartialEq, Eq)]
-pub struct Answer {
-    pub word: Word,
-    pub reason: Reason,
+pub struct BranchAnswer {
+    pub word: AnswerWord,
+    pub reason: AnswerReason,
 }
 
 /// What is to be done with a branch whose transaction ended so.
-pub fn by_outcome(outcome: Outcome) -> Word
+pub fn by_outcome(outcome: Outcome) -> AnswerWord
     ensures { result ≡ word_by outcome }
 {
     match outcome {
-        Outcome::Committed => Word::Commit,
-        Outcome::Aborted => Word::Rollback,
+        Outcome::Committed => AnswerWord::Commit,
+        Outcome::Aborted => AnswerWord::Rollback,
     }
 }

@@ -9,7 +9,7 @@ pub enum Database {
 
 /// How answers are written.
 #[derive(Clone, Copy, PartialEq, Eq)]
-pub enum Form {
+pub enum AnswerForm {
     /// A line `NAME WORD`.
     Lines,
     /// And why, a line more.
@@ -29,9 +29,9 @@ pub enum Trust {
 
 /// What is asked for beside the names.
 #[derive(Clone, Copy)]
-pub struct Asked<'a> {
+pub struct ResolveInput<'a> {
     /// The name of the tree, which is in the names of branches in databases.
     pub name: Option<&'a str>,
     pub trust: Trust,
-    pub form: Form,
+    pub form: AnswerForm,
 }

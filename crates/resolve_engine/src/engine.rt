@@ -3,37 +3,37 @@
 ghost use Rattle.std.specs.Prelude.{◌≡◌, ◌++◌, ℕ, List, None, IfOk, IfErr, OnOk, option_map};
 ghost use Rattle.std.specs.Io.KnownBytes.{Appends, Keeps};
 ghost use Rattle.report_io.specs.Streams.{IsInput, WritesFront};
-ghost use Rattle.tree_audit.specs.Reports.{IsNoReport, kept_lists};
-ghost use Rattle.tree_headline.specs.auditor.Audits.{Logs};
-ghost use Rattle.tree_model.specs.Trees.{IsTree};
-ghost use Rattle.logs_script.specs.Faults.{fault_text, first_damage};
-ghost use Rattle.link_script.specs.declared.script.ScriptFault.TheVariants.{Utf8};
+ghost use Rattle.audit_tree.specs.Reports.{IsNoReport, kept_lists};
+ghost use Rattle.protocol.specs.Audits.{KeptLogs};
+ghost use Rattle.protocol.specs.Trees.{IsTree};
+ghost use Rattle.log_script.specs.Faults.{fault_text, first_damage};
+ghost use Rattle.tree_script.specs.declared.script.ScriptFault.TheVariants.{Utf8};
 ghost use Rattle.resolve_engine.specs.Answers.{answer_of};
 ghost use Rattle.branch_names.specs.Cases.{IsPlaced};
 ghost use Rattle.resolve_engine.specs.Finders.{Finds, Looks};
 ghost use Rattle.resolve_engine.specs.Reports.{GivesAll, GivesOne, IsResolveReport, IsResolved, Tells, ending_by, ending_number, naming_answer, waits as waits_by};
-ghost use Rattle.resolve_engine.specs.declared.engine.Ending.{Ending as AnyEnding};
+ghost use Rattle.resolve_engine.specs.declared.engine.ResolveStatus.{ResolveStatus as AnyEnding};
 
-use crate::answer::{Answer, Reason, Word};
-use crate::asked::{Asked, Form, Trust};
+use crate::answer::{AnswerReason, AnswerWord, BranchAnswer};
+use crate::asked::{AnswerForm, ResolveInput, Trust};
 use crate::finding::Finder;
 use crate::lines::{push_explained, push_line};
 use crate::reading::read_some_logs;
 use crate::sql::push_sql;
+use audit_tree::{AuditError, all_notes};
 use branch_names::{Naming, case_named};
-use link_script::{ScriptError, ScriptFault};
-use logs_script::{ProcessLog, damaged, refusal};
+use log_script::{ProcessLog, damaged, refusal};
+use protocol::Tree;
 use report_io::{Failure, read_all, write_all};
 use script_words::lines_of;
 use std::alloc::{AllocError, Global};
 use std::io::{Read, Write};
 use std::str;
-use tree_audit::{AuditError, all_notes};
-use tree_model::Tree;
+use tree_script::{ScriptError, ScriptFault};
 
 /// How a run ended.
 #[derive(Clone, Copy, PartialEq, Eq)]
-pub enum Ending {
+pub enum ResolveStatus {
     /// Each name has its answer.
     Answered,
     /// A log is damaged, or an input was refused.
@@ -42,15 +42,15 @@ pub enum Ending {
     Waits,
 }
 
-impl Ending {
+impl ResolveStatus {
     /// The exit status.
     pub fn number(self) -> u8
         ensures { result ≡ ending_number self }
     {
         match self {
-            Ending::Answered => 0,
-            Ending::Refused => 1,
-            Ending::Waits => 3,
+            ResolveStatus::Answered => 0,
+            ResolveStatus::Refused => 1,
+            ResolveStatus::Waits => 3,
         }
     }
 }
@@ -61,11 +61,11 @@ impl Ending {
 /// nothing was written; after a failed write, a beginning of the text.
 pub fn run_resolve<R: Read, W: Write>(
     alloc: Global,
-    asked: &Asked,
+    asked: &ResolveInput,
     logs: &[u8],
     reader: &mut R,
     writer: &mut W,
-) -> Result<Ending, Failure>
+) -> Result<ResolveStatus, Failure>
     ensures written { IfOk result (λ ending. (input : List ℕ) × (text : List ℕ)
         × IsInput (R.remaining reader.old) input
         × IsResolveReport ending asked.now.form asked.now.trust (option_map (λ s. s.now) asked.now.name) logs.now input text
@@ -91,16 +91,16 @@ pub fn run_resolve<R: Read, W: Write>(
 /// What is written of these logs and names.
 fn answers(
     alloc: Global,
-    asked: &Asked,
+    asked: &ResolveInput,
     logs: &[u8],
     input: &[u8],
-) -> Result<(Vec<u8>, Ending), AllocError>
+) -> Result<(Vec<u8>, ResolveStatus), AllocError>
     ensures { IfOk result (λ r. IsResolveReport r.1 asked.now.form asked.now.trust
         (option_map (λ s. s.now) asked.now.name) logs.now input.now r.0.items) }
 {
     match read_some_logs(alloc, logs) {
         Ok((tree, logs)) => resolved(alloc, asked, &tree, logs.as_slice(), input),
-        Err(ScriptError::Fault(fault)) => Ok((refusal(alloc, fault)?, Ending::Refused)),
+        Err(ScriptError::Fault(fault)) => Ok((refusal(alloc, fault)?, ResolveStatus::Refused)),
         Err(ScriptError::Memory) => Err(AllocError),
     }
 }
@@ -108,11 +108,11 @@ fn answers(
 /// What is written of these names, by the logs of this tree.
 fn resolved(
     alloc: Global,
-    asked: &Asked,
+    asked: &ResolveInput,
     tree: &Tree,
     logs: &[ProcessLog],
     input: &[u8],
-) -> Result<(Vec<u8>, Ending), AllocError>
+) -> Result<(Vec<u8>, ResolveStatus), AllocError>
     requires { IsTree tree.now }
     ensures { IfOk result (λ r. IsResolved r.1 asked.now.form asked.now.trust
         (option_map (λ s. s.now) asked.now.name) tree.now logs.now input.now r.0.items) }
@@ -122,11 +122,11 @@ fn resolved(
             let finder = Finder::new(alloc, tree, logs, &notes, asked.trust)?;
             match str::from_utf8(input) {
                 Ok(text) => told(alloc, asked, tree, &finder, text),
-                Err(_) => Ok((no_text(alloc)?, Ending::Refused)),
+                Err(_) => Ok((no_text(alloc)?, ResolveStatus::Refused)),
             }
         }
         Err(AuditError::Damaged(process, place)) => {
-            Ok((damaged(alloc, process, place)?, Ending::Refused))
+            Ok((damaged(alloc, process, place)?, ResolveStatus::Refused))
         }
         Err(AuditError::Memory) => Err(AllocError),
     }
@@ -140,21 +140,21 @@ fn no_text(alloc: Global) -> Result<Vec<u8>, AllocError>
 }
 
 /// The answer to what a name is of.
-fn answer_to(alloc: Global, finder: &Finder, naming: Naming) -> Result<Answer, AllocError>
+fn answer_to(alloc: Global, finder: &Finder, naming: Naming) -> Result<BranchAnswer, AllocError>
     requires tree { IsTree finder.now.tree.now }
     requires placed { IsPlaced finder.now.tree.now naming }
-    ensures { IfOk result (λ answer. (kept : Logs) → Finds kept finder.now → answer ≡ naming_answer
+    ensures { IfOk result (λ answer. (kept : KeptLogs) → Finds kept finder.now → answer ≡ naming_answer
         (answer_of finder.now.trust finder.now.tree.now finder.now.logs.now kept) naming) }
 {
     match naming {
         Naming::Case(case) => finder.answer(alloc, &case),
-        Naming::OtherTree => Ok(Answer {
-            word: Word::Foreign,
-            reason: Reason::OtherTree,
+        Naming::OtherTree => Ok(BranchAnswer {
+            word: AnswerWord::Foreign,
+            reason: AnswerReason::OtherTree,
         }),
-        Naming::Foreign => Ok(Answer {
-            word: Word::Foreign,
-            reason: Reason::NoName,
+        Naming::Foreign => Ok(BranchAnswer {
+            word: AnswerWord::Foreign,
+            reason: AnswerReason::NoName,
         }),
     }
 }
@@ -167,7 +167,7 @@ pub fn answer_named(
     logs: &[ProcessLog],
     trust: Trust,
     naming: Naming,
-) -> Result<Answer, AuditError>
+) -> Result<BranchAnswer, AuditError>
     requires tree { IsTree tree.now }
     requires placed { IsPlaced tree.now naming }
     ensures sound { OnOk result (first_damage tree.now logs.now ≡ None) }
@@ -181,34 +181,34 @@ pub fn answer_named(
 }
 
 /// Whether a name has to wait, or a log is wanted for it.
-fn waits(word: Word) -> bool
+fn waits(word: AnswerWord) -> bool
     ensures { result ≡ waits_by word }
 {
-    matches!(word, Word::Wait | Word::Unknown(_))
+    matches!(word, AnswerWord::Wait | AnswerWord::Unknown(_))
 }
 
 /// What is written of an answer.
 fn push_told(
     alloc: Global,
     out: &mut Vec<u8>,
-    form: Form,
+    form: AnswerForm,
     name: &str,
-    answer: &Answer,
+    answer: &BranchAnswer,
 ) -> Result<(), AllocError>
     ensures { OnOk result ((text : List ℕ) × Tells form name.now answer.now text
         × (out.new.items ≡ out.old.items ++ text)) }
 {
     match form {
-        Form::Lines => push_line(out, name, answer),
-        Form::Explained => push_explained(out, name, answer),
-        Form::Sql(database) => push_sql(alloc, out, database, name, answer),
+        AnswerForm::Lines => push_line(out, name, answer),
+        AnswerForm::Explained => push_explained(out, name, answer),
+        AnswerForm::Sql(database) => push_sql(alloc, out, database, name, answer),
     }
 }
 
 /// Adds what is answered of a name, and says whether it has to wait.
 fn push_name(
     alloc: Global,
-    asked: &Asked,
+    asked: &ResolveInput,
     tree: &Tree,
     finder: &Finder,
     out: &mut Vec<u8>,
@@ -216,7 +216,7 @@ fn push_name(
 ) -> Result<bool, AllocError>
     requires tree { IsTree tree.now }
     requires looks { Looks asked.now.trust tree.now finder.now.logs.now finder.now }
-    ensures { IfOk result (λ w. (kept : Logs) → Finds kept finder.now → GivesOne asked.now.form asked.now.trust
+    ensures { IfOk result (λ w. (kept : KeptLogs) → Finds kept finder.now → GivesOne asked.now.form asked.now.trust
         (option_map (λ s. s.now) asked.now.name) tree.now finder.now.logs.now kept name.now w out.old.items
         out.new.items) }
 {
@@ -229,14 +229,14 @@ fn push_name(
 /// The answers to the names of a text, and whether one has to wait.
 fn told(
     alloc: Global,
-    asked: &Asked,
+    asked: &ResolveInput,
     tree: &Tree,
     finder: &Finder,
     text: &str,
-) -> Result<(Vec<u8>, Ending), AllocError>
+) -> Result<(Vec<u8>, ResolveStatus), AllocError>
     requires tree { IsTree tree.now }
     requires looks { Looks asked.now.trust tree.now finder.now.logs.now finder.now }
-    ensures { IfOk result (λ r. (kept : Logs) → Finds kept finder.now → GivesAll asked.now.form asked.now.trust
+    ensures { IfOk result (λ r. (kept : KeptLogs) → Finds kept finder.now → GivesAll asked.now.form asked.now.trust
         (option_map (λ s. s.now) asked.now.name) tree.now finder.now.logs.now kept text.now r.1 r.0.items) }
 {
     let names = lines_of(alloc, text)?;
@@ -252,12 +252,12 @@ fn told(
 }
 
 /// How a run ends, by whether a name has to wait.
-fn ending_of(waiting: bool) -> Ending
+fn ending_of(waiting: bool) -> ResolveStatus
     ensures { result ≡ ending_by waiting }
 {
     if waiting {
-        Ending::Waits
+        ResolveStatus::Waits
     } else {
-        Ending::Answered
+        ResolveStatus::Answered
     }
 }

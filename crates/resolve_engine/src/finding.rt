@@ -1,24 +1,24 @@
 //! The answer to a case.
 
 ghost use Rattle.std.specs.Prelude.{◌≡◌, IfOk, true};
-ghost use Rattle.tree_headline.specs.auditor.Audits.{Logs};
-ghost use Rattle.tree_model.specs.Names.{process_of};
-ghost use Rattle.tree_model.specs.Nodes.{is_listed};
-ghost use Rattle.tree_model.specs.Trees.{IsTree};
-ghost use Rattle.tree_audit.specs.Tables.{AreNotes};
-ghost use Rattle.logs_script.specs.Logs.{has_log as has_log_in};
+ghost use Rattle.protocol.specs.Audits.{KeptLogs};
+ghost use Rattle.protocol.specs.Names.{process_of};
+ghost use Rattle.protocol.specs.Nodes.{is_listed};
+ghost use Rattle.protocol.specs.Trees.{IsTree};
+ghost use Rattle.audit_tree.specs.Tables.{AreNotes};
+ghost use Rattle.log_script.specs.Logs.{has_log as has_log_in};
 ghost use Rattle.resolve_engine.specs.Answers.{above_answer, answer_of, decided_in, if_complete as if_complete_by, is_unpromised as is_unpromised_by, kept_answer, not_kept as not_kept_by, step_answer, own_answer as own_answer_by, own_kinds};
 ghost use Rattle.resolve_engine.specs.Finders.{Finds, Looks};
 
-use crate::answer::{Answer, Reason, Word, by_outcome};
+use crate::answer::{AnswerReason, AnswerWord, BranchAnswer, by_outcome};
 use crate::asked::Trust;
 use audit_cases::Kinds;
-use audit_engine::{Found, Stands, Step, TreeNamings, all_namings, steps_of};
-use inquire_core::presumed;
-use logs_script::ProcessLog;
+use audit_engine::{AuditStep, Stands, StepFound, TreeNamings, all_namings, steps_of};
+use audit_tree::TreeNotes;
+use coord_records::presumed;
+use log_script::ProcessLog;
+use protocol::{Case, Outcome, ProcessId, Tree};
 use std::alloc::{AllocError, Global};
-use tree_audit::TreeNotes;
-use tree_model::{Case, Outcome, ProcessId, Tree};
 
 /// What the logs of a tree say, where cases are looked up.
 #[derive(Drop)]
@@ -31,7 +31,7 @@ pub struct Finder<'a> {
 }
 
 /// Whether a process has a log among these.
-#[tactic(auto, unfolding(logs_script::specs::Logs::has_log, tree_model::specs::Names::same_process))]
+#[tactic(auto, unfolding(log_script::specs::Logs::has_log, protocol::specs::Names::same_process))]
 pub(crate) fn has_log(logs: &[ProcessLog], process: ProcessId) -> bool
     ensures { result ≡ has_log_in logs.now process }
 {
@@ -52,24 +52,24 @@ fn decided(kinds: Kinds) -> Option<Outcome>
 }
 
 /// What its own log says of a case, if it says what to do.
-fn own_answer(kinds: Kinds) -> Option<Answer>
+fn own_answer(kinds: Kinds) -> Option<BranchAnswer>
     ensures { result ≡ own_answer_by kinds }
 {
     if kinds.heur_commit {
-        Some(Answer {
-            word: Word::HeuristicCommit,
-            reason: Reason::Operator,
+        Some(BranchAnswer {
+            word: AnswerWord::HeuristicCommit,
+            reason: AnswerReason::Operator,
         })
     } else if kinds.heur_rollback {
-        Some(Answer {
-            word: Word::HeuristicRollback,
-            reason: Reason::Operator,
+        Some(BranchAnswer {
+            word: AnswerWord::HeuristicRollback,
+            reason: AnswerReason::Operator,
         })
     } else {
         let outcome = decided(kinds)?;
-        Some(Answer {
+        Some(BranchAnswer {
             word: by_outcome(outcome),
-            reason: Reason::Own,
+            reason: AnswerReason::Own,
         })
     }
 }
@@ -85,7 +85,7 @@ impl<'a> Finder<'a> {
     ) -> Result<Self, AllocError>
         requires { IsTree tree.now }
         ensures { IfOk result (λ finder. Looks trust tree.now logs.now finder
-            × ((kept : Logs) → AreNotes tree.now kept notes.now.entries → Finds kept finder)) }
+            × ((kept : KeptLogs) → AreNotes tree.now kept notes.now.entries → Finds kept finder)) }
     {
         let namings = all_namings(alloc, tree, notes)?;
         Ok(Finder {
@@ -99,7 +99,7 @@ impl<'a> Finder<'a> {
 
     /// What is noted of a case in its own process's log.
     fn kinds_of(&self, case: &Case) -> Kinds
-        ensures { (kept : Logs) → Finds kept self.now → is_listed self.now.tree.now (process_of case.now) ≡ true
+        ensures { (kept : KeptLogs) → Finds kept self.now → is_listed self.now.tree.now (process_of case.now) ≡ true
             → result ≡ own_kinds kept case.now }
     {
         match self.notes.get(&case.process()) {
@@ -112,66 +112,66 @@ impl<'a> Finder<'a> {
     }
 
     /// This word, if the logs are complete; else it has to wait.
-    fn if_complete(&self, word: Word) -> Word
+    fn if_complete(&self, word: AnswerWord) -> AnswerWord
         ensures { result ≡ if_complete_by self.now.trust word }
     {
         match self.trust {
             Trust::Complete => word,
-            Trust::Parts => Word::Wait,
+            Trust::Parts => AnswerWord::Wait,
         }
     }
 
     /// What a coordinator's case says of the ticket that it names.
-    fn kept(&self, process: ProcessId, case: Case, stands: Stands) -> Answer
+    fn kept(&self, process: ProcessId, case: Case, stands: Stands) -> BranchAnswer
         ensures { result ≡ kept_answer self.now.trust process case stands }
     {
         let word = match stands {
-            Stands::Commit => Word::Commit,
-            Stands::Abort => Word::Rollback,
+            Stands::Commit => AnswerWord::Commit,
+            Stands::Abort => AnswerWord::Rollback,
             Stands::Collecting | Stands::Prepare | Stands::Ended => {
-                self.if_complete(Word::Rollback)
+                self.if_complete(AnswerWord::Rollback)
             }
         };
-        Answer {
+        BranchAnswer {
             word,
-            reason: Reason::Kept(process, case, stands),
+            reason: AnswerReason::Kept(process, case, stands),
         }
     }
 
     /// What follows where no case of this process names the ticket.
-    fn not_kept(&self, process: ProcessId, case: &Case) -> Answer
+    fn not_kept(&self, process: ProcessId, case: &Case) -> BranchAnswer
         ensures { result ≡ not_kept_by self.now.trust (has_log_in self.now.logs.now process) process case.now }
     {
         if !has_log(self.logs, process) {
-            return Answer {
-                word: Word::Unknown(process),
-                reason: Reason::Missing(process),
+            return BranchAnswer {
+                word: AnswerWord::Unknown(process),
+                reason: AnswerReason::Missing(process),
             };
         }
         let presumption = case.txn.presumption;
-        Answer {
+        BranchAnswer {
             word: self.if_complete(by_outcome(presumed(presumption))),
-            reason: Reason::Presumed(process, presumption),
+            reason: AnswerReason::Presumed(process, presumption),
         }
     }
 
     /// What a step upward from a case says.
-    fn found(&self, case: &Case, step: &Step) -> Answer
+    fn found(&self, case: &Case, step: &AuditStep) -> BranchAnswer
         ensures { result ≡ step_answer self.now.trust self.now.logs.now case.now step.now }
     {
         match step.found {
-            Found::Kept(next, stands) => self.kept(step.process, next, stands),
-            Found::Nothing => self.not_kept(step.process, case),
+            StepFound::Kept(next, stands) => self.kept(step.process, next, stands),
+            StepFound::Nothing => self.not_kept(step.process, case),
         }
     }
 
     /// What the last step upward from a case says; if there is none, the case is the root's.
-    fn above(&self, case: &Case, steps: &[Step]) -> Answer
+    fn above(&self, case: &Case, steps: &[AuditStep]) -> BranchAnswer
         ensures { result ≡ above_answer self.now.trust self.now.logs.now case.now steps.now }
     {
-        let mut answer = Answer {
-            word: self.if_complete(Word::Rollback),
-            reason: Reason::Root(case.process()),
+        let mut answer = BranchAnswer {
+            word: self.if_complete(AnswerWord::Rollback),
+            reason: AnswerReason::Root(case.process()),
         };
         for step in steps {
             answer = self.found(case, step);
@@ -180,12 +180,13 @@ impl<'a> Finder<'a> {
     }
 
     /// Whether nothing is known above, and the case's own log, which is here, has no promise of it.
-    fn is_unpromised(&self, case: &Case, kinds: Kinds, found: Answer) -> bool
+    fn is_unpromised(&self, case: &Case, kinds: Kinds, found: BranchAnswer) -> bool
         ensures { result ≡ is_unpromised_by self.now.logs.now case.now kinds found }
     {
         let is_promised = kinds.prepared || kinds.prepare || kinds.ended;
         let is_known = match found.reason {
-            Reason::Kept(_, _, Stands::Commit | Stands::Abort) | Reason::Missing(_) => true,
+            AnswerReason::Kept(_, _, Stands::Commit | Stands::Abort) | AnswerReason::Missing(_) =>
+                true,
             _ => false,
         };
         !is_promised && !is_known && case.ticket.is_some() && has_log(self.logs, case.process())
@@ -193,10 +194,10 @@ impl<'a> Finder<'a> {
 
     /// What is answered of a case of this tree.
     #[tactic(auto, unfolding(crate::specs::Answers::answer_of))]
-    pub fn answer(&self, alloc: Global, case: &Case) -> Result<Answer, AllocError>
+    pub fn answer(&self, alloc: Global, case: &Case) -> Result<BranchAnswer, AllocError>
         requires tree { IsTree self.now.tree.now }
         requires listed { is_listed self.now.tree.now (process_of case.now) ≡ true }
-        ensures { IfOk result (λ answer. (kept : Logs) → Finds kept self.now
+        ensures { IfOk result (λ answer. (kept : KeptLogs) → Finds kept self.now
             → answer ≡ answer_of self.now.trust self.now.tree.now self.now.logs.now kept case.now) }
     {
         let kinds = self.kinds_of(case);
@@ -207,9 +208,9 @@ impl<'a> Finder<'a> {
         let found = self.above(case, &steps);
         if self.is_unpromised(case, kinds, found) {
             let process = case.process();
-            return Ok(Answer {
-                word: Word::Unknown(process),
-                reason: Reason::NoPromise(process),
+            return Ok(BranchAnswer {
+                word: AnswerWord::Unknown(process),
+                reason: AnswerReason::NoPromise(process),
             });
         }
         Ok(found)

@@ -23,9 +23,9 @@ mod lines;
 mod reading;
 mod sql;
 
-pub use answer::{Answer, Reason, Word};
-pub use asked::{Asked, Database, Form, Trust};
-pub use engine::{Ending, answer_named, run_resolve};
+pub use answer::{AnswerReason, AnswerWord, BranchAnswer};
+pub use asked::{AnswerForm, Database, ResolveInput, Trust};
+pub use engine::{ResolveStatus, answer_named, run_resolve};
 pub use finding::Finder;
 pub use lines::push_answer;
 pub use reading::read_some_logs;

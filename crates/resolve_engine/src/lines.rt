@@ -4,34 +4,34 @@ ghost use Rattle.std.specs.Prelude.{◌≡◌, ◌++◌, OnOk};
 ghost use Rattle.std.specs.Fmt.{decimal};
 ghost use Rattle.resolve_engine.specs.Texts.{answer_text, explained_text, kept_text, line_text, more_text, presumed_text, reason_text, stands_text, wanted_text, why_text, word_text};
 
-use crate::answer::{Answer, Reason, Word};
+use crate::answer::{AnswerReason, AnswerWord, BranchAnswer};
 use audit_engine::Stands;
-use inquire_core::presumed;
+use coord_records::presumed;
+use protocol::{Case, Presumption, ProcessId};
 use std::alloc::AllocError;
 use trace_lines::{outcome_word, push, push_case, push_number};
-use tree_model::{Case, Presumption, ProcessId};
 
 /// The word of an answer.
-fn word_of(word: Word) -> &'static str
+fn word_of(word: AnswerWord) -> &'static str
     ensures { result.now ≡ word_text word }
 {
     match word {
-        Word::Commit => "commit",
-        Word::Rollback => "rollback",
-        Word::HeuristicCommit => "heuristic-commit",
-        Word::HeuristicRollback => "heuristic-rollback",
-        Word::Wait => "wait",
-        Word::Unknown(_) => "unknown",
-        Word::Foreign => "foreign",
+        AnswerWord::Commit => "commit",
+        AnswerWord::Rollback => "rollback",
+        AnswerWord::HeuristicCommit => "heuristic-commit",
+        AnswerWord::HeuristicRollback => "heuristic-rollback",
+        AnswerWord::Wait => "wait",
+        AnswerWord::Unknown(_) => "unknown",
+        AnswerWord::Foreign => "foreign",
     }
 }
 
 /// The process of which something is wanted, if it is.
-fn push_wanted(out: &mut Vec<u8>, word: Word) -> Result<(), AllocError>
+fn push_wanted(out: &mut Vec<u8>, word: AnswerWord) -> Result<(), AllocError>
     ensures { OnOk result (out.new.items ≡ out.old.items ++ wanted_text word) }
 {
     match word {
-        Word::Unknown(process) => {
+        AnswerWord::Unknown(process) => {
             push(out, " ")?;
             push_number(out, u64::from(process.0))
         }
@@ -40,7 +40,7 @@ fn push_wanted(out: &mut Vec<u8>, word: Word) -> Result<(), AllocError>
 }
 
 /// A name with the word of its answer, without the line's end.
-pub fn push_answer(out: &mut Vec<u8>, name: &str, word: Word) -> Result<(), AllocError>
+pub fn push_answer(out: &mut Vec<u8>, name: &str, word: AnswerWord) -> Result<(), AllocError>
     ensures { OnOk result (out.new.items ≡ out.old.items ++ answer_text name.now word) }
 {
     push(out, name)?;
@@ -112,11 +112,11 @@ fn push_presumed(
 }
 
 /// What the caller may do about an answer that waits for what is not in a log.
-fn push_more(out: &mut Vec<u8>, word: Word) -> Result<(), AllocError>
+fn push_more(out: &mut Vec<u8>, word: AnswerWord) -> Result<(), AllocError>
     ensures { OnOk result (out.new.items ≡ out.old.items ++ more_text word) }
 {
     match word {
-        Word::Wait => push(
+        AnswerWord::Wait => push(
             out,
             "; that counts only if these are the logs as they are, of processes that do not run (--complete)",
         ),
@@ -125,34 +125,34 @@ fn push_more(out: &mut Vec<u8>, word: Word) -> Result<(), AllocError>
 }
 
 /// Why, as one sentence without its end, whatever the answer waits for.
-fn push_because(out: &mut Vec<u8>, reason: &Reason) -> Result<(), AllocError>
+fn push_because(out: &mut Vec<u8>, reason: &AnswerReason) -> Result<(), AllocError>
     ensures { OnOk result (out.new.items ≡ out.old.items ++ reason_text reason.now) }
 {
     match reason {
-        Reason::Own => push(out, "the log of its own process says so"),
-        Reason::Operator => push(
+        AnswerReason::Own => push(out, "the log of its own process says so"),
+        AnswerReason::Operator => push(
             out,
             "an operator decided it so, in the log of its own process",
         ),
-        Reason::Kept(process, case, stands) => push_kept(out, *process, case, *stands),
-        Reason::Presumed(process, presumption) => push_presumed(out, *process, *presumption),
-        Reason::Root(process) => push_about(
+        AnswerReason::Kept(process, case, stands) => push_kept(out, *process, case, *stands),
+        AnswerReason::Presumed(process, presumption) => push_presumed(out, *process, *presumption),
+        AnswerReason::Root(process) => push_about(
             out,
             "it is the case of the root ",
             *process,
             ", which is not decided: a restart of the root aborts it",
         ),
-        Reason::Missing(process) => push_about(out, "the log of ", *process, " is not here"),
-        Reason::NoPromise(process) => {
+        AnswerReason::Missing(process) => push_about(out, "the log of ", *process, " is not here"),
+        AnswerReason::NoPromise(process) => {
             push_about(out, "the log of ", *process, " has no promise of it")
         }
-        Reason::OtherTree => push(out, "the name is of a tree of another name (--name)"),
-        Reason::NoName => push(out, "no case of this tree has such a name"),
+        AnswerReason::OtherTree => push(out, "the name is of a tree of another name (--name)"),
+        AnswerReason::NoName => push(out, "no case of this tree has such a name"),
     }
 }
 
 /// Why, as one sentence without its end.
-pub fn push_reason(out: &mut Vec<u8>, answer: &Answer) -> Result<(), AllocError>
+pub fn push_reason(out: &mut Vec<u8>, answer: &BranchAnswer) -> Result<(), AllocError>
     ensures { OnOk result (out.new.items ≡ out.old.items ++ why_text answer.now) }
 {
     push_because(out, &answer.reason)?;
@@ -160,7 +160,7 @@ pub fn push_reason(out: &mut Vec<u8>, answer: &Answer) -> Result<(), AllocError>
 }
 
 /// The line of an answer.
-pub fn push_line(out: &mut Vec<u8>, name: &str, answer: &Answer) -> Result<(), AllocError>
+pub fn push_line(out: &mut Vec<u8>, name: &str, answer: &BranchAnswer) -> Result<(), AllocError>
     ensures { OnOk result (out.new.items ≡ out.old.items ++ line_text name.now answer.now) }
 {
     push_answer(out, name, answer.word)?;
@@ -168,7 +168,11 @@ pub fn push_line(out: &mut Vec<u8>, name: &str, answer: &Answer) -> Result<(), A
 }
 
 /// The line of an answer, and the line that says why.
-pub fn push_explained(out: &mut Vec<u8>, name: &str, answer: &Answer) -> Result<(), AllocError>
+pub fn push_explained(
+    out: &mut Vec<u8>,
+    name: &str,
+    answer: &BranchAnswer,
+) -> Result<(), AllocError>
     ensures { OnOk result (out.new.items ≡ out.old.items ++ explained_text name.now answer.now) }
 {
     push_line(out, name, answer)?;

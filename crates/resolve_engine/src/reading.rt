@@ -1,15 +1,15 @@
 //! Reads a tree and the logs of some of its processes.
 
 ghost use Rattle.std.specs.Prelude.{◌≡◌, ◌+◌, ◌<◌, ◌^◌, Ok, IfOk, IfErr, length, map};
-ghost use Rattle.logs_script.specs.Logs.{IsNumbered, may_follow as may_follow_in};
+ghost use Rattle.log_script.specs.Logs.{IsNumberedFault, may_follow as may_follow_in};
 ghost use Rattle.resolve_engine.specs.Inputs.{IsSomeLogsError, IsSomeLogsText, some_logs_of};
 
 use crate::finding::has_log;
-use link_script::{ScriptError, ScriptFault, read_front};
-use logs_script::{ProcessLog, ProcessLogs, log_of};
+use log_script::{ProcessLog, ProcessLogs, log_of};
+use protocol::{Sequence, Tree};
 use script_words::says_nothing;
 use std::alloc::Global;
-use tree_model::{Sequence, Tree};
+use tree_script::{ScriptError, ScriptFault, read_front};
 
 /// Whether a log is the first of a process of the tree.
 fn may_follow(tree: &Tree, logs: &[ProcessLog], log: &ProcessLog) -> bool
@@ -27,7 +27,7 @@ fn logs_after(
 ) -> Result<ProcessLogs, ScriptError>
     requires { rule + length lines.now < 2 ^ 64 }
     ensures ok { IfOk result (λ logs. some_logs_of tree.now rule (map (λ s. s.now) lines.now) ≡ Ok logs) }
-    ensures err { IfErr result (λ error. IsNumbered error
+    ensures err { IfErr result (λ error. IsNumberedFault error
         (some_logs_of tree.now rule (map (λ s. s.now) lines.now))) }
 {
     let mut logs = Sequence::new(alloc);

@@ -6,7 +6,7 @@ ghost use Rattle.branch_names.specs.Forms.{IsXidOf};
 ghost use Rattle.xa_xid.specs.Xids.{XidParts};
 ghost use Rattle.resolve_engine.specs.Sql.{bytes_text, comment_text, commits as commits_by, mariadb_text, postgresql_text, quoted_byte, sql_text, statement_by, statement_text, string_text, verb_text};
 
-use crate::answer::{Answer, Word};
+use crate::answer::{AnswerWord, BranchAnswer};
 use crate::asked::Database;
 use crate::lines::{push_answer, push_reason};
 use branch_names::xid_in;
@@ -15,17 +15,17 @@ use trace_lines::{push, push_number};
 use xa_xid::Xid;
 
 /// Whether a branch is to be committed or rolled back; None, if neither is to be done now.
-fn is_commit(word: Word) -> Option<bool>
+fn is_commit(word: AnswerWord) -> Option<bool>
     ensures { result ≡ commits_by word }
 {
     match word {
-        Word::Commit => Some(true),
-        Word::Rollback => Some(false),
-        Word::HeuristicCommit
-        | Word::HeuristicRollback
-        | Word::Wait
-        | Word::Unknown(_)
-        | Word::Foreign => None,
+        AnswerWord::Commit => Some(true),
+        AnswerWord::Rollback => Some(false),
+        AnswerWord::HeuristicCommit
+        | AnswerWord::HeuristicRollback
+        | AnswerWord::Wait
+        | AnswerWord::Unknown(_)
+        | AnswerWord::Foreign => None,
     }
 }
 
@@ -136,7 +136,7 @@ fn push_ending(
     database: Database,
     name: &str,
     xid: Option<Xid>,
-    word: Word,
+    word: AnswerWord,
 ) -> Result<(), AllocError>
     ensures { OnOk result (out.new.items
         ≡ out.old.items ++ statement_text database name.now xid (commits_by word)) }
@@ -148,7 +148,7 @@ fn push_ending(
 }
 
 /// The comment of an answer: the answer, and the reason.
-fn push_comment(out: &mut Vec<u8>, name: &str, answer: &Answer) -> Result<(), AllocError>
+fn push_comment(out: &mut Vec<u8>, name: &str, answer: &BranchAnswer) -> Result<(), AllocError>
     ensures { OnOk result (out.new.items ≡ out.old.items ++ comment_text name.now answer.now) }
 {
     push(out, "-- ")?;
@@ -165,7 +165,7 @@ fn push_written(
     database: Database,
     name: &str,
     xid: Option<Xid>,
-    answer: &Answer,
+    answer: &BranchAnswer,
 ) -> Result<(), AllocError>
     ensures { OnOk result (out.new.items
         ≡ out.old.items ++ sql_text database name.now xid answer.now) }
@@ -180,7 +180,7 @@ pub fn push_sql(
     out: &mut Vec<u8>,
     database: Database,
     name: &str,
-    answer: &Answer,
+    answer: &BranchAnswer,
 ) -> Result<(), AllocError>
     ensures { OnOk result ((xid : Option XidParts) × IsXidOf name.now xid
         × (out.new.items ≡ out.old.items ++ sql_text database name.now xid answer.now)) }

@@ -1,16 +1,16 @@
 -- The log of a process reads as what the process keeps.
 use Rattle.std.proofs.Common.{◌≡◌, ◌∙◌, ◌++◌, sym, ap}
 use Rattle.std.proofs.lemmas.List.{map-append}
-use Rattle.tree_model.specs.LogNames.{in_log, own_records, parent_of}
-use Rattle.tree_model.specs.Nodes.{Node, kept}
-use Rattle.tree_model.proofs.LogNameLaws.{reads_back}
-use Rattle.rec_log.specs.Sights.{records_of}
-use Rattle.core_model.specs.States.{CoreState}
-use Rattle.core_law.specs.Fits.{KeepsOwn}
-use Rattle.core_law.specs.Ties.{Stands}
+use Rattle.protocol.specs.LogNames.{in_log, own_records, parent_of}
+use Rattle.protocol.specs.Nodes.{Node, kept}
+use Rattle.protocol.proofs.LogNameLaws.{reads_back}
+use Rattle.log_records.specs.Sights.{records_of}
+use Rattle.process_state.specs.States.{CoreState}
+use Rattle.tree_state.specs.Fits.{KeepsOwn}
+use Rattle.tree_state.specs.StandsFor.{StandsFor}
 
 -- what a process reads of its records are what the model's process keeps
-pub own_kept : (n : Node) (s : CoreState) → Stands n s → KeepsOwn s.place n
+pub own_kept : (n : Node) (s : CoreState) → StandsFor n s → KeepsOwn s.place n
     → own_records s.place (records_of s.log.kept) ≡ kept n
 own_kept n s stands own =
     ap (own_records s.place)

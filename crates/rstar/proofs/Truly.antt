@@ -1,69 +1,69 @@
 -- The audit of the logs that a run left is true of that run.
 use Rattle.std.proofs.Common.{◌≡◌, ◌∙◌, ◌&&◌, ◌||◌, ℕ, Bool, true, false, if◌then◌else◌, is_none, is_some, Option, Some, None, List, find, refl, sym, ap, subst}
 use Rattle.std.specs.List.{AllByRecursion}
-use Rattle.tree_model.specs.declared.events.Event.{Event}
-use Rattle.tree_model.specs.declared.names.Kind.{Kind}
-use Rattle.tree_model.specs.declared.names.Kind.TheVariants.{Coordinator, Manager}
-use Rattle.tree_model.specs.declared.names.ProcessId.{ProcessId}
-use Rattle.tree_model.specs.declared.trees.TreeEntry.{TreeEntry}
-use Rattle.tree_model.specs.LogNames.{own_records}
-use Rattle.tree_model.specs.Names.{same_process}
-use Rattle.tree_model.specs.Nodes.{Place, is_listed, kept, place_of, role_by, role_of}
-use Rattle.tree_model.specs.Trees.{IsTree, has_wrong_roots, is_manager_kind, is_top}
-use Rattle.tree_model.specs.World.{Made, World}
-use Rattle.logs_script.specs.declared.line.ProcessLog.{ProcessLog}
-use Rattle.logs_script.specs.Logs.{IsLogsText, bytes_of}
-use Rattle.link_script.specs.Inputs.{IsScript}
-use Rattle.logs_script.specs.Faults.{Damage, damage_text, first_damage}
+use Rattle.protocol.specs.declared.events.Event.{Event}
+use Rattle.protocol.specs.declared.names.Kind.{Kind}
+use Rattle.protocol.specs.declared.names.Kind.TheVariants.{Coordinator, Manager}
+use Rattle.protocol.specs.declared.names.ProcessId.{ProcessId}
+use Rattle.protocol.specs.declared.trees.TreeProcess.{TreeProcess}
+use Rattle.protocol.specs.LogNames.{own_records}
+use Rattle.protocol.specs.Names.{same_process}
+use Rattle.protocol.specs.Nodes.{Place, is_listed, kept, place_of, role_by, role_of}
+use Rattle.protocol.specs.Trees.{IsTree, has_wrong_roots, is_manager_kind, is_top}
+use Rattle.protocol.specs.World.{Made, World}
+use Rattle.log_script.specs.declared.line.ProcessLog.{ProcessLog}
+use Rattle.log_script.specs.Logs.{IsLogsText, bytes_of}
+use Rattle.tree_script.specs.Inputs.{IsScript}
+use Rattle.log_script.specs.Faults.{Damage, damage_text, first_damage}
 use Rattle.log_text.specs.Forms.{form_in, log_form}
 use Rattle.log_rules.specs.order.Logs.{read_as}
-use Rattle.logs_script.proofs.Formats.{second_form}
-use Rattle.logs_script.specs.spelling.Fits.{FitsEntry, FitsTree}
-use Rattle.logs_script.proofs.spelling.OneWay.{read_has_no_fault, read_in_one_way}
-use Rattle.logs_script.proofs.spelling.Read.{table_fits}
-use Rattle.logs_script.proofs.spelling.Written.{written_is_read}
-use Rattle.rec_log.specs.Sights.{body, records_of}
-use Rattle.rec_log.specs.Texts.{records_in}
+use Rattle.log_script.proofs.Formats.{second_form}
+use Rattle.log_script.specs.spelling.Fits.{FitsEntry, FitsTree}
+use Rattle.log_script.proofs.spelling.OneWay.{read_has_no_fault, read_in_one_way}
+use Rattle.log_script.proofs.spelling.Read.{table_fits}
+use Rattle.log_script.proofs.spelling.Written.{written_is_read}
+use Rattle.log_records.specs.Sights.{body, records_of}
+use Rattle.log_records.specs.Texts.{records_in}
 use Rattle.report_io.specs.declared.status.Status.TheVariants.{Ended}
-use Rattle.core_model.specs.States.{CoreState, form_of, kind_of_role}
-use Rattle.core_law.specs.Fits.{KeepsOwn}
-use Rattle.core_law.proofs.worlds.Kept.{keeps_own}
-use Rattle.core_law.specs.worlds.Refusals.{LeadsTo, Refusal}
-use Rattle.core_law.specs.worlds.Runs.{IsOpened}
-use Rattle.core_law.specs.worlds.Ties.{Follows}
-use Rattle.core_law.specs.worlds.Worlds.{WorldState}
+use Rattle.process_state.specs.States.{CoreState, form_of, kind_of_role}
+use Rattle.tree_state.specs.Fits.{KeepsOwn}
+use Rattle.proof_runs.proofs.worlds.Kept.{keeps_own}
+use Rattle.proof_runs.specs.worlds.Refusals.{LeadsTo, Refusal}
+use Rattle.tree_state.specs.Runs.{IsOpenedTree}
+use Rattle.proof_runs.specs.worlds.Follows.{Follows}
+use Rattle.tree_state.specs.Worlds.{WorldState}
 use Rattle.tree_world.specs.Nodes.{SpellsLogBy}
-use Rattle.tree_engine.specs.declared.tree.Output.TheVariants.{Logs}
+use Rattle.tree_engine.specs.declared.tree.TreeOutput.TheVariants.{Logs}
 use Rattle.tree_world.specs.LogsLeft.{AreLogs}
 use Rattle.tree_engine.specs.Logs.{LeavesLogs}
 use Rattle.tree_engine.specs.Trees.{Tells, ending}
-use Rattle.tree_audit.specs.Reports.{entry_kind, kept_lists, mismatches_in, whole_records}
-use Rattle.tree_audit.specs.Truths.{AreKeptBehind, AreTrue}
-use Rattle.tree_audit.proofs.TreePlaces.{listed_entry, named_so, not_found, role_if}
-use Rattle.tree_audit.proofs.Truths.{true_of_runs}
+use Rattle.audit_tree.specs.Reports.{entry_kind, kept_lists, mismatches_in, whole_records}
+use Rattle.audit_tree.specs.Truths.{AreKeptBehind, AreTrue}
+use Rattle.audit_tree.proofs.TreePlaces.{listed_entry, named_so, not_found, role_if}
+use Rattle.audit_tree.proofs.Truths.{true_of_runs}
 use Rattle.audit_engine.specs.Audits.{AuditsLogs, IsAudited, IsAuditReport, OfInput, OfLog, Reports, audit_lines, ending_by}
-use Rattle.logs_script.specs.Refusals.{TellsDamage}
+use Rattle.log_script.specs.Refusals.{TellsDamage}
 use Rattle.audit_engine.specs.declared.detail.Detail.{Detail}
-use Rattle.audit_engine.specs.declared.ending.Ending.{Ending}
-use Rattle.audit_engine.specs.declared.ending.Ending.TheVariants as ending
+use Rattle.audit_engine.specs.declared.ending.AuditStatus.{AuditStatus}
+use Rattle.audit_engine.specs.declared.ending.AuditStatus.TheVariants as ending
 use Rattle.rstar.specs.Laws.{AuditsOfLeftLogsAreTrue, AuditsTruly}
-use Rattle.left_logs.proofs.Entries.{none_failed}
+use Rattle.proof_left_logs.proofs.Entries.{none_failed}
 use Rattle.rstar.proofs.Kept.{own_kept}
-use Rattle.left_logs.proofs.Left.{logs_fit, spells_at}
+use Rattle.proof_left_logs.proofs.Left.{logs_fit, spells_at}
 use Rattle.resolve_engine.proofs.Sound.{IsSoundLog, sound_at, sound_records}
-use Rattle.left_logs.proofs.Undamaged.{entry_log, none_damaged, some_node}
-use Rattle.left_logs.proofs.Unfailed.{NoneFailed, all_up}
+use Rattle.proof_left_logs.proofs.Undamaged.{entry_log, none_damaged, some_node}
+use Rattle.proof_left_logs.proofs.Unfailed.{NoneFailed, all_up}
 
 -- What a run left.
 
 module _ (end : WorldState) (t : IsTree end.tree) (es : List Made) (w : World) (follows : Follows es w end)
     (logs : List ProcessLog) (left : AreLogs end end.tree logs)
     (none : first_damage end.tree logs ≡ None) where
-  abbrev tree : List TreeEntry
+  abbrev tree : List TreeProcess
   tree = end.tree
 
   module _ (q : ProcessId) (listed : is_listed end.tree q ≡ true) where
-    kept_by : (e : TreeEntry) → find (λ x. same_process x.id q) end.tree ≡ Some e → e.id ≡ q → (c : CoreState)
+    kept_by : (e : TreeProcess) → find (λ x. same_process x.id q) end.tree ≡ Some e → e.id ≡ q → (c : CoreState)
         → end.node_at q ≡ Some c → kept_lists end.tree logs q ≡ kept (w.at q)
     unfolding kept_lists
     kept_by e found here c there =
@@ -107,10 +107,10 @@ module _ (end : WorldState) (t : IsTree end.tree) (es : List Made) (w : World) (
 no_damage : {A : Type 0} (d : Damage) (x : ProcessId × ℕ) → d ≡ None → d ≡ Some x → A
 no_damage d x none some = absurd (let both = sym none ∙ some in cc)
 
-module _ (d : Detail) (tree : List TreeEntry) (logs : List ProcessLog) (w : World) (text report : List ℕ)
+module _ (d : Detail) (tree : List TreeProcess) (logs : List ProcessLog) (w : World) (text report : List ℕ)
     (says : IsLogsText text tree logs) (none : first_damage tree logs ≡ None)
     (lines : AreTrue w (audit_lines tree logs)) where
-  reported : (e : Ending) → e ≡ ending_by (mismatches_in (audit_lines tree logs)) → Reports d tree logs report
+  reported : (e : AuditStatus) → e ≡ ending_by (mismatches_in (audit_lines tree logs)) → Reports d tree logs report
       → AuditsTruly d tree w text e report
   reported e ends reports = record {
     logs = logs;
@@ -124,23 +124,23 @@ module _ (d : Detail) (tree : List TreeEntry) (logs : List ProcessLog) (w : Worl
     };
   }
 
-  told : (e : Ending) → TellsDamage tree logs report → AuditsTruly d tree w text e report
+  told : (e : AuditStatus) → TellsDamage tree logs report → AuditsTruly d tree w text e report
   told e damage = no_damage (first_damage tree logs) (damage.0, damage.1) none damage.2
 
-  audited : (e : Ending) → IsAudited d e tree logs report → AuditsTruly d tree w text e report
+  audited : (e : AuditStatus) → IsAudited d e tree logs report → AuditsTruly d tree w text e report
   audited ending.Agrees (reports, ends) = reported ending.Agrees (ap
       (λ b. if b then ending.Agrees else ending.Differs) (sym ends)) reports
   audited ending.Differs (reports, ends) = reported ending.Differs (ap
       (λ b. if b then ending.Agrees else ending.Differs) (sym ends)) reports
   audited ending.Refused damage = told ending.Refused damage
 
-  of_logs : (e : Ending) → AuditsLogs d e text report → AuditsTruly d tree w text e report
+  of_logs : (e : AuditStatus) → AuditsLogs d e text report → AuditsTruly d tree w text e report
   of_logs e a =
       let same = read_in_one_way text a.tree tree a.logs logs a.says says in
       audited e (subst (λ ms. IsAudited d e tree ms report) same.1 (subst
       (λ fs. IsAudited d e fs a.logs report) same.0 a.audits))
 
-  of_report : (e : Ending) → IsAuditReport d e text report → AuditsTruly d tree w text e report
+  of_report : (e : AuditStatus) → IsAuditReport d e text report → AuditsTruly d tree w text e report
   of_report ending.Agrees a = of_logs ending.Agrees a
   of_report ending.Differs a = of_logs ending.Differs a
   of_report ending.Refused (OfLog a) = of_logs ending.Refused a
@@ -148,14 +148,14 @@ module _ (d : Detail) (tree : List TreeEntry) (logs : List ProcessLog) (w : Worl
 
 -- Scripts.
 
-script_fits : (input : List ℕ) (tree : List TreeEntry) (events : List Event) → IsScript input tree events
+script_fits : (input : List ℕ) (tree : List TreeProcess) (events : List Event) → IsScript input tree events
     → AllByRecursion FitsEntry tree × IsTree tree
 script_fits input tree events script =
     let parsed = script.2.tree_text in (table_fits parsed.0 tree parsed.2, script.3)
 
 left_audit : (end : WorldState) → IsTree end.tree → AllByRecursion FitsEntry end.tree
     → (es : List Made) (w : World)
-    → Follows es w end → NoneFailed es → (text report : List ℕ) (d : Detail) (e : Ending)
+    → Follows es w end → NoneFailed es → (text report : List ℕ) (d : Detail) (e : AuditStatus)
     (left : LeavesLogs end text)
     → IsAuditReport d e text report → AuditsTruly d end.tree w text e report
 left_audit end t fit es w follows whole text report d e left a =
@@ -167,11 +167,11 @@ left_audit end t fit es w follows whole text report d e left a =
     (true_of_runs end.tree t left.logs es w
     (left_behind end t es w follows left.logs left.are none whole)) e a
 
-ended : (start end : WorldState) (tree : List TreeEntry) (events : List Event)
-    → IsOpened start tree → IsTree end.tree
+ended : (start end : WorldState) (tree : List TreeProcess) (events : List Event)
+    → IsOpenedTree start tree → IsTree end.tree
     → AllByRecursion FitsEntry end.tree → (es : List Made) (w : World) → Follows es w end
     → (refusal : Refusal) → LeadsTo start events refusal end → Ended ≡ ending refusal
-    → (text report : List ℕ) (d : Detail) (e : Ending)
+    → (text report : List ℕ) (d : Detail) (e : AuditStatus)
     → (tells : Tells false Logs events end refusal text) → IsAuditReport d e text report
     → AuditsTruly d end.tree w text e report
 ended start end tree events opens t fit es w follows None leads status text report d e tells a =

@@ -4,14 +4,14 @@ use crate::source::{self, Source, bytes_in, tell_waiting};
 use crate::{explaining, tell};
 use clap::{Arg, ArgAction, ArgMatches, Command};
 use expand_engine::{ExpandFault, expand};
-use explanation::failure_text;
-use link_script::ScriptFault;
-use logs_script::{damaged, refusal};
+use explain_events::failure_text;
+use log_script::{damaged, refusal};
+use protocol::ProcessId;
 use report_io::{Failure, read_all, write_all};
 use std::alloc::{AllocError, Global};
 use std::io;
 use std::io::{IsTerminal, Read};
-use tree_model::ProcessId;
+use tree_script::ScriptFault;
 
 /// Of which words a script is.
 #[derive(Clone, Copy, PartialEq, Eq)]

@@ -1,8 +1,8 @@
 //! What a node refuses, in sentences.
 
 use crate::tell;
+use explain_lines::{Script, finding_of};
 use input_lines::LONGEST;
-use line_faults::{Script, finding_of};
 use node_engine::Witness;
 use spellings::word::cut;
 use std::alloc::{AllocError, Global};

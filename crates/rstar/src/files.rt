@@ -2,16 +2,16 @@
 //! log.
 
 use crate::tell;
-use file_store::{FileStore, HostFile, OpenError, SeenLog, Trouble, look, look_new};
-use inquire_core::are_numbered;
-use link_script::{Front, ScriptError, ScriptFault, process_of, read_front};
+use coord_records::are_numbered;
+use log_file::{FileOpenError, FileStore, HostFile, SeenLog, Trouble, look, look_new};
+use log_records::RecLog;
 use log_store::MemoryStore;
 use node_engine::{Serving, StartError, start};
-use rec_log::RecLog;
+use protocol::{Tree, TreeProcess};
 use std::alloc::{AllocError, Global};
 use std::fs;
-use tree_model::{Tree, TreeEntry};
-use tree_node::ReopenError;
+use tree_process::ProcessReopenError;
+use tree_script::{Front, ScriptError, ScriptFault, process_of, read_front};
 
 /// Why a command did not start, or ended early: the exit status, and a sentence, if there was memory for it.
 #[derive(Drop)]
@@ -93,7 +93,11 @@ pub(crate) fn tree_in(rt: &HostRuntime, path: &str) -> Result<Tree, End> {
 }
 
 /// The process of this tree that a word names.
-pub(crate) fn entry_of<'a>(alloc: Global, tree: &'a Tree, me: &str) -> Result<&'a TreeEntry, End> {
+pub(crate) fn entry_of<'a>(
+    alloc: Global,
+    tree: &'a Tree,
+    me: &str,
+) -> Result<&'a TreeProcess, End> {
     let Some(number) = process_of(me) else {
         return Err(refused(format!(in alloc; "{me} is not the number of a process")));
     };
@@ -104,16 +108,16 @@ pub(crate) fn entry_of<'a>(alloc: Global, tree: &'a Tree, me: &str) -> Result<&'
 }
 
 /// Why the log at this path was not opened.
-pub(crate) fn not_opened(alloc: Global, path: &str, error: OpenError) -> End {
+pub(crate) fn not_opened(alloc: Global, path: &str, error: FileOpenError) -> End {
     let told = format!(in alloc; "{path}: {error}");
     match error {
-        OpenError::Memory | OpenError::Io(_) => failed(told),
-        OpenError::Busy
-        | OpenError::Missing
-        | OpenError::Exists
-        | OpenError::Damaged
-        | OpenError::NoFile
-        | OpenError::Linked => refused(told),
+        FileOpenError::Memory | FileOpenError::Io(_) => failed(told),
+        FileOpenError::Busy
+        | FileOpenError::Missing
+        | FileOpenError::Exists
+        | FileOpenError::Damaged
+        | FileOpenError::NoFile
+        | FileOpenError::Linked => refused(told),
     }
 }
 
@@ -155,10 +159,17 @@ pub(crate) fn device_failed(alloc: Global, path: &str, trouble: &Trouble) -> End
 }
 
 /// Whether these bytes begin as the log of this process: with a header and a record of its own.
-fn begins_as(entry: &TreeEntry, store: MemoryStore, alloc: Global) -> (bool, Option<MemoryStore>) {
+fn begins_as(
+    entry: &TreeProcess,
+    store: MemoryStore,
+    alloc: Global,
+) -> (bool, Option<MemoryStore>) {
     match RecLog::open(store, entry.id, entry.kind, alloc) {
         Ok(_) => (true, None),
-        Err((rec_log::OpenError::Damaged(place), store)) => (place > FIRST_FRAME, Some(store)),
+        Err((log_records::LogOpenError::Damaged(place), store)) => (
+            place > FIRST_FRAME,
+            Some(store),
+        ),
         Err((_, store)) => (false, Some(store)),
     }
 }
@@ -170,7 +181,7 @@ const FIRST_FRAME: usize = 5;
 pub(crate) fn is_of_another(
     alloc: Global,
     tree: &Tree,
-    me: &TreeEntry,
+    me: &TreeProcess,
     bytes: &[u8],
 ) -> Result<bool, AllocError> {
     let mut store = MemoryStore::from_bytes(Vec::from_slice(alloc, bytes)?);
@@ -192,7 +203,7 @@ pub(crate) fn not_own(
     alloc: Global,
     path: &str,
     tree: &Tree,
-    me: &TreeEntry,
+    me: &TreeProcess,
     bytes: &[u8],
     place: usize,
 ) -> End {
@@ -207,7 +218,7 @@ pub(crate) fn not_own(
 fn let_go(_node: Serving<MemoryStore>) {}
 
 /// Starts a node over a copy of these bytes in memory: what refuses it refuses it before the file is written.
-fn tried(alloc: Global, tree: &Tree, me: &TreeEntry, bytes: &[u8]) -> Result<(), StartError> {
+fn tried(alloc: Global, tree: &Tree, me: &TreeProcess, bytes: &[u8]) -> Result<(), StartError> {
     let copy = MemoryStore::from_bytes(Vec::from_slice(alloc, bytes)?);
     let (node, _) = start(alloc, tree, me, copy)?;
     let_go(node);
@@ -219,7 +230,7 @@ pub(crate) fn judged(
     alloc: Global,
     path: &str,
     tree: &Tree,
-    me: &TreeEntry,
+    me: &TreeProcess,
     bytes: &[u8],
 ) -> Result<(), End> {
     let Err(error) = tried(alloc, tree, me, bytes) else {
@@ -227,18 +238,19 @@ pub(crate) fn judged(
     };
     let told = format!(in alloc; "{path}: {error}");
     Err(match error {
-        StartError::Reopen(ReopenError::Memory | ReopenError::Device) => failed(told),
-        StartError::Reopen(ReopenError::Damaged(place)) => {
+        StartError::Reopen(ProcessReopenError::Memory | ProcessReopenError::Device) => failed(told),
+        StartError::Reopen(ProcessReopenError::Damaged(place)) => {
             not_own(alloc, path, tree, me, bytes, place)
         }
-        StartError::Stranger | StartError::Reopen(ReopenError::Unfit | ReopenError::OldFormat) => {
+        StartError::Stranger
+        | StartError::Reopen(ProcessReopenError::Unfit | ProcessReopenError::OldFormat) => {
             refused(told)
         }
     })
 }
 
 /// Whether the log that these bytes are, over which this process goes on, has a case of a boot that it had not reached.
-fn is_ahead(alloc: Global, me: &TreeEntry, bytes: &[u8]) -> Result<bool, AllocError> {
+fn is_ahead(alloc: Global, me: &TreeProcess, bytes: &[u8]) -> Result<bool, AllocError> {
     let copy = MemoryStore::from_bytes(Vec::from_slice(alloc, bytes)?);
     match RecLog::open(copy, me.id, me.kind, alloc) {
         Ok(log) => {
@@ -251,7 +263,7 @@ fn is_ahead(alloc: Global, me: &TreeEntry, bytes: &[u8]) -> Result<bool, AllocEr
 
 /// Says to the operator what no run leaves: that the log at this path has a case of a boot that it had not reached. The
 /// process goes on over it all the same.
-pub(crate) fn warn(rt: &HostRuntime, path: &str, me: &TreeEntry, bytes: &[u8]) {
+pub(crate) fn warn(rt: &HostRuntime, path: &str, me: &TreeProcess, bytes: &[u8]) {
     let alloc = rt.alloc();
     if let Ok(true) = is_ahead(alloc, me, bytes) {
         tell(

@@ -3,10 +3,10 @@
 
 use crate::files::{End, entry_of, no_memory, not_opened, refused, tree_in};
 use clap::{Arg, ArgAction, ArgMatches};
-use file_store::read;
-use logs_script::{ProcessLog, logs_text};
+use log_file::read;
+use log_script::{ProcessLog, logs_text};
+use protocol::{ProcessId, Sequence, Tree};
 use std::alloc::{AllocError, Global};
-use tree_model::{ProcessId, Sequence, Tree};
 
 /// What help says of `--file`.
 const HELP: &str = "Reads the logs in files: of the tree, and then each process and its log";

@@ -23,17 +23,17 @@ mod source;
 
 use crate::auditing::{Audit, perform_audit};
 use crate::expanding::{Vocabulary, expanded};
-use crate::running::Run;
+use crate::running::RunWords;
 use audit_engine::run_log;
 use clap::error::ErrorKind;
 use clap::{Arg, ArgAction, ArgMatches, Command, Error, value_parser};
 use crash_engine::run_crash;
-use explanation::{Script, failure_text, notes_text, plain_refusal_text, refusal_text};
+use explain_events::{Script, failure_text, notes_text, plain_refusal_text, refusal_text};
 use judging::JudgeWords;
 use migrate_engine::run_migrate;
 use migration::FileWords;
 use node::NodeWords;
-use picture_parts::Part;
+use picture_parts::PicturePart;
 use picturing::{Drawn, NoPart};
 use report_io::{read_all, write_all};
 use resolving::ResolveWords;
@@ -45,22 +45,22 @@ use std::process::ExitCode;
 use std::sync::Wait;
 use std::thread::Threads;
 use std::time::Clock;
-use tree_engine::{Failure, Output, Status, run_tree};
+use tree_engine::{Failure, Status, TreeOutput, run_tree};
 use xa_engine::run_xa;
 
 /// What a command line asks for.
 #[derive(Clone, Copy, PartialEq, Eq)]
 enum Request {
     /// The events of a tree script, and what is written of them.
-    Tree(Output),
+    Tree(TreeOutput),
     /// The same, its trace, and the data that it leaves.
     Data,
     /// The same, its trace with the number of its event before each line.
     Events,
     /// The same, a picture of its run, or of a part of it.
-    Picture(Option<Part>),
+    Picture(Option<PicturePart>),
     /// The events of a tree script, on processes that run at the same time.
-    Run(Run),
+    Run(RunWords),
     /// The calls of an XA script.
     Xa,
     /// What the logs of a tree hold.
@@ -82,7 +82,7 @@ enum Told {
 
 /// What was read of a command line.
 #[derive(Drop)]
-enum Asked<'a> {
+enum CommandLine<'a> {
     Request(Request, Told, Vocabulary, Source<'a>),
     /// A script with words for messages, as the script of specified events that it comes to.
     Expand(Told, Source<'a>),
@@ -557,30 +557,35 @@ fn grammar<'a>(alloc: Global) -> Result<Command<'a>, AllocError> {
 /// What is written of a tree script.
 fn tree_request(matches: &ArgMatches) -> Request {
     if matches.get_flag("logs") {
-        Request::Tree(Output::Logs)
+        Request::Tree(TreeOutput::Logs)
     } else if matches.get_flag("counts") {
-        Request::Tree(Output::Counts)
+        Request::Tree(TreeOutput::Counts)
     } else if matches.get_flag("data") {
         Request::Data
     } else if matches.contains_id("events") {
         Request::Events
     } else {
-        Request::Tree(Output::Trace)
+        Request::Tree(TreeOutput::Trace)
     }
 }
 
 /// What these words of `rstar tree` ask for.
-fn tree_asked<'a>(matches: &ArgMatches<'a>) -> Asked<'a> {
+fn tree_asked<'a>(matches: &ArgMatches<'a>) -> CommandLine<'a> {
     let (told, words) = (told_of(matches), expanding::asked(matches));
     if matches.get_flag("picture") {
         return match picturing::part_of(matches) {
-            Ok(part) => Asked::Request(Request::Picture(part), told, words, source_of(matches)),
-            Err(word) => Asked::NoPart(word),
+            Ok(part) => CommandLine::Request(
+                Request::Picture(part),
+                told,
+                words,
+                source_of(matches),
+            ),
+            Err(word) => CommandLine::NoPart(word),
         };
     }
     match numbering::source_of(matches) {
-        Ok(source) => Asked::Request(tree_request(matches), told, words, source),
-        Err(word) => Asked::NoPart(NoPart::Events(word)),
+        Ok(source) => CommandLine::Request(tree_request(matches), told, words, source),
+        Err(word) => CommandLine::NoPart(NoPart::Events(word)),
     }
 }
 
@@ -616,21 +621,21 @@ fn logs_asked<'a>(
     request: Request,
     told: Told,
     is_text: bool,
-) -> Result<Asked<'a>, AllocError> {
+) -> Result<CommandLine<'a>, AllocError> {
     Ok(match logs::words_of(alloc, matches)? {
-        Some(words) => Asked::Files(request, told, words, is_text),
-        None => Asked::Request(request, told, Vocabulary::Specified, Source::Standard),
+        Some(words) => CommandLine::Files(request, told, words, is_text),
+        None => CommandLine::Request(request, told, Vocabulary::Specified, Source::Standard),
     })
 }
 
 /// What these words ask for, the program's name first.
-fn read_words<'a>(alloc: Global, words: &'a [String]) -> Result<Asked<'a>, Error> {
+fn read_words<'a>(alloc: Global, words: &'a [String]) -> Result<CommandLine<'a>, Error> {
     let matches = grammar(alloc)?.try_get_matches_from(words)?;
     match matches.subcommand() {
         Some((name, found)) => Ok(match name {
             "tree" => tree_asked(found),
-            "expand" => Asked::Expand(told_of(found), source_of(found)),
-            "run" => Asked::Request(
+            "expand" => CommandLine::Expand(told_of(found), source_of(found)),
+            "run" => CommandLine::Request(
                 Request::Run(running::asked(found)),
                 told_of(found),
                 Vocabulary::Specified,
@@ -645,34 +650,34 @@ fn read_words<'a>(alloc: Global, words: &'a [String]) -> Result<Asked<'a>, Error
                 logs_asked(alloc, found, request, told_of(found), false)?
             }
             "migrate" => match migration::file_of(found) {
-                Some(words) => Asked::MigrateFile(words),
-                None => Asked::Request(
+                Some(words) => CommandLine::MigrateFile(words),
+                None => CommandLine::Request(
                     Request::Migrate,
                     told_of(found),
                     Vocabulary::Specified,
                     Source::Standard,
                 ),
             },
-            "judge" => Asked::Judge(judging::asked(found)),
-            "resolve" => Asked::Resolve(resolving::asked(alloc, found)?),
-            "crash" => Asked::Request(
+            "judge" => CommandLine::Judge(judging::asked(found)),
+            "resolve" => CommandLine::Resolve(resolving::asked(alloc, found)?),
+            "crash" => CommandLine::Request(
                 Request::Crash,
                 told_of(found),
                 expanding::asked(found),
                 source_of(found),
             ),
             "node" => match node_of(found) {
-                Some(words) => Asked::Node(words),
-                None => Asked::Memory,
+                Some(words) => CommandLine::Node(words),
+                None => CommandLine::Memory,
             },
-            _ => Asked::Request(
+            _ => CommandLine::Request(
                 Request::Xa,
                 told_of(found),
                 Vocabulary::Specified,
                 source_of(found),
             ),
         }),
-        None => Ok(Asked::Memory),
+        None => Ok(CommandLine::Memory),
     }
 }
 
@@ -925,22 +930,26 @@ fn status_of<T: Threads + Wait + Sync + Clock + Copy + Drop + Send + 'static>(
         return 4;
     };
     match read_words(alloc, words.as_slice()) {
-        Ok(Asked::Request(request, told, words, source)) => {
+        Ok(CommandLine::Request(request, told, words, source)) => {
             perform(rt, threads, request, told, words, source)
         }
-        Ok(Asked::Expand(told, source)) => expanding::run(rt, told == Told::Explained, source),
-        Ok(Asked::Node(words)) => node::run(rt, *threads, words),
-        Ok(Asked::MigrateFile(words)) => migration::run(rt, words),
-        Ok(Asked::Resolve(words)) => resolving::run(rt, words),
-        Ok(Asked::Judge(words)) => judging::run(rt, words),
-        Ok(Asked::Files(request, told, words, is_text)) => {
+        Ok(CommandLine::Expand(told, source)) => expanding::run(
+            rt,
+            told == Told::Explained,
+            source,
+        ),
+        Ok(CommandLine::Node(words)) => node::run(rt, *threads, words),
+        Ok(CommandLine::MigrateFile(words)) => migration::run(rt, words),
+        Ok(CommandLine::Resolve(words)) => resolving::run(rt, words),
+        Ok(CommandLine::Judge(words)) => judging::run(rt, words),
+        Ok(CommandLine::Files(request, told, words, is_text)) => {
             perform_files(rt, threads, request, told, &words, is_text)
         }
-        Ok(Asked::NoPart(word)) => {
+        Ok(CommandLine::NoPart(word)) => {
             picturing::tell_no_part(rt, word);
             1
         }
-        Ok(Asked::Memory) => 4,
+        Ok(CommandLine::Memory) => 4,
         Err(error) => {
             if error.kind() == ErrorKind::OutOfMemory {
                 return 4;

@@ -5,10 +5,10 @@ use crate::files::{
     End, entry_of, failed, log_in, no_memory, not_opened, not_own, status_of, tree_in,
 };
 use clap::{Arg, ArgAction, ArgMatches, Command};
+use log_records::{MigrateError, RecLog};
 use log_store::{LogStore, MemoryStore};
-use rec_log::{MigrateError, RecLog};
+use protocol::{Tree, TreeProcess};
 use std::alloc::{AllocError, Global};
-use tree_model::{Tree, TreeEntry};
 
 /// The words after `rstar migrate --file`: the file of the log, the file of the tree, and the process.
 #[derive(Clone, Copy)]
@@ -81,7 +81,7 @@ fn not_migrated(
     alloc: Global,
     path: &str,
     tree: &Tree,
-    me: &TreeEntry,
+    me: &TreeProcess,
     bytes: &[u8],
     error: MigrateError,
 ) -> End {
@@ -113,7 +113,7 @@ fn migrated(
     alloc: Global,
     path: &str,
     tree: &Tree,
-    me: &TreeEntry,
+    me: &TreeProcess,
     bytes: &[u8],
 ) -> Result<Option<Vec<u8>>, End> {
     let Ok(copy) = Vec::from_slice(alloc, bytes) else {

@@ -7,19 +7,19 @@ use crate::files::{
 };
 use crate::pump::Pump;
 use desk_engine::run_desk;
-use file_store::{FileStore, HostFile, Trouble};
+use log_file::{FileStore, HostFile, Trouble};
 use log_store::LogStore;
 use node_answers::Manner;
 use node_desk::{Habits, Waits, Watch};
 use node_engine::{NodeFailure, Serving, StartError, start};
+use protocol::{ProcessId, Reaction};
 use staged_store::{FileBacking, StagedStore};
 use std::alloc::{AllocError, Global};
 use std::io::{self, BufReader};
 use std::sync::Wait;
 use std::thread::Threads;
 use std::time::{Clock, Duration};
-use tree_model::{ProcessId, Reaction};
-use tree_node::ReopenError;
+use tree_process::ProcessReopenError;
 
 /// The words after `rstar node`: the file of the tree, the process, the file of its log, and whether that is
 /// to be made; whether what is refused is explained, and said by words; the name of the tree; after how many seconds it
@@ -47,11 +47,13 @@ type NodeFile = FileBacking<HostFile>;
 /// Why a node did not start over the log at this path, which was judged.
 fn not_started(alloc: Global, path: &str, error: StartError, trouble: &Trouble) -> End {
     match error {
-        StartError::Reopen(ReopenError::Memory) => no_memory(alloc, path),
-        StartError::Reopen(ReopenError::Device) => device_failed(alloc, path, trouble),
+        StartError::Reopen(ProcessReopenError::Memory) => no_memory(alloc, path),
+        StartError::Reopen(ProcessReopenError::Device) => device_failed(alloc, path, trouble),
         StartError::Stranger
         | StartError::Reopen(
-            ReopenError::Damaged(_) | ReopenError::Unfit | ReopenError::OldFormat,
+            ProcessReopenError::Damaged(_)
+            | ProcessReopenError::Unfit
+            | ProcessReopenError::OldFormat,
         ) => refused(format!(in alloc; "{path}: {error}")),
     }
 }

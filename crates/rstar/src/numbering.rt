@@ -6,7 +6,7 @@ use event_trace::event_trace;
 use report_io::{Failure, read_all, write_all};
 use std::alloc::Global;
 use std::io::{Read, Write};
-use tree_engine::{Output, run_tree};
+use tree_engine::{TreeOutput, run_tree};
 
 /// What these words name as the input, if no picture is asked for: the word after `--events` is the file, if there is
 /// one, and no other word may name it then.
@@ -27,7 +27,7 @@ pub(crate) fn perform<R: Read, W: Write>(
 ) -> Result<u8, Failure> {
     let input = read_all(alloc, reader)?;
     let Some((text, status)) = event_trace(alloc, &input)? else {
-        let status = run_tree(alloc, Output::Trace, &mut input.as_slice(), writer)?;
+        let status = run_tree(alloc, TreeOutput::Trace, &mut input.as_slice(), writer)?;
         return Ok(status.number());
     };
     write_all(writer, &text)?;

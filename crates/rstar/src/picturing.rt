@@ -2,14 +2,14 @@
 
 use crate::tell;
 use clap::{Arg, ArgAction, ArgMatches};
-use link_script::txn_of;
-use picture_parts::{Part, PartFault, picture_of, range_of, whole_fault};
+use picture_parts::{PartFault, PicturePart, picture_of, range_of, whole_fault};
+use protocol::ProcessId;
 use report_io::{Failure, read_all, write_all};
 use std::alloc::{AllocError, Global};
 use std::io;
 use std::io::Read;
-use tree_engine::{Output, run_tree};
-use tree_model::ProcessId;
+use tree_engine::{TreeOutput, run_tree};
+use tree_script::txn_of;
 
 /// A word that names no part of a run.
 #[derive(Clone, Copy)]
@@ -41,11 +41,11 @@ pub(crate) fn case<'a>(alloc: Global) -> Result<Arg<'a>, AllocError> {
 }
 
 /// The part of a run that these words name; none, if all of it is to be drawn.
-pub(crate) fn part_of<'a>(matches: &ArgMatches<'a>) -> Result<Option<Part>, NoPart<'a>> {
+pub(crate) fn part_of<'a>(matches: &ArgMatches<'a>) -> Result<Option<PicturePart>, NoPart<'a>> {
     if let Some(word) = matches.get_str("case") {
         // The root is the tree's, which is not read yet.
         return match txn_of(ProcessId(0), word) {
-            Some(txn) => Ok(Some(Part::Case(txn))),
+            Some(txn) => Ok(Some(PicturePart::Case(txn))),
             None => Err(NoPart::Case(word)),
         };
     }
@@ -54,7 +54,7 @@ pub(crate) fn part_of<'a>(matches: &ArgMatches<'a>) -> Result<Option<Part>, NoPa
     }
     let word = matches.get_str("events").unwrap_or("");
     match range_of(word) {
-        Some(range) => Ok(Some(Part::Events(range))),
+        Some(range) => Ok(Some(PicturePart::Events(range))),
         None => Err(NoPart::Events(word)),
     }
 }
@@ -92,12 +92,12 @@ fn refused(rt: &HostRuntime, fault: PartFault) -> Drawn {
 /// Draws the whole run of a script; of one that is refused its line is written.
 fn perform_whole(rt: &HostRuntime, mut input: &[u8]) -> Result<Drawn, Failure> {
     let alloc = rt.alloc();
-    let status = run_tree(alloc, Output::Picture, &mut input, &mut io::writer(rt))?;
+    let status = run_tree(alloc, TreeOutput::Picture, &mut input, &mut io::writer(rt))?;
     Ok(Drawn::Ended(status.number()))
 }
 
 /// Draws a part of the run of a script; of one that is refused its line is written.
-fn perform_part(rt: &HostRuntime, input: &[u8], part: Part) -> Result<Drawn, Failure> {
+fn perform_part(rt: &HostRuntime, input: &[u8], part: PicturePart) -> Result<Drawn, Failure> {
     match picture_of(rt.alloc(), input, &part)? {
         None => perform_whole(rt, input),
         Some(Ok((text, status))) => {
@@ -111,7 +111,7 @@ fn perform_part(rt: &HostRuntime, input: &[u8], part: Part) -> Result<Drawn, Fai
 /// Draws the run of a script, or a part of it, if that is small enough.
 pub(crate) fn perform<R: Read>(
     rt: &HostRuntime,
-    part: Option<Part>,
+    part: Option<PicturePart>,
     reader: &mut R,
 ) -> Result<Drawn, Failure> {
     let input = read_all(rt.alloc(), reader)?;

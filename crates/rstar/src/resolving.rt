@@ -4,7 +4,7 @@ use crate::files::{End, failed, refused, status_of};
 use crate::{flag, logs, subcommand, tell};
 use clap::{Arg, ArgAction, ArgMatches, Command};
 use report_io::Failure;
-use resolve_engine::{Asked, Database, Form, Trust, run_resolve};
+use resolve_engine::{AnswerForm, Database, ResolveInput, Trust, run_resolve};
 use std::alloc::{AllocError, Global};
 use std::{fs, io};
 
@@ -77,7 +77,11 @@ pub(crate) fn words<'a>(alloc: Global) -> Result<Command<'a>, AllocError> {
         "complete",
         "These are the logs as they are, and their processes do not run",
     ))?
-    .arg(flag(alloc, "explain", "Names the log that says so, for each answer"))?
+    .arg(flag(
+        alloc,
+        "explain",
+        "Names the log that says so, for each answer",
+    ))?
     .arg(option(
         alloc,
         "sql",
@@ -103,12 +107,12 @@ pub(crate) fn asked<'a>(
 }
 
 /// How the answers are written.
-fn form_of(alloc: Global, words: &ResolveWords<'_>) -> Result<Form, End> {
+fn form_of(alloc: Global, words: &ResolveWords<'_>) -> Result<AnswerForm, End> {
     match words.database {
-        None if words.is_explained => Ok(Form::Explained),
-        None => Ok(Form::Lines),
-        Some("postgresql") => Ok(Form::Sql(Database::PostgreSql)),
-        Some("mariadb") => Ok(Form::Sql(Database::MariaDb)),
+        None if words.is_explained => Ok(AnswerForm::Explained),
+        None => Ok(AnswerForm::Lines),
+        Some("postgresql") => Ok(AnswerForm::Sql(Database::PostgreSql)),
+        Some("mariadb") => Ok(AnswerForm::Sql(Database::MariaDb)),
         Some(other) => Err(refused(format!(in alloc;
             "{other} is not a database that it knows: postgresql or mariadb"
         ))),
@@ -137,7 +141,7 @@ fn resolved(rt: &HostRuntime, words: &ResolveWords<'_>) -> Result<u8, End> {
     let alloc = rt.alloc();
     let form = form_of(alloc, words)?;
     let text = logs_in(rt, words)?;
-    let asked = Asked {
+    let asked = ResolveInput {
         name: words.name,
         trust: if words.is_complete {
             Trust::Complete

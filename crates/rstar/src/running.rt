@@ -4,18 +4,18 @@ ghost use Rattle.std.specs.Prelude.{◌<◌, ◌≤◌};
 
 use crate::{explaining, flag, source};
 use clap::{Arg, ArgMatches, Command, value_parser};
-use cluster_engine::{Output, run_cluster};
+use cluster_engine::{ClusterOutput, run_cluster};
+use cluster_process::Open;
 use report_io::{Failure, Status};
 use std::alloc::{AllocError, Global};
 use std::io::{Read, Write};
 use std::sync::Wait;
 use std::thread::Threads;
-use tree_threads::Open;
 
 /// What is written of a run, and by how many workers it is made.
 #[derive(Clone, Copy, PartialEq, Eq)]
-pub(crate) struct Run {
-    output: Output,
+pub(crate) struct RunWords {
+    output: ClusterOutput,
     workers: u8,
 }
 
@@ -64,12 +64,12 @@ pub(crate) fn words<'a>(alloc: Global) -> Result<Command<'a>, AllocError> {
 }
 
 /// What these words ask for. The number of workers has a default, and its range was checked.
-pub(crate) fn asked(matches: &ArgMatches) -> Run {
-    Run {
+pub(crate) fn asked(matches: &ArgMatches) -> RunWords {
+    RunWords {
         output: if matches.get_flag("trace") {
-            Output::Trace
+            ClusterOutput::Trace
         } else {
-            Output::Told
+            ClusterOutput::Told
         },
         workers: matches.get_one::<u8>("workers").unwrap_or(4),
     }
@@ -90,7 +90,7 @@ fn count(workers: u8) -> usize
 pub(crate) fn start<T: Threads + Wait + Sync, R: Read, W: Write>(
     threads: &T,
     alloc: Global,
-    run: Run,
+    run: RunWords,
     reader: &mut R,
     writer: &mut W,
 ) -> Result<Status, Failure> {

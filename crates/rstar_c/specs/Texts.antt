@@ -2,7 +2,7 @@
 use Rattle.std.specs.Prelude.{◌≡◌, ℕ, List, length, ◌==◌, if◌then◌else◌}
 use Rattle.audit_engine.specs.declared.detail.Detail.{Detail}
 use Rattle.audit_engine.specs.declared.detail.Detail.TheVariants.{Lines, Explained}
-use Rattle.audit_engine.specs.declared.ending.Ending.{Ending}
+use Rattle.audit_engine.specs.declared.ending.AuditStatus.{AuditStatus}
 use Rattle.audit_engine.specs.Audits.{IsAuditReport, IsTrueReport, ending_number}
 use Rattle.audit_engine.specs.logs.Reports.{IsLogReport}
 use Rattle.report_io.specs.declared.status.Status.{Status}
@@ -19,7 +19,7 @@ detail_by number = if number == 0 then Lines else Explained
 
 -- the report of an audit of these logs, true of each run that left them, and the status by which the program ends
 pub record AuditsAs (detail : Detail) (logs old new : List ℕ) (size status : ℕ) : Type 0 where
-  pub ending : Ending
+  pub ending : AuditStatus
   pub text : List ℕ
   pub reports : IsAuditReport detail ending logs text
   pub is_true : IsTrueReport detail ending logs text

@@ -1,7 +1,7 @@
 //! What C calls of a node.
 
 ghost use Rattle.std.specs.Prelude.{◌≡◌, IsSome, None};
-ghost use Rattle.linked_node.specs.Numbers.{IsRefused};
+ghost use Rattle.linked_node.specs.Numbers.{IsRefusalNumber};
 ghost use Rattle.linked_node.specs.Openings.{OpensAt};
 ghost use Rattle.linked_node.specs.Turns.{PassedAt, ShownAt, TellsAt, TurnedAt};
 
@@ -21,7 +21,7 @@ pub extern "C" fn rstar_version() -> u32
 
 /// The number of a refusal, which is none of an answer.
 fn refused(why: u32) -> u32
-    ensures { IsRefused result }
+    ensures { IsRefusalNumber result }
 {
     if why == DONE || why == CALLS { IO } else { why }
 }

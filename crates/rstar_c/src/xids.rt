@@ -1,12 +1,12 @@
 //! What C calls of XIDs: the names of branches.
 
-use link_script::case_of;
 use linked_node::{DONE, FOREIGN, MEMORY, NO_CASE, copy_into};
 use log_text::{name_in, name_xid};
+use protocol::{BranchName, ProcessId};
 use std::alloc::Global;
 use std::str;
 use trace_lines::case_text;
-use tree_model::{Branch, ProcessId};
+use tree_script::case_of;
 use xa_xid::{Xid, XidError};
 
 /// The number of why there is no XID: 31 to 36.
@@ -87,7 +87,7 @@ pub extern "C" fn rstar_xid_of_case(
     } else {
         Some(ProcessId(parent))
     };
-    match name_xid(above, Branch::Case(case)).to_bytes(alloc) {
+    match name_xid(above, BranchName::Case(case)).to_bytes(alloc) {
         Ok(bytes) => {
             *size = copy_into(&bytes, room);
             DONE
@@ -112,7 +112,7 @@ pub extern "C" fn rstar_xid_case(
         Err(error) => return xid_number(error),
     };
     let (above, branch) = name_in(&xid);
-    let Branch::Case(case) = branch else {
+    let BranchName::Case(case) = branch else {
         return FOREIGN;
     };
     match case_text(alloc, &case) {

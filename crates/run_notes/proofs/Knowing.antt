@@ -4,9 +4,9 @@ use Rattle.std.specs.Map.{keys_of}
 use Rattle.std.proofs.lemmas.List.{take_more}
 use Rattle.std.proofs.lemmas.List.Folds.{list_any-append}
 use Rattle.indexmap.specs.IndexMap.{insert_entry}
-use Rattle.tree_model.specs.declared.names.Kind.TheVariants.{Manager as ManagerKind}
-use Rattle.tree_model.specs.declared.names.ProcessId.{ProcessId}
-use Rattle.tree_model.specs.declared.trees.TreeEntry.{TreeEntry}
+use Rattle.protocol.specs.declared.names.Kind.TheVariants.{Manager as ManagerKind}
+use Rattle.protocol.specs.declared.names.ProcessId.{ProcessId}
+use Rattle.protocol.specs.declared.trees.TreeProcess.{TreeProcess}
 use Rattle.run_notes.specs.declared.manager.Manager.{Manager}
 use Rattle.run_notes.specs.Told.{AddsManager, AreManagers, is_among, is_manager_entry, is_manager_kind, same_id}
 
@@ -28,7 +28,7 @@ known_more (e ∷ es) q p m = by (same_id q e.0) refl (known_more es q p m)
     by false is more = grind (arith, more)
 
 -- one more entry of the tree
-pub managers_more : (tree : List TreeEntry) (k : ℕ) (e : TreeEntry) (old new : List ProcessId)
+pub managers_more : (tree : List TreeProcess) (k : ℕ) (e : TreeProcess) (old new : List ProcessId)
     → k < length tree → e ≡ get_or tree k e → AreManagers (take k tree) old → AddsManager e old new
     → AreManagers (take (k + 1) tree) new
 managers_more tree k e old new there at were adds p =
@@ -37,13 +37,13 @@ managers_more tree k e old new there at were adds p =
     grind (arith, all, were p, adds p, list_any-append (is_manager_entry p) (take k tree) (e ∷ []))
 
 -- the manager of an entry that is one
-pub manager_added : (e : TreeEntry) (es fs : List (ProcessId × Manager)) (m : Manager) → e.kind ≡ ManagerKind
+pub manager_added : (e : TreeProcess) (es fs : List (ProcessId × Manager)) (m : Manager) → e.kind ≡ ManagerKind
     → fs ≡ insert_entry same_id es e.id m → AddsManager e (keys_of es) (keys_of fs)
 manager_added e es fs m is made p =
     ap (λ xs. is_among p (keys_of xs)) made ∙ known_more es e.id p m
     ∙ ap (λ k. is_among p (keys_of es) || (is_manager_kind k && same_id p e.id)) (sym is)
 
 -- a step leaves the managers that are known
-pub managers_stay : (tree : List TreeEntry) (old new : List ProcessId) → new ≡ old → AreManagers tree old
+pub managers_stay : (tree : List TreeProcess) (old new : List ProcessId) → new ≡ old → AreManagers tree old
     → AreManagers tree new
 managers_stay tree old new is were p = ap (λ ps. is_among p ps) is ∙ were p

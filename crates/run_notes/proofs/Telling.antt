@@ -4,18 +4,18 @@ use Rattle.std.proofs.lemmas.List.{map-append, take_more}
 use Rattle.std.specs.Global.{Vec}
 use Rattle.std.specs.Prelude.{is_some, unwrap_or}
 use Rattle.std.proofs.lemmas.Map.Made.{is_some-lookup}
-use Rattle.tree_model.specs.declared.events.Entry.{Entry}
-use Rattle.tree_model.specs.declared.events.Happening.{Happening}
-use Rattle.tree_model.specs.declared.events.Happening.TheVariants.{Input as Handles, Restart, Trim}
-use Rattle.tree_model.specs.declared.events.Input.{Input}
-use Rattle.tree_model.specs.declared.events.Input.TheVariants.{Act as ActInput, Message as MessageInput}
-use Rattle.tree_model.specs.declared.events.Reaction.{Reaction}
-use Rattle.tree_model.specs.declared.messages.Message.{Message}
-use Rattle.tree_model.specs.declared.messages.Message.TheVariants as message
-use Rattle.tree_model.specs.declared.messages.Op.{Op}
-use Rattle.tree_model.specs.declared.messages.Op.TheVariants.{Put, Get, Delete}
-use Rattle.tree_model.specs.declared.names.Case.{Case}
-use Rattle.tree_model.specs.declared.trees.TreeEntry.{TreeEntry}
+use Rattle.protocol.specs.declared.events.JournalEntry.{JournalEntry}
+use Rattle.protocol.specs.declared.events.Happening.{Happening}
+use Rattle.protocol.specs.declared.events.Happening.TheVariants.{Input as Handles, Restart, Trim}
+use Rattle.protocol.specs.declared.events.Input.{Input}
+use Rattle.protocol.specs.declared.events.Input.TheVariants.{Act as ActInput, Message as MessageInput}
+use Rattle.protocol.specs.declared.events.Reaction.{Reaction}
+use Rattle.protocol.specs.declared.messages.Message.{Message}
+use Rattle.protocol.specs.declared.messages.Message.TheVariants as message
+use Rattle.protocol.specs.declared.messages.Op.{Op}
+use Rattle.protocol.specs.declared.messages.Op.TheVariants.{Put, Get, Delete}
+use Rattle.protocol.specs.declared.names.Case.{Case}
+use Rattle.protocol.specs.declared.trees.TreeProcess.{TreeProcess}
 use Rattle.run_notes.specs.declared.branch.Branch.{Branch}
 use Rattle.run_notes.specs.declared.branch.Spoiled.{Spoiled}
 use Rattle.run_notes.specs.declared.manager.Manager.{Manager}
@@ -122,7 +122,7 @@ both false b h = absurd (cc)
 -- The note of a step.
 
 -- of a manager
-manager_note : (tree : List TreeEntry) (m : Manager) (e : Entry) (o : Option (List ℕ))
+manager_note : (tree : List TreeProcess) (m : Manager) (e : JournalEntry) (o : Option (List ℕ))
     → is_manager tree e.step.process ≡ true → o ≡ told_at m e.step.happening e.reaction
     → IsNote tree e (unwrap_or o [])
 manager_note tree m e None there is = record {
@@ -139,12 +139,12 @@ manager_note tree m e (Some w) there is = record {
 }
 
 -- a process is among the managers if it is found
-among_if_found : (n : Notes) (e : Entry) (o : Option Manager) → manager_in n.managers.entries e.step.process ≡ o
+among_if_found : (n : Notes) (e : JournalEntry) (o : Option Manager) → manager_in n.managers.entries e.step.process ≡ o
     → is_some o ≡ is_among e.step.process (known n)
 among_if_found n e o is =
     ap is_some (sym is) ∙ is_some-lookup (same_id e.step.process) n.managers.entries
 
-pub step_note : (tree : List TreeEntry) (n : Notes) (e : Entry) (o : Option (List ℕ))
+pub step_note : (tree : List TreeProcess) (n : Notes) (e : JournalEntry) (o : Option (List ℕ))
     → AreManagers tree (known n) → o ≡ told n e → IsNote tree e (unwrap_or o [])
 step_note tree n e o managers is = by (manager_in n.managers.entries e.step.process) refl o is
   where
@@ -161,7 +161,7 @@ step_note tree n e o managers is = by (manager_in n.managers.entries e.step.proc
         (sym (managers e.step.process) ∙ sym (among_if_found n e (Some m) at)) is
 
 -- the notes of one more step
-pub notes_more : (tree : List TreeEntry) (es : List Entry) (k : ℕ) (e : Entry) (old new : List (Vec ℕ)) (v : Vec ℕ)
+pub notes_more : (tree : List TreeProcess) (es : List JournalEntry) (k : ℕ) (e : JournalEntry) (old new : List (Vec ℕ)) (v : Vec ℕ)
     (n : Notes) → k < length es → e ≡ get_or es k e → AreNotes tree (take k es) (map (λ w. w.items) old)
     → AreManagers tree (known n) → v.items ≡ unwrap_or (told n e) [] → new ≡ old ++ v ∷ []
     → AreNotes tree (take (k + 1) es) (map (λ w. w.items) new)

@@ -2,20 +2,20 @@
 use Rattle.std.specs.Prelude.{◌≡◌, ◌⊎◌, ℕ, Bool, true, false, not, ◌&&◌, ◌||◌, ◌==◌, if◌then◌else◌, Option, Some, None, List, [], ◌∷◌, ◌++◌, count_by}
 use Rattle.std.specs.List.{list_any}
 use Rattle.std.specs.Map.{keys_of, lookup}
-use Rattle.tree_model.specs.declared.events.Entry.{Entry}
-use Rattle.tree_model.specs.declared.events.Happening.{Happening}
-use Rattle.tree_model.specs.declared.events.Happening.TheVariants.{Input as Handles, Restart, Trim}
-use Rattle.tree_model.specs.declared.events.Input.{Input}
-use Rattle.tree_model.specs.declared.events.Input.TheVariants.{Act as ActInput, Message as MessageInput}
-use Rattle.tree_model.specs.declared.events.Reaction.{Reaction}
-use Rattle.tree_model.specs.declared.messages.Envelope.{Envelope}
-use Rattle.tree_model.specs.declared.messages.Message.{Message}
-use Rattle.tree_model.specs.declared.messages.Message.TheVariants.{No, Prepare, Work}
-use Rattle.tree_model.specs.declared.names.Kind.{Kind}
-use Rattle.tree_model.specs.declared.names.Kind.TheVariants.{Coordinator, Manager as ManagerKind}
-use Rattle.tree_model.specs.declared.names.ProcessId.{ProcessId}
-use Rattle.tree_model.specs.contracts.names.ProcessIdPartialEq.TheImpl as processes
-use Rattle.tree_model.specs.declared.trees.TreeEntry.{TreeEntry}
+use Rattle.protocol.specs.declared.events.JournalEntry.{JournalEntry}
+use Rattle.protocol.specs.declared.events.Happening.{Happening}
+use Rattle.protocol.specs.declared.events.Happening.TheVariants.{Input as Handles, Restart, Trim}
+use Rattle.protocol.specs.declared.events.Input.{Input}
+use Rattle.protocol.specs.declared.events.Input.TheVariants.{Act as ActInput, Message as MessageInput}
+use Rattle.protocol.specs.declared.events.Reaction.{Reaction}
+use Rattle.protocol.specs.declared.messages.Envelope.{Envelope}
+use Rattle.protocol.specs.declared.messages.Message.{Message}
+use Rattle.protocol.specs.declared.messages.Message.TheVariants.{No, Prepare, Work}
+use Rattle.protocol.specs.declared.names.Kind.{Kind}
+use Rattle.protocol.specs.declared.names.Kind.TheVariants.{Coordinator, Manager as ManagerKind}
+use Rattle.protocol.specs.declared.names.ProcessId.{ProcessId}
+use Rattle.protocol.specs.contracts.names.ProcessIdPartialEq.TheImpl as processes
+use Rattle.protocol.specs.declared.trees.TreeProcess.{TreeProcess}
 use Rattle.run_notes.specs.declared.manager.Manager.{Manager}
 use Rattle.run_notes.specs.declared.notes.Notes.{Notes}
 use Rattle.run_notes.specs.Managers.{told_of_work, why_no}
@@ -33,11 +33,11 @@ is_manager_kind Coordinator = false
 is_manager_kind ManagerKind = true
 
 -- an entry of a tree is of a manager with this name
-abbrev pub is_manager_entry : ProcessId → TreeEntry → Bool
+abbrev pub is_manager_entry : ProcessId → TreeProcess → Bool
 is_manager_entry p e = is_manager_kind e.kind && same_id p e.id
 
 -- a process of a tree is a manager
-abbrev pub is_manager : List TreeEntry → ProcessId → Bool
+abbrev pub is_manager : List TreeProcess → ProcessId → Bool
 is_manager tree p = list_any (is_manager_entry p) tree
 
 -- the manager with this name, if it is known
@@ -53,11 +53,11 @@ abbrev pub is_among : ProcessId → List ProcessId → Bool
 is_among p ps = list_any (same_id p) ps
 
 -- a process with this name is among the second ones if it is among the first or the manager of this entry
-abbrev pub AddsManager : TreeEntry → List ProcessId → List ProcessId → Type 0
+abbrev pub AddsManager : TreeProcess → List ProcessId → List ProcessId → Type 0
 AddsManager e old new = (p : ProcessId) → is_among p new ≡ (is_among p old || is_manager_entry p e)
 
 -- these are the managers of a tree
-abbrev pub AreManagers : List TreeEntry → List ProcessId → Type 0
+abbrev pub AreManagers : List TreeProcess → List ProcessId → Type 0
 AreManagers tree ps = (p : ProcessId) → is_among p ps ≡ is_manager tree p
 
 -- The steps.
@@ -87,7 +87,7 @@ asks (Restart kept) = false
 asks Trim = false
 
 -- a step answers a question for a vote by NO
-abbrev pub refuses : Entry → Bool
+abbrev pub refuses : JournalEntry → Bool
 refuses e = asks e.step.happening && votes_no e.reaction
 
 -- What is told.
@@ -109,12 +109,12 @@ told_at m (Restart kept) r = None
 told_at m Trim r = None
 
 -- what is told of a step of a process, if it is this manager
-abbrev pub told_by : Option Manager → Entry → Option (List ℕ)
+abbrev pub told_by : Option Manager → JournalEntry → Option (List ℕ)
 told_by None e = None
 told_by (Some m) e = told_at m e.step.happening e.reaction
 
 -- what is told of the next step of a run
-abbrev pub told : Notes → Entry → Option (List ℕ)
+abbrev pub told : Notes → JournalEntry → Option (List ℕ)
 told n e = told_by (manager_in n.managers.entries e.step.process) e
 
 -- these words may be told of a message that came to a manager, which reacted so: of a work what its get read, and of a
@@ -134,17 +134,17 @@ MayTellAt (Restart kept) r w = ⊥
 MayTellAt Trim r w = ⊥
 
 -- these words may be told of a step of a manager
-abbrev pub MayTell : Entry → List ℕ → Type 0
+abbrev pub MayTell : JournalEntry → List ℕ → Type 0
 MayTell e w = MayTellAt e.step.happening e.reaction w
 
 -- These words are the note of a step of a tree, where no words say that nothing is told: only a step of a manager has one, and
 -- each has one by which the manager answers a question for a vote by NO.
-pub record IsNote (tree : List TreeEntry) (e : Entry) (words : List ℕ) : Type 0 where
+pub record IsNote (tree : List TreeProcess) (e : JournalEntry) (words : List ℕ) : Type 0 where
   pub only : (words ≡ []) ⊎ ((is_manager tree e.step.process ≡ true) × MayTell e words)
   pub each : is_manager tree e.step.process ≡ true → refuses e ≡ true → MayTell e words
 
 -- these are the notes of these steps, one each, in their order
-pub data AreNotes (tree : List TreeEntry) : List Entry → List (List ℕ) → Type 0 where
+pub data AreNotes (tree : List TreeProcess) : List JournalEntry → List (List ℕ) → Type 0 where
   nothing : AreNotes tree [] []
-  one_more : (es : List Entry) (notes : List (List ℕ)) (e : Entry) (words : List ℕ)
+  one_more : (es : List JournalEntry) (notes : List (List ℕ)) (e : JournalEntry) (words : List ℕ)
       → AreNotes tree es notes → IsNote tree e words → AreNotes tree (es ++ e ∷ []) (notes ++ words ∷ [])

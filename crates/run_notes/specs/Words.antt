@@ -3,12 +3,12 @@ use Rattle.std.specs.Prelude.{◌≡◌, ℕ, Bool, not, ◌&&◌, ◌==◌, nat
 use Rattle.std.specs.Fmt.{decimal}
 use Rattle.std.specs.List.{flat_map}
 use Rattle.hex.specs.Hex.{encode_lower}
-use Rattle.tree_model.specs.declared.names.Case.{Case}
-use Rattle.tree_model.specs.declared.messages.Op.{Op}
-use Rattle.tree_model.specs.declared.messages.Op.TheVariants.{Put, Get, Delete}
-use Rattle.tree_model.specs.declared.records.Branch.{Branch}
-use Rattle.tree_model.specs.declared.records.Branch.TheVariants.{Case as CaseBranch, Foreign}
-use Rattle.tree_model.specs.Texts.{case_text}
+use Rattle.protocol.specs.declared.names.Case.{Case}
+use Rattle.protocol.specs.declared.messages.Op.{Op}
+use Rattle.protocol.specs.declared.messages.Op.TheVariants.{Put, Get, Delete}
+use Rattle.protocol.specs.declared.records.BranchName.{BranchName}
+use Rattle.protocol.specs.declared.records.BranchName.TheVariants.{Case as CaseBranch, Foreign}
+use Rattle.protocol.specs.Texts.{case_text}
 use Rattle.run_notes.specs.declared.branch.Spoiled.{Spoiled}
 use Rattle.run_notes.specs.declared.branch.Spoiled.TheVariants.{Held, TooLong, TooMany}
 
@@ -46,7 +46,7 @@ abbrev pub count_text : Case → ℕ → ℕ → List ℕ
 count_text c works done = no_text c (codes "of " ++ decimal works ++ codes " works " ++ decimal done ++ codes " came in order")
 
 -- which key which branch holds
-abbrev pub held_text : List ℕ → Branch → List ℕ
+abbrev pub held_text : List ℕ → BranchName → List ℕ
 held_text k (CaseBranch c) = codes "key " ++ bytes_text k ++ codes " is held by " ++ case_text c
 held_text k (Foreign x) = codes "key " ++ bytes_text k ++ codes " is held by a branch that is no case"
 

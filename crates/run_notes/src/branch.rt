@@ -4,8 +4,8 @@ ghost use Rattle.std.specs.Prelude.{◌≡◌, [], false, None, IfOk, OnOk};
 ghost use Rattle.run_notes.specs.Managers.{is_bad_op, is_full_for, op_key, op_writes, takes};
 
 use indexmap::IndexMap;
+use protocol::{BranchName as Name, Op, Write};
 use std::alloc::{AllocError, Global};
-use tree_model::{Branch as Name, Op, Write};
 
 /// The longest key and the longest value, in bytes, and the most keys that a branch writes.
 const KEY: usize = 64;

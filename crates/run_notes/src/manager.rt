@@ -1,7 +1,7 @@
 //! One manager: its pairs, its branches, and what a crash may take back.
 
 ghost use Rattle.std.specs.Prelude.{◌≡◌, Some, IfOk, is_some, option_map};
-ghost use Rattle.tree_model.specs.declared.records.Branch.TheVariants.{Case as CaseBranch};
+ghost use Rattle.protocol.specs.declared.records.BranchName.TheVariants.{Case as CaseBranch};
 ghost use Rattle.run_notes.specs.Managers.{branch_at, bytes_in, found_at, is_refused, told_of_op, told_of_work, why_no, xid_of};
 
 use crate::branch::{Branch, Spoiled, is_too_long, key_of, writes};
@@ -9,11 +9,11 @@ use crate::locks::Locks;
 use crate::words::{count_words, read_words, spoiled_words, unknown_words};
 use indexmap::IndexMap;
 use log_text::name_xid;
-use std::alloc::{AllocError, Global};
-use tree_model::{
-    Branch as Name, Case, LogRecord, Logged, Op, ProcessId, Record, RecordKind, Subject, Ticket,
-    Write,
+use protocol::{
+    BranchName as Name, Case, LogRecord, Op, ProcessId, Record, RecordKind, ShownRecord, Subject,
+    Ticket, Write,
 };
+use std::alloc::{AllocError, Global};
 use xa_xid::Xid;
 
 /// What stood at a key: a value, or nothing.
@@ -324,7 +324,7 @@ impl Manager {
     }
 
     /// What a record does.
-    fn deed(&mut self, logged: &Logged) -> Result<Deed, AllocError> {
+    fn deed(&mut self, logged: &ShownRecord) -> Result<Deed, AllocError> {
         let Subject::Case(case) = logged.subject else {
             return Ok(Deed::Nothing);
         };
@@ -350,7 +350,7 @@ impl Manager {
     }
 
     /// The manager writes a record. One that is forced forces all before it.
-    pub(crate) fn writes(&mut self, logged: &Logged) -> Result<(), AllocError> {
+    pub(crate) fn writes(&mut self, logged: &ShownRecord) -> Result<(), AllocError> {
         let deed = self.deed(logged)?;
         if logged.forced {
             self.deeds.clear();

@@ -7,11 +7,11 @@ ghost use Rattle.run_notes.specs.Told.{AddsManager, AreManagers, AreNotes, is_no
 
 use crate::manager::Manager;
 use indexmap::IndexMap;
-use std::alloc::{AllocError, Global};
-use tree_model::{
-    Case, Entry, Happening, Input, Kind, LogRecord, Logged, Message, ProcessId, Reaction, Ticket,
-    TreeEntry,
+use protocol::{
+    Case, Happening, Input, JournalEntry, Kind, LogRecord, Message, ProcessId, Reaction,
+    ShownRecord, Ticket, TreeProcess,
 };
+use std::alloc::{AllocError, Global};
 
 /// What managers hold, and what is told of their steps.
 pub struct Notes {
@@ -123,7 +123,7 @@ fn meet(
 }
 
 /// A manager writes these records.
-fn write_all(manager: &mut Manager, written: &[Logged]) -> Result<(), AllocError> {
+fn write_all(manager: &mut Manager, written: &[ShownRecord]) -> Result<(), AllocError> {
     for logged in written {
         manager.writes(logged)?;
     }
@@ -131,7 +131,7 @@ fn write_all(manager: &mut Manager, written: &[Logged]) -> Result<(), AllocError
 }
 
 /// A manager takes the next step of its own. What is told of it.
-fn take_at(manager: &mut Manager, entry: &Entry) -> Result<Option<Vec<u8>>, AllocError>
+fn take_at(manager: &mut Manager, entry: &JournalEntry) -> Result<Option<Vec<u8>>, AllocError>
     ensures { IfOk result (λ said. bytes_in said
         ≡ told_at manager.old entry.now.step.happening entry.now.reaction) }
 {
@@ -152,7 +152,7 @@ fn log_at(logs: &[Vec<LogRecord>], place: usize) -> &[LogRecord] {
 fn add_manager(
     alloc: Global,
     managers: &mut IndexMap<ProcessId, Manager>,
-    entry: &TreeEntry,
+    entry: &TreeProcess,
     records: &[LogRecord],
 ) -> Result<(), AllocError>
     ensures { OnOk result (AddsManager entry.now (keys_of managers.old.entries) (keys_of managers.new.entries)) }
@@ -173,7 +173,7 @@ impl Notes {
     #[tactic(auto, using(crate::proofs::Knowing::managers_more))]
     pub fn new(
         alloc: Global,
-        tree: &[TreeEntry],
+        tree: &[TreeProcess],
         logs: &[Vec<LogRecord>],
     ) -> Result<Notes, AllocError>
         ensures { IfOk result (λ notes. AreManagers tree.now (known notes)) }
@@ -187,7 +187,7 @@ impl Notes {
 
     /// Takes the next step of the run, and says what is told of it, as bytes without a line feed, if anything is: why a
     /// manager votes NO, or what a get read.
-    pub fn take(&mut self, entry: &Entry) -> Result<Option<Vec<u8>>, AllocError>
+    pub fn take(&mut self, entry: &JournalEntry) -> Result<Option<Vec<u8>>, AllocError>
         ensures told { IfOk result (λ said. bytes_in said ≡ told self.old entry.now) }
         ensures known { known self.new ≡ known self.old }
     {
@@ -199,7 +199,7 @@ impl Notes {
 }
 
 /// Takes the next step of the run, and says what is told of it; no bytes, if nothing is.
-fn note_of(alloc: Global, notes: &mut Notes, entry: &Entry) -> Result<Vec<u8>, AllocError>
+fn note_of(alloc: Global, notes: &mut Notes, entry: &JournalEntry) -> Result<Vec<u8>, AllocError>
     ensures note { IfOk result (λ words. words.items ≡ unwrap_or (told notes.old entry.now) []) }
     ensures known { known notes.new ≡ known notes.old }
 {
@@ -213,9 +213,9 @@ fn note_of(alloc: Global, notes: &mut Notes, entry: &Entry) -> Result<Vec<u8>, A
 /// no bytes.
 pub fn notes_of(
     alloc: Global,
-    tree: &[TreeEntry],
+    tree: &[TreeProcess],
     logs: &[Vec<LogRecord>],
-    entries: &[Entry],
+    entries: &[JournalEntry],
 ) -> Result<Vec<Vec<u8>>, AllocError>
     ensures { IfOk result (λ notes. AreNotes tree.now entries.now (map (λ words. words.items) notes.items)) }
 {

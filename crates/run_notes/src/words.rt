@@ -4,10 +4,10 @@ ghost use Rattle.std.specs.Prelude.{◌≡◌, ◌++◌, [], IfOk, OnOk, option_
 ghost use Rattle.run_notes.specs.Words.{byte_text, bytes_text, count_text, held_text, is_plain as stands_as_it_is, no_text, read_text, spoiled_text, unknown_text, value_text};
 
 use crate::branch::Spoiled;
+use protocol::{BranchName as Name, Case};
 use spellings::hexadecimal::Hexadecimal;
 use std::alloc::{AllocError, Global};
 use trace_lines::{push, push_case, push_number};
-use tree_model::{Branch as Name, Case};
 
 /// Whether a byte of a key or a value stands as it is: a visible character of ASCII, and no backslash.
 fn is_plain(byte: u8) -> bool

@@ -2,8 +2,8 @@
 use Rattle.std.specs.Prelude.{ℕ, List, length, codes, Bool, ◌&&◌, not, nat_le, ◌==◌, Option, Some, None, if◌then◌else◌}
 use Rattle.std.specs.List.{list_all}
 use Rattle.spellings.specs.Words.{cut_at}
-use Rattle.tree_model.specs.declared.messages.Op.{Op}
-use Rattle.tree_model.specs.declared.messages.Op.TheVariants.{Put, Get, Delete}
+use Rattle.protocol.specs.declared.messages.Op.{Op}
+use Rattle.protocol.specs.declared.messages.Op.TheVariants.{Put, Get, Delete}
 use Rattle.script_words.specs.declared.operation.Task.{Task}
 use Rattle.script_words.specs.declared.operation.Task.TheVariants.{Put as PutTask, Get as GetTask, Delete as DeleteTask}
 use Rattle.script_words.specs.Steps.{◌>>=◌, same}

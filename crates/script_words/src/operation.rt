@@ -15,9 +15,9 @@ ghost use Rattle.script_words.specs.Operations.{
   op_view,
 };
 
+use protocol::{Bytes, Op};
 use spellings::word::cut;
 use std::alloc::{AllocError, Global};
-use tree_model::{Bytes, Op};
 
 /// An operation on data whose key and value lie in the script.
 #[derive(Clone, Copy)]

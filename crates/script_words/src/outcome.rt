@@ -3,7 +3,7 @@
 ghost use Rattle.std.specs.Prelude.{◌≡◌};
 ghost use Rattle.script_words.specs.Outcomes.{outcome_at};
 
-use tree_model::Outcome;
+use protocol::Outcome;
 
 /// The outcome that a word names: `commit` or `rollback`.
 pub fn outcome_of(word: &str) -> Option<Outcome>

@@ -2,9 +2,9 @@
 use Rattle.std.proofs.Common.{◌≡◌, ◌∙◌, ◌⊎◌, inl, inr, ℕ, List, ◌∷◌, ◌++◌, Result, Ok, Err, OnOk, length, take, drop, refl, sym, ap, subst, arith, le_refl, take-append-drop, length-take-le, take_all, take-take}
 use Rattle.std.specs.List.{concat}
 use Rattle.file_blocks.proofs.Kept.{kept}
-use Rattle.file_store.specs.declared.store.FileStore.{FileStore}
-use Rattle.file_store.specs.Disks.{unforced}
-use Rattle.file_store.specs.Stores.{file_bytes, file_forced}
+use Rattle.log_file.specs.declared.store.FileStore.{FileStore}
+use Rattle.log_file.specs.Disks.{unforced}
+use Rattle.log_file.specs.Stores.{file_bytes, file_forced}
 use Rattle.staged_store.specs.declared.backing.FileBacking.{FileBacking}
 use Rattle.staged_store.specs.declared.staged.StagedStore.{StagedStore}
 use Rattle.staged_store.specs.Staged.{Continues, Grows, StoresContinue, promised}

@@ -1,8 +1,8 @@
 -- A file that is brought up to a store in memory.
 use Rattle.std.specs.Prelude.{◌≡◌, ℕ, List, length, drop}
 use Rattle.log_store.specs.Stores.{Appends, Forces, Replaces}
-use Rattle.file_store.specs.declared.store.FileStore.{FileStore}
-use Rattle.file_store.specs.Stores.{ForcesFile, PutsFile, file_bytes, file_failures, file_forced, file_of}
+use Rattle.log_file.specs.declared.store.FileStore.{FileStore}
+use Rattle.log_file.specs.Stores.{ForcesFile, PutsFile, file_bytes, file_failures, file_forced, file_of}
 use Rattle.staged_store.specs.declared.backing.FileBacking.{FileBacking}
 use Rattle.staged_store.specs.declared.staged.StagedStore.{StagedStore}
 use Rattle.staged_store.specs.Staged.{promised}

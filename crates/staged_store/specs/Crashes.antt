@@ -1,10 +1,10 @@
 -- What a crash leaves of a file that is being brought up to a store.
 use Rattle.std.specs.Prelude.{◌≡◌, ◌<◌, ◌^◌, ◌⊎◌, ℕ, List, [], ◌∷◌, ◌++◌, length, take}
 use Rattle.file_blocks.specs.Files.{Holds, IsDamaged, file_number, file_text}
-use Rattle.file_blocks.specs.Laws.{IsLeft}
-use Rattle.file_store.specs.declared.store.FileStore.{FileStore}
-use Rattle.file_store.specs.Disks.{OnDisk, unforced}
-use Rattle.file_store.specs.Stores.{file_bytes, file_forced}
+use Rattle.file_blocks.specs.Laws.{IsFileLeft}
+use Rattle.log_file.specs.declared.store.FileStore.{FileStore}
+use Rattle.log_file.specs.Disks.{OnDisk, unforced}
+use Rattle.log_file.specs.Stores.{file_bytes, file_forced}
 use Rattle.staged_store.specs.declared.staged.StagedStore.{StagedStore}
 use Rattle.staged_store.specs.Staged.{promised}
 
@@ -21,6 +21,6 @@ module _ {F : Type 0} where
   abbrev pub GroupsStandOrNot : FileStore F → Type 0
   GroupsStandOrNot f = (a b : StagedStore) (first : List ℕ) (others : List (List ℕ)) (bytes : List ℕ) → f.number < 2 ^ 64
       → length (file_text f.number (first ∷ (others ++ unforced f ∷ []))) < 2 ^ 64 → Between f a b first others
-      → IsLeft f.number first others (unforced f) bytes
+      → IsFileLeft f.number first others (unforced f) bytes
       → (IsDamaged bytes (file_number bytes) → ⊥)
       × ((m : ℕ) (held : List ℕ) → m < 2 ^ 64 → Holds bytes m held → (held ≡ promised a) ⊎ (held ≡ promised b))

@@ -5,7 +5,7 @@ ghost use Rattle.staged_store.specs.Backings.{AddsPromised, Asks, Holds, PutsPro
 ghost use Rattle.staged_store.specs.Staged.{Continues, promised};
 
 use crate::staged::StagedStore;
-use file_store::{FileStore, LogFile};
+use log_file::{FileStore, LogFile};
 use log_store::{LogStore, StoreError};
 
 /// What makes safe what a store promised.

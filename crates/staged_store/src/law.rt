@@ -4,7 +4,7 @@ ghost use Rattle.staged_store.specs.Crashes.{GroupsStandOrNot};
 ghost use Rattle.staged_store.specs.Staged.{StoresContinue};
 
 use crate::staged::StagedStore;
-use file_store::{FileStore, LogFile};
+use log_file::{FileStore, LogFile};
 
 /// Each call of a store leaves one that goes on from it (`Continues`), and so do many calls.
 pub fn stores_continue(store: &StagedStore)

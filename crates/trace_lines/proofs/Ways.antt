@@ -1,7 +1,7 @@
 -- What is before a message's word.
 use Rattle.std.proofs.Common.{◌≡◌, ℕ, ◌++◌, append_assoc}
-use Rattle.tree_model.specs.declared.messages.Envelope.{Envelope}
-use Rattle.tree_model.specs.Texts.{envelope_text, message_text}
+use Rattle.protocol.specs.declared.messages.Envelope.{Envelope}
+use Rattle.protocol.specs.Texts.{envelope_text, message_text}
 use Rattle.trace_lines.specs.Trace.{way_text}
 
 -- a message with what is before it is its text

@@ -2,11 +2,11 @@
 use Rattle.std.specs.Prelude.{ℕ, ◌+◌, List, [], ◌∷◌, ◌++◌, codes, length}
 use Rattle.std.specs.List.{flat_map}
 use Rattle.std.specs.Fmt.{decimal}
-use Rattle.tree_model.specs.declared.names.Case.{Case}
-use Rattle.tree_model.specs.declared.messages.Envelope.{Envelope}
-use Rattle.tree_model.specs.declared.events.Entry.{Entry}
-use Rattle.tree_model.specs.Texts.{case_text, reaction_lines, mixed_word, unreported_word}
-use Rattle.tree_model.specs.declared.messages.Finding.{Finding}
+use Rattle.protocol.specs.declared.names.Case.{Case}
+use Rattle.protocol.specs.declared.messages.Envelope.{Envelope}
+use Rattle.protocol.specs.declared.events.JournalEntry.{JournalEntry}
+use Rattle.protocol.specs.Texts.{case_text, reaction_lines, mixed_word, unreported_word}
+use Rattle.protocol.specs.declared.messages.Finding.{Finding}
 
 -- a number, after a space
 abbrev pub number_word : ℕ → List ℕ
@@ -37,10 +37,10 @@ abbrev pub lines_text : List (List ℕ) → List ℕ
 lines_text lines = flat_map line_text lines
 
 -- the text of an entry before which N messages were sent
-unfoldable pub entry_text : ℕ → Entry → List ℕ
+unfoldable pub entry_text : ℕ → JournalEntry → List ℕ
 entry_text sent e = lines_text (reaction_lines e.step.process.0 sent e.reaction)
 
 -- the text of these entries, before which N messages were sent
-abbrev pub entries_text : ℕ → List Entry → List ℕ
+abbrev pub entries_text : ℕ → List JournalEntry → List ℕ
 entries_text sent [] = []
 entries_text sent (e ∷ es) = entry_text sent e ++ entries_text (sent + length e.reaction.messages) es

@@ -2,9 +2,9 @@
 
 ghost use Rattle.std.specs.Prelude.{◌≡◌, ◌+◌, ◌<◌, ◌≤◌, ◌∷◌, ◌++◌, length, drop, decimal};
 ghost use Rattle.trace_lines.specs.declared.names.TheConstants.{CASE, NUMBER, TICKET, TXN};
-ghost use Rattle.tree_model.specs.Texts.{ticket_text, txn_text, case_text as text_of_case};
+ghost use Rattle.protocol.specs.Texts.{ticket_text, txn_text, case_text as text_of_case};
 
-use tree_model::{Case, Presumption, Ticket, Txn};
+use protocol::{Case, Presumption, Ticket, Txn};
 
 /// The most bytes of a number.
 pub(crate) const NUMBER: usize = 20;

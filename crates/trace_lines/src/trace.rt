@@ -4,7 +4,7 @@ ghost use Rattle.std.specs.Prelude.{◌≡◌, ◌+◌, ◌<◌, ◌≤◌, ◌^
 ghost use Rattle.std.specs.List.{list_any};
 ghost use Rattle.trace_lines.specs.declared.names.TheConstants.{CASE};
 ghost use Rattle.trace_lines.specs.declared.trace.TheConstants.{WAY};
-ghost use Rattle.tree_model.specs.Texts.{
+ghost use Rattle.protocol.specs.Texts.{
   txn_text,
   ticket_text,
   case_text as text_of_case,
@@ -19,7 +19,7 @@ ghost use Rattle.tree_model.specs.Texts.{
   kind_word as word_of_kind,
   subject_text,
   logged_text,
-  conclusion_word as word_of_conclusion,
+  word_of_conclusion,
   told_text,
   begun_lines,
   logged_lines,
@@ -32,11 +32,11 @@ ghost use Rattle.trace_lines.specs.Trace.{case_word, line_text, lines_text, mixe
 use crate::names::{
     CASE, NUMBER, TICKET, write_byte, write_case, write_number, write_ticket, write_txn, write_word,
 };
-use std::alloc::{AllocError, Global};
-use tree_model::{
-    Bytes, Case, Conclusion, Envelope, Finding, Logged, Message, Op, Outcome, RecordKind, Subject,
-    Ticket, Told, Txn,
+use protocol::{
+    Bytes, Case, Conclusion, Envelope, Finding, Message, Op, Outcome, RecordKind, ShownRecord,
+    Subject, Ticket, Told, Txn,
 };
+use std::alloc::{AllocError, Global};
 
 /// The most bytes of a message's number, its sender and its receiver: four marks and three numbers.
 const WAY: usize = 64;
@@ -253,7 +253,7 @@ fn push_if(out: &mut Vec<u8>, stands: bool, word: &str) -> Result<(), AllocError
 }
 
 /// What an acknowledgement found: the mixed tickets, then the unreported ones.
-#[tactic(auto, unfolding(tree_model::specs::Texts::findings_text))]
+#[tactic(auto, unfolding(protocol::specs::Texts::findings_text))]
 pub fn push_findings(out: &mut Vec<u8>, findings: &[Finding]) -> Result<(), AllocError>
     ensures { OnOk result (out.new.items ≡ out.old.items ++ findings_text findings.now) }
 {
@@ -344,7 +344,7 @@ fn write_subject(subject: &Subject, line: &mut [u8], end: usize) -> usize
     }
 }
 
-fn push_logged(out: &mut Vec<u8>, process: u32, logged: &Logged) -> Result<(), AllocError>
+fn push_logged(out: &mut Vec<u8>, process: u32, logged: &ShownRecord) -> Result<(), AllocError>
     ensures { OnOk result (out.new.items ≡ out.old.items ++ line_text (logged_text process logged.now)) }
 {
     let mut line = [0; LINE];
@@ -406,7 +406,11 @@ pub fn push_begun(out: &mut Vec<u8>, begun: &Option<Txn>) -> Result<(), AllocErr
 }
 
 /// The lines of records that a process made.
-pub fn push_written(out: &mut Vec<u8>, process: u32, written: &[Logged]) -> Result<(), AllocError>
+pub fn push_written(
+    out: &mut Vec<u8>,
+    process: u32,
+    written: &[ShownRecord],
+) -> Result<(), AllocError>
     ensures { OnOk result (out.new.items ≡ out.old.items ++ lines_text (logged_lines process written.now)) }
 {
     for logged in written {

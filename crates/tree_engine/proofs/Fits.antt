@@ -4,10 +4,10 @@ use Rattle.std.proofs.lemmas.List.Concat.{flat_map-append}
 use Rattle.std.proofs.Common.{Some, ◌≡◌, ◌∙◌, ap, sym, subst, ℕ, zero, suc, ◌+◌, ◌<◌, List, [], ◌∷◌, ◌++◌, length, map, take, drop, get_or, refl, Result, Ok, Err, IfErr, arith}
 use Rattle.std.specs.Prelude.{slice_get, if◌then◌else◌}
 use Rattle.std.specs.List.{fold}
-use Rattle.tree_model.specs.declared.events.Entry.{Entry}
-use Rattle.tree_model.specs.declared.trees.TreeEntry.{TreeEntry}
-use Rattle.tree_model.specs.declared.records.Logged.{Logged}
-use Rattle.tree_model.specs.Names.{same_process}
+use Rattle.protocol.specs.declared.events.JournalEntry.{JournalEntry}
+use Rattle.protocol.specs.declared.trees.TreeProcess.{TreeProcess}
+use Rattle.protocol.specs.declared.records.ShownRecord.{ShownRecord}
+use Rattle.protocol.specs.Names.{same_process}
 use Rattle.report_io.specs.declared.streams.Failure.{Failure}
 use Rattle.report_io.specs.declared.streams.Failure.TheVariants.{Exhausted}
 use Rattle.tree_engine.specs.declared.counts.Counts.{Counts}
@@ -119,10 +119,10 @@ row_fits f rows now i d within is h =
     (fits_at f rows i d within h))
 
 -- the counts after a step more do not fit
-pub not_counted : (made : Result (Unit {0}) Failure) (view items old : List ProcessCounts) (e : Entry)
+pub not_counted : (made : Result (Unit {0}) Failure) (view items old : List ProcessCounts) (e : JournalEntry)
     → items ≡ view → old ≡ items
     → IfErr made (λ why. (why ≡ Exhausted) × (AllFit (map (row_behind e) old) → ⊥))
-    → IfErr made (λ why. (why ≡ Exhausted) × ((tree : List TreeEntry) (es : List Entry)
+    → IfErr made (λ why. (why ≡ Exhausted) × ((tree : List TreeProcess) (es : List JournalEntry)
     → view ≡ rows_of tree es → AllFit (rows_of tree (es ++ e ∷ [])) → ⊥))
 not_counted (Ok x) view items old e shown value none = none
 not_counted (Err why) view items old e shown value none = (
@@ -133,30 +133,30 @@ not_counted (Err why) view items old e shown value none = (
 )
 
 -- what the first steps count fits, where what all count does
-row_front : (es : List Entry) (k : ℕ) (p : TreeEntry) → Fit (row_of es p).counts
+row_front : (es : List JournalEntry) (k : ℕ) (p : TreeProcess) → Fit (row_of es p).counts
     → Fit (row_of (take k es) p).counts
 row_front es k p fit =
     let first = take k es in
     let rest = drop k es in
-    let written = flat_map-append (λ (e : Entry). if same_process e.step.process p.id then e.reaction.written else [])
+    let written = flat_map-append (λ (e : JournalEntry). if same_process e.step.process p.id then e.reaction.written else [])
     first rest in
-    let sent = flat_map-append (λ (e : Entry). if same_process e.step.process p.id then e.reaction.messages else [])
+    let sent = flat_map-append (λ (e : JournalEntry). if same_process e.step.process p.id then e.reaction.messages else [])
     first rest in
     first_fits (row_of first p).counts (row_of rest p).counts
-    (subst Fit (ap (λ (xs : List Entry). counts_of (written_by p.id xs) (sent_by p.id xs))
-    (sym (take-append-drop k es)) ∙ ap (λ (ws : List Logged). counts_of ws (sent_by p.id (first ++ rest))) written
+    (subst Fit (ap (λ (xs : List JournalEntry). counts_of (written_by p.id xs) (sent_by p.id xs))
+    (sym (take-append-drop k es)) ∙ ap (λ (ws : List ShownRecord). counts_of ws (sent_by p.id (first ++ rest))) written
     ∙ ap (counts_of (written_by p.id first ++ written_by p.id rest)) sent
     ∙ counts_of_both (written_by p.id first) (written_by p.id rest) (sent_by p.id first) (sent_by p.id rest)) fit)
 
-rows_front : (tree : List TreeEntry) (es : List Entry) (k : ℕ) → AllFit (map (row_of es) tree)
+rows_front : (tree : List TreeProcess) (es : List JournalEntry) (k : ℕ) → AllFit (map (row_of es) tree)
     → AllFit (map (row_of (take k es)) tree)
 rows_front [] es k fit = tt
 rows_front (p ∷ ps) es k fit = (row_front es k p fit.0, rows_front ps es k fit.1)
 
 -- the counts of all steps do not fit, where those of the first ones and the next do not
-pub not_all_counted : (tree : List TreeEntry) (es : List Entry) (k : ℕ) (e : Entry) → slice_get es k ≡ Some e
+pub not_all_counted : (tree : List TreeProcess) (es : List JournalEntry) (k : ℕ) (e : JournalEntry) → slice_get es k ≡ Some e
     → (AllFit (rows_of tree (take k es ++ e ∷ [])) → ⊥) → Fit (total_of (rows_of tree es)) → ⊥
 unfolding rows_of
 not_all_counted tree es k e at none fit =
-    none (subst (λ (xs : List Entry). AllFit (map (row_of xs) tree)) (taken_at es k e at)
+    none (subst (λ (xs : List JournalEntry). AllFit (map (row_of xs) tree)) (taken_at es k e at)
     (rows_front tree es (k + 1) (all_fit (map (row_of es) tree) fit)))

@@ -3,23 +3,23 @@ use Rattle.std.proofs.Common.{◌≡◌, ◌≢◌, ◌∙◌, ap, sym, subst, �
 use Rattle.std.specs.Prelude.{slice_get}
 use Rattle.std.proofs.Math.Seq.{take-append-add}
 use Rattle.std.proofs.lemmas.List.{take-append-drop}
-use Rattle.tree_model.specs.declared.events.Event.{Event}
-use Rattle.tree_model.specs.declared.events.StepError.{StepError}
-use Rattle.tree_model.specs.declared.events.StepError.TheVariants.{Memory, Device, Exhausted}
-use Rattle.tree_model.specs.declared.trees.TreeEntry.{TreeEntry}
-use Rattle.tree_model.specs.Trees.{IsTree}
-use Rattle.core_law.specs.worlds.Refusals.{Refusal}
-use Rattle.core_law.specs.worlds.Runs.{IsOpened, Leads, LeadsUntil}
-use Rattle.core_law.specs.worlds.Worlds.{Applies, Stops, WorldState}
-use Rattle.core_law.proofs.worlds.Whole.{run_of}
+use Rattle.protocol.specs.declared.events.Event.{Event}
+use Rattle.protocol.specs.declared.events.StepError.{StepError}
+use Rattle.protocol.specs.declared.events.StepError.TheVariants.{Memory, Device, Exhausted}
+use Rattle.protocol.specs.declared.trees.TreeProcess.{TreeProcess}
+use Rattle.protocol.specs.Trees.{IsTree}
+use Rattle.proof_runs.specs.worlds.Refusals.{Refusal}
+use Rattle.tree_state.specs.Runs.{IsOpenedTree, EventsLead, LeadsUntil}
+use Rattle.tree_state.specs.Worlds.{Applies, Stops, WorldState}
+use Rattle.proof_runs.proofs.worlds.Whole.{run_of}
 use Rattle.report_io.specs.declared.streams.Failure.{Failure}
 use Rattle.report_io.specs.declared.streams.Failure.TheVariants as failure
 use Rattle.tree_engine.specs.Failures.{BreaksOff, CannotMake}
 use Rattle.tree_engine.specs.Runs.{ComesTo, IsFailure}
 use Rattle.tree_engine.specs.Trees.{Plays}
 
-leads_on : (s m e : WorldState) (xs ys : List Event) → Leads s xs m → Leads m ys e → Leads s (xs ++ ys) e
-leads_on s m e [] ys same led = subst (λ w. Leads w ys e) same led
+leads_on : (s m e : WorldState) (xs ys : List Event) → EventsLead s xs m → EventsLead m ys e → EventsLead s (xs ++ ys) e
+leads_on s m e [] ys same led = subst (λ w. EventsLead w ys e) same led
 leads_on s m e (x ∷ xs) ys first led = (first.0, first.1, leads_on first.0 m e xs ys first.2 led)
 
 got_longer : (xs ys : List Event) (n : ℕ) (x : Event) → slice_get xs n ≡ Some x
@@ -47,24 +47,24 @@ until_stays s e xs ys n r h = record {
   event = h.event;
   next = got_longer xs ys n h.event h.next;
   before = h.before;
-  leads = subst (λ zs. Leads s zs h.before) (sym (taken_longer xs ys n h.event h.next)) h.leads;
+  leads = subst (λ zs. EventsLead s zs h.before) (sym (taken_longer xs ys n h.event h.next)) h.leads;
   stops = h.stops;
 }
 
 until_on : (s m e : WorldState) (xs ys : List Event) (n : ℕ) (r : StepError)
-    → Leads s xs m → LeadsUntil m ys n r e
+    → EventsLead s xs m → LeadsUntil m ys n r e
     → LeadsUntil s (xs ++ ys) (length xs + n) r e
 until_on s m e xs ys n r led h = record {
   event = h.event;
   next = got_behind xs ys n ∙ h.next;
   before = h.before;
-  leads = subst (λ zs. Leads s zs h.before) (sym (take-append-add xs ys n))
+  leads = subst (λ zs. EventsLead s zs h.before) (sym (take-append-add xs ys n))
       (leads_on s m h.before xs (take n ys) led h.leads);
   stops = h.stops;
 }
 
 -- one event was made
-pub one_led : (now new : WorldState) (e : Event) → Applies now e new → Leads now (e ∷ []) new
+pub one_led : (now new : WorldState) (e : Event) → Applies now e new → EventsLead now (e ∷ []) new
 one_led now new e made = (new, made, refl)
 
 -- it was refused
@@ -92,7 +92,7 @@ none_more s now given events (Some r) n is h = record {
 -- all were made
 pub all_more : (s now new : WorldState) (given events : List Event) (refusal : Refusal)
     (n m : ℕ) → is_some refusal ≡ false
-    → ComesTo s given refusal n now → Leads now events new → m ≡ n + length events
+    → ComesTo s given refusal n now → EventsLead now events new → m ≡ n + length events
     → ComesTo s (given ++ events) refusal m new
 all_more s now new given events (Some r) n m is h led sum = absurd (cc)
 all_more s now new given events None n m is h led sum = record {
@@ -172,9 +172,9 @@ breaks_off s events why few (inl h) = h
 breaks_off s events why few (inr h) = let past = h.1 in absurd (omega (arith, few, past))
 
 -- what a run comes to is a run of the model
-unfoldable pub ran : (tree : List TreeEntry) (s now : WorldState) (given : List Event)
+unfoldable pub ran : (tree : List TreeProcess) (s now : WorldState) (given : List Event)
     (refusal : Refusal) (n : ℕ) → IsTree tree
-    → IsOpened s tree → ComesTo s given refusal n now → Plays tree given refusal now
+    → IsOpenedTree s tree → ComesTo s given refusal n now → Plays tree given refusal now
 ran tree s now given refusal n is opens h = record {
   start = s;
   opens = opens;

@@ -1,39 +1,39 @@
 -- What a tree that was opened over logs refuses, the model refuses so.
 use Rattle.std.proofs.Common.{◌≡◌, ◌∙◌, ap, sym, subst, refl, ℕ, Bool, true, false, List, [], ◌++◌, append_assoc, Option, Some, None, is_some, take}
 use Rattle.std.specs.Prelude.{if◌then◌else◌}
-use Rattle.tree_model.specs.declared.names.ProcessId.{ProcessId}
-use Rattle.tree_model.specs.declared.messages.Envelope.{Envelope}
-use Rattle.tree_model.specs.declared.events.Event.{Event}
-use Rattle.tree_model.specs.declared.events.Event.TheVariants.{Act as ActOf, Deliver, Settle, Restart, Trim}
-use Rattle.tree_model.specs.declared.events.Happening.TheVariants.{Restart as Restarting, Trim as Trimming}
-use Rattle.tree_model.specs.declared.events.Input.{Input}
-use Rattle.tree_model.specs.declared.events.Input.TheVariants.{Act as ActInput, Message as MessageInput}
-use Rattle.tree_model.specs.declared.events.StepError.{StepError}
-use Rattle.tree_model.specs.declared.events.StepError.TheVariants as step_error
-use Rattle.tree_model.specs.declared.trees.TreeEntry.{TreeEntry}
-use Rattle.tree_model.specs.Nodes.{DataAnswer, Effect, Node, Place, is_listed, place_of}
-use Rattle.tree_model.specs.Plays.{process_of_act, sent_as}
-use Rattle.tree_model.specs.Reactions.{Does, Reacts, Refused, hears, is_passed_over, reacts}
-use Rattle.tree_model.specs.Trees.{IsTree, root_of}
-use Rattle.tree_model.specs.World.{Continues, Made, Move, World, goes_on, input_makes, node_makes, passes_over, stays}
-use Rattle.tree_model.specs.World.{Refuses as RefusesMove}
-use Rattle.core_model.specs.States.{CoreState, SameCore}
-use Rattle.core_model.specs.Turns.{heard_now, this_version}
-use Rattle.core_model.proofs.Alike.{same_view}
-use Rattle.core_law.specs.Steps.{input_move, quiet_move}
-use Rattle.core_law.specs.worlds.Refusals.{RefusesDelivery, RefusesEvent, RefusesSo, model_refusal, refusal_in}
-use Rattle.core_law.specs.worlds.Runs.{LeadsUntil}
-use Rattle.core_law.specs.worlds.Worlds.{HasFailed, NoneDelivered, NotTrimmedAt, RefusesAt, RefusesMessage, Same, Stops, WorldState, least_open}
-use Rattle.core_law.proofs.Steps.{refusals_so}
-use Rattle.core_law.proofs.Trimming.{trim_done}
-use Rattle.core_law.proofs.worlds.Fitting.{runs_fit}
-use Rattle.core_law.proofs.worlds.Whole.{ForItself, not_acted, not_delivered, not_restarted}
-use Rattle.core_law.specs.Fits.{NodeFits}
-use Rattle.reopened_trees.specs.Earlier.{Earlier}
-use Rattle.reopened_trees.specs.Since.{FollowsSince}
-use Rattle.reopened_trees.proofs.Events.{GoesIn, leads_on, settles_on}
-use Rattle.reopened_trees.proofs.Moves.{listed_since, run_of}
-use Rattle.reopened_trees.proofs.Steps.{same_since}
+use Rattle.protocol.specs.declared.names.ProcessId.{ProcessId}
+use Rattle.protocol.specs.declared.messages.Envelope.{Envelope}
+use Rattle.protocol.specs.declared.events.Event.{Event}
+use Rattle.protocol.specs.declared.events.Event.TheVariants.{Act as ActOf, Deliver, Settle, Restart, Trim}
+use Rattle.protocol.specs.declared.events.Happening.TheVariants.{Restart as Restarting, Trim as Trimming}
+use Rattle.protocol.specs.declared.events.Input.{Input}
+use Rattle.protocol.specs.declared.events.Input.TheVariants.{Act as ActInput, Message as MessageInput}
+use Rattle.protocol.specs.declared.events.StepError.{StepError}
+use Rattle.protocol.specs.declared.events.StepError.TheVariants as step_error
+use Rattle.protocol.specs.declared.trees.TreeProcess.{TreeProcess}
+use Rattle.protocol.specs.Nodes.{DataAnswer, Effect, Node, Place, is_listed, place_of}
+use Rattle.protocol.specs.Plays.{process_of_act, sent_as}
+use Rattle.protocol.specs.Reactions.{Does, Reacts, Refused, hears, is_passed_over, reacts}
+use Rattle.protocol.specs.Trees.{IsTree, root_of}
+use Rattle.protocol.specs.World.{Continues, Made, Move, World, goes_on, input_makes, node_makes, passes_over, stays}
+use Rattle.protocol.specs.World.{Refuses as RefusesMove}
+use Rattle.process_state.specs.States.{CoreState, SameCore}
+use Rattle.process_state.specs.Turns.{heard_now, this_version}
+use Rattle.process_state.proofs.Alike.{same_view}
+use Rattle.tree_state.specs.Steps.{input_move, quiet_move}
+use Rattle.proof_runs.specs.worlds.Refusals.{RefusesDelivery, RefusesEvent, RefusesSo, model_refusal, refusal_in}
+use Rattle.tree_state.specs.Runs.{LeadsUntil}
+use Rattle.tree_state.specs.Worlds.{HasFailed, NoneDelivered, NotTrimmedAt, RefusesAt, RefusesMessage, SameTree, Stops, WorldState, least_open}
+use Rattle.proof_runs.proofs.Steps.{refusals_so}
+use Rattle.proof_runs.proofs.Trimming.{trim_done}
+use Rattle.proof_runs.proofs.worlds.Fitting.{runs_fit}
+use Rattle.proof_runs.proofs.worlds.Whole.{ForItself, not_acted, not_delivered, not_restarted}
+use Rattle.tree_state.specs.Fits.{NodeFits}
+use Rattle.proof_reopened.specs.Earlier.{Earlier}
+use Rattle.proof_reopened.specs.Since.{FollowsSince}
+use Rattle.proof_reopened.proofs.Events.{GoesIn, leads_on, settles_on}
+use Rattle.proof_reopened.proofs.Moves.{listed_since, run_of}
+use Rattle.proof_reopened.proofs.Steps.{same_since}
 use Rattle.tree_engine.specs.Reopened.{RefusesNextSince, RefusesSince}
 
 -- One process.
@@ -131,7 +131,7 @@ module _ (past : Earlier) (es : List Made) (w : World) (s : WorldState) (f : Fol
 
   -- a trim that was refused for itself
   not_trimmed : (t : WorldState) (q : ProcessId) (e : StepError) → ForItself e → NotTrimmedAt s t q e
-      → Same s t × (model_refusal s.tree w (quiet_move q Trimming None) ≡ Some e)
+      → SameTree s t × (model_refusal s.tree w (quiet_move q Trimming None) ≡ Some e)
   not_trimmed t q step_error.Memory itself h = absurd (itself.memory refl)
   not_trimmed t q step_error.Device itself h = absurd (itself.device refl)
   not_trimmed t q step_error.UnknownTxn itself h = absurd h
@@ -144,22 +144,22 @@ module _ (past : Earlier) (es : List Made) (w : World) (s : WorldState) (f : Fol
   not_trimmed t q step_error.Exhausted itself h = absurd (itself.numbers refl)
 
 -- An event that was refused for itself left a state that stands for both parts, of which the model refuses it so.
-pub record StoppedSince (past : Earlier) (tree : List TreeEntry) (es : List Made) (w : World) (t : WorldState)
+pub record StoppedSince (past : Earlier) (tree : List TreeProcess) (es : List Made) (w : World) (t : WorldState)
     (event : Event) (e : StepError) : Type 0 where
   pub goes : GoesIn past tree es w t
   pub refuses : RefusesSince tree goes.goes_on_so.world t.net t.delivered event e
 
 -- later moves after later moves
-continues_on : (tree : List TreeEntry) (w0 w1 : World) (first : List Made) → Continues tree w0 first w1
+continues_on : (tree : List TreeProcess) (w0 w1 : World) (first : List Made) → Continues tree w0 first w1
     → (second : List Made) (w2 : World) → Continues tree w1 second w2 → Continues tree w0 (second ++ first) w2
 continues_on tree w0 w1 first before _ _ stays = before
 continues_on tree w0 w1 first before _ _ (goes_on es w m e w' later stands step) =
     goes_on (es ++ first) w m e w' (continues_on tree w0 w1 first before es w later) stands step
 
-module _ (past : Earlier) (tree : List TreeEntry) (is_tree : IsTree tree) where
+module _ (past : Earlier) (tree : List TreeProcess) (is_tree : IsTree tree) where
   -- nothing is otherwise
   stays_so : (s t : WorldState) (event : Event) (e : StepError) (es : List Made) (w : World) → s.tree ≡ tree
-      → FollowsSince past es w s → Same s t → RefusesSince s.tree w t.net t.delivered event e
+      → FollowsSince past es w s → SameTree s t → RefusesSince s.tree w t.net t.delivered event e
       → StoppedSince past tree es w t event e
   stays_so s t event e es w is f same refuses = record {
     goes = record {

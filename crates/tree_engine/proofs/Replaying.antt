@@ -1,35 +1,35 @@
 -- Trees that were opened over logs, and what events lead them to.
 use Rattle.std.proofs.Common.{◌≡◌, ◌∙◌, inl, inr, ap, sym, subst, refl, ℕ, Bool, true, false, if◌then◌else◌, ◌||◌, Some, None, List, [], ◌∷◌, ◌++◌, length, map, arith}
 use Rattle.std.specs.List.{list_any}
-use Rattle.tree_model.specs.declared.events.Event.{Event}
-use Rattle.tree_model.specs.declared.names.ProcessId.{ProcessId}
-use Rattle.tree_model.specs.declared.records.LogRecord.{LogRecord}
-use Rattle.tree_model.specs.declared.trees.TreeEntry.{TreeEntry}
-use Rattle.tree_model.specs.Names.{same_process}
-use Rattle.tree_model.specs.Nodes.{is_listed, place_of}
-use Rattle.tree_model.specs.Trees.{IsTree}
-use Rattle.tree_model.specs.World.{Continues, IsRun, Made, World}
-use Rattle.core_law.specs.worlds.Refusals.{IsForItself, LeadsTo, Refusal}
-use Rattle.core_law.specs.worlds.Worlds.{WorldState}
-use Rattle.logs_script.specs.declared.line.ProcessLog.{ProcessLog}
-use Rattle.reopened_trees.specs.Earlier.{Earlier}
-use Rattle.reopened_trees.specs.Reopened.{AreLeft, IsReopened, RestartsOver}
-use Rattle.reopened_trees.specs.Since.{FollowsSince}
-use Rattle.reopened_trees.proofs.Events.{GoesIn, leads_on}
-use Rattle.reopened_trees.proofs.Openings.{reopened_on}
-use Rattle.reopened_trees.proofs.Reports.{both_parts}
-use Rattle.reopened_trees.proofs.TreeStays.{led_stays, led_until_stays}
+use Rattle.protocol.specs.declared.events.Event.{Event}
+use Rattle.protocol.specs.declared.names.ProcessId.{ProcessId}
+use Rattle.protocol.specs.declared.records.LogRecord.{LogRecord}
+use Rattle.protocol.specs.declared.trees.TreeProcess.{TreeProcess}
+use Rattle.protocol.specs.Names.{same_process}
+use Rattle.protocol.specs.Nodes.{is_listed, place_of}
+use Rattle.protocol.specs.Trees.{IsTree}
+use Rattle.protocol.specs.World.{Continues, IsRun, Made, World}
+use Rattle.proof_runs.specs.worlds.Refusals.{IsForItself, LeadsTo, Refusal}
+use Rattle.tree_state.specs.Worlds.{WorldState}
+use Rattle.log_script.specs.declared.line.ProcessLog.{ProcessLog}
+use Rattle.proof_reopened.specs.Earlier.{Earlier}
+use Rattle.proof_reopened.specs.Reopened.{AreLogsLeft, IsReopened, RestartsOver}
+use Rattle.proof_reopened.specs.Since.{FollowsSince}
+use Rattle.proof_reopened.proofs.Events.{GoesIn, leads_on}
+use Rattle.proof_reopened.proofs.Openings.{reopened_on}
+use Rattle.proof_reopened.proofs.Reports.{both_parts}
+use Rattle.proof_reopened.proofs.TreeStays.{led_stays, led_until_stays}
 use Rattle.tree_world.specs.Openings.{store_of}
 use Rattle.tree_world.specs.OwnNames.{fault_of}
-use Rattle.tree_world.specs.Reopenings.{FailsIn, NoneRestarts, NoneRestartsOver, NotReopened, fault_or, faults_from, logs_in}
-use Rattle.tree_world.specs.declared.reopening.ReopenError.TheVariants.{Damaged, Device}
+use Rattle.tree_world.specs.Reopenings.{FailsIn, NoneRestarts, NoneRestartsOver, TreeNotReopened, fault_or, faults_from, logs_in}
+use Rattle.tree_world.specs.declared.reopening.TreeReopenError.TheVariants.{Damaged, Device}
 use Rattle.tree_engine.specs.Reopened.{GoesOnFrom, IsDamage, RefusesAfter, Replays, bytes_in, never, records_by, these}
 use Rattle.tree_engine.specs.Runs.{ComesTo}
 use Rattle.tree_engine.proofs.Refusing.{until_since}
 
 -- What events lead such a tree to.
 
-module _ (tree : List TreeEntry) (logs : List ProcessLog) (is_tree : IsTree tree) (start now : WorldState)
+module _ (tree : List TreeProcess) (logs : List ProcessLog) (is_tree : IsTree tree) (start now : WorldState)
     (reopened : IsReopened tree (records_by tree logs) start) (events : List Event) where
   pub starts : IsTree start.tree
   starts = subst IsTree (sym reopened.tree_is) is_tree
@@ -56,7 +56,7 @@ module _ (tree : List TreeEntry) (logs : List ProcessLog) (is_tree : IsTree tree
   stays (Some r) leads = led_until_stays start now events r.0 r.1 leads ∙ reopened.tree_is
 
   pub goes_from : (refusal : Refusal) → LeadsTo start events refusal now → IsForItself refusal → (es : List Made)
-      (w : World) → IsRun tree es w → AreLeft tree w (records_by tree logs)
+      (w : World) → IsRun tree es w → AreLogsLeft tree w (records_by tree logs)
       → GoesOnFrom tree es w events refusal now
   goes_from refusal leads itself es w run left =
       let g = reopened_on tree (records_by tree logs) start es w is_tree reopened run left in
@@ -94,42 +94,42 @@ others_same : (b : Bool) (here more same : List LogRecord) → more ≡ same
 others_same b here more same is = ap (λ (ls : List LogRecord). if b then here else ls) is
 
 module _ {L : Type 0} (bytes : L → List ℕ) where
-  pub logs_same : (es : List TreeEntry) (ss : List L) (q : ProcessId)
+  pub logs_same : (es : List TreeProcess) (ss : List L) (q : ProcessId)
       → logs_in bytes es ss q ≡ logs_in these es (map bytes ss) q
   logs_same [] ss q = refl
   logs_same (e ∷ es) [] q = refl
   logs_same (e ∷ es) (s ∷ ss) q =
       others_same (same_process e.id q) _ _ _ (logs_same es ss q)
 
-  faults_same : (tree es : List TreeEntry) (ss : List L)
+  faults_same : (tree es : List TreeProcess) (ss : List L)
       → faults_from bytes tree es ss ≡ faults_from these tree es (map bytes ss)
   faults_same tree [] ss = refl
   faults_same tree (e ∷ es) [] = refl
   faults_same tree (e ∷ es) (s ∷ ss) =
       ap (fault_or e.id (fault_of tree e (bytes s))) (faults_same tree es ss)
 
-  none_same : (tree : List TreeEntry) (ss : List L) (p : ProcessId) → NoneRestartsOver bytes tree ss p
+  none_same : (tree : List TreeProcess) (ss : List L) (p : ProcessId) → NoneRestartsOver bytes tree ss p
       → NoneRestartsOver these tree (map bytes ss) p
   none_same tree ss p h = record {
     listed = h.listed;
     none = subst (NoneRestarts (place_of tree p)) (logs_same tree ss p) h.none;
   }
 
-  damage_same : (failures : L → ℕ) (tree : List TreeEntry) (ss : List L) (p : ProcessId) (place : ℕ)
-      → NotReopened bytes failures tree ss (Damaged p place)
-      → NotReopened these never tree (map bytes ss) (Damaged p place)
+  damage_same : (failures : L → ℕ) (tree : List TreeProcess) (ss : List L) (p : ProcessId) (place : ℕ)
+      → TreeNotReopened bytes failures tree ss (Damaged p place)
+      → TreeNotReopened these never tree (map bytes ss) (Damaged p place)
   damage_same failures tree ss p place (inl first) = inl (sym (faults_same tree tree ss) ∙ first)
   damage_same failures tree ss p place (inr (none, at, over)) =
       inr (sym (faults_same tree tree ss) ∙ none, at, none_same tree ss p over)
 
-  pub damaged_so : (failures : L → ℕ) (tree : List TreeEntry) (logs : List ProcessLog) (ss : List L)
+  pub damaged_so : (failures : L → ℕ) (tree : List TreeProcess) (logs : List ProcessLog) (ss : List L)
       (p : ProcessId) (place : ℕ) → map bytes ss ≡ bytes_in tree logs
-      → NotReopened bytes failures tree ss (Damaged p place) → IsDamage tree logs p place
+      → TreeNotReopened bytes failures tree ss (Damaged p place) → IsDamage tree logs p place
   damaged_so failures tree logs ss p place are h =
-      subst (λ (bs : List (List ℕ)). NotReopened these never tree bs (Damaged p place)) are
+      subst (λ (bs : List (List ℕ)). TreeNotReopened these never tree bs (Damaged p place)) are
       (damage_same failures tree ss p place h)
 
-  pub reopened_so : (tree : List TreeEntry) (logs : List ProcessLog) (ss : List L) (s : WorldState)
+  pub reopened_so : (tree : List TreeProcess) (logs : List ProcessLog) (ss : List L) (s : WorldState)
       → map bytes ss ≡ bytes_in tree logs → IsReopened tree (logs_in bytes tree ss) s
       → IsReopened tree (records_by tree logs) s
   reopened_so tree logs ss s are r = record {
@@ -145,7 +145,7 @@ module _ {L : Type 0} (bytes : L → List ℕ) where
   }
 
   -- a process has a store, which does not fail
-  has_store : (failures : L → ℕ) → ((s : L) → failures s ≡ 0) → (es : List TreeEntry) (ss : List L) (q : ProcessId)
+  has_store : (failures : L → ℕ) → ((s : L) → failures s ≡ 0) → (es : List TreeProcess) (ss : List L) (q : ProcessId)
       → is_listed es q ≡ true → length ss ≡ length es → FailsIn failures (store_of es ss q) → ⊥
   unfolding is_listed
   has_store failures works [] ss q listed long h = absurd (cc)
@@ -160,6 +160,6 @@ module _ {L : Type 0} (bytes : L → List ℕ) where
       by_test true found later h = omega (arith, works s, works h.left, h.more)
       by_test false found later h = later found h
 
-  pub no_device : (failures : L → ℕ) → ((s : L) → failures s ≡ 0) → (tree : List TreeEntry) (ss : List L)
-      (p : ProcessId) → length ss ≡ length tree → NotReopened bytes failures tree ss (Device p) → ⊥
+  pub no_device : (failures : L → ℕ) → ((s : L) → failures s ≡ 0) → (tree : List TreeProcess) (ss : List L)
+      (p : ProcessId) → length ss ≡ length tree → TreeNotReopened bytes failures tree ss (Device p) → ⊥
   no_device failures works tree ss p long h = has_store failures works tree ss p h.0 long h.1

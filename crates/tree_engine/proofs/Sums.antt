@@ -3,12 +3,12 @@ use Rattle.std.proofs.Common.{◌≡◌, ◌∙◌, ap, sym, ℕ, ◌+◌, ◌�
 use Rattle.std.specs.List.{flat_map}
 use Rattle.std.proofs.lemmas.List.{append-nil, drop_all, flat_map_more, length-map, take_all}
 use Rattle.std.proofs.lemmas.List.Sums.{sum_by-append}
-use Rattle.tree_model.specs.declared.names.ProcessId.{ProcessId}
-use Rattle.tree_model.specs.declared.messages.Envelope.{Envelope}
-use Rattle.tree_model.specs.declared.records.Logged.{Logged}
-use Rattle.tree_model.specs.declared.events.Entry.{Entry}
-use Rattle.tree_model.specs.declared.trees.TreeEntry.{TreeEntry}
-use Rattle.tree_model.specs.Names.{same_process}
+use Rattle.protocol.specs.declared.names.ProcessId.{ProcessId}
+use Rattle.protocol.specs.declared.messages.Envelope.{Envelope}
+use Rattle.protocol.specs.declared.records.ShownRecord.{ShownRecord}
+use Rattle.protocol.specs.declared.events.JournalEntry.{JournalEntry}
+use Rattle.protocol.specs.declared.trees.TreeProcess.{TreeProcess}
+use Rattle.protocol.specs.Names.{same_process}
 use Rattle.report_io.specs.declared.streams.Failure.{Failure}
 use Rattle.tree_engine.specs.declared.kinds.MessageKind.{MessageKind}
 use Rattle.tree_engine.specs.declared.kinds.MessageKind.TheVariants as kind
@@ -34,7 +34,7 @@ sent_of_both ms ns =
     let inquire = of_kind kind.Inquire ms ns in
     cc
 
-pub counts_of_both : (ws vs : List Logged) (ms ns : List Envelope)
+pub counts_of_both : (ws vs : List ShownRecord) (ms ns : List Envelope)
     → counts_of (ws ++ vs) (ms ++ ns) ≡ together (counts_of ws ms) (counts_of vs ns)
 counts_of_both ws vs ms ns =
     let records = length-append ws vs in
@@ -44,7 +44,7 @@ counts_of_both ws vs ms ns =
     cc
 
 -- what a process's steps give, with one step more
-with_one : {X : Type 0} (f : Entry → List X) (es : List Entry) (e : Entry) (q : ProcessId) (own : Bool)
+with_one : {X : Type 0} (f : JournalEntry → List X) (es : List JournalEntry) (e : JournalEntry) (q : ProcessId) (own : Bool)
     → same_process e.step.process q ≡ own
     → flat_map (λ e. if same_process e.step.process q then f e else []) (es ++ e ∷ [])
     ≡ flat_map (λ e. if same_process e.step.process q then f e else []) es ++ (if own then f e else [])
@@ -53,7 +53,7 @@ with_one f es e q own is =
     ∙ ap (λ b. flat_map (λ e. if same_process e.step.process q then f e else []) es
     ++ (if b then f e else [])) is
 
-one_row : (es : List Entry) (e : Entry) (p : TreeEntry) (own : Bool) → same_process e.step.process p.id ≡ own
+one_row : (es : List JournalEntry) (e : JournalEntry) (p : TreeProcess) (own : Bool) → same_process e.step.process p.id ≡ own
     → row_behind e (row_of es p) ≡ row_of (es ++ e ∷ []) p
 one_row es e p true is =
     let written = with_one (λ e. e.reaction.written) es e p.id true is in
@@ -66,12 +66,12 @@ one_row es e p false is =
     rw is (rw (written, sent) refl)
 
 -- a step more
-all_rows : (tree : List TreeEntry) (es : List Entry) (e : Entry)
+all_rows : (tree : List TreeProcess) (es : List JournalEntry) (e : JournalEntry)
     → map (row_behind e) (map (row_of es) tree) ≡ map (row_of (es ++ e ∷ [])) tree
 all_rows [] es e = refl
 all_rows (p ∷ ps) es e = rw (one_row es e p (same_process e.step.process p.id) refl, all_rows ps es e) refl
 
-pub step_more : (tree : List TreeEntry) (es : List Entry) (e : Entry)
+pub step_more : (tree : List TreeProcess) (es : List JournalEntry) (e : JournalEntry)
     → map (row_behind e) (rows_of tree es) ≡ rows_of tree (es ++ e ∷ [])
 unfolding rows_of
 step_more tree es e = all_rows tree es e
@@ -87,9 +87,9 @@ written_back new items n size is =
 
 -- the counts after a step more
 pub counted : (made : Result (Unit {0}) Failure)
-    (view items old new : List ProcessCounts) (n : ℕ) (e : Entry)
+    (view items old new : List ProcessCounts) (n : ℕ) (e : JournalEntry)
     → items ≡ view → old ≡ items → length old ≡ n → OnOk made (new ≡ map (row_behind e) old)
-    → OnOk made ((tree : List TreeEntry) (es : List Entry) → view ≡ rows_of tree es
+    → OnOk made ((tree : List TreeProcess) (es : List JournalEntry) → view ≡ rows_of tree es
     → take n (new ++ drop (length new) items) ≡ rows_of tree (es ++ e ∷ []))
 counted (Err x) view items old new n e shown value size is = is
 counted (Ok x) view items old new n e shown value size is = λ tree es so.

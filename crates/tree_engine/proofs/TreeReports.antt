@@ -1,25 +1,25 @@
 -- What is written of a tree script.
 use Rattle.std.proofs.Common.{◌≡◌, ◌∙◌, ◌⊎◌, ◌+◌, ◌<◌, ◌≤◌, ◌^◌, ap, sym, subst, inl, inr, refl, ℕ, Bool, is_some, Option, Some, None, List, [], ◌++◌, length, Result, Ok, Err, IfOk, arith}
-use Rattle.tree_model.specs.Trees.{IsTree}
-use Rattle.run_picture.specs.Lines.{refused_in}
-use Rattle.run_picture.specs.Pictures.{IsPicture}
-use Rattle.tree_model.specs.declared.trees.TreeEntry.{TreeEntry}
-use Rattle.tree_model.specs.declared.events.Entry.{Entry}
-use Rattle.tree_model.specs.declared.events.Event.{Event}
-use Rattle.core_law.specs.worlds.Refusals.{Refusal}
-use Rattle.core_law.specs.worlds.Worlds.{WorldState}
-use Rattle.link_script.specs.declared.script.ScriptError.{ScriptError}
-use Rattle.link_script.specs.declared.script.ScriptError.TheVariants.{Fault}
-use Rattle.link_script.specs.declared.script.ScriptFault.{ScriptFault}
-use Rattle.link_script.specs.declared.script.ScriptFault.TheVariants.{Utf8, TreeText, Tree, TooLong, Line}
-use Rattle.link_script.specs.Inputs.{AsksFirst, IsLineError, IsScript, LinesState, asked_by}
-use Rattle.logs_script.specs.declared.line.ProcessLog.{ProcessLog}
-use Rattle.logs_script.specs.Faults.{damage_text}
-use Rattle.tree_model.specs.declared.names.ProcessId.{ProcessId}
-use Rattle.picture_rows.specs.Long.{IsLong}
-use Rattle.link_script.specs.Events.{event_at}
-use Rattle.link_script.specs.Script.{events_at, with_front}
-use Rattle.link_script.proofs.Reading.{HasRead}
+use Rattle.protocol.specs.Trees.{IsTree}
+use Rattle.picture_run.specs.Lines.{refused_in}
+use Rattle.picture_run.specs.Pictures.{IsPicture}
+use Rattle.protocol.specs.declared.trees.TreeProcess.{TreeProcess}
+use Rattle.protocol.specs.declared.events.JournalEntry.{JournalEntry}
+use Rattle.protocol.specs.declared.events.Event.{Event}
+use Rattle.proof_runs.specs.worlds.Refusals.{Refusal}
+use Rattle.tree_state.specs.Worlds.{WorldState}
+use Rattle.tree_script.specs.declared.script.ScriptError.{ScriptError}
+use Rattle.tree_script.specs.declared.script.ScriptError.TheVariants.{Fault}
+use Rattle.tree_script.specs.declared.script.ScriptFault.{ScriptFault}
+use Rattle.tree_script.specs.declared.script.ScriptFault.TheVariants.{Utf8, TreeText, Tree, TooLong, Line}
+use Rattle.tree_script.specs.Inputs.{AsksFirst, IsLineError, IsScript, LinesState, asked_by}
+use Rattle.log_script.specs.declared.line.ProcessLog.{ProcessLog}
+use Rattle.log_script.specs.Faults.{damage_text}
+use Rattle.protocol.specs.declared.names.ProcessId.{ProcessId}
+use Rattle.picture_layout.specs.Long.{IsLong}
+use Rattle.tree_script.specs.Events.{event_at}
+use Rattle.tree_script.specs.Script.{events_at, with_front}
+use Rattle.tree_script.proofs.Reading.{HasRead}
 use Rattle.reopen_script.specs.Inputs.{IsOpenReopen, IsReopenError, IsReopenFault, IsReopenScript}
 use Rattle.reopen_script.proofs.Alike.{script_there}
 use Rattle.reopen_script.proofs.Reading.{asks_all, script_of}
@@ -30,8 +30,8 @@ use Rattle.report_io.specs.declared.status.Status.{Status}
 use Rattle.report_io.specs.declared.status.Status.TheVariants.{Refused}
 use Rattle.tree_engine.specs.declared.tree.InputFault.{InputFault}
 use Rattle.tree_engine.specs.declared.tree.InputFault.TheVariants as inputs
-use Rattle.tree_engine.specs.declared.tree.Output.{Output}
-use Rattle.tree_engine.specs.declared.tree.Output.TheVariants.{Picture}
+use Rattle.tree_engine.specs.declared.tree.TreeOutput.{TreeOutput}
+use Rattle.tree_engine.specs.declared.tree.TreeOutput.TheVariants.{Picture}
 use Rattle.tree_engine.specs.declared.run.Run.{Run}
 use Rattle.tree_engine.specs.Failures.{BreaksOff, CannotMake, CannotReport, DrawsTooLong, IsBeyond, ScriptBreaksOff}
 use Rattle.tree_engine.specs.Reopened.{PlaysBy, StartsBy}
@@ -43,22 +43,22 @@ use Rattle.tree_engine.proofs.Replaying.{replayed}
 
 -- A run that has just begun.
 
-pub begun_by : (tree : List TreeEntry) (logs : Option (List ProcessLog)) (first : Run) → BeginsBy tree logs first
+pub begun_by : (tree : List TreeProcess) (logs : Option (List ProcessLog)) (first : Run) → BeginsBy tree logs first
     → HasCome (state first.world) [] first
 begun_by tree None first b = b.begins
 begun_by tree (Some logs) first b = b.begins
 
-pub starts_by : (tree : List TreeEntry) (logs : Option (List ProcessLog)) (first : Run) → BeginsBy tree logs first
+pub starts_by : (tree : List TreeProcess) (logs : Option (List ProcessLog)) (first : Run) → BeginsBy tree logs first
     → StartsBy tree logs (state first.world)
 starts_by tree None first b = b.opened
 starts_by tree (Some logs) first b = b.reopened
 
-over_by : (tree : List TreeEntry) (logs : Option (List ProcessLog)) (first : Run) → BeginsBy tree logs first
+over_by : (tree : List TreeProcess) (logs : Option (List ProcessLog)) (first : Run) → BeginsBy tree logs first
     → first.world.reopened ≡ is_some logs
 over_by tree None first b = b.first
 over_by tree (Some logs) first b = b.over
 
-unfoldable pub ran_by : (tree : List TreeEntry) (logs : Option (List ProcessLog)) (first : Run) (now : WorldState)
+unfoldable pub ran_by : (tree : List TreeProcess) (logs : Option (List ProcessLog)) (first : Run) (now : WorldState)
     (events : List Event) (refusal : Refusal) (n : ℕ) → BeginsBy tree logs first
     → ComesTo (state first.world) events refusal n now → PlaysBy tree logs events refusal now
 ran_by tree None first now events refusal n b h =
@@ -67,7 +67,7 @@ ran_by tree (Some logs) first now events refusal n b h =
     replayed tree logs b.is_tree (state first.world) now b.reopened events refusal n h
 
 -- what the lines of a script lead an opened tree to is a run of the script
-pub plays_script : (input : List ℕ) (tree : List TreeEntry) (logs : Option (List ProcessLog)) (lines : LinesState)
+pub plays_script : (input : List ℕ) (tree : List TreeProcess) (logs : Option (List ProcessLog)) (lines : LinesState)
     (first run : Run) → IsOpenReopen input tree logs lines → BeginsBy tree logs first → HasPlayed first run lines
     → PlaysScript input run
 plays_script input tree logs lines first run opened begins made = record {
@@ -81,7 +81,7 @@ plays_script input tree logs lines first run opened begins made = record {
 }
 
 -- a log that a run does not open over is damaged in the script
-pub damage_there : (input : List ℕ) (tree : List TreeEntry) (logs : Option (List ProcessLog)) (events : List Event)
+pub damage_there : (input : List ℕ) (tree : List TreeProcess) (logs : Option (List ProcessLog)) (events : List Event)
     (process : ProcessId) (place : ℕ) → IsReopenScript input tree logs events
     → IsDamageBy tree logs process place → IsDamaged input process place
 damage_there input tree None events process place script damage = absurd damage
@@ -96,7 +96,7 @@ pub fault_there : (input : List ℕ) (error : ScriptError) (fault : ScriptFault)
 fault_there input error fault is there = subst (IsReopenError input) is there
 
 -- the first line that is not an event is what is wrong with a script as far as its lines
-pub line_fault : (input : List ℕ) (tree : List TreeEntry) (logs : Option (List ProcessLog)) (lines : LinesState)
+pub line_fault : (input : List ℕ) (tree : List TreeProcess) (logs : Option (List ProcessLog)) (lines : LinesState)
     (fault : ScriptFault) → IsOpenReopen input tree logs lines → IsLineError (Fault fault) (asked_by lines)
     → IsReopenFault input fault
 line_fault input tree logs lines (Line n) opened wrong = record {
@@ -112,7 +112,7 @@ line_fault input tree logs lines (Tree cause) opened wrong = absurd wrong
 line_fault input tree logs lines TooLong opened wrong = absurd wrong
 
 -- what is first wrong with a script one of whose logs is damaged is what is wrong with it
-pub first_there : (input : List ℕ) (tree : List TreeEntry) (logs : Option (List ProcessLog)) (lines : LinesState)
+pub first_there : (input : List ℕ) (tree : List TreeProcess) (logs : Option (List ProcessLog)) (lines : LinesState)
     (process : ProcessId) (place : ℕ) (fault : InputFault) → IsOpenReopen input tree logs lines
     → IsDamageBy tree logs process place → IsFirstFault process place (asked_by lines) fault
     → IsInputFault input fault
@@ -139,17 +139,17 @@ log_first process place asked events is =
 -- Reports.
 
 -- the line of a fault is the report of an input with which that is wrong
-pub fault_reported : (output : Output) (input text : List ℕ) (fault : ScriptFault) → IsReopenFault input fault
+pub fault_reported : (output : TreeOutput) (input text : List ℕ) (fault : ScriptFault) → IsReopenFault input fault
     → text ≡ fault_text fault → IsTreeReport output Refused input text
 fault_reported output input text fault there line = inl (record { fault = fault; there = there; line = line })
 
 -- the line of a damaged log is the report of an input that begins its events with it
-pub damage_reported : (output : Output) (input text : List ℕ) (process : ProcessId) (place : ℕ)
+pub damage_reported : (output : TreeOutput) (input text : List ℕ) (process : ProcessId) (place : ℕ)
     → IsDamaged input process place → text ≡ damage_text process place → IsTreeReport output Refused input text
 damage_reported output input text process place there line =
     inr (record { process = process; place = place; there = there; line = line })
 
-ends_so : (output : Output) (refusal : Refusal) (status : Status) (input text : List ℕ)
+ends_so : (output : TreeOutput) (refusal : Refusal) (status : Status) (input text : List ℕ)
     → status ≡ ending refusal
     → RunsScript output status input text ⊎ ReopensScript output status input text
     → IsTreeReport output status input text
@@ -157,8 +157,8 @@ ends_so output None status input text is runs = rw is (rw is at runs)
 ends_so output (Some refused) status input text is runs = rw is (rw is at runs)
 
 -- what is told of a script's run is the report of the script
-pub run_reported : {A : Type 0} (text_of : A × Status → List ℕ) (output : Output)
-    (input : List ℕ) (tree : List TreeEntry) (logs : Option (List ProcessLog))
+pub run_reported : {A : Type 0} (text_of : A × Status → List ℕ) (output : TreeOutput)
+    (input : List ℕ) (tree : List TreeProcess) (logs : Option (List ProcessLog))
     (events : List Event) (refusal : Refusal) (end : WorldState) (over : Bool) (r : A × Status)
     → IsReopenScript input tree logs events → PlaysBy tree logs events refusal end → over ≡ is_some logs
     → Tells over output events end refusal (text_of r) → r.1 ≡ ending refusal
@@ -205,8 +205,8 @@ run_reported text_of output input tree (Some logs) events refusal end over r scr
     }))
 
 -- likewise, where it was told at all
-pub reported : {A E : Type 0} (text_of : A × Status → List ℕ) (output : Output)
-    (input : List ℕ) (tree : List TreeEntry) (logs : Option (List ProcessLog))
+pub reported : {A E : Type 0} (text_of : A × Status → List ℕ) (output : TreeOutput)
+    (input : List ℕ) (tree : List TreeProcess) (logs : Option (List ProcessLog))
     (events : List Event) (refusal : Refusal) (end : WorldState) (over : Bool) (made : Result (A × Status) E)
     → IsReopenScript input tree logs events → PlaysBy tree logs events refusal end → over ≡ is_some logs
     → IfOk made (λ r. (given : List Event) → Tells over output given end refusal (text_of r)) → IfOk made (λ r. r.1 ≡ ending refusal)
@@ -217,7 +217,7 @@ reported text_of output input tree logs events refusal end over (Ok r) script pl
 
 -- the picture of a script's run is the report of the script
 pub drawn_reported : {E : Type 0} {A : Type 0} (text_of : A × Status → List ℕ) (input : List ℕ)
-    (tree : List TreeEntry) (logs : Option (List ProcessLog)) (events : List Event) (first : Run)
+    (tree : List TreeProcess) (logs : Option (List ProcessLog)) (events : List Event) (first : Run)
     (made : Result (A × Status) E)
     → IsReopenScript input tree logs events → BeginsBy tree logs first
     → IfOk made (λ r. Draws (state first.world) events r.1 (text_of r))
@@ -229,7 +229,7 @@ drawn_reported text_of input tree logs events first (Ok r) script begins draws =
     draws.status_is
 
 -- the tree of a script passed its check
-pub script_tree : (input : List ℕ) (tree : List TreeEntry) (events : List Event) → IsScript input tree events
+pub script_tree : (input : List ℕ) (tree : List TreeProcess) (events : List Event) → IsScript input tree events
     → IsTree tree
 script_tree input tree events (fronts, behind, text, is, few, asks) = is
 
@@ -262,7 +262,7 @@ reads_start s =
 -- Why nothing is written.
 
 -- a script's first lines lead the tree, opened, to an event that is not made
-pub script_breaks_off : (input : List ℕ) (tree : List TreeEntry) (logs : Option (List ProcessLog))
+pub script_breaks_off : (input : List ℕ) (tree : List TreeProcess) (logs : Option (List ProcessLog))
     (lines : LinesState) (first : Run) (why : Failure)
     → IsOpenReopen input tree logs lines → BeginsBy tree logs first
     → ((count : ℕ) × (events : List Event) × AsksFirst lines count events
@@ -282,7 +282,7 @@ script_breaks_off input tree logs lines first why script begins (count, events, 
 }
 
 -- likewise, where memory may be refused
-pub lines_break : (input : List ℕ) (tree : List TreeEntry) (logs : Option (List ProcessLog)) (lines : LinesState)
+pub lines_break : (input : List ℕ) (tree : List TreeProcess) (logs : Option (List ProcessLog)) (lines : LinesState)
     (first : Run) (why : Failure) → IsOpenReopen input tree logs lines → BeginsBy tree logs first
     → (why ≡ failure.Memory) ⊎ ((count : ℕ) × (events : List Event) × AsksFirst lines count events
     × BreaksOff (state first.world) events why)
@@ -292,7 +292,7 @@ lines_break input tree logs lines first why script begins (inr breaks) =
     inr (script_breaks_off input tree logs lines first why script begins breaks)
 
 -- why a script's run is not drawn is why there is no report of it
-pub not_drawn : (input : List ℕ) (tree : List TreeEntry) (logs : Option (List ProcessLog)) (events : List Event)
+pub not_drawn : (input : List ℕ) (tree : List TreeProcess) (logs : Option (List ProcessLog)) (events : List Event)
     (first : Run) (why : Failure) → IsReopenScript input tree logs events → BeginsBy tree logs first
     → (why ≡ failure.Memory) ⊎ (BreaksOff (state first.world) events why
     ⊎ ((why ≡ failure.Exhausted) × DrawsTooLong (state first.world) events))
@@ -320,7 +320,7 @@ not_drawn input tree logs events first why script begins (inr (inr (exhausted, l
     ))
 
 -- why a script's run is not told is why there is no report of it
-pub not_told : (output : Output) (input : List ℕ) (tree : List TreeEntry) (logs : Option (List ProcessLog))
+pub not_told : (output : TreeOutput) (input : List ℕ) (tree : List TreeProcess) (logs : Option (List ProcessLog))
     (events : List Event) (refusal : Refusal) (end : WorldState) (why : Failure)
     → IsReopenScript input tree logs events → PlaysBy tree logs events refusal end
     → (why ≡ failure.Memory) ⊎ ((why ≡ failure.Exhausted) × ((given : List Event) → IsBeyond output given end))
@@ -349,7 +349,7 @@ run_not_made events first why begins few (inl memory) = inl memory
 run_not_made events first why begins few (inr cannot) =
     inr (inl (breaks_off (state first.world) events why few (cannot (state first.world) [] begins)))
 
-long_on : (tree : List TreeEntry) (few more : ℕ) (es : List Entry) → few ≤ more → IsLong tree few es
+long_on : (tree : List TreeProcess) (few more : ℕ) (es : List JournalEntry) → few ≤ more → IsLong tree few es
     → IsLong tree more es
 long_on tree few more es fewer (inl many) = inl many
 long_on tree few more es fewer (inr many) = inr (omega (arith, fewer, many))

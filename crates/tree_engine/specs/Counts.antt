@@ -1,14 +1,14 @@
 -- What the processes of a run have written and sent, counted.
 use Rattle.std.specs.Prelude.{ℕ, ◌+◌, ◌<◌, ◌^◌, Bool, if◌then◌else◌, List, [], length, map, count_by}
 use Rattle.std.specs.List.{AllByRecursion, flat_map, fold}
-use Rattle.tree_model.specs.declared.names.ProcessId.{ProcessId}
-use Rattle.tree_model.specs.declared.messages.Envelope.{Envelope}
-use Rattle.tree_model.specs.declared.messages.Message.{Message}
-use Rattle.tree_model.specs.declared.messages.Message.TheVariants as message
-use Rattle.tree_model.specs.declared.records.Logged.{Logged}
-use Rattle.tree_model.specs.declared.events.Entry.{Entry}
-use Rattle.tree_model.specs.declared.trees.TreeEntry.{TreeEntry}
-use Rattle.tree_model.specs.Names.{same_process}
+use Rattle.protocol.specs.declared.names.ProcessId.{ProcessId}
+use Rattle.protocol.specs.declared.messages.Envelope.{Envelope}
+use Rattle.protocol.specs.declared.messages.Message.{Message}
+use Rattle.protocol.specs.declared.messages.Message.TheVariants as message
+use Rattle.protocol.specs.declared.records.ShownRecord.{ShownRecord}
+use Rattle.protocol.specs.declared.events.JournalEntry.{JournalEntry}
+use Rattle.protocol.specs.declared.trees.TreeProcess.{TreeProcess}
+use Rattle.protocol.specs.Names.{same_process}
 use Rattle.tree_engine.specs.declared.kinds.MessageKind.{MessageKind}
 use Rattle.tree_engine.specs.declared.kinds.MessageKind.TheVariants as kind
 use Rattle.tree_engine.specs.contracts.kinds.MessageKindPartialEq.TheImpl as kinds
@@ -55,11 +55,11 @@ sent_of ms = record {
 }
 
 -- how many of these records are forced
-abbrev pub count_forced : List Logged → ℕ
+abbrev pub count_forced : List ShownRecord → ℕ
 count_forced ws = count_by (λ w. w.forced) ws
 
 -- how many these records and these messages are
-abbrev pub counts_of : List Logged → List Envelope → Counts
+abbrev pub counts_of : List ShownRecord → List Envelope → Counts
 counts_of ws ms = record {
   records = length ws;
   forced = count_forced ws;
@@ -68,19 +68,19 @@ counts_of ws ms = record {
 }
 
 -- the records that a process wrote in these steps
-abbrev pub written_by : ProcessId → List Entry → List Logged
+abbrev pub written_by : ProcessId → List JournalEntry → List ShownRecord
 written_by q es = flat_map (λ e. if same_process e.step.process q then e.reaction.written else []) es
 
 -- the messages that a process sent in these steps
-abbrev pub sent_by : ProcessId → List Entry → List Envelope
+abbrev pub sent_by : ProcessId → List JournalEntry → List Envelope
 sent_by q es = flat_map (λ e. if same_process e.step.process q then e.reaction.messages else []) es
 
 -- the counts of a process in these steps
-abbrev pub row_of : List Entry → TreeEntry → ProcessCounts
+abbrev pub row_of : List JournalEntry → TreeProcess → ProcessCounts
 row_of es p = record { process = p.id; counts = counts_of (written_by p.id es) (sent_by p.id es) }
 
 -- the counts of all processes of a tree in these steps, in the order of the tree
-unfoldable pub rows_of : List TreeEntry → List Entry → List ProcessCounts
+unfoldable pub rows_of : List TreeProcess → List JournalEntry → List ProcessCounts
 rows_of tree es = map (row_of es) tree
 
 -- Sums.
@@ -115,7 +115,7 @@ unfoldable pub total_of : List ProcessCounts → Counts
 total_of rows = fold (λ sum r. together sum r.counts) (counts_of [] []) rows
 
 -- a process's counts after a step, which counts where it is the process's own
-abbrev pub row_behind : Entry → ProcessCounts → ProcessCounts
+abbrev pub row_behind : JournalEntry → ProcessCounts → ProcessCounts
 row_behind e row =
     if same_process e.step.process row.process
     then record {

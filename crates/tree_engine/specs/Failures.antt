@@ -1,21 +1,21 @@
 -- Why a run ends without a text, where memory was not refused and neither reading nor writing failed.
 use Rattle.std.specs.Prelude.{◌≡◌, ◌⊎◌, ◌+◌, ◌≤◌, ◌^◌, ℕ, Option, Some, None, List, length}
 use Rattle.std.specs.List.{flat_map}
-use Rattle.tree_model.specs.declared.events.Entry.{Entry}
-use Rattle.tree_model.specs.declared.events.Event.{Event}
-use Rattle.tree_model.specs.declared.events.StepError.{StepError}
-use Rattle.tree_model.specs.declared.trees.TreeEntry.{TreeEntry}
-use Rattle.link_script.specs.Inputs.{AsksFirst, LinesState}
-use Rattle.logs_script.specs.declared.line.ProcessLog.{ProcessLog}
+use Rattle.protocol.specs.declared.events.JournalEntry.{JournalEntry}
+use Rattle.protocol.specs.declared.events.Event.{Event}
+use Rattle.protocol.specs.declared.events.StepError.{StepError}
+use Rattle.protocol.specs.declared.trees.TreeProcess.{TreeProcess}
+use Rattle.tree_script.specs.Inputs.{AsksFirst, LinesState}
+use Rattle.log_script.specs.declared.line.ProcessLog.{ProcessLog}
 use Rattle.reopen_script.specs.Inputs.{IsOpenReopen, IsReopenScript}
-use Rattle.core_law.specs.worlds.Refusals.{Refusal}
-use Rattle.core_law.specs.worlds.Runs.{LeadsUntil}
-use Rattle.core_law.specs.worlds.Worlds.{WorldState}
-use Rattle.picture_rows.specs.Long.{IsLong}
+use Rattle.proof_runs.specs.worlds.Refusals.{Refusal}
+use Rattle.tree_state.specs.Runs.{LeadsUntil}
+use Rattle.tree_state.specs.Worlds.{WorldState}
+use Rattle.picture_layout.specs.Long.{IsLong}
 use Rattle.report_io.specs.declared.streams.Failure.{Failure}
 use Rattle.report_io.specs.declared.streams.Failure.TheVariants.{Device, Exhausted}
-use Rattle.tree_engine.specs.declared.tree.Output.{Output}
-use Rattle.tree_engine.specs.declared.tree.Output.TheVariants.{Counts, Logs, Picture, Trace}
+use Rattle.tree_engine.specs.declared.tree.TreeOutput.{TreeOutput}
+use Rattle.tree_engine.specs.declared.tree.TreeOutput.TheVariants.{Counts, Logs, Picture, Trace}
 use Rattle.tree_engine.specs.Counts.{Fit, rows_of, total_of}
 use Rattle.tree_engine.specs.Reopened.{PlaysBy, StartsBy}
 use Rattle.tree_engine.specs.Runs.{ComesTo, IsFailure}
@@ -38,7 +38,7 @@ CannotMake start events why =
 -- The input is a script as far as its lines, of these logs or of none. The first of the lines after them ask for
 -- events of which one, in a tree that has opened over these logs, is not made for this reason.
 pub record ScriptBreaksOff (input : List ℕ) (why : Failure) : Type 0 where
-  pub tree : List TreeEntry
+  pub tree : List TreeProcess
   pub logs : Option (List ProcessLog)
   pub lines : LinesState
   pub script : IsOpenReopen input tree logs lines
@@ -52,11 +52,11 @@ pub record ScriptBreaksOff (input : List ℕ) (why : Failure) : Type 0 where
 -- What is written.
 
 -- how many messages were sent in these steps
-abbrev pub message_count : List Entry → ℕ
+abbrev pub message_count : List JournalEntry → ℕ
 message_count es = length (flat_map (λ e. e.reaction.messages) es)
 
 -- after N messages those of this step, if there is one, come to 2^64 or more
-abbrev pub PassesLast : ℕ → Option Entry → Type 0
+abbrev pub PassesLast : ℕ → Option JournalEntry → Type 0
 PassesLast sent None = ⊥
 PassesLast sent (Some e) = 2 ^ 64 ≤ sent + length e.reaction.messages
 
@@ -66,7 +66,7 @@ IsUncounted w = Fit (total_of (rows_of w.tree w.entries)) → ⊥
 
 -- numbers are used up for what is written of a state, to which these events led: its messages come to 2^64 or more,
 -- or a sum of its counts does, or its picture would be too long
-abbrev pub IsBeyond : Output → List Event → WorldState → Type 0
+abbrev pub IsBeyond : TreeOutput → List Event → WorldState → Type 0
 IsBeyond Trace events w = 2 ^ 64 ≤ message_count w.entries
 IsBeyond Logs events w = 2 ^ 64 ≤ message_count w.entries
 IsBeyond Counts events w = (2 ^ 64 ≤ message_count w.entries) ⊎ IsUncounted w
@@ -74,7 +74,7 @@ IsBeyond Picture events w = IsLong w.tree (length events) w.entries
 
 -- these events led the tree, opened over these logs or over empty ones, to a state of which nothing is written, for
 -- numbers are used up
-pub record CannotTell (output : Output) (tree : List TreeEntry) (logs : Option (List ProcessLog))
+pub record CannotTell (output : TreeOutput) (tree : List TreeProcess) (logs : Option (List ProcessLog))
     (events : List Event) : Type 0 where
   pub refusal : Refusal
   pub end : WorldState
@@ -82,8 +82,8 @@ pub record CannotTell (output : Output) (tree : List TreeEntry) (logs : Option (
   pub beyond : IsBeyond output events end
 
 -- the input is a script of such a tree, such logs and such events
-pub record ScriptIsBeyond (output : Output) (input : List ℕ) : Type 0 where
-  pub tree : List TreeEntry
+pub record ScriptIsBeyond (output : TreeOutput) (input : List ℕ) : Type 0 where
+  pub tree : List TreeProcess
   pub logs : Option (List ProcessLog)
   pub events : List Event
   pub script : IsReopenScript input tree logs events
@@ -98,7 +98,7 @@ pub record DrawsTooLong (start : WorldState) (events : List Event) : Type 0 wher
   pub long : IsBeyond Picture events end
 
 -- why nothing is written of an input
-abbrev pub CannotReport : Output → List ℕ → Failure → Type 0
+abbrev pub CannotReport : TreeOutput → List ℕ → Failure → Type 0
 CannotReport output input why =
     ScriptBreaksOff input why ⊎ ((why ≡ Exhausted) × ScriptIsBeyond output input)
 

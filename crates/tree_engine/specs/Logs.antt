@@ -1,8 +1,8 @@
 -- The logs that a run leaves.
 use Rattle.std.specs.Prelude.{◌≡◌, ℕ, List}
-use Rattle.logs_script.specs.declared.line.ProcessLog.{ProcessLog}
-use Rattle.logs_script.specs.Trees.{logs_text}
-use Rattle.core_law.specs.worlds.Worlds.{WorldState}
+use Rattle.log_script.specs.declared.line.ProcessLog.{ProcessLog}
+use Rattle.log_script.specs.Trees.{logs_text}
+use Rattle.tree_state.specs.Worlds.{WorldState}
 use Rattle.tree_world.specs.LogsLeft.{AreByteLogs, AreLogs, LogsStand}
 
 -- the text is that of the tree and of the log of each process, each of bytes; and each record can be in its log, and a

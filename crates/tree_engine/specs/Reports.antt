@@ -1,26 +1,26 @@
 -- What is written of an input.
 use Rattle.std.specs.Prelude.{◌≡◌, ◌⊎◌, ℕ, true, Some, List, Result, Ok, Err}
-use Rattle.tree_model.specs.declared.events.Event.{Event}
-use Rattle.tree_model.specs.declared.names.ProcessId.{ProcessId}
-use Rattle.tree_model.specs.declared.trees.TreeEntry.{TreeEntry}
-use Rattle.link_script.specs.declared.script.ScriptError.TheVariants.{Fault}
-use Rattle.link_script.specs.declared.script.ScriptFault.{ScriptFault}
-use Rattle.link_script.specs.Inputs.{IsLineError}
-use Rattle.logs_script.specs.declared.line.ProcessLog.{ProcessLog}
-use Rattle.logs_script.specs.Faults.{damage_text}
+use Rattle.protocol.specs.declared.events.Event.{Event}
+use Rattle.protocol.specs.declared.names.ProcessId.{ProcessId}
+use Rattle.protocol.specs.declared.trees.TreeProcess.{TreeProcess}
+use Rattle.tree_script.specs.declared.script.ScriptError.TheVariants.{Fault}
+use Rattle.tree_script.specs.declared.script.ScriptFault.{ScriptFault}
+use Rattle.tree_script.specs.Inputs.{IsLineError}
+use Rattle.log_script.specs.declared.line.ProcessLog.{ProcessLog}
+use Rattle.log_script.specs.Faults.{damage_text}
 use Rattle.reopen_script.specs.Inputs.{IsReopenFault, IsReopenScript}
 use Rattle.report_io.specs.declared.status.Status.{Status}
 use Rattle.report_io.specs.declared.status.Status.TheVariants.{Ended, Refused, Stopped}
-use Rattle.core_law.specs.worlds.Refusals.{Refusal}
-use Rattle.core_law.specs.worlds.Worlds.{WorldState}
+use Rattle.proof_runs.specs.worlds.Refusals.{Refusal}
+use Rattle.tree_state.specs.Worlds.{WorldState}
 use Rattle.tree_engine.specs.declared.tree.InputFault.{InputFault}
 use Rattle.tree_engine.specs.declared.tree.InputFault.TheVariants as inputs
-use Rattle.tree_engine.specs.declared.tree.Output.{Output}
+use Rattle.tree_engine.specs.declared.tree.TreeOutput.{TreeOutput}
 use Rattle.tree_engine.specs.Reopened.{IsDamage, Replays}
 use Rattle.tree_engine.specs.Trees.{RunsScript, Tells, ending, fault_text}
 
 -- The text is that of the run of just these events over just these logs, and tells the state to which it came.
-pub record ReopensOver (output : Output) (tree : List TreeEntry) (logs : List ProcessLog) (events : List Event)
+pub record ReopensOver (output : TreeOutput) (tree : List TreeProcess) (logs : List ProcessLog) (events : List Event)
     (status : Status) (text : List ℕ) : Type 0 where
   pub refusal : Refusal
   pub end : WorldState
@@ -29,8 +29,8 @@ pub record ReopensOver (output : Output) (tree : List TreeEntry) (logs : List Pr
   pub tells : Tells true output events end refusal text
 
 -- the text is that of the run of the script that the input is, which begins its events with logs
-pub record ReopensScript (output : Output) (status : Status) (input text : List ℕ) : Type 0 where
-  pub tree : List TreeEntry
+pub record ReopensScript (output : TreeOutput) (status : Status) (input text : List ℕ) : Type 0 where
+  pub tree : List TreeProcess
   pub logs : List ProcessLog
   pub events : List Event
   pub script : IsReopenScript input tree (Some logs) events
@@ -44,14 +44,14 @@ pub record RefusesInput (input text : List ℕ) : Type 0 where
 
 -- the input is a script that begins its events with logs, one of which is damaged there
 pub record IsDamaged (input : List ℕ) (process : ProcessId) (place : ℕ) : Type 0 where
-  pub tree : List TreeEntry
+  pub tree : List TreeProcess
   pub logs : List ProcessLog
   pub events : List Event
   pub script : IsReopenScript input tree (Some logs) events
   pub damage : IsDamage tree logs process place
 
 -- the text is the line of the damaged log, in a script with which nothing else is wrong
-pub record TellsDamage (input text : List ℕ) : Type 0 where
+pub record TellsLogDamage (input text : List ℕ) : Type 0 where
   pub process : ProcessId
   pub place : ℕ
   pub there : IsDamaged input process place
@@ -70,7 +70,7 @@ IsFirstFault process place (Ok events) (inputs.Damaged p at) = (p ≡ process) �
 IsFirstFault process place (Err n) (inputs.Damaged p at) = ⊥
 
 -- what is written of an input, by how the run ends
-abbrev pub IsTreeReport : Output → Status → List ℕ → List ℕ → Type 0
+abbrev pub IsTreeReport : TreeOutput → Status → List ℕ → List ℕ → Type 0
 IsTreeReport output Ended input text = RunsScript output Ended input text ⊎ ReopensScript output Ended input text
 IsTreeReport output Stopped input text = RunsScript output Stopped input text ⊎ ReopensScript output Stopped input text
-IsTreeReport output Refused input text = RefusesInput input text ⊎ TellsDamage input text
+IsTreeReport output Refused input text = RefusesInput input text ⊎ TellsLogDamage input text

@@ -1,27 +1,27 @@
 -- A run that goes on until an event is refused.
 use Rattle.std.specs.Prelude.{◌≡◌, ◌≢◌, ℕ, false, true, is_some, Option, None, Some, Ok, List, [], length}
-use Rattle.tree_model.specs.declared.events.Event.{Event}
-use Rattle.tree_model.specs.declared.events.StepError.{StepError}
-use Rattle.tree_model.specs.declared.events.StepError.TheVariants as steps
-use Rattle.tree_model.specs.declared.trees.TreeEntry.{TreeEntry}
-use Rattle.tree_model.specs.Trees.{IsTree}
-use Rattle.core_law.specs.worlds.Runs.{IsOpened}
-use Rattle.core_law.specs.worlds.Refusals.{IsForItself, LeadsTo, Refusal}
-use Rattle.core_law.specs.worlds.Worlds.{WorldState}
+use Rattle.protocol.specs.declared.events.Event.{Event}
+use Rattle.protocol.specs.declared.events.StepError.{StepError}
+use Rattle.protocol.specs.declared.events.StepError.TheVariants as steps
+use Rattle.protocol.specs.declared.trees.TreeProcess.{TreeProcess}
+use Rattle.protocol.specs.Trees.{IsTree}
+use Rattle.tree_state.specs.Runs.{IsOpenedTree}
+use Rattle.proof_runs.specs.worlds.Refusals.{IsForItself, LeadsTo, Refusal}
+use Rattle.tree_state.specs.Worlds.{WorldState}
 use Rattle.tree_world.specs.Worlds.{state}
 use Rattle.tree_engine.specs.declared.run.Run.{Run}
 use Rattle.report_io.specs.declared.status.Status.{Status}
 use Rattle.report_io.specs.declared.streams.Failure.{Failure}
 use Rattle.report_io.specs.declared.streams.Failure.TheVariants as failure
-use Rattle.run_picture.specs.Lines.{refused_in}
-use Rattle.run_picture.specs.Pictures.{IsPicture}
-use Rattle.tree_model.specs.declared.names.ProcessId.{ProcessId}
-use Rattle.link_script.specs.Inputs.{LinesState, asked_by}
-use Rattle.logs_script.specs.declared.line.ProcessLog.{ProcessLog}
+use Rattle.picture_run.specs.Lines.{refused_in}
+use Rattle.picture_run.specs.Pictures.{IsPicture}
+use Rattle.protocol.specs.declared.names.ProcessId.{ProcessId}
+use Rattle.tree_script.specs.Inputs.{LinesState, asked_by}
+use Rattle.log_script.specs.declared.line.ProcessLog.{ProcessLog}
 use Rattle.reopen_script.specs.Inputs.{IsReopenScript}
-use Rattle.reopened_trees.specs.Reopened.{IsReopened}
+use Rattle.proof_reopened.specs.Reopened.{IsReopened}
 use Rattle.tree_engine.specs.Reopened.{IsDamage, PlaysBy, records_by}
-use Rattle.tree_engine.specs.Trees.{IsNumbered, ending}
+use Rattle.tree_engine.specs.Trees.{IsNumberedRefusal, ending}
 
 -- an event was refused for itself: memory was not refused, no device failed, and numbers are not used up
 abbrev pub IsOwn : StepError → Type 0
@@ -40,33 +40,33 @@ pub record ComesTo (start : WorldState) (given : List Event) (refusal : Refusal)
   pub leads : LeadsTo start given refusal now
   pub number : refusal ≡ None → count ≡ length given
   pub itself : IsForItself refusal
-  pub numbered : IsNumbered refusal
+  pub numbered : IsNumberedRefusal refusal
 
 -- the events that a run was given led from this state to where it stands
 abbrev pub HasCome : WorldState → List Event → Run → Type 0
 HasCome start given run = ComesTo start given run.refusal run.made (state run.world)
 
 -- a run of a tree that has just opened
-pub record Begins (tree : List TreeEntry) (run : Run) : Type 0 where
+pub record OpensRun (tree : List TreeProcess) (run : Run) : Type 0 where
   pub is_tree : IsTree tree
-  pub opened : IsOpened (state run.world) tree
+  pub opened : IsOpenedTree (state run.world) tree
   pub begins : HasCome (state run.world) [] run
   pub first : run.world.reopened ≡ false
 
 -- a run of a tree that has just opened over these logs
-pub record BeginsOver (tree : List TreeEntry) (logs : List ProcessLog) (run : Run) : Type 0 where
+pub record BeginsOver (tree : List TreeProcess) (logs : List ProcessLog) (run : Run) : Type 0 where
   pub is_tree : IsTree tree
   pub reopened : IsReopened tree (records_by tree logs) (state run.world)
   pub begins : HasCome (state run.world) [] run
   pub over : run.world.reopened ≡ true
 
 -- a run of a tree that has just opened over these logs, or over empty ones
-abbrev pub BeginsBy : List TreeEntry → Option (List ProcessLog) → Run → Type 0
-BeginsBy tree None run = Begins tree run
+abbrev pub BeginsBy : List TreeProcess → Option (List ProcessLog) → Run → Type 0
+BeginsBy tree None run = OpensRun tree run
 BeginsBy tree (Some logs) run = BeginsOver tree logs run
 
 -- there are logs, one of which is damaged there
-abbrev pub IsDamageBy : List TreeEntry → Option (List ProcessLog) → ProcessId → ℕ → Type 0
+abbrev pub IsDamageBy : List TreeProcess → Option (List ProcessLog) → ProcessId → ℕ → Type 0
 IsDamageBy tree None process place = ⊥
 IsDamageBy tree (Some logs) process place = IsDamage tree logs process place
 
@@ -79,12 +79,12 @@ pub record HasPlayed (first run : Run) (lines : LinesState) : Type 0 where
 
 -- a run of the script that the input is
 pub record PlaysScript (input : List ℕ) (run : Run) : Type 0 where
-  pub tree : List TreeEntry
+  pub tree : List TreeProcess
   pub logs : Option (List ProcessLog)
   pub events : List Event
   pub script : IsReopenScript input tree logs events
   pub plays : PlaysBy tree logs events run.refusal (state run.world)
-  pub numbered : IsNumbered run.refusal
+  pub numbered : IsNumberedRefusal run.refusal
   pub over : run.world.reopened ≡ is_some logs
 
 -- these events led to a state from this one, and the text draws how; the run ended so

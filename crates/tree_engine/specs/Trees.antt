@@ -2,35 +2,35 @@
 use Rattle.std.specs.Prelude.{◌≡◌, ◌+◌, ◌<◌, ◌^◌, ℕ, Bool, false, true, Option, Some, None, List, [], ◌∷◌, ◌++◌, codes, length}
 use Rattle.std.specs.List.{flat_map}
 use Rattle.std.specs.Fmt.{decimal}
-use Rattle.tree_model.specs.declared.trees.TreeEntry.{TreeEntry}
-use Rattle.tree_model.specs.declared.events.Entry.{Entry}
-use Rattle.tree_model.specs.declared.events.Event.{Event}
-use Rattle.tree_model.specs.declared.events.Reaction.{Reaction}
-use Rattle.tree_model.specs.declared.names.ProcessId.{ProcessId}
-use Rattle.tree_model.specs.Texts.{reaction_lines}
-use Rattle.tree_model.specs.Errors.{step_error_number}
-use Rattle.tree_model.specs.Outcomes.{Headline}
-use Rattle.tree_model.specs.Trees.{tree_error_number}
-use Rattle.tree_model.specs.World.{Made, World}
-use Rattle.link_script.specs.declared.script.ScriptFault.{ScriptFault}
-use Rattle.link_script.specs.declared.script.ScriptFault.TheVariants.{Utf8, TreeText, Tree, TooLong, Line}
-use Rattle.link_script.specs.Inputs.{IsScript, IsScriptFault}
+use Rattle.protocol.specs.declared.trees.TreeProcess.{TreeProcess}
+use Rattle.protocol.specs.declared.events.JournalEntry.{JournalEntry}
+use Rattle.protocol.specs.declared.events.Event.{Event}
+use Rattle.protocol.specs.declared.events.Reaction.{Reaction}
+use Rattle.protocol.specs.declared.names.ProcessId.{ProcessId}
+use Rattle.protocol.specs.Texts.{reaction_lines}
+use Rattle.protocol.specs.Errors.{step_error_number}
+use Rattle.protocol.specs.Outcomes.{Headline}
+use Rattle.protocol.specs.Trees.{tree_error_number}
+use Rattle.protocol.specs.World.{Made, World}
+use Rattle.tree_script.specs.declared.script.ScriptFault.{ScriptFault}
+use Rattle.tree_script.specs.declared.script.ScriptFault.TheVariants.{Utf8, TreeText, Tree, TooLong, Line}
+use Rattle.tree_script.specs.Inputs.{IsScript, IsScriptFault}
 use Rattle.tree_engine.specs.Counts.{rows_of, total_of}
 use Rattle.tree_engine.specs.Texts.{rows_text, total_text}
 use Rattle.trace_lines.specs.Trace.{entries_text, entry_text, lines_text}
 use Rattle.report_io.specs.declared.status.Status.{Status}
 use Rattle.report_io.specs.declared.status.Status.TheVariants.{Ended, Stopped}
-use Rattle.tree_reports.specs.SecondRuns.{EndsReported}
-use Rattle.core_law.specs.worlds.Refusals.{IsForItself, IsRunOf, LeadsTo, Refusal, RefusesIn}
-use Rattle.core_law.specs.worlds.Runs.{IsOpened}
-use Rattle.core_law.specs.worlds.Ties.{Follows}
-use Rattle.core_law.specs.worlds.Worlds.{WorldState}
+use Rattle.proof_reports.specs.SecondRuns.{EndsReported}
+use Rattle.proof_runs.specs.worlds.Refusals.{IsForItself, IsRunOf, LeadsTo, Refusal, RefusesIn}
+use Rattle.tree_state.specs.Runs.{IsOpenedTree}
+use Rattle.proof_runs.specs.worlds.Follows.{Follows}
+use Rattle.tree_state.specs.Worlds.{WorldState}
 use Rattle.tree_engine.specs.declared.tree.LineOutput.{LineOutput}
 use Rattle.tree_engine.specs.declared.tree.LineOutput.TheVariants as lines
-use Rattle.tree_engine.specs.declared.tree.Output.{Output}
-use Rattle.tree_engine.specs.declared.tree.Output.TheVariants.{Counts, Logs, Picture, Trace}
-use Rattle.run_picture.specs.Lines.{refused_in}
-use Rattle.run_picture.specs.Pictures.{IsPicture}
+use Rattle.tree_engine.specs.declared.tree.TreeOutput.{TreeOutput}
+use Rattle.tree_engine.specs.declared.tree.TreeOutput.TheVariants.{Counts, Logs, Picture, Trace}
+use Rattle.picture_run.specs.Lines.{refused_in}
+use Rattle.picture_run.specs.Pictures.{IsPicture}
 use Rattle.tree_engine.specs.Logs.{LeavesLogs}
 
 -- the line of a process that opened an empty log
@@ -38,7 +38,7 @@ abbrev pub opening_text : ℕ → List ℕ
 opening_text process = (codes "log " ++ decimal process ++ codes " ") ++ (codes "Opened 1 forced" ++ 10 ∷ [])
 
 -- those of all processes, in the order of the tree
-abbrev pub opened_text : List TreeEntry → List ℕ
+abbrev pub opened_text : List TreeProcess → List ℕ
 opened_text tree = flat_map (λ e. opening_text e.id.0) tree
 
 -- the trace of a run, up to where it has come: the lines of its processes' opening, and those of its steps
@@ -56,7 +56,7 @@ abbrev pub part_text : ℕ → ProcessId × Reaction → List ℕ
 part_text sent p = lines_text (reaction_lines p.0.0 sent p.1)
 
 -- the lines of a step, if there is one, were added after M messages, and then N are sent
-abbrev pub AddsStep : Option Entry → List ℕ → List ℕ → ℕ → Option ℕ → Type 0
+abbrev pub AddsStep : Option JournalEntry → List ℕ → List ℕ → ℕ → Option ℕ → Type 0
 AddsStep None old new sent None = new ≡ old
 AddsStep (Some e) old new sent (Some next) =
     (next ≡ sent + length e.reaction.messages) × (new ≡ old ++ entry_text sent e)
@@ -67,16 +67,16 @@ abbrev pub refused_text : ℕ → ℕ → List ℕ
 refused_text event refusal = codes "refused " ++ decimal event ++ codes " " ++ decimal refusal ++ 10 ∷ []
 
 -- the refused event has a number that can be printed
-abbrev pub IsNumbered : Refusal → Type 0
-IsNumbered None = Unit {0}
-IsNumbered (Some refused) = refused.0 + 1 < 2 ^ 64
+abbrev pub IsNumberedRefusal : Refusal → Type 0
+IsNumberedRefusal None = Unit {0}
+IsNumberedRefusal (Some refused) = refused.0 + 1 < 2 ^ 64
 
 -- a tree opened, these events led it, up to the refused one, to this state, and that is a run of the model; the
 -- refused one was refused for itself
-pub record Plays (tree : List TreeEntry) (events : List Event) (refusal : Refusal)
+pub record Plays (tree : List TreeProcess) (events : List Event) (refusal : Refusal)
     (end : WorldState) : Type 0 where
   pub start : WorldState
-  pub opens : IsOpened start tree
+  pub opens : IsOpenedTree start tree
   pub leads : LeadsTo start events refusal end
   pub itself : IsForItself refusal
   pub run : IsRunOf tree events refusal end
@@ -96,14 +96,14 @@ abbrev pub counts_text : WorldState → List ℕ
 counts_text w = rows_text (rows_of w.tree w.entries) ++ total_text (total_of (rows_of w.tree w.entries))
 
 -- what is written in lines, among all that may be
-abbrev pub output_of : LineOutput → Output
+abbrev pub output_of : LineOutput → TreeOutput
 output_of lines.Trace = Trace
 output_of lines.Logs = Logs
 output_of lines.Counts = Counts
 
 -- what is written of a run of these events that ended so, of a tree that was opened over logs or not: its trace and the last line, or
 -- these and the counts, or a picture of its steps and of the refused event, or, where it was to its end, the logs it leaves
-abbrev pub Tells : Bool → Output → List Event → WorldState → Refusal → List ℕ → Type 0
+abbrev pub Tells : Bool → TreeOutput → List Event → WorldState → Refusal → List ℕ → Type 0
 Tells over Logs events w None text = LeavesLogs w text
 Tells over Logs events w (Some refused) text = text ≡ trace_by over w ++ last_line (Some refused)
 Tells over Trace events w refusal text = text ≡ trace_by over w ++ last_line refusal
@@ -114,12 +114,12 @@ Tells over Counts events w refusal text = text ≡ (trace_by over w ++ last_line
 -- run of the model, with its journal, its messages and its processes; of this run the headline holds, each End
 -- of the root in it reports mismatches truly, and the text tells that state. A refused event is one that the
 -- model refuses there by that number; it was refused neither for memory nor because a device failed.
-pub record RunsOver (output : Output) (tree : List TreeEntry) (events : List Event) (status : Status)
+pub record RunsOver (output : TreeOutput) (tree : List TreeProcess) (events : List Event) (status : Status)
     (text : List ℕ) : Type 0 where
   pub refusal : Refusal
   pub start : WorldState
   pub end : WorldState
-  pub opens : IsOpened start tree
+  pub opens : IsOpenedTree start tree
   pub leads : LeadsTo start events refusal end
   pub itself : IsForItself refusal
   pub moves : List Made
@@ -141,8 +141,8 @@ fault_text Utf8 = codes "error 4" ++ 10 ∷ []
 fault_text TooLong = codes "error 5" ++ 10 ∷ []
 
 -- the text is that of the run of the script that the input is
-pub record RunsScript (output : Output) (status : Status) (input text : List ℕ) : Type 0 where
-  pub tree : List TreeEntry
+pub record RunsScript (output : TreeOutput) (status : Status) (input text : List ℕ) : Type 0 where
+  pub tree : List TreeProcess
   pub events : List Event
   pub script : IsScript input tree events
   pub runs : RunsOver output tree events status text

@@ -4,20 +4,20 @@ ghost use Rattle.std.specs.Prelude.{◌≡◌, ◌⊎◌, ◌≤◌, ◌^◌, �
 ghost use Rattle.tree_engine.specs.Counts.{rows_of};
 ghost use Rattle.tree_world.specs.Worlds.{state};
 ghost use Rattle.tree_engine.specs.Failures.{IsUncounted, message_count};
-ghost use Rattle.tree_engine.specs.Trees.{IsNumbered, counts_text, ending, last_line, trace_by};
+ghost use Rattle.tree_engine.specs.Trees.{IsNumberedRefusal, counts_text, ending, last_line, trace_by};
 
 use crate::rows::RunCounts;
 use crate::run::Refusal;
 use crate::text::push_counts;
 use crate::trace::trace_text;
 use log_store::MemoryStore;
+use protocol::JournalEntry;
 use report_io::{Failure, Status};
 use std::alloc::Global;
-use tree_model::Entry;
 use tree_world::World;
 
 /// Lets go of a step.
-fn discard(_entry: Entry) {}
+fn discard(_entry: JournalEntry) {}
 
 /// The counts of all steps that were made, each of which is made again once. Exhausted: a sum is 2^64 or more.
 fn counted(alloc: Global, world: &World<MemoryStore>) -> Result<RunCounts, Failure>
@@ -45,7 +45,7 @@ pub(crate) fn counted_trace(
     world: &World<MemoryStore>,
     refusal: Refusal,
 ) -> Result<(Vec<u8>, Status), Failure>
-    requires { IsNumbered refusal }
+    requires { IsNumberedRefusal refusal }
     ensures text { IfOk result (λ r. r.0.items ≡ (trace_by world.now.reopened (state world.now)
         ++ last_line refusal) ++ counts_text (state world.now)) }
     ensures status { IfOk result (λ r. r.1 ≡ ending refusal) }

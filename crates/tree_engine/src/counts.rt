@@ -4,7 +4,7 @@ ghost use Rattle.std.specs.Prelude.{◌≡◌, [], IfNone, IfSome};
 ghost use Rattle.tree_engine.specs.Counts.{Fit, FitSent, count_forced, counts_of, sent_of, sent_together, together};
 
 use crate::kinds::MessageKind;
-use tree_model::{Envelope, Logged, Reaction};
+use protocol::{Envelope, Reaction, ShownRecord};
 
 /// How many messages of each kind were sent.
 #[derive(Clone, Copy, PartialEq, Eq)]
@@ -74,7 +74,7 @@ pub struct Counts {
 }
 
 /// How many of these records are forced.
-fn forced_of(written: &[Logged]) -> u64
+fn forced_of(written: &[ShownRecord]) -> u64
     ensures { result ≡ count_forced written.now }
 {
     written.iter().filter(|logged| logged.forced).count() as u64

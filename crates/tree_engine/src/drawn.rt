@@ -1,12 +1,12 @@
 //! The picture of a run.
 
 ghost use Rattle.std.specs.Prelude.{◌≡◌, ◌⊎◌, ◌≤◌, ◌++◌, [], IfErr, IfOk, List, OnOk, length, option_map};
-ghost use Rattle.tree_model.specs.declared.events.Event.{Event as AnyEvent};
+ghost use Rattle.protocol.specs.declared.events.Event.{Event as AnyEvent};
 ghost use Rattle.report_io.specs.Streams.{IsOfRun};
-ghost use Rattle.picture_rows.specs.Long.{IsLong};
-ghost use Rattle.core_law.specs.worlds.Worlds.{WorldState};
-ghost use Rattle.run_picture.specs.Lines.{refused_in};
-ghost use Rattle.run_picture.specs.Pictures.{IsPicture};
+ghost use Rattle.picture_layout.specs.Long.{IsLong};
+ghost use Rattle.tree_state.specs.Worlds.{WorldState};
+ghost use Rattle.picture_run.specs.Lines.{refused_in};
+ghost use Rattle.picture_run.specs.Pictures.{IsPicture};
 ghost use Rattle.tree_world.specs.Worlds.{state};
 ghost use Rattle.tree_engine.specs.Failures.{BreaksOff, CannotMake, DrawsTooLong};
 ghost use Rattle.tree_engine.specs.Runs.{Draws, HasCome};
@@ -14,17 +14,17 @@ ghost use Rattle.tree_engine.specs.Trees.{ending};
 
 use crate::run::{Refusal, Run};
 use log_store::MemoryStore;
-use picture_rows::{PictureError, Turn};
+use picture_layout::{EventSteps, PictureError};
+use picture_run::{Scene, picture};
+use protocol::{Event, JournalEntry, LogRecord, StepError};
 use report_io::{Failure, Status};
 use run_notes::notes_of;
-use run_picture::{Scene, picture};
 use std::alloc::{AllocError, Global};
-use tree_model::{Entry, Event, LogRecord, StepError};
 use tree_world::World;
 
 /// The steps that were made, each made again.
 #[tactic(auto, using(crate::proofs::Traces::taken_at))]
-fn entries_of(alloc: Global, world: &World<MemoryStore>) -> Result<Vec<Entry>, AllocError>
+fn entries_of(alloc: Global, world: &World<MemoryStore>) -> Result<Vec<JournalEntry>, AllocError>
     ensures { IfOk result (λ entries. entries.items ≡ (state world.now).entries) }
 {
     let mut entries = Vec::new(alloc);
@@ -39,7 +39,7 @@ fn entries_of(alloc: Global, world: &World<MemoryStore>) -> Result<Vec<Entry>, A
 
 /// Makes these events, one after another, and answers how many steps were made after each, up to the refused
 /// one.
-fn make_turns(alloc: Global, run: &mut Run, events: &[Event]) -> Result<Vec<Turn>, Failure>
+fn make_turns(alloc: Global, run: &mut Run, events: &[Event]) -> Result<Vec<EventSteps>, Failure>
     ensures goes_on { OnOk result ((start : WorldState) (given : List AnyEvent)
         → HasCome start given run.old → HasCome start (given ++ events.now) run.new) }
     ensures few { IfOk result (λ turns. length turns.items ≤ length events.now) }
@@ -52,7 +52,7 @@ fn make_turns(alloc: Global, run: &mut Run, events: &[Event]) -> Result<Vec<Turn
         let is_over = run.refusal.is_some();
         run.make(event.copied(alloc)?)?;
         if !is_over {
-            turns.push(Turn {
+            turns.push(EventSteps {
                 steps: run.world.made(),
                 refused: run.refusal.is_some(),
             })?;
@@ -87,7 +87,7 @@ fn drawn(
     world: &World<MemoryStore>,
     refusal: Refusal,
     events: &[Event],
-    turns: &[Turn],
+    turns: &[EventSteps],
     logs: &[Vec<LogRecord>],
 ) -> Result<Vec<u8>, Failure>
     ensures text { IfOk result (λ text. IsPicture (state world.now).tree (length events.now) (state world.now).entries
@@ -117,7 +117,7 @@ fn drawn_run(
     alloc: Global,
     run: &Run,
     events: &[Event],
-    turns: &[Turn],
+    turns: &[EventSteps],
     logs: &[Vec<LogRecord>],
 ) -> Result<(Vec<u8>, Status), Failure>
     ensures text { IfOk result (λ r. IsPicture (state run.now.world).tree (length events.now) (state run.now.world).entries

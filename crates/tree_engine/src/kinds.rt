@@ -3,7 +3,7 @@
 ghost use Rattle.std.specs.Prelude.{◌≡◌};
 ghost use Rattle.tree_engine.specs.Counts.{count_kind, kind_of as kind_by};
 
-use tree_model::{Envelope, Message};
+use protocol::{Envelope, Message};
 
 /// What a message is, without the case and what else it carries.
 #[derive(Clone, Copy, PartialEq, Eq)]

@@ -19,4 +19,4 @@ pub use drawn::{cause_of, status_of};
 pub use report_io::{Failure, Status};
 pub use run::{Refusal, Run, own_refusal};
 pub use trace::{push_opened, push_place, push_refused, trace_text};
-pub use tree::{Output, opened, refusal, run_tree};
+pub use tree::{TreeOutput, opened, refusal, run_tree};

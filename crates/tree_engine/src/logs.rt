@@ -4,8 +4,8 @@ ghost use Rattle.std.specs.Prelude.{IfOk};
 ghost use Rattle.tree_world.specs.Worlds.{state};
 ghost use Rattle.tree_engine.specs.Logs.{LeavesLogs};
 
+use log_script::logs_text;
 use log_store::MemoryStore;
-use logs_script::logs_text;
 use std::alloc::{AllocError, Global};
 use tree_world::{World, logs_left};
 

@@ -1,16 +1,16 @@
 //! The counts of all processes of a tree.
 
 ghost use Rattle.std.specs.Prelude.{◌≡◌, ◌++◌, ◌∷◌, [], IfErr, IfOk, List, OnOk, map};
-ghost use Rattle.tree_model.specs.declared.events.Entry.{Entry as AnyEntry};
-ghost use Rattle.tree_model.specs.declared.trees.TreeEntry.{TreeEntry as AnyTreeEntry};
-ghost use Rattle.tree_model.specs.Names.{same_process};
+ghost use Rattle.protocol.specs.declared.events.JournalEntry.{JournalEntry as AnyEntry};
+ghost use Rattle.protocol.specs.declared.trees.TreeProcess.{TreeProcess as AnyTreeEntry};
+ghost use Rattle.protocol.specs.Names.{same_process};
 ghost use Rattle.tree_engine.specs.Counts.{AllFit, Fit, row_behind, rows_of, total_of};
 
 use crate::counts::Counts;
+use protocol::{JournalEntry, ProcessId, TreeProcess};
 use report_io::Failure;
 use std::alloc::{AllocError, Global};
 use std::marker::Model;
-use tree_model::{Entry, ProcessId, TreeEntry};
 
 /// What one process has written and sent.
 #[derive(Clone, Copy, PartialEq, Eq)]
@@ -20,8 +20,8 @@ pub struct ProcessCounts {
 }
 
 /// Whether a step is of this process.
-#[tactic(auto, unfolding(tree_model::specs::Names::same_process))]
-fn is_at(entry: &Entry, process: ProcessId) -> bool
+#[tactic(auto, unfolding(protocol::specs::Names::same_process))]
+fn is_at(entry: &JournalEntry, process: ProcessId) -> bool
     ensures { result ≡ same_process entry.now.step.process process }
 {
     entry.step.process == process
@@ -29,7 +29,7 @@ fn is_at(entry: &Entry, process: ProcessId) -> bool
 
 impl ProcessCounts {
     /// The counts after a step more. Exhausted: a sum is 2^64 or more.
-    fn behind(self, entry: &Entry) -> Result<ProcessCounts, Failure>
+    fn behind(self, entry: &JournalEntry) -> Result<ProcessCounts, Failure>
         ensures ok { IfOk result (λ row. row ≡ row_behind entry.now self) }
         ensures err { IfErr result (λ e. (e ≡ Failure.Exhausted)
             × (Fit (row_behind entry.now self).counts → ⊥)) }
@@ -63,7 +63,7 @@ impl Model for RunCounts {
 }
 
 /// The rows after a step more. Exhausted: a sum is 2^64 or more.
-fn add_entry(rows: &mut [ProcessCounts], entry: &Entry) -> Result<(), Failure>
+fn add_entry(rows: &mut [ProcessCounts], entry: &JournalEntry) -> Result<(), Failure>
     ensures ok { OnOk result (rows.new ≡ map (row_behind entry.now) rows.old) }
     ensures err { IfErr result (λ e. (e ≡ Failure.Exhausted)
         × (AllFit (map (row_behind entry.now) rows.old) → ⊥)) }
@@ -77,7 +77,7 @@ fn add_entry(rows: &mut [ProcessCounts], entry: &Entry) -> Result<(), Failure>
 impl RunCounts {
     /// Before the first step of a run of these processes.
     #[tactic(auto, unfolding(crate::specs::Counts::rows_of))]
-    pub fn new(alloc: Global, processes: &[TreeEntry]) -> Result<RunCounts, AllocError>
+    pub fn new(alloc: Global, processes: &[TreeProcess]) -> Result<RunCounts, AllocError>
         ensures { IfOk result (λ counts. counts ≡ rows_of processes.now []) }
     {
         let mut rows = Vec::new(alloc);
@@ -92,7 +92,7 @@ impl RunCounts {
 
     /// Counts a step more of the run. Exhausted: a sum is 2^64 or more, and it counts nothing that can be
     /// told.
-    pub fn add(&mut self, entry: &Entry) -> Result<(), Failure>
+    pub fn add(&mut self, entry: &JournalEntry) -> Result<(), Failure>
         ensures ok { OnOk result ((tree : List AnyTreeEntry) (entries : List AnyEntry)
             → self.old ≡ rows_of tree entries → self.new ≡ rows_of tree (entries ++ entry.now ∷ [])) }
         ensures err { IfErr result (λ e. (e ≡ Failure.Exhausted)

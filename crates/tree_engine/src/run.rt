@@ -2,20 +2,20 @@
 
 ghost use Rattle.std.specs.Prelude.{◌≡◌, ◌⊎◌, ◌+◌, ◌++◌, ◌∷◌, [], IfErr, IfOk, List, OnOk, map};
 ghost use Rattle.report_io.specs.Streams.{IsOfRun};
-ghost use Rattle.tree_model.specs.declared.events.Event.{Event as AnyEvent};
-ghost use Rattle.tree_model.specs.Trees.{IsTree};
-ghost use Rattle.core_law.specs.worlds.Worlds.{WorldState};
+ghost use Rattle.protocol.specs.declared.events.Event.{Event as AnyEvent};
+ghost use Rattle.protocol.specs.Trees.{IsTree};
+ghost use Rattle.tree_state.specs.Worlds.{WorldState};
 ghost use Rattle.log_store.specs.Memory.{memory_bytes};
 ghost use Rattle.tree_engine.specs.Failures.{CannotMake};
 ghost use Rattle.tree_engine.specs.Reopened.{IsDamage, bytes_in};
-ghost use Rattle.tree_engine.specs.Runs.{Begins, BeginsOver, HasCome, IsFailure, IsOwn};
+ghost use Rattle.tree_engine.specs.Runs.{OpensRun, BeginsOver, HasCome, IsFailure, IsOwn};
 
+use log_script::{ProcessLog, bytes_of};
 use log_store::MemoryStore;
-use logs_script::{ProcessLog, bytes_of};
+use protocol::{Event, ProcessId, StepError, Tree, TreeProcess};
 use report_io::Failure;
 use std::alloc::{AllocError, Global};
-use tree_model::{Event, ProcessId, StepError, Tree, TreeEntry};
-use tree_world::{ReopenError, World};
+use tree_world::{TreeReopenError, World};
 
 /// How many events were made, and why the next was refused; or none was.
 pub type Refusal = Option<(usize, StepError)>;
@@ -38,7 +38,7 @@ pub fn own_refusal(refusal: StepError) -> Result<StepError, Failure>
 /// Stores in memory, each with the log of the process at its place.
 fn stores_of(
     alloc: Global,
-    entries: &[TreeEntry],
+    entries: &[TreeProcess],
     logs: &[ProcessLog],
 ) -> Result<Vec<MemoryStore>, AllocError>
     ensures { IfOk result (λ stores. map memory_bytes stores.items ≡ bytes_in entries.now logs.now) }
@@ -63,7 +63,7 @@ impl Run {
     /// A tree that opens over logs in memory. The tree is one that passed its check.
     pub fn open(alloc: Global, tree: Tree) -> Result<Run, Failure>
         requires { IsTree tree }
-        ensures begins { IfOk result (λ run. Begins tree run) }
+        ensures begins { IfOk result (λ run. OpensRun tree run) }
         ensures memory { IfErr result (λ e. e ≡ Failure.Memory) }
     {
         match World::new(alloc, tree) {
@@ -95,7 +95,7 @@ impl Run {
                 made: 0,
                 refusal: None,
             })),
-            Err((ReopenError::Damaged(process, place), _stores)) => Ok(Err((process, place))),
+            Err((TreeReopenError::Damaged(process, place), _stores)) => Ok(Err((process, place))),
             Err((_, _stores)) => Err(Failure::Memory),
         }
     }

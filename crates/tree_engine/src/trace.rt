@@ -2,19 +2,19 @@
 
 ghost use Rattle.std.specs.Prelude.{◌≡◌, ◌⊎◌, ◌+◌, ◌≤◌, ◌^◌, ◌++◌, IfErr, IfOk, OnOk, length, slice_get, string_bytes};
 ghost use Rattle.trace_lines.specs.Trace.{entries_text};
-ghost use Rattle.short_steps.specs.Shown.{shown_part};
+ghost use Rattle.tree_journal.specs.Shown.{shown_part};
 ghost use Rattle.tree_world.specs.Worlds.{state};
 ghost use Rattle.tree_engine.specs.Failures.{PassesLast, message_count};
-ghost use Rattle.tree_engine.specs.Trees.{AddsStep, IsNumbered, ending, last_line, opened_text, opening_text, part_text, refused_text, trace_by};
+ghost use Rattle.tree_engine.specs.Trees.{AddsStep, IsNumberedRefusal, ending, last_line, opened_text, opening_text, part_text, refused_text, trace_by};
 
 use crate::run::Refusal;
 use log_store::MemoryStore;
+use protocol::TreeProcess;
 use report_io::{Failure, Status};
 use std::alloc::{AllocError, Global};
 use trace_lines::{push_begun, push_conclusion, push_kept, push_messages, push_written};
-use tree_model::TreeEntry;
+use tree_journal::ShownStep;
 use tree_world::World;
-use world_journal::Shown;
 
 /// The trace of what the tree has come to, and how its run ended: of a tree that was opened over logs its first
 /// steps are the restarts of its processes, and they show what each opened. Exhausted: 2^64 messages or more were
@@ -24,7 +24,7 @@ pub fn trace_text(
     world: &World<MemoryStore>,
     refusal: Refusal,
 ) -> Result<(Vec<u8>, Status), Failure>
-    requires { IsNumbered refusal }
+    requires { IsNumberedRefusal refusal }
     ensures text { IfOk result (λ r. r.0.items
         ≡ trace_by world.now.reopened (state world.now) ++ last_line refusal) }
     ensures status { IfOk result (λ r. r.1 ≡ ending refusal) }
@@ -65,7 +65,7 @@ pub fn push_refused(
 pub fn push_opened(
     alloc: Global,
     out: &mut Vec<u8>,
-    entries: &[TreeEntry],
+    entries: &[TreeProcess],
 ) -> Result<(), AllocError>
     ensures { OnOk result (out.new.items ≡ out.old.items ++ opened_text entries.now) }
 {
@@ -92,7 +92,7 @@ fn opening_line(alloc: Global, process: u64) -> Result<String, AllocError>
 
 /// The lines of a step, after N messages. How many were sent with its own. Exhausted: 2^64 or more.
 #[tactic(auto, unfolding(trace_lines::specs::Trace::entry_text))]
-fn push_step(out: &mut Vec<u8>, sent: u64, step: &Shown) -> Result<u64, Failure>
+fn push_step(out: &mut Vec<u8>, sent: u64, step: &ShownStep) -> Result<u64, Failure>
     ensures sent { IfOk result (λ next. next ≡ sent + length step.now.messages.now) }
     ensures text { OnOk result (out.new.items ≡ out.old.items ++ part_text sent (shown_part step.now)) }
     ensures err { IfErr result (λ why. (why ≡ Failure.Memory)

@@ -2,36 +2,36 @@
 
 ghost use Rattle.std.specs.Prelude.{◌≡◌, ◌⊎◌, ℕ, [], List, IfErr, IfOk, Ok, OnOk, string_bytes};
 ghost use Rattle.std.specs.Io.KnownBytes.{Appends, Keeps};
-ghost use Rattle.tree_model.specs.declared.events.Event.{Event as AnyEvent};
-ghost use Rattle.link_script.specs.Inputs.{AsksFirst, IsLineError, asked_by};
+ghost use Rattle.protocol.specs.declared.events.Event.{Event as AnyEvent};
+ghost use Rattle.tree_script.specs.Inputs.{AsksFirst, IsLineError, asked_by};
 ghost use Rattle.report_io.specs.declared.status.Status.{Status as AnyStatus};
 ghost use Rattle.report_io.specs.Streams.{IsInput, IsOfRun, WritesFront};
 ghost use Rattle.tree_world.specs.Worlds.{state};
-ghost use Rattle.tree_engine.specs.declared.tree.Output.TheVariants as output;
+ghost use Rattle.tree_engine.specs.declared.tree.TreeOutput.TheVariants as output;
 ghost use Rattle.tree_engine.specs.Failures.{BreaksOff, CannotReport, IsBeyond, IsStop, ScriptBreaksOff};
-ghost use Rattle.tree_model.specs.Trees.{IsTree};
+ghost use Rattle.protocol.specs.Trees.{IsTree};
 ghost use Rattle.tree_engine.specs.Reports.{IsFirstFault, IsInputFault, IsTreeReport};
 ghost use Rattle.tree_engine.specs.Runs.{BeginsBy, HasCome, HasPlayed, IsDamageBy, PlaysScript};
-ghost use Rattle.tree_engine.specs.Trees.{IsNumbered, Tells, ending, fault_text, output_of};
+ghost use Rattle.tree_engine.specs.Trees.{IsNumberedRefusal, Tells, ending, fault_text, output_of};
 
 use crate::counting::counted_trace;
 use crate::drawn::draw_run;
 use crate::logs::left_text;
 use crate::run::{Refusal, Run};
 use crate::trace::trace_text;
-use link_script::{Lines, ScriptError, ScriptFault};
+use log_script::{ProcessLogs, damaged};
 use log_store::MemoryStore;
-use logs_script::{ProcessLogs, damaged};
+use protocol::{ProcessId, Tree};
 use reopen_script::{open_reopen, read_reopen};
 use report_io::{Failure, Status, read_all, write_all};
 use std::alloc::{AllocError, Global};
 use std::io::{Read, Write};
-use tree_model::{ProcessId, Tree};
+use tree_script::{Lines, ScriptError, ScriptFault};
 use tree_world::World;
 
 /// What is written of a run.
 #[derive(Clone, Copy, PartialEq, Eq)]
-pub enum Output {
+pub enum TreeOutput {
     /// Its trace: what each step logs, sends and tells.
     Trace,
     /// Where every event was made, the tree and the logs that its processes keep; else the trace.
@@ -66,7 +66,7 @@ enum LineOutput {
 /// the counts does, or the picture may have 2^32 rows.
 pub fn run_tree<R: Read, W: Write>(
     alloc: Global,
-    output: Output,
+    output: TreeOutput,
     reader: &mut R,
     writer: &mut W,
 ) -> Result<Status, Failure>
@@ -93,23 +93,23 @@ pub fn run_tree<R: Read, W: Write>(
 }
 
 /// The answer to an input.
-fn report(alloc: Global, output: Output, input: &[u8]) -> Result<(Vec<u8>, Status), Failure>
+fn report(alloc: Global, output: TreeOutput, input: &[u8]) -> Result<(Vec<u8>, Status), Failure>
     ensures report { IfOk result (λ r. IsTreeReport output r.1 input.now r.0.items) }
     ensures err { IfErr result (λ why. (why ≡ Failure.Memory) ⊎ CannotReport output input.now why) }
     ensures why { IfErr result IsOfRun }
 {
     match output {
-        Output::Picture => picture_report(alloc, input),
-        Output::Trace => line_report(alloc, LineOutput::Trace, input),
-        Output::Logs => line_report(alloc, LineOutput::Logs, input),
-        Output::Counts => line_report(alloc, LineOutput::Counts, input),
+        TreeOutput::Picture => picture_report(alloc, input),
+        TreeOutput::Trace => line_report(alloc, LineOutput::Trace, input),
+        TreeOutput::Logs => line_report(alloc, LineOutput::Logs, input),
+        TreeOutput::Counts => line_report(alloc, LineOutput::Counts, input),
     }
 }
 
 /// The picture of the run of a script, or what is wrong with it.
 fn picture_report(alloc: Global, input: &[u8]) -> Result<(Vec<u8>, Status), Failure>
-    ensures report { IfOk result (λ r. IsTreeReport Output.Picture r.1 input.now r.0.items) }
-    ensures err { IfErr result (λ why. (why ≡ Failure.Memory) ⊎ CannotReport Output.Picture input.now why) }
+    ensures report { IfOk result (λ r. IsTreeReport TreeOutput.Picture r.1 input.now r.0.items) }
+    ensures err { IfErr result (λ why. (why ≡ Failure.Memory) ⊎ CannotReport TreeOutput.Picture input.now why) }
     ensures why { IfErr result IsOfRun }
 {
     let (tree, logs, events) = match read_reopen(alloc, input) {
@@ -307,7 +307,7 @@ fn told(
     world: &World<MemoryStore>,
     refusal: Refusal,
 ) -> Result<(Vec<u8>, Status), Failure>
-    requires { IsNumbered refusal }
+    requires { IsNumberedRefusal refusal }
     ensures text { IfOk result (λ r. (events : List AnyEvent) → Tells world.now.reopened (output_of output)
         events (state world.now) refusal r.0.items) }
     ensures status { IfOk result (λ r. r.1 ≡ ending refusal) }

@@ -1,28 +1,28 @@
 -- A step of one process, in the tree: it was entered, or it was not.
 use Rattle.std.proofs.Common.{◌≡◌, ◌∙◌, sym, ap, subst, refl, ℕ, Option, Some, List, [], ◌∷◌, ◌++◌, Result, Ok, Err, IfErr, IfOk, IfSome, OnOk}
-use Rattle.tree_model.specs.declared.names.ProcessId.{ProcessId}
-use Rattle.tree_model.specs.declared.messages.Envelope.{Envelope}
-use Rattle.tree_model.specs.declared.events.Act.{Act}
-use Rattle.tree_model.specs.declared.events.Input.{Input}
-use Rattle.tree_model.specs.declared.events.Input.TheVariants.{Act as ActInput, Message as MessageInput}
-use Rattle.tree_model.specs.declared.events.Reaction.{Reaction}
-use Rattle.tree_model.specs.declared.events.StepError.{StepError}
-use Rattle.tree_model.specs.declared.events.StepError.TheVariants.{Memory, Device, UnknownTxn, NotAChild, Closed, Failed, NotInDoubt, NothingToForget, NoSuch, Exhausted}
-use Rattle.tree_model.specs.declared.trees.TreeEntry.{TreeEntry}
-use Rattle.tree_model.specs.Plays.{sent_as}
-use Rattle.core_law.specs.worlds.Worlds.{Delivers, DeviceFails, NotActed, NotDelivered, Same, Steps, entry_at, undelivered}
+use Rattle.protocol.specs.declared.names.ProcessId.{ProcessId}
+use Rattle.protocol.specs.declared.messages.Envelope.{Envelope}
+use Rattle.protocol.specs.declared.events.Act.{Act}
+use Rattle.protocol.specs.declared.events.Input.{Input}
+use Rattle.protocol.specs.declared.events.Input.TheVariants.{Act as ActInput, Message as MessageInput}
+use Rattle.protocol.specs.declared.events.Reaction.{Reaction}
+use Rattle.protocol.specs.declared.events.StepError.{StepError}
+use Rattle.protocol.specs.declared.events.StepError.TheVariants.{Memory, Device, UnknownTxn, NotAChild, Closed, Failed, NotInDoubt, NothingToForget, NoSuch, Exhausted}
+use Rattle.protocol.specs.declared.trees.TreeProcess.{TreeProcess}
+use Rattle.protocol.specs.Plays.{sent_as}
+use Rattle.tree_state.specs.Worlds.{Delivers, DeviceFails, NotActed, NotDelivered, SameTree, TreeSteps, entry_at, undelivered}
 use Rattle.tree_world.specs.Nodes.{NoStepAt, NodesSight, SameNodes, StepsAt}
-use Rattle.world_journal.specs.Journals.{Enters, JournalState, Keeps, marked_by}
+use Rattle.tree_journal.specs.Journals.{EntersJournal, JournalState, SameJournal, marked_by}
 use Rattle.tree_world.proofs.Handling.{world}
 
 -- a journal keeps all that it has
-pub kept : (j : JournalState) → Keeps j j
+pub kept : (j : JournalState) → SameJournal j j
 kept j = record { net = refl; delivered = refl; entries = refl }
 
 -- it was entered, in a journal that kept all
-pub world_steps : (tree : List TreeEntry) (nodes after : NodesSight) (j k l : JournalState)
-    (q : ProcessId) (i : Input) (r : Reaction) → Keeps j k → StepsAt nodes after q i r → Enters k l q i r
-    → Steps (world tree nodes j) (world tree after l) q i (marked_by i j.delivered)
+pub world_steps : (tree : List TreeProcess) (nodes after : NodesSight) (j k l : JournalState)
+    (q : ProcessId) (i : Input) (r : Reaction) → SameJournal j k → StepsAt nodes after q i r → EntersJournal k l q i r
+    → TreeSteps (world tree nodes j) (world tree after l) q i (marked_by i j.delivered)
 world_steps tree nodes after j k l q i r keeps steps enters = record {
   before = steps.before;
   behind = steps.behind;
@@ -42,8 +42,8 @@ world_steps tree nodes after j k l q i r keeps steps enters = record {
   };
 }
 
-same : (tree : List TreeEntry) (nodes after : NodesSight) (j k : JournalState) → Keeps j k
-    → SameNodes nodes after → Same (world tree nodes j) (world tree after k)
+same : (tree : List TreeProcess) (nodes after : NodesSight) (j k : JournalState) → SameJournal j k
+    → SameNodes nodes after → SameTree (world tree nodes j) (world tree after k)
 same tree nodes after j k keeps alike = record {
   tree = refl;
   nodes = alike.nodes;
@@ -53,8 +53,8 @@ same tree nodes after j k keeps alike = record {
   entries = keeps.entries;
 }
 
-pub breaks : (tree : List TreeEntry) (nodes after : NodesSight) (j k : JournalState)
-    (q : ProcessId) (i : Input) → Keeps j k → NoStepAt nodes after q i Device
+pub breaks : (tree : List TreeProcess) (nodes after : NodesSight) (j k : JournalState)
+    (q : ProcessId) (i : Input) → SameJournal j k → NoStepAt nodes after q i Device
     → DeviceFails (world tree nodes j) (world tree after k) q i
 breaks tree nodes after j k q i keeps stops = record {
   before = stops.before;
@@ -75,8 +75,8 @@ breaks tree nodes after j k q i keeps stops = record {
 }
 
 -- an act was not made
-pub not_acted : (tree : List TreeEntry) (nodes after : NodesSight) (j k : JournalState)
-    (q : ProcessId) (a : Act) (e : StepError) → Keeps j k → NoStepAt nodes after q (ActInput a) e
+pub not_acted : (tree : List TreeProcess) (nodes after : NodesSight) (j k : JournalState)
+    (q : ProcessId) (a : Act) (e : StepError) → SameJournal j k → NoStepAt nodes after q (ActInput a) e
     → NotActed (world tree nodes j) (world tree after k) q a e
 not_acted tree nodes after j k q a Memory keeps stops = same tree nodes after j k keeps stops
 not_acted tree nodes after j k q a Device keeps stops = breaks tree nodes after j k q (ActInput a) keeps stops
@@ -90,8 +90,8 @@ not_acted tree nodes after j k q a NoSuch keeps stops = (same tree nodes after j
 not_acted tree nodes after j k q a Exhausted keeps stops = (same tree nodes after j k keeps stops.0, stops.1)
 
 -- a message was not delivered
-pub not_delivered : (tree : List TreeEntry) (nodes after : NodesSight) (j k : JournalState)
-    (n : ℕ) (l : Envelope) (e : StepError) → Keeps j k → sent_as j.net n ≡ Some l
+pub not_delivered : (tree : List TreeProcess) (nodes after : NodesSight) (j k : JournalState)
+    (n : ℕ) (l : Envelope) (e : StepError) → SameJournal j k → sent_as j.net n ≡ Some l
     → NoStepAt nodes after l.to (MessageInput n l.message) e
     → NotDelivered (world tree nodes j) (world tree after k) n e
 not_delivered tree nodes after j k n l Memory keeps is stops = same tree nodes after j k keeps stops
@@ -130,21 +130,21 @@ pub refused_so : (nodes after : NodesSight) (q : ProcessId) (i : Input)
 refused_so nodes after q i made e is stops = subst (λ (m : Result Reaction StepError). IfErr m
     (NoStepAt nodes after q i)) is stops
 
-pub acted : (tree : List TreeEntry) (nodes after : NodesSight) (j k l : JournalState)
+pub acted : (tree : List TreeProcess) (nodes after : NodesSight) (j k l : JournalState)
     (q p : ProcessId) (a : Act) (made : Result Reaction StepError) (closed : Result (Unit {0}) StepError)
-    → p ≡ q → Keeps j k → IfOk made (StepsAt nodes after p (ActInput a))
-    → OnOk closed ((r : Reaction) × (made ≡ Ok r) × Enters k l p (ActInput a) r)
-    → OnOk closed (Steps (world tree nodes j) (world tree after l) q (ActInput a) j.delivered)
+    → p ≡ q → SameJournal j k → IfOk made (StepsAt nodes after p (ActInput a))
+    → OnOk closed ((r : Reaction) × (made ≡ Ok r) × EntersJournal k l p (ActInput a) r)
+    → OnOk closed (TreeSteps (world tree nodes j) (world tree after l) q (ActInput a) j.delivered)
 acted tree nodes after j k l q p a made (Err e) at keeps steps ends = tt
 acted tree nodes after j k l q p a made (Ok u) at keeps steps ends =
-    subst (λ (x : ProcessId). Steps (world tree nodes j) (world tree after l) x (ActInput a) j.delivered) at
+    subst (λ (x : ProcessId). TreeSteps (world tree nodes j) (world tree after l) x (ActInput a) j.delivered) at
     (world_steps tree nodes after j k l p (ActInput a) ends.0 keeps
     (made_so nodes after p (ActInput a) made ends.0 ends.1 steps) ends.2)
 
-pub act_stopped : (tree : List TreeEntry) (nodes after : NodesSight)
+pub act_stopped : (tree : List TreeProcess) (nodes after : NodesSight)
     (j k l : JournalState) (q p : ProcessId) (a : Act) (made : Result Reaction StepError)
     (closed : Result (Unit {0}) StepError)
-    → p ≡ q → Keeps j k → IfErr made (NoStepAt nodes after p (ActInput a))
+    → p ≡ q → SameJournal j k → IfErr made (NoStepAt nodes after p (ActInput a))
     → IfErr closed (λ e. (made ≡ Err e) × (l ≡ k))
     → IfErr closed (NotActed (world tree nodes j) (world tree after l) q a)
 act_stopped tree nodes after j k l q p a made (Ok u) at keeps stops ends = tt
@@ -153,16 +153,16 @@ act_stopped tree nodes after j k l q p a made (Err e) at keeps stops ends =
     (subst (λ (m : JournalState). NotActed (world tree nodes j) (world tree after m) p a e) (sym ends.1)
     (not_acted tree nodes after j k p a e keeps (refused_so nodes after p (ActInput a) made e ends.0 stops)))
 
-pub delivered : (tree : List TreeEntry) (nodes after : NodesSight) (j k l : JournalState)
+pub delivered : (tree : List TreeProcess) (nodes after : NodesSight) (j k l : JournalState)
     (n : ℕ) (m : Envelope) (made : Result Reaction StepError) (closed : Result (Unit {0}) StepError)
-    → Keeps j k → sent_as k.net n ≡ Some m → IfOk made (StepsAt nodes after m.to (MessageInput n m.message))
+    → SameJournal j k → sent_as k.net n ≡ Some m → IfOk made (StepsAt nodes after m.to (MessageInput n m.message))
     → OnOk closed (IfSome (sent_as k.net n) (λ m2. (r : Reaction) × (made ≡ Ok r)
-    × Enters k l m.to (MessageInput n m2.message) r))
+    × EntersJournal k l m.to (MessageInput n m2.message) r))
     → OnOk closed (Delivers (world tree nodes j) (world tree after l) n)
 delivered tree nodes after j k l n m made (Err e) keeps is steps ends = tt
 delivered tree nodes after j k l n m made (Ok u) keeps is steps ends =
     let entered = subst (λ (o : Option Envelope). IfSome o (λ m2. (r : Reaction) × (made ≡ Ok r)
-    × Enters k l m.to (MessageInput n m2.message) r)) is ends in
+    × EntersJournal k l m.to (MessageInput n m2.message) r)) is ends in
     record {
       envelope = m;
       sent = ap (λ ls. sent_as ls n) (sym keeps.net) ∙ is;
@@ -170,10 +170,10 @@ delivered tree nodes after j k l n m made (Ok u) keeps is steps ends =
           (made_so nodes after m.to (MessageInput n m.message) made entered.0 entered.1 steps) entered.2;
     }
 
-pub delivery_stopped : (tree : List TreeEntry) (nodes after : NodesSight)
+pub delivery_stopped : (tree : List TreeProcess) (nodes after : NodesSight)
     (j k l : JournalState) (n : ℕ) (m : Envelope) (made : Result Reaction StepError)
     (closed : Result (Unit {0}) StepError)
-    → Keeps j k → sent_as k.net n ≡ Some m
+    → SameJournal j k → sent_as k.net n ≡ Some m
     → IfErr made (NoStepAt nodes after m.to (MessageInput n m.message))
     → IfErr closed (λ e. (made ≡ Err e) × (l ≡ k))
     → IfErr closed (NotDelivered (world tree nodes j) (world tree after l) n)

@@ -3,23 +3,23 @@ use Rattle.std.proofs.Common.{◌≡◌, ◌≢◌, ◌∙◌, sym, ap, subst, r
 use Rattle.std.specs.Prelude.{All, IfSome, length}
 use Rattle.std.specs.List.{AllByRecursion}
 use Rattle.std.proofs.lemmas.List.Elements.{All-from_recursion}
-use Rattle.tree_model.specs.declared.names.Kind.{Kind}
-use Rattle.tree_model.specs.declared.records.LogRecord.{LogRecord}
-use Rattle.tree_model.specs.declared.events.Input.{Input}
-use Rattle.tree_model.specs.declared.events.Reaction.{Reaction}
-use Rattle.tree_model.specs.declared.events.StepError.{StepError}
-use Rattle.tree_model.specs.declared.events.StepError.TheVariants.{Memory, Device, UnknownTxn, NotAChild, Closed, Failed, NotInDoubt, NothingToForget, NoSuch, Exhausted}
+use Rattle.protocol.specs.declared.names.Kind.{Kind}
+use Rattle.protocol.specs.declared.records.LogRecord.{LogRecord}
+use Rattle.protocol.specs.declared.events.Input.{Input}
+use Rattle.protocol.specs.declared.events.Reaction.{Reaction}
+use Rattle.protocol.specs.declared.events.StepError.{StepError}
+use Rattle.protocol.specs.declared.events.StepError.TheVariants.{Memory, Device, UnknownTxn, NotAChild, Closed, Failed, NotInDoubt, NothingToForget, NoSuch, Exhausted}
 use Rattle.log_text.specs.Payloads.{FitsFrame}
 use Rattle.log_rules.specs.sound.Sound.{IsSound}
 use Rattle.log_rules.proofs.sound.Sizes.{sound_fits}
-use Rattle.core_model.specs.States.{CoreState, SameCore}
-use Rattle.core_law.specs.worlds.Worlds.{HandlesInput}
-use Rattle.manager_model.specs.Data.{ManagerData}
-use Rattle.fault_journal.specs.declared.count.Count.{Count}
-use Rattle.fault_journal.specs.Counts.{after_written, all_forced, count_in}
-use Rattle.fault_journal.proofs.Counting.{count_of, made_count, restarted_count, trimmed_count}
-use Rattle.tree_node.specs.Nodes.{NotHandled}
-use Rattle.tree_node.specs.Restarts.{NoRestart, NoTrim, RestartsNode, TrimsNode}
+use Rattle.process_state.specs.States.{CoreState, SameCore}
+use Rattle.tree_state.specs.Worlds.{HandlesInput}
+use Rattle.resource_manager.specs.Data.{ManagerData}
+use Rattle.tree_faults.specs.declared.count.Count.{Count}
+use Rattle.tree_faults.specs.Counts.{after_written, all_forced, count_in}
+use Rattle.tree_faults.proofs.Counting.{count_of, made_count, restarted_count, trimmed_count}
+use Rattle.tree_process.specs.Nodes.{NotHandled}
+use Rattle.tree_process.specs.Restarts.{NoRestart, NoTrim, RestartsNode, TrimsNode}
 
 module _ (s t : CoreState) (d e : ManagerData) (c : Count) (is : c ≡ count_in s) where
   -- the process is the same

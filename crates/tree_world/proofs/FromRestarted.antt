@@ -2,44 +2,44 @@
 use Rattle.std.proofs.Common.{◌≡◌, ◌∙◌, ap, sym, subst, refl, inl, inr, ◌⊎◌, false, true, if◌then◌else◌, is_some, ℕ, ◌+◌, ◌<◌, ◌≤◌, Option, Some, None, List, [], ◌∷◌, ◌++◌, length, get_or, drop, reverse, option_map, append-nil, append_assoc}
 use Rattle.std.specs.Map.{lookup}
 use Rattle.std.proofs.lemmas.List.{drop_all, map-append}
-use Rattle.tree_model.specs.declared.names.Kind.{Kind}
-use Rattle.tree_model.specs.declared.names.Kind.TheVariants.{Coordinator, Manager}
-use Rattle.tree_model.specs.declared.names.ProcessId.{ProcessId}
-use Rattle.tree_model.specs.contracts.names.ProcessIdPartialEq.TheImpl as processes
-use Rattle.tree_model.specs.declared.messages.Envelope.{Envelope}
-use Rattle.tree_model.specs.declared.events.Reaction.{Reaction}
-use Rattle.tree_model.specs.declared.events.Happening.TheVariants.{Restart}
-use Rattle.tree_model.specs.declared.records.LogRecord.{LogRecord}
-use Rattle.tree_model.specs.declared.trees.TreeEntry.{TreeEntry}
-use Rattle.tree_model.specs.Names.{same_process}
-use Rattle.tree_model.specs.Nodes.{Place, Role, is_listed, place_of}
-use Rattle.tree_model.specs.Records.{same_bytes}
-use Rattle.tree_model.specs.Trees.{IsTree}
+use Rattle.protocol.specs.declared.names.Kind.{Kind}
+use Rattle.protocol.specs.declared.names.Kind.TheVariants.{Coordinator, Manager}
+use Rattle.protocol.specs.declared.names.ProcessId.{ProcessId}
+use Rattle.protocol.specs.contracts.names.ProcessIdPartialEq.TheImpl as processes
+use Rattle.protocol.specs.declared.messages.Envelope.{Envelope}
+use Rattle.protocol.specs.declared.events.Reaction.{Reaction}
+use Rattle.protocol.specs.declared.events.Happening.TheVariants.{Restart}
+use Rattle.protocol.specs.declared.records.LogRecord.{LogRecord}
+use Rattle.protocol.specs.declared.trees.TreeProcess.{TreeProcess}
+use Rattle.protocol.specs.Names.{same_process}
+use Rattle.protocol.specs.Nodes.{Place, Role, is_listed, place_of}
+use Rattle.protocol.specs.Records.{same_bytes}
+use Rattle.protocol.specs.Trees.{IsTree}
 use Rattle.log_rules.specs.order.Logs.{Damaged, Whole, read_log}
 use Rattle.log_store.specs.Stores.{SameStore}
 use Rattle.log_text.specs.Forms.{header, log_form}
 use Rattle.log_text.specs.declared.form.LogFormat.TheVariants.{First, Second}
-use Rattle.rec_log.specs.Openings.{is_old}
-use Rattle.rec_log.specs.Sights.{LogSight, kept_of, left_by, records_of}
-use Rattle.rec_log.proofs.Turns.{records_stand}
-use Rattle.core_model.specs.States.{CoreState, forced_sight, form_of, logged}
-use Rattle.core_model.specs.Restarting.{Restarts, reopened}
-use Rattle.core_law.specs.worlds.Worlds.{step_entry, undelivered}
-use Rattle.manager_model.specs.Data.{ManagerData}
-use Rattle.world_journal.specs.Journals.{JournalState, Keeps}
-use Rattle.tree_node.specs.declared.node.Node.{Node}
-use Rattle.tree_node.specs.Nodes.{HoldsLog, core_of, data_of}
-use Rattle.tree_node.specs.Reopenings.{HandsLogBack, HoldsOn as NodeHoldsOn, LeavesNone, NotReopened as NodeNotReopened, ReopensAs, form_by, kind_by, place_by}
-use Rattle.tree_node.specs.declared.reopening.ReopenError.{ReopenError as NodeError}
-use Rattle.tree_node.specs.declared.reopening.ReopenError.TheVariants as nodes
-use Rattle.tree_node.proofs.Reopened.{all_left}
-use Rattle.reopened_trees.specs.Reopened.{RestartsOver}
+use Rattle.log_records.specs.Openings.{is_old}
+use Rattle.log_records.specs.Sights.{LogSight, kept_of, left_by, records_of}
+use Rattle.log_records.proofs.Turns.{records_stand}
+use Rattle.process_state.specs.States.{CoreState, forced_sight, form_of, logged}
+use Rattle.process_state.specs.Restarting.{ProcessRestarts, reopened}
+use Rattle.tree_state.specs.Worlds.{step_entry, undelivered}
+use Rattle.resource_manager.specs.Data.{ManagerData}
+use Rattle.tree_journal.specs.Journals.{JournalState, SameJournal}
+use Rattle.tree_process.specs.declared.node.Process.{Process}
+use Rattle.tree_process.specs.Nodes.{HoldsLog, core_of, data_of}
+use Rattle.tree_process.specs.Reopenings.{HandsLogBack, HoldsOn as NodeHoldsOn, LeavesNone, ProcessNotReopened, ReopensAs, form_by, kind_by, place_by}
+use Rattle.tree_process.specs.declared.reopening.ProcessReopenError.{ProcessReopenError}
+use Rattle.tree_process.specs.declared.reopening.ProcessReopenError.TheVariants as nodes
+use Rattle.tree_process.proofs.Reopened.{all_left}
+use Rattle.proof_reopened.specs.Reopened.{RestartsOver}
 use Rattle.tree_world.specs.Nodes.{NodesSight, data_in, kept_at}
-use Rattle.tree_world.specs.Readied.{AllRestart, AreGivenBack, AreNotRestarted, AreReady, IsGivenBack, IsReady, NotRestarted, RestartsIn}
+use Rattle.tree_world.specs.Readied.{AllRestart, AreGivenBack, AreNotRestarted, AreReady, IsGivenBack, IsReady, TreeNotRestarted, RestartsIn}
 use Rattle.tree_world.specs.Reopenings.{AreRestarted, FailsIn, HoldsOn, NoneRestarts, error_of_node, ready_logs, records_read}
 use Rattle.tree_world.specs.Openings.{store_of}
-use Rattle.tree_world.specs.declared.reopening.ReopenError.{ReopenError}
-use Rattle.tree_world.specs.declared.reopening.ReopenError.TheVariants.{Memory, Device, Damaged as DamagedError}
+use Rattle.tree_world.specs.declared.reopening.TreeReopenError.{TreeReopenError}
+use Rattle.tree_world.specs.declared.reopening.TreeReopenError.TheVariants.{Memory, Device, Damaged as DamagedError}
 use Rattle.tree_world.proofs.FromReady.{fails_behind, fails_first, listed_behind, listed_first}
 use Rattle.tree_world.proofs.HandedBack.{from_end, kind_of}
 use Rattle.tree_world.proofs.OpenNodes.{drop_at, first_role}
@@ -50,14 +50,14 @@ use Rattle.tree_world.proofs.StorePlaces.{new_at, not_again}
 
 -- The place of a process.
 
-place_at : (tree : List TreeEntry) (i : ℕ) (e : TreeEntry) → IsTree tree → i < length tree → e ≡ get_or tree i e
+place_at : (tree : List TreeProcess) (i : ℕ) (e : TreeProcess) → IsTree tree → i < length tree → e ≡ get_or tree i e
     → place_by tree e ≡ place_of tree e.id
 place_at tree i e t lt is =
     ap (λ (r : Role). record { me = e.id; role = r; tree = tree }) (sym (first_role tree i e lt is (new_at tree i e t lt is)))
 
 -- One process.
 
-module _ {L : Type 0} (bytes : L → List ℕ) (forced failures : L → ℕ) (tree : List TreeEntry) (e : TreeEntry) (store : L) where
+module _ {L : Type 0} (bytes : L → List ℕ) (forced failures : L → ℕ) (tree : List TreeProcess) (e : TreeProcess) (store : L) where
   abbrev ls : List LogRecord
   ls = records_read (read_log (form_by e) (bytes store))
 
@@ -89,9 +89,9 @@ module _ {L : Type 0} (bytes : L → List ℕ) (forced failures : L → ℕ) (tr
       ])
 
   -- the process restarted, by a copy of the tree
-  pub restarts_in : (copy : List TreeEntry) (core : CoreState) (values : ManagerData) (reaction : Reaction)
+  pub restarts_in : (copy : List TreeProcess) (core : CoreState) (values : ManagerData) (reaction : Reaction)
       (old mid new : JournalState) → copy ≡ tree
-      → ReopensAs copy e (bytes store) (forced store) (failures store) core values reaction → Keeps old mid
+      → ReopensAs copy e (bytes store) (forced store) (failures store) core values reaction → SameJournal old mid
       → new.net ≡ mid.net ++ reaction.messages → new.delivered ≡ mid.delivered ++ undelivered reaction.messages
       → new.entries ≡ mid.entries ++ step_entry e.id (Restart 0) reaction ∷ []
       → RestartsIn bytes forced failures tree e store core values old new
@@ -105,9 +105,9 @@ module _ {L : Type 0} (bytes : L → List ℕ) (forced failures : L → ℕ) (tr
     };
   }
 
-  not_restarted : IsReady bytes e store → (why : NodeError)
-      → NodeNotReopened bytes forced failures (form_by e) (place_by tree e) store why
-      → NotRestarted bytes failures tree e store (error_of_node e.id why)
+  not_restarted : IsReady bytes e store → (why : ProcessReopenError)
+      → ProcessNotReopened bytes forced failures (form_by e) (place_by tree e) store why
+      → TreeNotRestarted bytes failures tree e store (error_of_node e.id why)
   not_restarted r nodes.Memory h = tt
   not_restarted r nodes.Device (inl h) = (refl, h)
   not_restarted r nodes.Device (inr h) = absurd h.1
@@ -121,11 +121,11 @@ module _ {L : Type 0} (bytes : L → List ℕ) (forced failures : L → ℕ) (tr
       (refl, refl, subst (NoneRestarts (place_by tree e)) (sym is) (inr (inr (inr h.1.unfit))))
 
   -- it did not
-  pub not_restarted_by : (copy : List TreeEntry) → copy ≡ tree → IsReady bytes e store → (why : NodeError)
-      → NodeNotReopened bytes forced failures (form_by e) (place_by copy e) store why
-      → NotRestarted bytes failures tree e store (error_of_node e.id why)
+  pub not_restarted_by : (copy : List TreeProcess) → copy ≡ tree → IsReady bytes e store → (why : ProcessReopenError)
+      → ProcessNotReopened bytes forced failures (form_by e) (place_by copy e) store why
+      → TreeNotRestarted bytes failures tree e store (error_of_node e.id why)
   not_restarted_by copy same r why h = not_restarted r why
-      (subst (λ t. NodeNotReopened bytes forced failures (form_by e) (place_by t e) store why) same h)
+      (subst (λ t. ProcessNotReopened bytes forced failures (form_by e) (place_by t e) store why) same h)
 
   -- the records are in a store that is ready
   ready_records : IsReady bytes e store → records_of (kept_of (form_by e) (bytes store) (forced store)) ≡ ls
@@ -150,7 +150,7 @@ module _ {L : Type 0} (bytes : L → List ℕ) (forced failures : L → ℕ) (tr
         record { appended = n.appended; records = n.records ∙ ap (λ xs. xs ++ n.appended) (sym is) }
 
     -- the store of a process that did not restart keeps the records
-    pub given_back : IsReady bytes e store → (why : NodeError)
+    pub given_back : IsReady bytes e store → (why : ProcessReopenError)
         → HandsLogBack bytes forced failures (form_by e) store new why
         → IsGivenBack bytes forced failures e store new (error_of_node e.id why)
     given_back r nodes.Memory h = holds r h
@@ -170,7 +170,7 @@ module _ {L : Type 0} (bytes : L → List ℕ) (forced failures : L → ℕ) (tr
           place = place_by tree e;
           log = forced_sight (form_by e) left (failures store);
         } in
-        let again : Restarts old 0 core reaction = h.restarts old (record { place_is = refl; failures_are = refl }) 0
+        let again : ProcessRestarts old 0 core reaction = h.restarts old (record { place_is = refl; failures_are = refl }) 0
         (all_left (form_by e) left (failures store)) in
         let more : List LogRecord = logged old (reopened old 0) in
         let form : form_of core.place ≡ form_by e = ap form_of again.place ∙ ap (log_form e.id) (kind_of e.kind e.parent) in
@@ -182,14 +182,14 @@ module _ {L : Type 0} (bytes : L → List ℕ) (forced failures : L → ℕ) (tr
               ∙ ap (λ xs. xs ++ more) (all_left (form_by e) left (failures store) ∙ sym is);
         }
 
-    pub given_by : (why : ReopenError) → HoldsOn bytes forced e ls new → IsGivenBack bytes forced failures e store new why
+    pub given_by : (why : TreeReopenError) → HoldsOn bytes forced e ls new → IsGivenBack bytes forced failures e store new why
     given_by Memory h = h
     given_by (Device p) h = inr h
     given_by (DamagedError p place) h = h
 
 -- the stores that were not come to are as they were
-pub all_given : {L : Type 0} (bytes : L → List ℕ) (forced failures : L → ℕ) (tree es : List TreeEntry) (ss : List L)
-    (why : ReopenError) → AreReady bytes es ss → AreGivenBack bytes forced failures es ss ss why
+pub all_given : {L : Type 0} (bytes : L → List ℕ) (forced failures : L → ℕ) (tree es : List TreeProcess) (ss : List L)
+    (why : TreeReopenError) → AreReady bytes es ss → AreGivenBack bytes forced failures es ss ss why
 all_given bytes forced failures tree [] ss why r = refl
 all_given bytes forced failures tree (e ∷ es) [] why r = refl
 all_given bytes forced failures tree (e ∷ es) (s ∷ ss) why r = (
@@ -204,8 +204,8 @@ undelivered_more a b = map-append (λ l. false) a b
 
 -- Why processes did not restart.
 
-module _ {L : Type 0} (bytes : L → List ℕ) (failures : L → ℕ) (tree : List TreeEntry) (e : TreeEntry)
-    (es : List TreeEntry) (s : L) (ss : List L) where
+module _ {L : Type 0} (bytes : L → List ℕ) (failures : L → ℕ) (tree : List TreeProcess) (e : TreeProcess)
+    (es : List TreeProcess) (s : L) (ss : List L) where
   logs_first : ready_logs bytes (e ∷ es) (s ∷ ss) e.id ≡ records_read (read_log (form_by e) (bytes s))
   logs_first = ap (λ b. if b then records_read (read_log (form_by e) (bytes s)) else ready_logs bytes es ss e.id) (itself e.id)
 
@@ -214,8 +214,8 @@ module _ {L : Type 0} (bytes : L → List ℕ) (failures : L → ℕ) (tree : Li
   logs_behind p apart =
       ap (λ b. if b then records_read (read_log (form_by e) (bytes s)) else ready_logs bytes es ss p) apart
 
-  not_restarted_first : (why : ReopenError) → place_by tree e ≡ place_of tree e.id
-      → NotRestarted bytes failures tree e s why → AreNotRestarted bytes failures tree (e ∷ es) (s ∷ ss) why
+  not_restarted_first : (why : TreeReopenError) → place_by tree e ≡ place_of tree e.id
+      → TreeNotRestarted bytes failures tree e s why → AreNotRestarted bytes failures tree (e ∷ es) (s ∷ ss) why
   not_restarted_first Memory at h = tt
   not_restarted_first (Device p) at h =
       subst (λ q. (is_listed (e ∷ es) q ≡ true) × FailsIn failures (store_of (e ∷ es) (s ∷ ss) q)) (sym h.0)
@@ -229,7 +229,7 @@ module _ {L : Type 0} (bytes : L → List ℕ) (failures : L → ℕ) (tree : Li
             (subst (NoneRestarts (place_by tree e)) (sym logs_first) h.2),
       )
 
-  not_restarted_later : (why : ReopenError) → ((q : ProcessId) → is_listed es q ≡ true → same_process e.id q ≡ false)
+  not_restarted_later : (why : TreeReopenError) → ((q : ProcessId) → is_listed es q ≡ true → same_process e.id q ≡ false)
       → AreNotRestarted bytes failures tree es ss why → AreNotRestarted bytes failures tree (e ∷ es) (s ∷ ss) why
   not_restarted_later Memory apart h = tt
   not_restarted_later (Device p) apart h =
@@ -248,7 +248,7 @@ no_reaction = record { begun = None; written = []; told = None; messages = []; k
 none_open : (c : CoreState) → None ≡ Some c → ⊥
 none_open c h = cc
 
-no_restarts : {L : Type 0} (bytes : L → List ℕ) (tree : List TreeEntry) (stores : List L) (ns : NodesSight)
+no_restarts : {L : Type 0} (bytes : L → List ℕ) (tree : List TreeProcess) (stores : List L) (ns : NodesSight)
     → ((q : ProcessId) → ns.node_at q ≡ None) → AreRestarted bytes tree [] stores ns [] []
 unfolding is_listed
 no_restarts bytes tree stores ns empty = record {
@@ -260,8 +260,8 @@ no_restarts bytes tree stores ns empty = record {
   made_so = refl;
 }
 
-pub none_restarted : {L : Type 0} (bytes : L → List ℕ) (tree : List TreeEntry) (i : ℕ) (items : List L)
-    (entries : List (ProcessId × Node L)) (j : JournalState) → length tree ≤ i → entries ≡ []
+pub none_restarted : {L : Type 0} (bytes : L → List ℕ) (tree : List TreeProcess) (i : ℕ) (items : List L)
+    (entries : List (ProcessId × Process L)) (j : JournalState) → length tree ≤ i → entries ≡ []
     → AllRestart bytes tree (drop i tree) (reverse items) (kept_at entries) j j
 none_restarted bytes tree i items entries j past empty = rw (drop_all i tree past, empty) (record {
   sent = [];
@@ -272,15 +272,15 @@ none_restarted bytes tree i items entries j past empty = rw (drop_all i tree pas
   entries = sym (append-nil j.entries);
 })
 
-module _ {L : Type 0} (bytes : L → List ℕ) (forced failures : L → ℕ) (tree : List TreeEntry) (i : ℕ)
-    (e : TreeEntry) (lt : i < length tree) (is : e ≡ get_or tree i e) where
+module _ {L : Type 0} (bytes : L → List ℕ) (forced failures : L → ℕ) (tree : List TreeProcess) (i : ℕ)
+    (e : TreeProcess) (lt : i < length tree) (is : e ≡ get_or tree i e) where
   -- there is no store for the process
   pub no_store_restarted : (items : List L) → items ≡ []
       → AreNotRestarted bytes failures tree (drop i tree) (reverse items) (Device e.id)
   no_store_restarted items empty =
       rw (drop_at tree i e lt is, empty) (listed_first e (drop (i + 1) tree), tt)
 
-  pub no_store_given : (old new : List L) (why : ReopenError) → old ≡ [] → new ≡ []
+  pub no_store_given : (old new : List L) (why : TreeReopenError) → old ≡ [] → new ≡ []
       → AreGivenBack bytes forced failures (drop i tree) (reverse old) (reverse new) why
   no_store_given old new why empty left = rw (drop_at tree i e lt is, empty, left) refl
 
@@ -303,14 +303,14 @@ module _ {L : Type 0} (bytes : L → List ℕ) (forced failures : L → ℕ) (tr
       let parts = ready_parts items behind s taken r in parts.1
 
   -- the process did not restart
-  pub not_restarted_at : (items behind : List L) (s : L) (why : ReopenError) → IsTree tree → items ≡ behind ++ s ∷ []
-      → NotRestarted bytes failures tree e s why
+  pub not_restarted_at : (items behind : List L) (s : L) (why : TreeReopenError) → IsTree tree → items ≡ behind ++ s ∷ []
+      → TreeNotRestarted bytes failures tree e s why
       → AreNotRestarted bytes failures tree (drop i tree) (reverse items) why
   not_restarted_at items behind s why t taken h =
       rw (drop_at tree i e lt is, taken, from_end behind s)
       (not_restarted_first bytes failures tree e (drop (i + 1) tree) s (reverse behind) why (place_at tree i e t lt is) h)
 
-  pub given_at : (items behind left : List L) (s l : L) (why : ReopenError) → items ≡ behind ++ s ∷ []
+  pub given_at : (items behind left : List L) (s l : L) (why : TreeReopenError) → items ≡ behind ++ s ∷ []
       → left ≡ behind ++ l ∷ [] → AreReady bytes (drop (i + 1) tree) (reverse behind)
       → IsGivenBack bytes forced failures e s l why
       → AreGivenBack bytes forced failures (drop i tree) (reverse items) (reverse left) why
@@ -319,7 +319,7 @@ module _ {L : Type 0} (bytes : L → List ℕ) (forced failures : L → ℕ) (tr
       (h, all_given bytes forced failures tree (drop (i + 1) tree) (reverse behind) why r)
 
   -- it restarted, and so did those after it
-  pub restarted_from : (items behind : List L) (s : L) (n : Node L) (old new : List (ProcessId × Node L))
+  pub restarted_from : (items behind : List L) (s : L) (n : Process L) (old new : List (ProcessId × Process L))
       (j k l : JournalState) → IsTree tree → items ≡ behind ++ s ∷ []
       → RestartsIn bytes forced failures tree e s (core_of n) (data_of n) j k
       → lookup (processes.ghosts.eq e.id) new ≡ Some n
@@ -345,13 +345,13 @@ module _ {L : Type 0} (bytes : L → List ℕ) (forced failures : L → ℕ) (tr
     where
       over : RestartsOver tree e.id (records_read (read_log (form_by e) (bytes s))) (failures s) (core_of n)
           (data_in (lookup (processes.ghosts.eq e.id) new)) here.reaction
-      over = subst (λ (o : Option (Node L)). RestartsOver tree e.id (records_read (read_log (form_by e) (bytes s)))
+      over = subst (λ (o : Option (Process L)). RestartsOver tree e.id (records_read (read_log (form_by e) (bytes s)))
           (failures s) (core_of n) (data_in o) here.reaction) (sym own)
           (restarts_over tree e (bytes s) (forced s) (failures s) (core_of n) (data_of n) here.reaction
           (place_at tree i e t lt is) here.reopens)
 
   -- it restarted, and one after it did not
-  pub not_restarted_from : (items behind : List L) (s : L) (why : ReopenError) → IsTree tree → items ≡ behind ++ s ∷ []
+  pub not_restarted_from : (items behind : List L) (s : L) (why : TreeReopenError) → IsTree tree → items ≡ behind ++ s ∷ []
       → AreNotRestarted bytes failures tree (drop (i + 1) tree) (reverse behind) why
       → AreNotRestarted bytes failures tree (drop i tree) (reverse items) why
   not_restarted_from items behind s why t taken h =
@@ -359,7 +359,7 @@ module _ {L : Type 0} (bytes : L → List ℕ) (forced failures : L → ℕ) (tr
       (not_restarted_later bytes failures tree e (drop (i + 1) tree) s (reverse behind) why
       (λ q listed. not_again tree i e q t lt is listed) h)
 
-  pub given_from : (items behind left all : List L) (s l : L) (n : Node L) (j k : JournalState) (why : ReopenError)
+  pub given_from : (items behind left all : List L) (s l : L) (n : Process L) (j k : JournalState) (why : TreeReopenError)
       → items ≡ behind ++ s ∷ [] → all ≡ left ++ l ∷ []
       → RestartsIn bytes forced failures tree e s (core_of n) (data_of n) j k
       → HoldsLog bytes forced failures (core_of n) l

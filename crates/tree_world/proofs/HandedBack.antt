@@ -1,19 +1,19 @@
 -- The stores that are handed back where a tree does not open.
 use Rattle.std.proofs.Common.{◌≡◌, ◌∙◌, sym, ap, refl, ℕ, inl, inr, Option, Some, None, List, [], ◌∷◌, ◌++◌, reverse}
 use Rattle.std.proofs.lemmas.List.{reverse-append}
-use Rattle.tree_model.specs.declared.names.Kind.{Kind}
-use Rattle.tree_model.specs.declared.names.Kind.TheVariants.{Coordinator, Manager}
-use Rattle.tree_model.specs.declared.names.ProcessId.{ProcessId}
-use Rattle.tree_model.specs.declared.trees.TreeEntry.{TreeEntry}
-use Rattle.tree_model.specs.Nodes.{role_by}
+use Rattle.protocol.specs.declared.names.Kind.{Kind}
+use Rattle.protocol.specs.declared.names.Kind.TheVariants.{Coordinator, Manager}
+use Rattle.protocol.specs.declared.names.ProcessId.{ProcessId}
+use Rattle.protocol.specs.declared.trees.TreeProcess.{TreeProcess}
+use Rattle.protocol.specs.Nodes.{role_by}
 use Rattle.log_text.specs.Forms.{log_form}
-use Rattle.rec_log.specs.Sights.{LogSight, kept_of}
-use Rattle.core_model.specs.States.{CoreState, form_of, kind_of_role}
-use Rattle.tree_node.specs.Nodes.{HoldsLog}
-use Rattle.tree_node.specs.Openings.{HandsBack, OpenedAs}
-use Rattle.tree_node.specs.Reopenings.{kind_by}
-use Rattle.tree_node.specs.declared.opening.OpenError.{OpenError}
-use Rattle.tree_node.specs.declared.opening.OpenError.TheVariants.{Memory}
+use Rattle.log_records.specs.Sights.{LogSight, kept_of}
+use Rattle.process_state.specs.States.{CoreState, form_of, kind_of_role}
+use Rattle.tree_process.specs.Nodes.{HoldsLog}
+use Rattle.tree_process.specs.Openings.{HandsStoreBack, OpenedAs}
+use Rattle.tree_process.specs.Reopenings.{kind_by}
+use Rattle.tree_process.specs.declared.opening.ProcessOpenError.{ProcessOpenError}
+use Rattle.tree_process.specs.declared.opening.ProcessOpenError.TheVariants.{Memory}
 use Rattle.tree_world.specs.Openings.{AreHandedBack, HoldsFirst}
 
 -- the role of an entry's process is of its kind
@@ -24,8 +24,8 @@ kind_of Manager None = refl
 kind_of Manager (Some p) = refl
 
 -- the store of a process that has just opened holds its first record
-pub holds_first : {L : Type 0} (bytes : L → List ℕ) (forced failures : L → ℕ) (tree : List TreeEntry)
-    (e : TreeEntry) (s : CoreState) (store : L) → OpenedAs tree e s → HoldsLog bytes forced failures s store
+pub holds_first : {L : Type 0} (bytes : L → List ℕ) (forced failures : L → ℕ) (tree : List TreeProcess)
+    (e : TreeProcess) (s : CoreState) (store : L) → OpenedAs tree e s → HoldsLog bytes forced failures s store
     → HoldsFirst bytes forced e store
 holds_first bytes forced failures tree e s store opened holds =
     ap (λ k. kept_of k (bytes store) (forced store))
@@ -37,22 +37,22 @@ pub from_end : {L : Type 0} (items : List L) (s : L) → reverse (items ++ s ∷
 from_end items s = reverse-append items (s ∷ [])
 
 -- the store of the process that did not open was put back
-pub handed_back_here : {L : Type 0} (bytes : L → List ℕ) (forced failures : L → ℕ) (e : TreeEntry)
-    (es : List TreeEntry) (items : List L) (s l : L) (why : OpenError) → HandsBack failures s l why
+pub handed_back_here : {L : Type 0} (bytes : L → List ℕ) (forced failures : L → ℕ) (e : TreeProcess)
+    (es : List TreeProcess) (items : List L) (s l : L) (why : ProcessOpenError) → HandsStoreBack failures s l why
     → AreHandedBack bytes forced failures (e ∷ es) (reverse (items ++ s ∷ [])) (reverse (items ++ l ∷ [])) why
 handed_back_here bytes forced failures e es items s l why h =
     rw (from_end items s, from_end items l) (inl (h, refl))
 
 -- the store of one that had opened was put back
-pub handed_back_behind : {L : Type 0} (bytes : L → List ℕ) (forced failures : L → ℕ) (e : TreeEntry)
-    (es : List TreeEntry) (items left : List L) (s l : L) (why : OpenError) → HoldsFirst bytes forced e l
+pub handed_back_behind : {L : Type 0} (bytes : L → List ℕ) (forced failures : L → ℕ) (e : TreeProcess)
+    (es : List TreeProcess) (items left : List L) (s l : L) (why : ProcessOpenError) → HoldsFirst bytes forced e l
     → AreHandedBack bytes forced failures es (reverse items) (reverse left) why
     → AreHandedBack bytes forced failures (e ∷ es) (reverse (items ++ s ∷ [])) (reverse (left ++ l ∷ [])) why
 handed_back_behind bytes forced failures e es items left s l why first h =
     rw (from_end items s, from_end left l) (inr (first, h))
 
 -- all stores are as they were
-pub handed_back_all : {L : Type 0} (bytes : L → List ℕ) (forced failures : L → ℕ) (es : List TreeEntry)
+pub handed_back_all : {L : Type 0} (bytes : L → List ℕ) (forced failures : L → ℕ) (es : List TreeProcess)
     (stores : List L) → AreHandedBack bytes forced failures es stores stores Memory
 handed_back_all bytes forced failures [] stores = refl
 handed_back_all bytes forced failures (e ∷ es) [] = refl

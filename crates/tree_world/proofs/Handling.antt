@@ -1,15 +1,15 @@
 -- What stays of a world's state, and an error that is passed on.
 use Rattle.std.proofs.Common.{◌≡◌, sym, subst, refl, List, Result, Ok, Err, IfErr, IsErrAnd, OnOk}
-use Rattle.tree_model.specs.declared.events.StepError.{StepError}
-use Rattle.tree_model.specs.declared.trees.TreeEntry.{TreeEntry}
+use Rattle.protocol.specs.declared.events.StepError.{StepError}
+use Rattle.protocol.specs.declared.trees.TreeProcess.{TreeProcess}
 use Rattle.tree_world.specs.Nodes.{NodesSight}
-use Rattle.core_law.specs.worlds.Worlds.{Same, WorldState}
-use Rattle.world_journal.specs.Journals.{JournalState, Keeps}
-use Rattle.tree_node.proofs.Same.{rests}
+use Rattle.tree_state.specs.Worlds.{SameTree, WorldState}
+use Rattle.tree_journal.specs.Journals.{JournalState, SameJournal}
+use Rattle.tree_process.proofs.Same.{rests}
 use Rattle.tree_world.proofs.Steps.{same_as_it_is}
 
 -- a state of these parts
-abbrev pub world : List TreeEntry → NodesSight → JournalState → WorldState
+abbrev pub world : List TreeProcess → NodesSight → JournalState → WorldState
 world tree nodes j = record {
   tree = tree;
   node_at = nodes.node_at;
@@ -20,14 +20,14 @@ world tree nodes j = record {
 }
 
 -- a state stays where its journal keeps all
-pub stays : (tree : List TreeEntry) (nodes : NodesSight) (j k : JournalState) → Keeps j k
+pub stays : (tree : List TreeProcess) (nodes : NodesSight) (j k : JournalState) → SameJournal j k
     → world tree nodes k ≡ world tree nodes j
 stays tree nodes j k keeps = rw (keeps.net, keeps.delivered, keeps.entries) refl
 
 -- where a state is as it was, nothing is otherwise
-pub same_as_before : (old new : WorldState) → new ≡ old → Same old new
+pub same_as_before : (old new : WorldState) → new ≡ old → SameTree old new
 same_as_before old new is =
-    subst (λ w. Same old w) (sym is)
+    subst (λ w. SameTree old w) (sym is)
     (record {
       tree = refl;
       nodes = λ q. same_as_it_is (old.node_at q);

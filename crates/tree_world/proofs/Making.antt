@@ -1,15 +1,15 @@
 -- How the faults stand as events are made.
 use Rattle.std.proofs.Common.{◌≡◌, ◌<◌, sym, ap, subst, ℕ, Some, None, List, [], ◌++◌, length, Result, Ok, Err, OnOk, IfErr}
-use Rattle.tree_model.specs.declared.events.Event.{Event}
-use Rattle.tree_model.specs.declared.events.Event.TheVariants.{Deliver, Settle}
-use Rattle.tree_model.specs.declared.events.StepError.{StepError}
-use Rattle.tree_model.specs.declared.events.StepError.TheVariants.{Memory, Device, UnknownTxn, NotAChild, Closed, Failed, NotInDoubt, NothingToForget, NoSuch, Exhausted}
-use Rattle.tree_model.specs.Plays.{sent_as}
-use Rattle.core_law.specs.worlds.Worlds.{Applies, Settles, Stops, WorldState, least_open}
-use Rattle.failed_steps.specs.Fails.{MessageFails}
-use Rattle.fault_journal.specs.Faults.{FaultsSight, last_step, placed_in}
-use Rattle.fault_journal.specs.Traces.{AddsToTrace, AddsUntil, AreInPlace, NotedUntil, trace_by}
-use Rattle.fault_journal.proofs.Adding.{adds_nothing, counted_places, counted_trace, made_adds, made_places, made_until}
+use Rattle.protocol.specs.declared.events.Event.{Event}
+use Rattle.protocol.specs.declared.events.Event.TheVariants.{Deliver, Settle}
+use Rattle.protocol.specs.declared.events.StepError.{StepError}
+use Rattle.protocol.specs.declared.events.StepError.TheVariants.{Memory, Device, UnknownTxn, NotAChild, Closed, Failed, NotInDoubt, NothingToForget, NoSuch, Exhausted}
+use Rattle.protocol.specs.Plays.{sent_as}
+use Rattle.tree_state.specs.Worlds.{Applies, Settles, Stops, WorldState, least_open}
+use Rattle.proof_failures.specs.Fails.{MessageFails}
+use Rattle.tree_faults.specs.Faults.{FaultsSight, last_step, placed_in}
+use Rattle.tree_faults.specs.Traces.{AddsToTrace, AddsUntil, AreInPlace, NotedUntil, trace_by}
+use Rattle.tree_faults.proofs.Adding.{adds_nothing, counted_places, counted_trace, made_adds, made_places, made_until}
 
 -- One event, after the last fault was counted.
 

@@ -1,23 +1,23 @@
 -- A tree that stands for a run after faults stands for one that goes on, however a call on it ends.
 use Rattle.std.proofs.Common.{◌≡◌, refl, sym, subst, ℕ, Bool, true, false, List, [], ◌++◌, Result, Ok, Err, OnOk, IfErr}
-use Rattle.tree_model.specs.declared.events.Event.{Event}
-use Rattle.tree_model.specs.declared.events.StepError.{StepError}
-use Rattle.tree_model.specs.declared.trees.TreeEntry.{TreeEntry}
-use Rattle.tree_model.specs.Trees.{IsTree}
-use Rattle.tree_model.specs.World.{Made, World, opened_world}
-use Rattle.core_law.specs.worlds.Worlds.{Applies, Stops, WorldState}
-use Rattle.core_law.specs.worlds.Runs.{IsOpened, Leads, LeadsUntil}
-use Rattle.core_law.specs.worlds.Ties.{FollowsBehindFaults, entered_of}
-use Rattle.core_law.specs.worlds.Modelled.{IsModelledTree, KeepsHeadline}
-use Rattle.core_law.proofs.worlds.Events.{GoesOnIn, applied_on, leads_on, leads_until_on, stopped_on}
-use Rattle.core_law.proofs.worlds.Journals.{entered_hides, entered_shows, opened_behind_faults}
-use Rattle.core_law.proofs.worlds.Processes.{as_the_model}
-use Rattle.core_law.proofs.worlds.Whole.{keeps_headline as keeps_headline_so}
-use Rattle.reopened_trees.specs.Earlier.{Earlier}
-use Rattle.reopened_trees.specs.Since.{FollowsSince, GoesOnKeeping}
-use Rattle.reopened_trees.proofs.Events.{GoesIn, applied_on as applied_on_since, leads_on as leads_on_since, leads_until_on as leads_until_on_since, stopped_on as stopped_on_since}
-use Rattle.reopened_trees.proofs.Reports.{both_parts}
-use Rattle.reopened_trees.proofs.TreeStays.{applied_stays, led_stays, led_until_stays, stopped_stays}
+use Rattle.protocol.specs.declared.events.Event.{Event}
+use Rattle.protocol.specs.declared.events.StepError.{StepError}
+use Rattle.protocol.specs.declared.trees.TreeProcess.{TreeProcess}
+use Rattle.protocol.specs.Trees.{IsTree}
+use Rattle.protocol.specs.World.{Made, World, opened_world}
+use Rattle.tree_state.specs.Worlds.{Applies, Stops, WorldState}
+use Rattle.tree_state.specs.Runs.{IsOpenedTree, EventsLead, LeadsUntil}
+use Rattle.proof_runs.specs.worlds.Follows.{FollowsBehindFaults, entered_of}
+use Rattle.proof_runs.specs.worlds.Modelled.{IsModelledTree, KeepsHeadline}
+use Rattle.proof_runs.proofs.worlds.Events.{GoesOnIn, applied_on, leads_on, leads_until_on, stopped_on}
+use Rattle.proof_runs.proofs.worlds.Journals.{entered_hides, entered_shows, opened_behind_faults}
+use Rattle.proof_runs.proofs.worlds.Processes.{as_the_model}
+use Rattle.proof_runs.proofs.worlds.Whole.{keeps_headline as keeps_headline_so}
+use Rattle.proof_reopened.specs.Earlier.{Earlier}
+use Rattle.proof_reopened.specs.Since.{FollowsSince, GoesOnKeeping}
+use Rattle.proof_reopened.proofs.Events.{GoesIn, applied_on as applied_on_since, leads_on as leads_on_since, leads_until_on as leads_until_on_since, stopped_on as stopped_on_since}
+use Rattle.proof_reopened.proofs.Reports.{both_parts}
+use Rattle.proof_reopened.proofs.TreeStays.{applied_stays, led_stays, led_until_stays, stopped_stays}
 use Rattle.tree_world.specs.Worlds.{KeepsRun}
 
 -- from every run for which the first state stands, the second stands for one that goes on, of the same tree
@@ -34,7 +34,7 @@ applied_from s t event (Err e) m ok err es w f =
 
 pub ran_from : (s t : WorldState) (events : List Event)
     (made : Result (Unit {0}) (ℕ × StepError)) → IsTree s.tree
-    → OnOk made (Leads s events t) → IfErr made
+    → OnOk made (EventsLead s events t) → IfErr made
     (λ refusal. LeadsUntil s events refusal.0 refusal.1 t) → GoesOnFrom s t
 ran_from s t events (Ok done) m ok err es w f =
     leads_on entered_of entered_shows as_the_model s.tree m s t events es w refl f ok
@@ -43,8 +43,8 @@ ran_from s t events (Err refusal) m ok err es w f =
     (λ failed. entered_hides) refl f err
 
 -- a tree that has opened empty logs stands for the run with no moves
-pub opened_modelled : (tree : List TreeEntry) (s : WorldState) → IsTree tree
-    → IsOpened s tree → IsModelledTree s
+pub opened_modelled : (tree : List TreeProcess) (s : WorldState) → IsTree tree
+    → IsOpenedTree s tree → IsModelledTree s
 opened_modelled tree s is_tree opened = record {
   is_tree = subst IsTree (sym opened.tree_is) is_tree;
   run = record { moves = []; world = opened_world; follows = opened_behind_faults tree s opened };
@@ -86,7 +86,7 @@ applied_tree s t event (Ok done) ok err = applied_stays s t event ok
 applied_tree s t event (Err e) ok err = stopped_stays s t event e err
 
 pub ran_tree : (s t : WorldState) (events : List Event) (made : Result (Unit {0}) (ℕ × StepError))
-    → OnOk made (Leads s events t) → IfErr made (λ refusal. LeadsUntil s events refusal.0 refusal.1 t)
+    → OnOk made (EventsLead s events t) → IfErr made (λ refusal. LeadsUntil s events refusal.0 refusal.1 t)
     → t.tree ≡ s.tree
 ran_tree s t events (Ok done) ok err = led_stays s t events ok
 ran_tree s t events (Err refusal) ok err = led_until_stays s t events refusal.0 refusal.1 err
@@ -112,7 +112,7 @@ applied_since s t event (Err e) is_tree ok err past es w f =
     keeping past es w s t is_tree (stopped_on_since past s.tree is_tree s t event e es w refl f err)
 
 pub ran_since : (s t : WorldState) (events : List Event) (made : Result (Unit {0}) (ℕ × StepError)) → IsTree s.tree
-    → OnOk made (Leads s events t) → IfErr made (λ refusal. LeadsUntil s events refusal.0 refusal.1 t)
+    → OnOk made (EventsLead s events t) → IfErr made (λ refusal. LeadsUntil s events refusal.0 refusal.1 t)
     → KeepsOnFrom s t
 ran_since s t events (Ok done) is_tree ok err past es w f =
     keeping past es w s t is_tree (leads_on_since past s.tree is_tree s t events es w refl f ok)

@@ -1,42 +1,42 @@
 -- A fault as it is noted, and what a count will say of it.
 use Rattle.std.proofs.Common.{◌≡◌, ◌∙◌, ◌+◌, ◌-◌, sym, ap, subst, refl, ℕ, Option, Some, None, option_map, List, [], ◌∷◌, length, Result, Ok, Err, IfErr, IfOk}
-use Rattle.tree_model.specs.declared.names.ProcessId.{ProcessId}
-use Rattle.tree_model.specs.declared.events.Entry.{Entry}
-use Rattle.tree_model.specs.declared.events.Fault.{Fault}
-use Rattle.tree_model.specs.declared.events.Happening.{Happening}
-use Rattle.tree_model.specs.declared.events.Happening.TheVariants.{Input as Handles, Restart as Restarting, Trim as Trimming}
-use Rattle.tree_model.specs.declared.events.Act.{Act}
-use Rattle.tree_model.specs.declared.events.Event.TheVariants.{Act as ActOf, Deliver, Restart, Trim}
-use Rattle.tree_model.specs.declared.events.Input.{Input}
-use Rattle.tree_model.specs.declared.events.Input.TheVariants.{Act as ActInput, Message as MessageInput}
-use Rattle.tree_model.specs.declared.events.Reaction.{Reaction}
-use Rattle.tree_model.specs.declared.events.StepError.{StepError}
-use Rattle.tree_model.specs.declared.events.StepError.TheVariants.{Device}
-use Rattle.tree_model.specs.declared.messages.Envelope.{Envelope}
-use Rattle.tree_model.specs.Plays.{process_of_act, sent_as}
-use Rattle.tree_model.specs.Trees.{root_of}
-use Rattle.tree_model.specs.declared.trees.TreeEntry.{TreeEntry}
-use Rattle.core_model.specs.States.{CoreState}
-use Rattle.core_law.specs.Steps.{records_kept, restart_of}
-use Rattle.core_law.specs.worlds.Worlds.{KeepsBytes, NotActed, NotDelivered, WorldState}
-use Rattle.rec_log.specs.Sights.{left_by}
-use Rattle.failed_steps.specs.Fails.{InputFails, MessageFails, RestartBreaksOff, TrimBreaksOff}
-use Rattle.failed_steps.specs.Faults.{TrimLeaves, fault_entry, trim_fault}
-use Rattle.fault_journal.specs.declared.count.Count.{Count}
-use Rattle.fault_journal.specs.declared.faults.LastFault.{LastFault}
-use Rattle.fault_journal.specs.declared.faults.Cause.{Cause}
-use Rattle.fault_journal.proofs.Trims.{trim_leaves}
+use Rattle.protocol.specs.declared.names.ProcessId.{ProcessId}
+use Rattle.protocol.specs.declared.events.JournalEntry.{JournalEntry}
+use Rattle.protocol.specs.declared.events.Fault.{Fault}
+use Rattle.protocol.specs.declared.events.Happening.{Happening}
+use Rattle.protocol.specs.declared.events.Happening.TheVariants.{Input as Handles, Restart as Restarting, Trim as Trimming}
+use Rattle.protocol.specs.declared.events.Act.{Act}
+use Rattle.protocol.specs.declared.events.Event.TheVariants.{Act as ActOf, Deliver, Restart, Trim}
+use Rattle.protocol.specs.declared.events.Input.{Input}
+use Rattle.protocol.specs.declared.events.Input.TheVariants.{Act as ActInput, Message as MessageInput}
+use Rattle.protocol.specs.declared.events.Reaction.{Reaction}
+use Rattle.protocol.specs.declared.events.StepError.{StepError}
+use Rattle.protocol.specs.declared.events.StepError.TheVariants.{Device}
+use Rattle.protocol.specs.declared.messages.Envelope.{Envelope}
+use Rattle.protocol.specs.Plays.{process_of_act, sent_as}
+use Rattle.protocol.specs.Trees.{root_of}
+use Rattle.protocol.specs.declared.trees.TreeProcess.{TreeProcess}
+use Rattle.process_state.specs.States.{CoreState}
+use Rattle.tree_state.specs.Steps.{records_kept, restart_of}
+use Rattle.tree_state.specs.Worlds.{KeepsBytes, NotActed, NotDelivered, WorldState}
+use Rattle.log_records.specs.Sights.{left_by}
+use Rattle.proof_failures.specs.Fails.{InputFails, MessageFails, RestartBreaksOff, TrimBreaksOff}
+use Rattle.tree_state.specs.Faults.{TrimLeaves, fault_entry, trim_fault}
+use Rattle.tree_faults.specs.declared.count.Count.{Count}
+use Rattle.tree_faults.specs.declared.faults.LastFault.{LastFault}
+use Rattle.tree_faults.specs.declared.faults.FaultCause.{FaultCause}
+use Rattle.tree_faults.proofs.Trims.{trim_leaves}
 use Rattle.log_rules.specs.sound.Written.{AreBytes}
 use Rattle.log_text.proofs.NumberBytes.{bytes_behind}
-use Rattle.fault_journal.specs.Counts.{CountsAt, KeepsAt, count_in, left_since, trim_left}
-use Rattle.fault_journal.specs.Faults.{FaultsSight, fault_by, failed_entries, happening_by, last_step, log_bytes, step_by}
-use Rattle.fault_journal.proofs.Counting.{kept_alike, left_count}
+use Rattle.tree_faults.specs.Counts.{CountsAt, KeepsAt, count_in, left_since, trim_left}
+use Rattle.tree_faults.specs.Faults.{FaultsSight, fault_by, failed_entries, happening_by, last_step, log_bytes, step_by}
+use Rattle.tree_faults.proofs.Counting.{kept_alike, left_count}
 use Rattle.tree_world.specs.LogsLeft.{LogStandsBy}
 use Rattle.tree_world.specs.Nodes.{BreaksUnder, NoStepAt, NodesSight, SpellsLogBy}
 use Rattle.tree_world.specs.Restarts.{RestartBreaksAt, TrimBreaksAt}
-use Rattle.fault_journal.specs.declared.faults.Cause.TheVariants.{Act as ActCause, Message as MessageCause, Restart as RestartCause, Trim as TrimCause}
-use Rattle.fault_journal.specs.Traces.{NotesFault, last_in}
-use Rattle.world_journal.specs.Journals.{JournalState, Keeps}
+use Rattle.tree_faults.specs.declared.faults.FaultCause.TheVariants.{Act as ActCause, Message as MessageCause, Restart as RestartCause, Trim as TrimCause}
+use Rattle.tree_faults.specs.Traces.{NotesFault, last_in}
+use Rattle.tree_journal.specs.Journals.{JournalState, SameJournal}
 use Rattle.tree_world.proofs.Acting.{not_acted, not_delivered, refused_so}
 use Rattle.tree_world.proofs.Handling.{world}
 
@@ -50,12 +50,12 @@ last_told s f x h c last happens stands =
 
 -- of an input
 pub record InputNoted (s t : WorldState) (g : FaultsSight) (q : ProcessId) (i : Input) : Type 0 where
-  pub entry : Entry
+  pub entry : JournalEntry
   pub last : last_in t g ≡ entry ∷ []
   pub fails : InputFails s t q i entry
 
-pub input_noted : (tree : List TreeEntry) (nodes after : NodesSight) (j k : JournalState) (g : FaultsSight)
-    (x : LastFault) (i : Input) → Keeps j k → BreaksUnder nodes after x.process i
+pub input_noted : (tree : List TreeProcess) (nodes after : NodesSight) (j k : JournalState) (g : FaultsSight)
+    (x : LastFault) (i : Input) → SameJournal j k → BreaksUnder nodes after x.process i
     → CountsAt x.before (nodes.node_at x.process) → g.last ≡ Some x
     → happening_by k.net x.cause ≡ Some (Handles i)
     → ((c : CoreState) → fault_by x.cause x.before c ≡ left_since x.before.records x.before (count_in c))
@@ -93,12 +93,12 @@ input_noted tree nodes after j k g x i keeps breaks counts last happens numbers 
 
 -- of a restart
 pub record RestartNoted (s t : WorldState) (g : FaultsSight) (q : ProcessId) (bytes : Option ℕ) : Type 0 where
-  pub entry : Entry
+  pub entry : JournalEntry
   pub last : last_in t g ≡ entry ∷ []
   pub fails : RestartBreaksOff s t q bytes entry
 
-pub restart_noted : (tree : List TreeEntry) (nodes after : NodesSight) (j k : JournalState) (g : FaultsSight)
-    (x : LastFault) (bytes : Option ℕ) (kept : ℕ) → Keeps j k → RestartBreaksAt nodes after x.process bytes
+pub restart_noted : (tree : List TreeProcess) (nodes after : NodesSight) (j k : JournalState) (g : FaultsSight)
+    (x : LastFault) (bytes : Option ℕ) (kept : ℕ) → SameJournal j k → RestartBreaksAt nodes after x.process bytes
     → CountsAt x.before (nodes.node_at x.process) → KeepsAt bytes (nodes.node_at x.process) kept → g.last ≡ Some x
     → happening_by k.net x.cause ≡ Some (Restarting kept)
     → ((c : CoreState) → fault_by x.cause x.before c ≡ left_since (x.before.forced + kept) x.before (count_in c))
@@ -143,12 +143,12 @@ restart_noted tree nodes after j k g x bytes kept keeps breaks counts left last 
 
 -- of a trim
 pub record TrimNoted (s t : WorldState) (g : FaultsSight) (q : ProcessId) : Type 0 where
-  pub entry : Entry
+  pub entry : JournalEntry
   pub last : last_in t g ≡ entry ∷ []
   pub fails : TrimBreaksOff s t q entry
 
-pub trim_noted : (tree : List TreeEntry) (nodes after : NodesSight) (j k : JournalState) (g : FaultsSight)
-    (x : LastFault) (text : List ℕ) → Keeps j k → (breaks : TrimBreaksAt nodes after x.process)
+pub trim_noted : (tree : List TreeProcess) (nodes after : NodesSight) (j k : JournalState) (g : FaultsSight)
+    (x : LastFault) (text : List ℕ) → SameJournal j k → (breaks : TrimBreaksAt nodes after x.process)
     → CountsAt x.before (nodes.node_at x.process) → g.last ≡ Some x → happening_by k.net x.cause ≡ Some Trimming
     → ((c : CoreState) → fault_by x.cause x.before c ≡ trim_fault (trim_left text (log_bytes c) x.before (count_in c)))
     → TrimLeaves breaks.before breaks.behind
@@ -203,25 +203,25 @@ pub where_failed : {T : Type 0} (made : Result T StepError) (P : Type 0) → mad
 where_failed made P is h = with_device made (λ e. e ≡ Device → P) is h refl
 
 -- an act
-pub act_fails : (tree : List TreeEntry) (nodes after : NodesSight) (j k : JournalState) (q p : ProcessId) (a : Act)
-    (made : Result Reaction StepError) → p ≡ q → Keeps j k → made ≡ Err Device
+pub act_fails : (tree : List TreeProcess) (nodes after : NodesSight) (j k : JournalState) (q p : ProcessId) (a : Act)
+    (made : Result Reaction StepError) → p ≡ q → SameJournal j k → made ≡ Err Device
     → IfErr made (NoStepAt nodes after p (ActInput a))
     → NotActed (world tree nodes j) (world tree after k) q a Device
 act_fails tree nodes after j k q p a made at keeps is stops =
     subst (λ (x : ProcessId). NotActed (world tree nodes j) (world tree after k) x a Device) at
     (not_acted tree nodes after j k p a Device keeps (refused_so nodes after p (ActInput a) made Device is stops))
 
-pub delivery_fails : (tree : List TreeEntry) (nodes after : NodesSight) (j k : JournalState) (n : ℕ) (m : Envelope)
-    (made : Result Reaction StepError) → Keeps j k → sent_as k.net n ≡ Some m → made ≡ Err Device
+pub delivery_fails : (tree : List TreeProcess) (nodes after : NodesSight) (j k : JournalState) (n : ℕ) (m : Envelope)
+    (made : Result Reaction StepError) → SameJournal j k → sent_as k.net n ≡ Some m → made ≡ Err Device
     → IfErr made (NoStepAt nodes after m.to (MessageInput n m.message))
     → NotDelivered (world tree nodes j) (world tree after k) n Device
 delivery_fails tree nodes after j k n m made keeps sent is stops =
     not_delivered tree nodes after j k n m Device keeps (ap (λ ls. sent_as ls n) (sym keeps.net) ∙ sent)
     (refused_so nodes after m.to (MessageInput n m.message) made Device is stops)
 
-pub act_noted : (tree : List TreeEntry) (nodes after : NodesSight) (j k : JournalState) (f g : FaultsSight)
+pub act_noted : (tree : List TreeProcess) (nodes after : NodesSight) (j k : JournalState) (f g : FaultsSight)
     (q : ProcessId) (a : Act) (c : Count) (made : Result Reaction StepError) → q ≡ process_of_act (root_of tree) a
-    → Keeps j k → made ≡ Err Device → IfErr made (λ e. e ≡ Device → BreaksUnder nodes after q (ActInput a))
+    → SameJournal j k → made ≡ Err Device → IfErr made (λ e. e ≡ Device → BreaksUnder nodes after q (ActInput a))
     → CountsAt c (nodes.node_at q) → g ≡ record f { last = Some (record { process = q; cause = ActCause a; before = c }) }
     → NotesFault (world tree nodes j) f (ActOf a) (world tree after k) g
 act_noted tree nodes after j k f g q a c made at keeps is under counts noted =
@@ -236,8 +236,8 @@ act_noted tree nodes after j k f g q a c made at keeps is under counts noted =
     }
 
 -- a delivery
-pub delivery_noted : (tree : List TreeEntry) (nodes after : NodesSight) (j k : JournalState) (f g : FaultsSight)
-    (n : ℕ) (m : Envelope) (c : Count) (made : Result Reaction StepError) → Keeps j k → sent_as k.net n ≡ Some m
+pub delivery_noted : (tree : List TreeProcess) (nodes after : NodesSight) (j k : JournalState) (f g : FaultsSight)
+    (n : ℕ) (m : Envelope) (c : Count) (made : Result Reaction StepError) → SameJournal j k → sent_as k.net n ≡ Some m
     → made ≡ Err Device → IfErr made (λ e. e ≡ Device → BreaksUnder nodes after m.to (MessageInput n m.message))
     → CountsAt c (nodes.node_at m.to)
     → g ≡ record f { last = Some (record { process = m.to; cause = MessageCause n; before = c }) }
@@ -257,8 +257,8 @@ delivery_noted tree nodes after j k f g n m c made keeps sent is under counts no
     }
 
 -- a restart
-pub restart_fault : (tree : List TreeEntry) (nodes after : NodesSight) (j k : JournalState) (f g : FaultsSight)
-    (q : ProcessId) (bytes : Option ℕ) (kept : ℕ) (c : Count) → Keeps j k → RestartBreaksAt nodes after q bytes
+pub restart_fault : (tree : List TreeProcess) (nodes after : NodesSight) (j k : JournalState) (f g : FaultsSight)
+    (q : ProcessId) (bytes : Option ℕ) (kept : ℕ) (c : Count) → SameJournal j k → RestartBreaksAt nodes after q bytes
     → CountsAt c (nodes.node_at q) → KeepsAt bytes (nodes.node_at q) kept
     → g ≡ record f { last = Some (record { process = q; cause = RestartCause kept; before = c }) }
     → NotesFault (world tree nodes j) f (Restart q bytes) (world tree after k) g
@@ -274,8 +274,8 @@ restart_fault tree nodes after j k f g q bytes kept c keeps breaks counts left n
     }
 
 -- a trim, where the bytes of the log before it are known
-pub trim_fault_noted : (tree : List TreeEntry) (nodes after : NodesSight) (j k : JournalState) (f g : FaultsSight)
-    (q : ProcessId) (cause : Cause) (text : List ℕ) (c : Count) → Keeps j k → TrimBreaksAt nodes after q
+pub trim_fault_noted : (tree : List TreeProcess) (nodes after : NodesSight) (j k : JournalState) (f g : FaultsSight)
+    (q : ProcessId) (cause : FaultCause) (text : List ℕ) (c : Count) → SameJournal j k → TrimBreaksAt nodes after q
     → CountsAt c (nodes.node_at q) → SpellsLogBy (nodes.node_at q) text → AreBytes text → LogStandsBy (after.node_at q)
     → happening_by k.net cause ≡ Some Trimming
     → ((b : Count) (s : CoreState) → fault_by cause b s ≡ trim_fault (trim_left text (log_bytes s) b (count_in s)))

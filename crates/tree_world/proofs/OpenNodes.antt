@@ -1,30 +1,30 @@
 -- The processes of a tree, opened one after another.
 use Rattle.std.proofs.Common.{◌≡◌, ◌≢◌, ◌∙◌, sym, ap, subst, ℕ, zero, suc, ◌+◌, ◌<◌, Bool, true, false, if◌then◌else◌, ◌||◌, Option, Some, None, is_some, IsSomeAnd, List, [], ◌∷◌, length, get_or, take, drop, refl, ◌⊎◌, inl, inr, arith}
 use Rattle.std.specs.List.{list_any}
-use Rattle.tree_model.specs.declared.names.ProcessId.{ProcessId}
-use Rattle.tree_model.specs.declared.trees.TreeEntry.{TreeEntry}
-use Rattle.tree_model.specs.Names.{same_process}
-use Rattle.tree_model.specs.NameLaws.{same_process_tells}
-use Rattle.tree_model.specs.Nodes.{is_listed, role_by, role_of}
-use Rattle.core_model.specs.States.{CoreState}
-use Rattle.core_law.specs.worlds.Runs.{IsOpened, NodeOpened}
-use Rattle.world_journal.specs.Journals.{JournalState}
-use Rattle.manager_model.specs.Data.{Rests, no_data}
+use Rattle.protocol.specs.declared.names.ProcessId.{ProcessId}
+use Rattle.protocol.specs.declared.trees.TreeProcess.{TreeProcess}
+use Rattle.protocol.specs.Names.{same_process}
+use Rattle.protocol.specs.NameLaws.{same_process_tells}
+use Rattle.protocol.specs.Nodes.{is_listed, role_by, role_of}
+use Rattle.process_state.specs.States.{CoreState}
+use Rattle.tree_state.specs.Runs.{IsOpenedTree, NodeOpened}
+use Rattle.tree_journal.specs.Journals.{JournalState}
+use Rattle.resource_manager.specs.Data.{DataRests, no_data}
 use Rattle.tree_world.specs.Nodes.{NodesSight}
-use Rattle.tree_node.proofs.Same.{rests}
-use Rattle.tree_node.specs.Openings.{OpenedAs}
+use Rattle.tree_process.proofs.Same.{rests}
+use Rattle.tree_process.specs.Openings.{OpenedAs}
 use Rattle.tree_world.specs.Openings.{AreOpened}
 use Rattle.tree_world.proofs.Handling.{world}
 use Rattle.tree_world.proofs.Processes.{itself}
 
 -- the role of a process is that of the entry that lists it first
-pub first_role : (es : List TreeEntry) (i : ℕ) (e : TreeEntry) → i < length es → e ≡ get_or es i e
+pub first_role : (es : List TreeProcess) (i : ℕ) (e : TreeProcess) → i < length es → e ≡ get_or es i e
     → is_listed (take i es) e.id ≡ false
     → role_of es e.id ≡ role_by e.kind e.parent
 unfolding is_listed role_of
 first_role [] i e lt is fresh = absurd (omega (arith, lt))
 first_role (x ∷ es) zero e lt is fresh =
-    ap (λ (y : TreeEntry). role_of (y ∷ es) e.id) (sym is)
+    ap (λ (y : TreeProcess). role_of (y ∷ es) e.id) (sym is)
     ∙ ap (λ b. if b then role_by e.kind e.parent else role_of es e.id) (itself e.id)
 first_role (x ∷ es) (suc i) e lt is fresh =
     by_test (same_process x.id e.id) refl fresh (first_role es i e (omega (arith, lt)) is)
@@ -42,38 +42,38 @@ some_true None P h = absurd h
 some_true (Some l) P h = refl
 
 -- no process is listed, none is open
-pub none : (tree : List TreeEntry) (ns : NodesSight)
+pub none : (tree : List TreeProcess) (ns : NodesSight)
     → ((q : ProcessId) → ns.node_at q ≡ None) → ((q : ProcessId) → ns.data_at q ≡ no_data)
     → AreOpened tree [] ns
 unfolding is_listed
 none tree ns empty bare = record {
   opened = λ q s stands. absurd (no_some (ns.node_at q) s (empty q) stands);
   listed_are = λ q. ap is_some (empty q);
-  holdings = λ q. subst (λ d. Rests no_data d) (sym (bare q)) (rests no_data);
+  holdings = λ q. subst (λ d. DataRests no_data d) (sym (bare q)) (rests no_data);
 }
   where
     no_some : (o : Option CoreState) (s : CoreState) → o ≡ None → o ≡ Some s → ⊥
     no_some o s e f = absurd (cc)
 
 -- the entries from a place on begin with the one that is there, and after it come those from the next place on
-drop_behind : (es : List TreeEntry) (i j : ℕ) (e : TreeEntry) → j ≡ suc i → i < length es → e ≡ get_or es i e
+drop_behind : (es : List TreeProcess) (i j : ℕ) (e : TreeProcess) → j ≡ suc i → i < length es → e ≡ get_or es i e
     → drop i es ≡ e ∷ drop j es
 drop_behind [] i j e next lt is = absurd (omega (arith, lt))
 drop_behind (x ∷ es) zero j e next lt is =
-    subst (λ k. (x ∷ es) ≡ e ∷ drop k (x ∷ es)) (sym next) (ap (λ (y : TreeEntry). y ∷ es) (sym is))
+    subst (λ k. (x ∷ es) ≡ e ∷ drop k (x ∷ es)) (sym next) (ap (λ (y : TreeProcess). y ∷ es) (sym is))
 drop_behind (x ∷ es) (suc i) j e next lt is =
     subst (λ k. drop i es ≡ e ∷ drop k (x ∷ es)) (sym next) (drop_behind es i (suc i) e refl (omega (arith, lt)) is)
 
 -- the entries from a place on begin with the one that is there
-pub drop_at : (es : List TreeEntry) (i : ℕ) (e : TreeEntry) → i < length es → e ≡ get_or es i e
+pub drop_at : (es : List TreeProcess) (i : ℕ) (e : TreeProcess) → i < length es → e ≡ get_or es i e
     → drop i es ≡ e ∷ drop (i + 1) es
 drop_at es i e lt is = drop_behind es i (i + 1) e (omega arith) lt is
 
 -- a process more, in front of those that are open
-pub opens_more : (es : List TreeEntry) (i : ℕ) (e : TreeEntry)
+pub opens_more : (es : List TreeProcess) (i : ℕ) (e : TreeProcess)
     (old new : NodesSight) → i < length es
     → e ≡ get_or es i e → is_listed (take i es) e.id ≡ false → IsSomeAnd (new.node_at e.id) (OpenedAs es e)
-    → Rests no_data (new.data_at e.id)
+    → DataRests no_data (new.data_at e.id)
     → ((q : ProcessId) → same_process e.id q ≡ false → new.node_at q ≡ old.node_at q)
     → ((q : ProcessId) → same_process e.id q ≡ false → new.data_at q ≡ old.data_at q)
     → AreOpened es (drop (i + 1) es) old → AreOpened es (drop i es) new
@@ -97,9 +97,9 @@ opens_more es i e old new lt is fresh own bare others others_data h = rw here_fi
     })
 
     held_by : (q : ProcessId) → ((same_process e.id q ≡ true) × (e.id ≡ q)) ⊎
-        ((same_process e.id q ≡ false) × (e.id ≢ q)) → Rests no_data (new.data_at q)
-    held_by q (inl here) = subst (λ p. Rests no_data (new.data_at p)) here.1 bare
-    held_by q (inr there) = subst (λ d. Rests no_data d) (sym (others_data q there.0)) (h.holdings q)
+        ((same_process e.id q ≡ false) × (e.id ≢ q)) → DataRests no_data (new.data_at q)
+    held_by q (inl here) = subst (λ p. DataRests no_data (new.data_at p)) here.1 bare
+    held_by q (inr there) = subst (λ d. DataRests no_data d) (sym (others_data q there.0)) (h.holdings q)
 
     opened_by : (q : ProcessId) (s : CoreState) → new.node_at q ≡ Some s
         → ((same_process e.id q ≡ true) × (e.id ≡ q)) ⊎
@@ -121,9 +121,9 @@ opens_more es i e old new lt is fresh own bare others others_data h = rw here_fi
         ∙ ap (λ b. b || is_listed (drop (i + 1) es) q) (sym there.0)
 
 -- a tree of which every process is open, and that has done nothing
-pub opened_tree : (tree : List TreeEntry) (ns : NodesSight) (j : JournalState)
+pub opened_tree : (tree : List TreeProcess) (ns : NodesSight) (j : JournalState)
     → AreOpened tree tree ns
-    → j.net ≡ [] → j.delivered ≡ [] → j.entries ≡ [] → IsOpened (world tree ns j) tree
+    → j.net ≡ [] → j.delivered ≡ [] → j.entries ≡ [] → IsOpenedTree (world tree ns j) tree
 opened_tree tree ns j nodes net delivered entries = record {
   tree_is = refl;
   nodes = nodes.opened;

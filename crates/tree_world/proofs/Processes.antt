@@ -1,9 +1,9 @@
 -- The equality of processes.
 use Rattle.std.proofs.Common.{◌≡◌, true, arith, refl}
-use Rattle.tree_model.specs.Names.{same_process}
-use Rattle.tree_model.specs.NameLaws.{same_process_tells}
-use Rattle.tree_model.specs.declared.names.ProcessId.{ProcessId}
-use Rattle.tree_model.specs.contracts.names.ProcessIdPartialEq.TheImpl as processes
+use Rattle.protocol.specs.Names.{same_process}
+use Rattle.protocol.specs.NameLaws.{same_process_tells}
+use Rattle.protocol.specs.declared.names.ProcessId.{ProcessId}
+use Rattle.protocol.specs.contracts.names.ProcessIdPartialEq.TheImpl as processes
 
 -- in code it is that of the definitions
 pub process_equality : (a b : ProcessId) → processes.ghosts.eq a b ≡ same_process a b

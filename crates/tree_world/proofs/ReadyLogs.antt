@@ -1,30 +1,30 @@
 -- What a migration leaves reads as what stood there before.
 use Rattle.std.proofs.Common.{◌≡◌, ◌∙◌, ◌+◌, ℕ, suc, zero, Bool, true, false, if◌then◌else◌, is_some, inl, inr, Option, Some, None, List, [], ◌∷◌, ◌++◌, length, take, drop, refl, sym, ap, subst, nat_lt, append-nil, take-append-drop}
-use Rattle.tree_model.specs.declared.records.LogRecord.{LogRecord}
-use Rattle.tree_model.specs.declared.trees.TreeEntry.{TreeEntry}
-use Rattle.tree_model.specs.Records.{same_bytes}
+use Rattle.protocol.specs.declared.records.LogRecord.{LogRecord}
+use Rattle.protocol.specs.declared.trees.TreeProcess.{TreeProcess}
+use Rattle.protocol.specs.Records.{same_bytes}
 use Rattle.log_text.specs.declared.form.LogForm.{LogForm}
 use Rattle.log_text.specs.Forms.{header, log_form, size_bytes}
 use Rattle.log_text.specs.Frames.{Cut, first_frame}
 use Rattle.log_text.specs.Reading.{read_record}
 use Rattle.log_rules.specs.order.Logs.{LogReading, Whole, Damaged, frame_by, read_as, read_frames, read_log, record_by, seen_by, with_first}
 use Rattle.log_rules.specs.order.Orders.{SeenLog, after, nothing_seen}
-use Rattle.log_grammar.specs.Grammar.{admitted, and_then}
-use Rattle.log_grammar.proofs.Ordered.{ordered_log_is_read}
-use Rattle.logs_script.proofs.Formats.{read_by_first, read_by_second}
-use Rattle.rec_log.specs.Migrating.{IsMigrated, Migrates, NotMigrated, read_by}
-use Rattle.rec_log.specs.Openings.{Settles, is_old}
-use Rattle.rec_log.specs.Texts.{records_in}
-use Rattle.rec_log.specs.declared.migrating.MigrateError.{MigrateError}
-use Rattle.rec_log.specs.declared.migrating.MigrateError.TheVariants as migrations
-use Rattle.rec_log.proofs.Carrying.{behind_header, read_records}
-use Rattle.rec_log.proofs.Turns.{records_stand}
-use Rattle.tree_node.specs.Reopenings.{form_by, kind_by}
+use Rattle.proof_log_grammar.specs.Grammar.{admitted, and_then}
+use Rattle.proof_log_grammar.proofs.Ordered.{ordered_log_is_read}
+use Rattle.log_script.proofs.Formats.{read_by_first, read_by_second}
+use Rattle.log_records.specs.Migrating.{IsMigrated, Migrates, NotMigrated, read_by}
+use Rattle.log_records.specs.Openings.{SettlesText, is_old}
+use Rattle.log_records.specs.Texts.{records_in}
+use Rattle.log_records.specs.declared.migrating.MigrateError.{MigrateError}
+use Rattle.log_records.specs.declared.migrating.MigrateError.TheVariants as migrations
+use Rattle.log_records.proofs.Carrying.{behind_header, read_records}
+use Rattle.log_records.proofs.Turns.{records_stand}
+use Rattle.tree_process.specs.Reopenings.{form_by, kind_by}
 use Rattle.tree_world.specs.OwnNames.{damage_in, fault_of, place_or, stranger_of}
 use Rattle.tree_world.specs.Readied.{IsReadied, IsReady, NotReadied}
 use Rattle.tree_world.specs.Reopenings.{HoldsOn, IsReturned, KeepsLog, error_of_migration, records_read}
-use Rattle.tree_world.specs.declared.reopening.ReopenError.{ReopenError}
-use Rattle.tree_world.specs.declared.reopening.ReopenError.TheVariants.{Memory, Device, Damaged as DamagedError}
+use Rattle.tree_world.specs.declared.reopening.TreeReopenError.{TreeReopenError}
+use Rattle.tree_world.specs.declared.reopening.TreeReopenError.TheVariants.{Memory, Device, Damaged as DamagedError}
 
 -- What is read may follow one another.
 
@@ -96,7 +96,7 @@ log_follows p bytes ls torn e =
 
 -- a text that was settled reads as its records
 settled_reads : (p : LogForm) (old text : List ℕ) (forced failures forced' failures' : ℕ)
-    → Settles p old forced failures text forced' failures' → read_log p text ≡ Whole (records_in p 0 (drop 5 text)) 0
+    → SettlesText p old forced failures text forced' failures' → read_log p text ≡ Whole (records_in p 0 (drop 5 text)) 0
 settled_reads p old text forced failures forced' failures' h =
     ordered_log_is_read p text h.begins h.whole (log_follows p old (records_in p 0 (drop 5 text)) h.torn h.read)
 
@@ -114,24 +114,24 @@ no_second : (a b : Option ℕ) → place_or a b ≡ None → b ≡ None
 no_second None b h = h
 no_second (Some place) b h = absurd (cc)
 
-pub no_damage : (tree : List TreeEntry) (e : TreeEntry) (bytes : List ℕ) → fault_of tree e bytes ≡ None
+pub no_damage : (tree : List TreeProcess) (e : TreeProcess) (bytes : List ℕ) → fault_of tree e bytes ≡ None
     → damage_in (read_as e.id e.kind bytes) ≡ None
 no_damage tree e bytes h = no_second (stranger_of tree e bytes) (damage_in (read_as e.id e.kind bytes)) h
 
 -- by whichever format bytes are read, they are read so as the log of their process
-read_either : (e : TreeEntry) (bytes : List ℕ) (old : Bool) → is_old bytes ≡ old
+read_either : (e : TreeProcess) (bytes : List ℕ) (old : Bool) → is_old bytes ≡ old
     → read_as e.id e.kind bytes ≡ read_log (read_by old (log_form e.id e.kind)) bytes
 read_either e bytes true is = read_by_first bytes e.id e.kind is
 read_either e bytes false is = read_by_second bytes e.id e.kind is
 
 -- what was seen of the bytes that a store lends is so of its bytes
-pub fault_seen : (tree : List TreeEntry) (e : TreeEntry) (bytes lent : List ℕ) (found is : Option ℕ) → lent ≡ bytes
+pub fault_seen : (tree : List TreeProcess) (e : TreeProcess) (bytes lent : List ℕ) (found is : Option ℕ) → lent ≡ bytes
     → found ≡ fault_of tree e lent → found ≡ is → fault_of tree e bytes ≡ is
 fault_seen tree e bytes lent found is same seen so = ap (fault_of tree e) (sym same) ∙ sym seen ∙ so
 
 -- One process's log is made ready.
 
-module _ {L : Type 0} (bytes : L → List ℕ) (forced failures : L → ℕ) (tree : List TreeEntry) (e : TreeEntry)
+module _ {L : Type 0} (bytes : L → List ℕ) (forced failures : L → ℕ) (tree : List TreeProcess) (e : TreeProcess)
     (old new : L) where
   pub readied : kind_by e.kind e.parent ≡ e.kind → fault_of tree e (bytes old) ≡ None
       → Migrates bytes forced failures (log_form e.id e.kind) old new → IsReadied bytes failures tree e old new
@@ -186,7 +186,7 @@ module _ {L : Type 0} (bytes : L → List ℕ) (forced failures : L → ℕ) (tr
   migration_returned migrations.Device h = inl (refl, h.breaks.cause)
   migration_returned (migrations.Damaged place) h = as_it_was h.0
 
-  pub returned_by : (why : ReopenError) → KeepsLog bytes forced failures e old new
+  pub returned_by : (why : TreeReopenError) → KeepsLog bytes forced failures e old new
       → IsReturned bytes forced failures e old new why
   returned_by Memory k = k
   returned_by (Device p) k = inr k

@@ -1,29 +1,29 @@
 -- The processes of a tree that restart over logs, one after another.
 use Rattle.std.proofs.Common.{◌≡◌, ◌∙◌, ◌||◌, ap, sym, subst, refl, ℕ, Bool, true, false, if◌then◌else◌, inl, inr, Some, is_some, List, [], ◌∷◌, ◌++◌, map}
 use Rattle.std.specs.List.{flat_map}
-use Rattle.tree_model.specs.declared.names.ProcessId.{ProcessId}
-use Rattle.tree_model.specs.declared.messages.Envelope.{Envelope}
-use Rattle.tree_model.specs.declared.events.Entry.{Entry}
-use Rattle.tree_model.specs.declared.events.Happening.TheVariants.{Restart}
-use Rattle.tree_model.specs.declared.events.Reaction.{Reaction}
-use Rattle.tree_model.specs.declared.records.LogRecord.{LogRecord}
-use Rattle.tree_model.specs.declared.trees.TreeEntry.{TreeEntry}
-use Rattle.tree_model.specs.Names.{same_process}
-use Rattle.tree_model.specs.NameLaws.{same_process_tells}
-use Rattle.tree_model.specs.Nodes.{Place, is_listed, place_of}
+use Rattle.protocol.specs.declared.names.ProcessId.{ProcessId}
+use Rattle.protocol.specs.declared.messages.Envelope.{Envelope}
+use Rattle.protocol.specs.declared.events.JournalEntry.{JournalEntry}
+use Rattle.protocol.specs.declared.events.Happening.TheVariants.{Restart}
+use Rattle.protocol.specs.declared.events.Reaction.{Reaction}
+use Rattle.protocol.specs.declared.records.LogRecord.{LogRecord}
+use Rattle.protocol.specs.declared.trees.TreeProcess.{TreeProcess}
+use Rattle.protocol.specs.Names.{same_process}
+use Rattle.protocol.specs.NameLaws.{same_process_tells}
+use Rattle.protocol.specs.Nodes.{Place, is_listed, place_of}
 use Rattle.log_rules.specs.order.Logs.{read_log}
-use Rattle.rec_log.specs.Sights.{records_of}
-use Rattle.core_model.specs.States.{CoreState}
-use Rattle.core_law.specs.worlds.Worlds.{RestartsData, step_entry}
-use Rattle.manager_model.specs.Data.{ManagerData}
-use Rattle.reopened_trees.specs.Reopened.{RestartsOver}
-use Rattle.tree_node.specs.Reopenings.{ReopensAs, form_by, place_by}
+use Rattle.log_records.specs.Sights.{records_of}
+use Rattle.process_state.specs.States.{CoreState}
+use Rattle.tree_state.specs.Worlds.{RestartsData, step_entry}
+use Rattle.resource_manager.specs.Data.{ManagerData}
+use Rattle.proof_reopened.specs.Reopened.{RestartsOver}
+use Rattle.tree_process.specs.Reopenings.{ReopensAs, form_by, place_by}
 use Rattle.tree_world.specs.Nodes.{NodesSight}
 use Rattle.tree_world.specs.Reopenings.{AreRestarted, ready_logs, records_read}
 use Rattle.tree_world.proofs.Processes.{itself}
 
 -- a process that goes on over the log in a store restarts over its records
-pub restarts_over : (tree : List TreeEntry) (e : TreeEntry) (bytes : List ℕ) (forced failures : ℕ) (c : CoreState)
+pub restarts_over : (tree : List TreeProcess) (e : TreeProcess) (bytes : List ℕ) (forced failures : ℕ) (c : CoreState)
     (d : ManagerData) (r : Reaction) → place_by tree e ≡ place_of tree e.id
     → ReopensAs tree e bytes forced failures c d r
     → RestartsOver tree e.id (records_read (read_log (form_by e) bytes)) failures c d r
@@ -49,14 +49,14 @@ second_apart true b h = refl
 second_apart false b h = h
 
 -- one process more, in front of the others
-module _ {L : Type 0} (bytes : L → List ℕ) (tree : List TreeEntry) (e : TreeEntry) (es : List TreeEntry) (s : L)
+module _ {L : Type 0} (bytes : L → List ℕ) (tree : List TreeProcess) (e : TreeProcess) (es : List TreeProcess) (s : L)
     (ss : List L) (old new : NodesSight) (c : CoreState) (r : Reaction) (failures : ℕ)
     (here : new.node_at e.id ≡ Some c)
     (over : RestartsOver tree e.id (records_read (read_log (form_by e) (bytes s))) failures c (new.data_at e.id) r)
     (others : (q : ProcessId) → same_process e.id q ≡ false → new.node_at q ≡ old.node_at q)
     (others_data : (q : ProcessId) → same_process e.id q ≡ false → new.data_at q ≡ old.data_at q)
     (apart : (q : ProcessId) → is_listed es q ≡ true → same_process e.id q ≡ false)
-    (sent : List Envelope) (made : List Entry) (h : AreRestarted bytes tree es ss old sent made) where
+    (sent : List Envelope) (made : List JournalEntry) (h : AreRestarted bytes tree es ss old sent made) where
   abbrev opening : ProcessId → Reaction
   opening q = if same_process e.id q then r else h.opening q
 
@@ -100,7 +100,7 @@ module _ {L : Type 0} (bytes : L → List ℕ) (tree : List TreeEntry) (e : Tree
   opening_here = ap (λ (b : Bool). if b then r else h.opening e.id) (itself e.id)
 
   -- the processes after show what they showed
-  same_sent : (xs : List TreeEntry) → ((q : ProcessId) → is_listed xs q ≡ true → same_process e.id q ≡ false)
+  same_sent : (xs : List TreeProcess) → ((q : ProcessId) → is_listed xs q ≡ true → same_process e.id q ≡ false)
       → flat_map (λ x. (h.opening x.id).messages) xs ≡ flat_map (λ x. (opening x.id).messages) xs
   unfolding is_listed
   same_sent [] away = refl
@@ -110,7 +110,7 @@ module _ {L : Type 0} (bytes : L → List ℕ) (tree : List TreeEntry) (e : Tree
       ∙ ap (λ ys. (opening x.id).messages ++ ys)
       (same_sent xs (λ q k. away q (second_apart (same_process x.id q) (is_listed xs q) k)))
 
-  same_made : (xs : List TreeEntry) → ((q : ProcessId) → is_listed xs q ≡ true → same_process e.id q ≡ false)
+  same_made : (xs : List TreeProcess) → ((q : ProcessId) → is_listed xs q ≡ true → same_process e.id q ≡ false)
       → map (λ x. step_entry x.id (Restart 0) (h.opening x.id)) xs
       ≡ map (λ x. step_entry x.id (Restart 0) (opening x.id)) xs
   unfolding is_listed

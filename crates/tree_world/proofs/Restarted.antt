@@ -1,30 +1,30 @@
 -- A restart and a trim of one process, among all, and in the tree.
 use Rattle.std.proofs.Common.{◌≡◌, ◌∙◌, sym, ap, subst, refl, ℕ, false, Option, Some, List, [], ◌∷◌, ◌++◌, Result, Ok, Err, IfOk, IfErr}
-use Rattle.tree_model.specs.declared.names.ProcessId.{ProcessId}
-use Rattle.tree_model.specs.declared.events.Happening.{Happening}
-use Rattle.tree_model.specs.declared.events.Happening.TheVariants.{Restart, Trim as Trimming}
-use Rattle.tree_model.specs.declared.events.Reaction.{Reaction}
-use Rattle.tree_model.specs.declared.events.StepError.{StepError}
-use Rattle.tree_model.specs.declared.events.StepError.TheVariants.{Memory, Device, UnknownTxn, NotAChild, Closed, Failed, NotInDoubt, NothingToForget, NoSuch, Exhausted}
-use Rattle.tree_model.specs.declared.trees.TreeEntry.{TreeEntry}
-use Rattle.tree_model.specs.Names.{same_process}
-use Rattle.core_model.specs.States.{CoreState}
-use Rattle.core_law.specs.Steps.{trim_reaction}
-use Rattle.core_law.specs.worlds.Worlds as worlds
-use Rattle.core_law.specs.worlds.Worlds.{CannotReopenAt, HasFailed, Same, WorldState, step_entry, undelivered}
-use Rattle.tree_node.specs.declared.node.Node.{Node}
-use Rattle.tree_node.specs.Nodes.{core_of, data_of}
-use Rattle.tree_node.specs.Restarts.{NoRestart, NoTrim, RestartsNode, TrimsNode}
+use Rattle.protocol.specs.declared.names.ProcessId.{ProcessId}
+use Rattle.protocol.specs.declared.events.Happening.{Happening}
+use Rattle.protocol.specs.declared.events.Happening.TheVariants.{Restart, Trim as Trimming}
+use Rattle.protocol.specs.declared.events.Reaction.{Reaction}
+use Rattle.protocol.specs.declared.events.StepError.{StepError}
+use Rattle.protocol.specs.declared.events.StepError.TheVariants.{Memory, Device, UnknownTxn, NotAChild, Closed, Failed, NotInDoubt, NothingToForget, NoSuch, Exhausted}
+use Rattle.protocol.specs.declared.trees.TreeProcess.{TreeProcess}
+use Rattle.protocol.specs.Names.{same_process}
+use Rattle.process_state.specs.States.{CoreState}
+use Rattle.tree_state.specs.Steps.{trim_reaction}
+use Rattle.tree_state.specs.Worlds as worlds
+use Rattle.tree_state.specs.Worlds.{CannotReopenAt, HasFailed, SameTree, WorldState, step_entry, undelivered}
+use Rattle.tree_process.specs.declared.node.Process.{Process}
+use Rattle.tree_process.specs.Nodes.{core_of, data_of}
+use Rattle.tree_process.specs.Restarts.{NoRestart, NoTrim, RestartsNode, TrimsNode}
 use Rattle.tree_world.specs.Nodes.{MovesAt, NodesSight, SameNodes, kept_at, node_in}
 use Rattle.tree_world.specs.Restarts.{NoRestartAt, NoTrimAt, RestartsAt, TrimsAt}
-use Rattle.world_journal.specs.Journals.{JournalState, Keeps}
+use Rattle.tree_journal.specs.Journals.{JournalState, SameJournal}
 use Rattle.tree_world.proofs.Handling.{world}
 use Rattle.tree_world.proofs.Steps.{data_stood, moves_at, same_nodes}
 
 -- One process among all.
 
-pub restarted : {L E : Type 0} (es fs : List (ProcessId × Node L)) (q : ProcessId)
-    (bytes : Option ℕ) (before behind : Node L)
+pub restarted : {L E : Type 0} (es fs : List (ProcessId × Process L)) (q : ProcessId)
+    (bytes : Option ℕ) (before behind : Process L)
     (made : Result (ℕ × Reaction) E)
     → node_in es q ≡ Some before → node_in fs q ≡ Some behind
     → ((p : ProcessId) → same_process q p ≡ false → node_in fs p ≡ node_in es p)
@@ -55,8 +55,8 @@ no_restart old new q bytes NoSuch s t moves h = absurd h
 no_restart old new q bytes Exhausted s t moves h =
     (same_nodes old new q s t moves h.0 h.1, subst (λ o. CannotReopenAt o bytes) (sym moves.stood) h.2)
 
-pub not_restarted : {L A : Type 0} (es fs : List (ProcessId × Node L)) (q : ProcessId)
-    (bytes : Option ℕ) (before behind : Node L)
+pub not_restarted : {L A : Type 0} (es fs : List (ProcessId × Process L)) (q : ProcessId)
+    (bytes : Option ℕ) (before behind : Process L)
     (made : Result A StepError)
     → node_in es q ≡ Some before → node_in fs q ≡ Some behind
     → ((p : ProcessId) → same_process q p ≡ false → node_in fs p ≡ node_in es p)
@@ -71,8 +71,8 @@ not_restarted es fs q bytes before behind (Err e) stood stands others h =
     (subst (λ d. NoRestart (core_of before) (core_of behind) (data_of before) d bytes e)
     (sym (data_stood fs q behind stands)) h))
 
-pub trimmed : {L E : Type 0} (es fs : List (ProcessId × Node L)) (q : ProcessId)
-    (before behind : Node L) (made : Result ℕ E)
+pub trimmed : {L E : Type 0} (es fs : List (ProcessId × Process L)) (q : ProcessId)
+    (before behind : Process L) (made : Result ℕ E)
     → node_in es q ≡ Some before → node_in fs q ≡ Some behind
     → ((p : ProcessId) → same_process q p ≡ false → node_in fs p ≡ node_in es p)
     → IfOk made (TrimsNode (core_of before) (core_of behind) (data_of before) (data_of behind))
@@ -102,8 +102,8 @@ no_trim old new q NothingToForget s t moves h = absurd h
 no_trim old new q NoSuch s t moves h = absurd h
 no_trim old new q Exhausted s t moves h = absurd h
 
-pub not_trimmed : {L A : Type 0} (es fs : List (ProcessId × Node L)) (q : ProcessId)
-    (before behind : Node L) (made : Result A StepError)
+pub not_trimmed : {L A : Type 0} (es fs : List (ProcessId × Process L)) (q : ProcessId)
+    (before behind : Process L) (made : Result A StepError)
     → node_in es q ≡ Some before → node_in fs q ≡ Some behind
     → ((p : ProcessId) → same_process q p ≡ false → node_in fs p ≡ node_in es p)
     → IfErr made (NoTrim (core_of before) (core_of behind) (data_of before) (data_of behind))
@@ -187,7 +187,7 @@ pub record Unentered (old new : WorldState) : Type 0 where
   pub delivered : new.delivered ≡ old.delivered
   pub entries : new.entries ≡ old.entries
 
-same_tree : (old new : WorldState) → SameNodes (sight_in old) (sight_in new) → Unentered old new → Same old new
+same_tree : (old new : WorldState) → SameNodes (sight_in old) (sight_in new) → Unentered old new → SameTree old new
 same_tree old new nodes stays =
     record {
       tree = stays.tree;
@@ -260,9 +260,9 @@ no_trim_of_tree old new q Exhausted h stays = absurd h
 -- The whole state, from the processes and the journals around a step.
 
 -- a step's entry after a journal that kept all
-entered : (tree : List TreeEntry) (ns ms : NodesSight)
+entered : (tree : List TreeProcess) (ns ms : NodesSight)
     (j k l : JournalState) (q : ProcessId)
-    (happening : Happening) (reaction : Reaction) → Keeps j k → l.net ≡ k.net ++ reaction.messages
+    (happening : Happening) (reaction : Reaction) → SameJournal j k → l.net ≡ k.net ++ reaction.messages
     → l.delivered ≡ k.delivered ++ undelivered reaction.messages
     → l.entries ≡ k.entries ++ step_entry q happening reaction ∷ []
     → Entered (world tree ns j) (world tree ms l) q happening reaction
@@ -273,7 +273,7 @@ entered tree ns ms j k l q happening reaction keeps net delivered entries = reco
   entries = entries ∙ ap (λ x. x ++ step_entry q happening reaction ∷ []) keeps.entries;
 }
 
-unentered : (tree : List TreeEntry) (ns ms : NodesSight) (j k : JournalState) → Keeps j k
+unentered : (tree : List TreeProcess) (ns ms : NodesSight) (j k : JournalState) → SameJournal j k
     → Unentered (world tree ns j) (world tree ms k)
 unentered tree ns ms j k keeps = record {
   tree = refl;
@@ -282,9 +282,9 @@ unentered tree ns ms j k keeps = record {
   entries = keeps.entries;
 }
 
-pub world_restarts : (tree : List TreeEntry) (ns ms : NodesSight)
+pub world_restarts : (tree : List TreeProcess) (ns ms : NodesSight)
     (j k l : JournalState) (q : ProcessId)
-    (bytes : Option ℕ) (made : ℕ × Reaction) → RestartsAt ns ms q bytes made → Keeps j k
+    (bytes : Option ℕ) (made : ℕ × Reaction) → RestartsAt ns ms q bytes made → SameJournal j k
     → l.net ≡ k.net ++ made.1.messages → l.delivered ≡ k.delivered ++ undelivered made.1.messages
     → l.entries ≡ k.entries ++ step_entry q (Restart made.0) made.1 ∷ []
     → worlds.RestartsAt (world tree ns j) (world tree ms l) q bytes
@@ -292,9 +292,9 @@ world_restarts tree ns ms j k l q bytes made h keeps net delivered entries =
     restarts_tree (world tree ns j) (world tree ms l) q bytes made h
     (entered tree ns ms j k l q (Restart made.0) made.1 keeps net delivered entries)
 
-pub world_trims : (tree : List TreeEntry) (ns ms : NodesSight) (j k l : JournalState)
+pub world_trims : (tree : List TreeProcess) (ns ms : NodesSight) (j k l : JournalState)
     (q : ProcessId) (remain : ℕ)
-    (reaction : Reaction) → TrimsAt ns ms q remain → reaction ≡ trim_reaction remain → Keeps j k
+    (reaction : Reaction) → TrimsAt ns ms q remain → reaction ≡ trim_reaction remain → SameJournal j k
     → l.net ≡ k.net ++ reaction.messages → l.delivered ≡ k.delivered ++ undelivered reaction.messages
     → l.entries ≡ k.entries ++ step_entry q Trimming reaction ∷ []
     → worlds.TrimsAt (world tree ns j) (world tree ms l) q
@@ -303,16 +303,16 @@ world_trims tree ns ms j k l q remain reaction h is keeps net delivered entries 
     (subst (Entered (world tree ns j) (world tree ms l) q Trimming) is
     (entered tree ns ms j k l q Trimming reaction keeps net delivered entries))
 
-pub world_not_restarted : (tree : List TreeEntry) (ns ms : NodesSight)
+pub world_not_restarted : (tree : List TreeProcess) (ns ms : NodesSight)
     (j k : JournalState) (q : ProcessId)
-    (bytes : Option ℕ) (e : StepError) → NoRestartAt ns ms q bytes e → Keeps j k
+    (bytes : Option ℕ) (e : StepError) → NoRestartAt ns ms q bytes e → SameJournal j k
     → worlds.NotRestartedAt (world tree ns j) (world tree ms k) q bytes e
 world_not_restarted tree ns ms j k q bytes e h keeps =
     no_restart_of_tree (world tree ns j) (world tree ms k) q bytes e h (unentered tree ns ms j k keeps)
 
-pub world_not_trimmed : (tree : List TreeEntry) (ns ms : NodesSight)
+pub world_not_trimmed : (tree : List TreeProcess) (ns ms : NodesSight)
     (j k : JournalState) (q : ProcessId)
-    (e : StepError) → NoTrimAt ns ms q e → Keeps j k
+    (e : StepError) → NoTrimAt ns ms q e → SameJournal j k
     → worlds.NotTrimmedAt (world tree ns j) (world tree ms k) q e
 world_not_trimmed tree ns ms j k q e h keeps =
     no_trim_of_tree (world tree ns j) (world tree ms k) q e h (unentered tree ns ms j k keeps)

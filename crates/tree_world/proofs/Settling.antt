@@ -1,10 +1,10 @@
 -- How far a settle has come.
 use Rattle.std.proofs.Common.{◌≡◌, ◌∙◌, sym, ap, subst, refl, ℕ, zero, suc, ◌+◌, ◌<◌, ◌≤◌, Option, Some, None, arith}
-use Rattle.tree_model.specs.declared.events.Event.{Event}
-use Rattle.tree_model.specs.declared.events.Event.TheVariants.{Act as ActOf, Deliver, Settle, Restart, Trim}
-use Rattle.tree_model.specs.declared.events.StepError.{StepError}
-use Rattle.tree_model.specs.declared.events.StepError.TheVariants.{Memory}
-use Rattle.core_law.specs.worlds.Worlds.{Delivers, NoneDelivered, Same, Settles, SettleStops, Stops, WorldState, least_open, settles_by}
+use Rattle.protocol.specs.declared.events.Event.{Event}
+use Rattle.protocol.specs.declared.events.Event.TheVariants.{Act as ActOf, Deliver, Settle, Restart, Trim}
+use Rattle.protocol.specs.declared.events.StepError.{StepError}
+use Rattle.protocol.specs.declared.events.StepError.TheVariants.{Memory}
+use Rattle.tree_state.specs.Worlds.{Delivers, NoneDelivered, SameTree, Settles, SettleStops, Stops, WorldState, least_open, settles_by}
 use Rattle.tree_world.proofs.Handling.{same_as_before}
 
 -- one delivery more, after N
@@ -77,7 +77,7 @@ stops_here limit i first before now new k e within same made is stops =
     }
 
 -- memory ran out as the next message was looked for
-none_by : (old new : WorldState) (o : Option ℕ) → Same old new → NoneDelivered old new Memory o
+none_by : (old new : WorldState) (o : Option ℕ) → SameTree old new → NoneDelivered old new Memory o
 none_by old new None same = (refl, same)
 none_by old new (Some k) same = same
 

@@ -5,21 +5,21 @@ use Rattle.std.proofs.lemmas.List.Folds.{list_any_at}
 use Rattle.std.proofs.lemmas.List.{take-append-drop}
 use Rattle.std.proofs.lemmas.Bool.Decides.{nat_tests}
 use Rattle.std.proofs.lemmas.List.Sums.{count_by_more_yes, sum_by-append, sum_by-take-le}
-use Rattle.tree_model.specs.declared.names.ProcessId.{ProcessId}
-use Rattle.tree_model.specs.declared.trees.TreeEntry.{TreeEntry}
-use Rattle.tree_model.specs.Names.{same_process}
-use Rattle.tree_model.specs.NameLaws.{same_process_tells}
-use Rattle.tree_model.specs.Nodes.{is_listed}
-use Rattle.tree_model.specs.Trees.{IsTree, lists_twice, times_listed}
-use Rattle.tree_node.specs.declared.opening.OpenError.{OpenError}
-use Rattle.tree_node.specs.declared.opening.OpenError.TheVariants.{Memory, Store}
-use Rattle.tree_node.specs.Openings.{ProcessNotOpened}
-use Rattle.tree_world.specs.Openings.{NotOpened, store_of}
+use Rattle.protocol.specs.declared.names.ProcessId.{ProcessId}
+use Rattle.protocol.specs.declared.trees.TreeProcess.{TreeProcess}
+use Rattle.protocol.specs.Names.{same_process}
+use Rattle.protocol.specs.NameLaws.{same_process_tells}
+use Rattle.protocol.specs.Nodes.{is_listed}
+use Rattle.protocol.specs.Trees.{IsTree, lists_twice, times_listed}
+use Rattle.tree_process.specs.declared.opening.ProcessOpenError.{ProcessOpenError}
+use Rattle.tree_process.specs.declared.opening.ProcessOpenError.TheVariants.{Memory, Store}
+use Rattle.tree_process.specs.Openings.{ProcessNotOpened}
+use Rattle.tree_world.specs.Openings.{TreeNotOpened, store_of}
 use Rattle.tree_world.proofs.Processes.{itself}
 
 -- Each process once.
 
-none_counted : (p : TreeEntry → Bool) (es : List TreeEntry) → count_by p es ≡ 0 → list_any p es ≡ false
+none_counted : (p : TreeProcess → Bool) (es : List TreeProcess) → count_by p es ≡ 0 → list_any p es ≡ false
 none_counted p [] z = refl
 none_counted p (x ∷ es) z =
     by_test (p x) (sym (sum_by-append (λ y. cond (p y) 1 0) (x ∷ []) es) ∙ z) (none_counted p es)
@@ -45,32 +45,32 @@ few true h = h refl
 few false h = refl
 
 -- a process of a tree is not listed before its place
-pub new_at : (tree : List TreeEntry) (i : ℕ) (e : TreeEntry) → IsTree tree → i < length tree
+pub new_at : (tree : List TreeProcess) (i : ℕ) (e : TreeProcess) → IsTree tree → i < length tree
     → e ≡ get_or tree i e → is_listed (take i tree) e.id ≡ false
 unfolding is_listed lists_twice times_listed
 new_at tree i e t lt is =
-    let test = λ (y : TreeEntry). same_process y.id e.id in
+    let test = λ (y : TreeProcess). same_process y.id e.id in
     let once : nat_lt 1 (count_by test tree) ≡ false = few (nat_lt 1 (count_by test tree))
     (λ twice. sym (list_any_at (λ x. nat_lt 1 (times_listed tree x.id)) tree i e lt
-    (ap (λ (x : TreeEntry). nat_lt 1 (times_listed tree x.id)) (sym is) ∙ twice)) ∙ t.listed_once) in
+    (ap (λ (x : TreeProcess). nat_lt 1 (times_listed tree x.id)) (sym is) ∙ twice)) ∙ t.listed_once) in
     none_counted test (take i tree)
     (none_before (count_by test (take i tree)) (count_by test (take (i + 1) tree)) (count_by test tree) once
     (count_by_more_yes test tree i e lt (ap test (sym is) ∙ itself e.id))
     (sum_by-take-le (λ y. cond (test y) 1 0) tree (i + 1)))
 
 -- a process that is listed after a place of a tree is not the one that is listed there
-pub not_again : (tree : List TreeEntry) (i : ℕ) (e : TreeEntry) (q : ProcessId) → IsTree tree → i < length tree
+pub not_again : (tree : List TreeProcess) (i : ℕ) (e : TreeProcess) (q : ProcessId) → IsTree tree → i < length tree
     → e ≡ get_or tree i e → is_listed (drop (i + 1) tree) q ≡ true → same_process e.id q ≡ false
 unfolding is_listed lists_twice times_listed
 not_again tree i e q t lt is listed = by_case (same_process_tells e.id q)
   where
-    test : TreeEntry → Bool
+    test : TreeProcess → Bool
     test y = same_process y.id e.id
 
     once : nat_lt 1 (count_by test tree) ≡ false
     once = few (nat_lt 1 (count_by test tree))
         (λ twice. sym (list_any_at (λ x. nat_lt 1 (times_listed tree x.id)) tree i e lt
-        (ap (λ (x : TreeEntry). nat_lt 1 (times_listed tree x.id)) (sym is) ∙ twice)) ∙ t.listed_once)
+        (ap (λ (x : TreeProcess). nat_lt 1 (times_listed tree x.id)) (sym is) ∙ twice)) ∙ t.listed_once)
 
     here : count_by test (take (i + 1) tree) ≡ count_by test (take i tree) + 1
     here = count_by_more_yes test tree i e lt (ap test (sym is) ∙ itself e.id)
@@ -88,39 +88,39 @@ not_again tree i e q t lt is listed = by_case (same_process_tells e.id q)
         → same_process e.id q ≡ false
     by_case (inl same) =
         let there : list_any test (drop (i + 1) tree) ≡ true
-        = ap (λ p. list_any (λ (y : TreeEntry). same_process y.id p) (drop (i + 1) tree)) same.1 ∙ listed in
+        = ap (λ p. list_any (λ (y : TreeProcess). same_process y.id p) (drop (i + 1) tree)) same.1 ∙ listed in
         absurd (not_both (list_any test (drop (i + 1) tree)) none there)
     by_case (inr other) = other.0
 
 -- Why a tree did not open from a place on.
 
 -- there is no store for the process at the place
-pub no_store : {L : Type 0} (bytes : L → List ℕ) (failures : L → ℕ) (e : TreeEntry) (es : List TreeEntry)
-    → NotOpened bytes failures (e ∷ es) [] (Store e.id)
+pub no_store : {L : Type 0} (bytes : L → List ℕ) (failures : L → ℕ) (e : TreeProcess) (es : List TreeProcess)
+    → TreeNotOpened bytes failures (e ∷ es) [] (Store e.id)
 unfolding is_listed
 no_store bytes failures e es = record {
   process = e.id;
-  listed = ap (λ b. b || list_any (λ (y : TreeEntry). same_process y.id e.id) es) (itself e.id);
+  listed = ap (λ b. b || list_any (λ (y : TreeProcess). same_process y.id e.id) es) (itself e.id);
   why = (refl, tt);
 }
 
 -- the process at the place did not open over its store
-pub refused_here : {L : Type 0} (bytes : L → List ℕ) (failures : L → ℕ) (e : TreeEntry) (es : List TreeEntry)
-    (s : L) (ss : List L) (why : OpenError) → ProcessNotOpened bytes failures e.id (Some s) why
-    → NotOpened bytes failures (e ∷ es) (s ∷ ss) why
+pub refused_here : {L : Type 0} (bytes : L → List ℕ) (failures : L → ℕ) (e : TreeProcess) (es : List TreeProcess)
+    (s : L) (ss : List L) (why : ProcessOpenError) → ProcessNotOpened bytes failures e.id (Some s) why
+    → TreeNotOpened bytes failures (e ∷ es) (s ∷ ss) why
 unfolding is_listed
 refused_here bytes failures e es s ss why h = record {
   process = e.id;
-  listed = ap (λ b. b || list_any (λ (y : TreeEntry). same_process y.id e.id) es) (itself e.id);
+  listed = ap (λ b. b || list_any (λ (y : TreeProcess). same_process y.id e.id) es) (itself e.id);
   why = subst (λ o. ProcessNotOpened bytes failures e.id o why)
       (ap (λ b. if b then Some s else store_of es ss e.id) (sym (itself e.id))) h;
 }
 
 -- a process after it did not open
-pub refused_behind : {L : Type 0} (bytes : L → List ℕ) (failures : L → ℕ) (e : TreeEntry) (es : List TreeEntry)
-    (s : L) (ss : List L) (why : OpenError)
+pub refused_behind : {L : Type 0} (bytes : L → List ℕ) (failures : L → ℕ) (e : TreeProcess) (es : List TreeProcess)
+    (s : L) (ss : List L) (why : ProcessOpenError)
     → ((q : ProcessId) → is_listed es q ≡ true → same_process e.id q ≡ false)
-    → NotOpened bytes failures es ss why → NotOpened bytes failures (e ∷ es) (s ∷ ss) why
+    → TreeNotOpened bytes failures es ss why → TreeNotOpened bytes failures (e ∷ es) (s ∷ ss) why
 unfolding is_listed
 refused_behind bytes failures e es s ss why apart h = record {
   process = h.process;
@@ -134,12 +134,12 @@ refused_behind bytes failures e es s ss why apart h = record {
     or_true false c h = h
 
 -- before any process opened, want of memory is why the tree did not
-pub none_open : {L : Type 0} (bytes : L → List ℕ) (failures : L → ℕ) (tree : List TreeEntry) (stores : List L)
-    → IsTree tree → NotOpened bytes failures tree stores Memory
+pub none_open : {L : Type 0} (bytes : L → List ℕ) (failures : L → ℕ) (tree : List TreeProcess) (stores : List L)
+    → IsTree tree → TreeNotOpened bytes failures tree stores Memory
 unfolding is_listed
 none_open bytes failures [] stores t = absurd (let no = t.not_empty in cc)
 none_open bytes failures (e ∷ es) stores t = record {
   process = e.id;
-  listed = ap (λ b. b || list_any (λ (y : TreeEntry). same_process y.id e.id) es) (itself e.id);
+  listed = ap (λ b. b || list_any (λ (y : TreeProcess). same_process y.id e.id) es) (itself e.id);
   why = tt;
 }

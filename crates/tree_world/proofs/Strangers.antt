@@ -1,12 +1,12 @@
 -- The records of a log, one by one, up to the first that may not be in it.
 use Rattle.std.proofs.Common.{◌≡◌, ◌∙◌, ℕ, Bool, true, false, Option, Some, None, List, [], ◌∷◌, drop, sym, ap}
-use Rattle.tree_model.specs.declared.records.LogRecord.{LogRecord}
-use Rattle.tree_model.specs.declared.trees.TreeEntry.{TreeEntry}
-use Rattle.tree_model.specs.Records.{boot_after}
+use Rattle.protocol.specs.declared.records.LogRecord.{LogRecord}
+use Rattle.protocol.specs.declared.trees.TreeProcess.{TreeProcess}
+use Rattle.protocol.specs.Records.{boot_after}
 use Rattle.log_text.specs.declared.form.LogForm.{LogForm}
 use Rattle.log_text.specs.Forms.{form_in}
 use Rattle.log_rules.specs.order.Logs.{read_as, read_log}
-use Rattle.logs_script.specs.Places.{Placed, placed, placed_in}
+use Rattle.log_script.specs.Places.{Placed, placed, placed_in}
 use Rattle.tree_world.specs.OwnNames.{damage_in, fault_of, first_stranger, is_at_home, place_or, sound_to, stranger_of, stranger_or}
 
 -- after the last record there is none
@@ -35,7 +35,7 @@ stranger_there home boot xs more place l all e away h =
     ∙ ap (λ b. stranger_or b place (first_stranger home (boot_after boot l.entry) more)) away) ∙ h
 
 -- What is looked for in the bytes before the damage, by the form that the bytes name, is the first stranger.
-module _ (tree : List TreeEntry) (e : TreeEntry) (bytes frames sound : List ℕ) (form : LogForm) (damage found : Option ℕ)
+module _ (tree : List TreeProcess) (e : TreeProcess) (bytes frames sound : List ℕ) (form : LogForm) (damage found : Option ℕ)
     (by : form ≡ form_in bytes e.id e.kind) (damaged : damage ≡ damage_in (read_log form bytes))
     (before : sound ≡ sound_to damage bytes) (behind : frames ≡ drop 5 sound)
     (first : found ≡ first_stranger (is_at_home tree e) 0 (placed_in form 5 0 frames)) where

@@ -1,28 +1,28 @@
 -- The processes of a tree, as the definitions see them.
 use Rattle.std.specs.Prelude.{◌≡◌, ℕ, false, Option, Some, None, List, [], option_map}
 use Rattle.std.specs.Map.{lookup}
-use Rattle.tree_model.specs.declared.names.ProcessId.{ProcessId}
-use Rattle.tree_model.specs.contracts.names.ProcessIdPartialEq.TheImpl as processes
-use Rattle.tree_model.specs.declared.records.LogRecord.{LogRecord}
-use Rattle.tree_model.specs.declared.events.Input.{Input}
-use Rattle.tree_model.specs.declared.events.Reaction.{Reaction}
-use Rattle.tree_model.specs.declared.events.StepError.{StepError}
-use Rattle.tree_model.specs.declared.events.StepError.TheVariants.{Memory, Device, Exhausted}
-use Rattle.tree_model.specs.Names.{same_process}
-use Rattle.tree_model.specs.Nodes.{DataAnswer}
-use Rattle.rec_log.specs.Sights.{records_of}
-use Rattle.core_model.specs.States.{CoreState}
-use Rattle.core_model.specs.Makes.{IsBroken}
-use Rattle.manager_model.specs.Data.{ManagerData, Rests, no_data}
-use Rattle.core_law.specs.worlds.Worlds.{AnswersData, HandlesInput, RefusesAt, SameNode, WantsNumbersAt}
-use Rattle.tree_node.specs.declared.node.Node.{Node}
-use Rattle.tree_node.specs.Nodes.{FailsUnder, SpellsLog, core_of, data_of}
+use Rattle.protocol.specs.declared.names.ProcessId.{ProcessId}
+use Rattle.protocol.specs.contracts.names.ProcessIdPartialEq.TheImpl as processes
+use Rattle.protocol.specs.declared.records.LogRecord.{LogRecord}
+use Rattle.protocol.specs.declared.events.Input.{Input}
+use Rattle.protocol.specs.declared.events.Reaction.{Reaction}
+use Rattle.protocol.specs.declared.events.StepError.{StepError}
+use Rattle.protocol.specs.declared.events.StepError.TheVariants.{Memory, Device, Exhausted}
+use Rattle.protocol.specs.Names.{same_process}
+use Rattle.protocol.specs.Nodes.{DataAnswer}
+use Rattle.log_records.specs.Sights.{records_of}
+use Rattle.process_state.specs.States.{CoreState}
+use Rattle.process_state.specs.Makes.{IsBroken}
+use Rattle.resource_manager.specs.Data.{ManagerData, DataRests, no_data}
+use Rattle.tree_state.specs.Worlds.{AnswersData, HandlesInput, RefusesAt, SameNode, WantsNumbersAt}
+use Rattle.tree_process.specs.declared.node.Process.{Process}
+use Rattle.tree_process.specs.Nodes.{FailsUnder, SpellsLog, core_of, data_of}
 
 -- the process with this name
-abbrev pub node_in : {L : Type 0} → List (ProcessId × Node L) → ProcessId → Option (Node L)
+abbrev pub node_in : {L : Type 0} → List (ProcessId × Process L) → ProcessId → Option (Process L)
 node_in ns q = lookup (processes.ghosts.eq q) ns
 
-abbrev pub data_in : {L : Type 0} → Option (Node L) → ManagerData
+abbrev pub data_in : {L : Type 0} → Option (Process L) → ManagerData
 data_in None = no_data
 data_in (Some n) = data_of n
 
@@ -32,11 +32,11 @@ pub record NodesSight : Type 0 where
   pub data_at : ProcessId → ManagerData
 
 -- what each process keeps
-abbrev pub nodes_at : {L : Type 0} → List (ProcessId × Node L) → ProcessId → Option CoreState
+abbrev pub nodes_at : {L : Type 0} → List (ProcessId × Process L) → ProcessId → Option CoreState
 nodes_at ns q = option_map core_of (node_in ns q)
 
 -- the same, and their data
-abbrev pub kept_at : {L : Type 0} → List (ProcessId × Node L) → NodesSight
+abbrev pub kept_at : {L : Type 0} → List (ProcessId × Process L) → NodesSight
 kept_at ns = record { node_at = nodes_at ns; data_at = λ q. data_in (node_in ns q) }
 
 -- the records of a process's log; none, if there is no such process
@@ -84,7 +84,7 @@ pub record BreaksUnder (old new : NodesSight) (q : ProcessId) (input : Input) : 
 -- nothing is otherwise at any process
 pub record SameNodes (old new : NodesSight) : Type 0 where
   pub nodes : (q : ProcessId) → SameNode (old.node_at q) (new.node_at q)
-  pub holdings : (q : ProcessId) → Rests (old.data_at q) (new.data_at q)
+  pub holdings : (q : ProcessId) → DataRests (old.data_at q) (new.data_at q)
 
 -- why a process did not handle an input, and what that leaves of all
 abbrev pub NoStepAt : NodesSight → NodesSight → ProcessId → Input → StepError → Type 0

@@ -1,12 +1,12 @@
 -- Restarts and trims of one process among all.
 use Rattle.std.specs.Prelude.{◌≡◌, ℕ, Option, None}
-use Rattle.tree_model.specs.declared.names.ProcessId.{ProcessId}
-use Rattle.tree_model.specs.declared.events.Reaction.{Reaction}
-use Rattle.tree_model.specs.declared.events.StepError.{StepError}
-use Rattle.tree_model.specs.declared.events.StepError.TheVariants.{Memory, Device, Failed, NoSuch, Exhausted}
-use Rattle.core_model.specs.States.{CoreState}
-use Rattle.core_law.specs.worlds.Worlds.{CannotReopenAt, HasFailed}
-use Rattle.tree_node.specs.Restarts.{RestartBreaks, RestartsNode, TrimBreaksOff, TrimsNode}
+use Rattle.protocol.specs.declared.names.ProcessId.{ProcessId}
+use Rattle.protocol.specs.declared.events.Reaction.{Reaction}
+use Rattle.protocol.specs.declared.events.StepError.{StepError}
+use Rattle.protocol.specs.declared.events.StepError.TheVariants.{Memory, Device, Failed, NoSuch, Exhausted}
+use Rattle.process_state.specs.States.{CoreState}
+use Rattle.tree_state.specs.Worlds.{CannotReopenAt, HasFailed}
+use Rattle.tree_process.specs.Restarts.{ProcessRestartBreaks, RestartsNode, ProcessTrimBreaksOff, TrimsNode}
 use Rattle.tree_world.specs.Nodes.{MovesAt, NodesSight, SameNodes}
 
 -- of all processes one restarts
@@ -23,7 +23,7 @@ pub record RestartBreaksAt (old new : NodesSight) (q : ProcessId)
   pub before : CoreState
   pub behind : CoreState
   pub moves : MovesAt old new q before behind
-  pub breaks : RestartBreaks before behind bytes
+  pub breaks : ProcessRestartBreaks before behind bytes
 
 -- why a process did not restart, and what that leaves of all
 abbrev pub NoRestartAt : NodesSight → NodesSight → ProcessId → Option ℕ → StepError → Type 0
@@ -45,7 +45,7 @@ pub record TrimBreaksAt (old new : NodesSight) (q : ProcessId) : Type 0 where
   pub before : CoreState
   pub behind : CoreState
   pub moves : MovesAt old new q before behind
-  pub breaks : TrimBreaksOff before behind
+  pub breaks : ProcessTrimBreaksOff before behind
 
 -- why a process was not trimmed, and what that leaves of all
 abbrev pub NoTrimAt : NodesSight → NodesSight → ProcessId → StepError → Type 0

@@ -1,24 +1,24 @@
 -- What the code of a world keeps, as the definitions see it.
 use Rattle.std.specs.Prelude.{Bool, true, false, List, map}
-use Rattle.tree_model.specs.declared.names.ProcessId.{ProcessId}
-use Rattle.tree_model.specs.declared.events.Entry.{Entry}
-use Rattle.tree_model.specs.declared.records.LogRecord.{LogRecord}
-use Rattle.tree_model.specs.declared.trees.TreeEntry.{TreeEntry}
-use Rattle.tree_model.specs.Trees.{IsTree}
-use Rattle.core_law.specs.worlds.Worlds.{WorldState}
-use Rattle.core_law.specs.worlds.Modelled.{IsModelledTree}
-use Rattle.world_journal.specs.Journals.{JournalState}
-use Rattle.fault_journal.specs.Faults.{FaultsSight}
-use Rattle.tree_node.specs.declared.node.Node.{Node}
+use Rattle.protocol.specs.declared.names.ProcessId.{ProcessId}
+use Rattle.protocol.specs.declared.events.JournalEntry.{JournalEntry}
+use Rattle.protocol.specs.declared.records.LogRecord.{LogRecord}
+use Rattle.protocol.specs.declared.trees.TreeProcess.{TreeProcess}
+use Rattle.protocol.specs.Trees.{IsTree}
+use Rattle.tree_state.specs.Worlds.{WorldState}
+use Rattle.proof_runs.specs.worlds.Modelled.{IsModelledTree}
+use Rattle.tree_journal.specs.Journals.{JournalState}
+use Rattle.tree_faults.specs.Faults.{FaultsSight}
+use Rattle.tree_process.specs.declared.node.Process.{Process}
 use Rattle.tree_world.specs.declared.running_tree.RunningTree.{RunningTree}
 use Rattle.tree_world.specs.Nodes.{kept_at, log_by}
-use Rattle.fault_journal.specs.Traces.{AreInPlace, KeepsTrace, trace_by}
+use Rattle.tree_faults.specs.Traces.{AreInPlace, KeepsTrace, trace_by}
 
 -- what a contract sees of a tree that runs: the tree, its processes by name, the journal of their steps, the steps in
 -- which a device failed, and whether it was opened over the logs that an earlier run left
 pub record WorldValue (L : Type 0) : Type 0 where
-  pub tree : List TreeEntry
-  pub nodes : List (ProcessId × Node L)
+  pub tree : List TreeProcess
+  pub nodes : List (ProcessId × Process L)
   pub journal : JournalState
   pub faults : FaultsSight
   pub reopened : Bool
@@ -50,7 +50,7 @@ abbrev pub running_state : {L : Type 0} → RunningTree L → WorldState
 running_state w = state (value_by w false)
 
 -- every step, with those in which a device failed
-abbrev pub trace : {L : Type 0} → WorldValue L → List Entry
+abbrev pub trace : {L : Type 0} → WorldValue L → List JournalEntry
 trace w = trace_by (state w) w.faults
 
 -- what is kept of the state of a tree: where it was opened over empty logs it stands for a run; where it was opened
@@ -66,5 +66,5 @@ pub record KeepsWorld (reopened : Bool) (s : WorldState) (f : FaultsSight) : Typ
   pub places : AreInPlace s f
 
 -- the records of these processes
-abbrev pub logs_at : WorldState → List TreeEntry → List (List LogRecord)
+abbrev pub logs_at : WorldState → List TreeProcess → List (List LogRecord)
 logs_at w tree = map (λ e. log_by (w.node_at e.id)) tree

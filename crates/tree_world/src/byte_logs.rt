@@ -6,10 +6,10 @@ ghost use Rattle.tree_world.specs.LogsLeft.{AreByteLogs, AreLogs, LogsStand};
 ghost use Rattle.tree_world.specs.Worlds.{state};
 
 use crate::world::World;
+use log_script::ProcessLog;
 use log_store::LogStore;
-use logs_script::ProcessLog;
+use protocol::Sequence;
 use std::alloc::{AllocError, Global};
-use tree_model::Sequence;
 
 /// What the type says of bytes: each is below 256. It does nothing.
 pub(crate) fn are_bytes(bytes: &[u8])

@@ -1,39 +1,39 @@
 //! A process of a tree, and how many records are in its log.
 
 ghost use Rattle.std.specs.Prelude.{◌≡◌, ◌≢◌, ◌+◌, ◌++◌, All, IfErr, IfOk, IfSome, None, OnErr, OnOk, Some, length};
-ghost use Rattle.tree_model.specs.declared.events.StepError.TheVariants.{Device};
+ghost use Rattle.protocol.specs.declared.events.StepError.TheVariants.{Device};
 ghost use Rattle.log_text.specs.Payloads.{FitsFrame, records_text};
-ghost use Rattle.core_model.specs.Inputs.{input_of};
-ghost use Rattle.core_model.specs.States.{form_of};
-ghost use Rattle.core_law.specs.worlds.Worlds.{HandlesInput, KeepsBytes};
-ghost use Rattle.fault_journal.specs.Counts.{KeepsCount, after_written, all_forced, count_in};
-ghost use Rattle.fault_journal.specs.Faults.{fault_by, log_bytes};
-ghost use Rattle.tree_node.specs.Nodes.{FailsUnder, NotHandled, core_of, data_of};
-ghost use Rattle.tree_node.specs.Restarts.{NoRestart, NoTrim, RestartsNode, TrimsNode};
+ghost use Rattle.process_state.specs.Inputs.{input_of};
+ghost use Rattle.process_state.specs.States.{form_of};
+ghost use Rattle.tree_state.specs.Worlds.{HandlesInput, KeepsBytes};
+ghost use Rattle.tree_faults.specs.Counts.{KeepsCount, after_written, all_forced, count_in};
+ghost use Rattle.tree_faults.specs.Faults.{fault_by, log_bytes};
+ghost use Rattle.tree_process.specs.Nodes.{FailsUnder, NotHandled, core_of, data_of};
+ghost use Rattle.tree_process.specs.Restarts.{NoRestart, NoTrim, RestartsNode, TrimsNode};
 
-use core_model::InputRef;
-use fault_journal::{Cause, Count};
 use log_store::LogStore;
 use log_text::{Frame, LogForm, LogFormat};
+use process_state::InputRef;
+use protocol::{Fault, Kind, LogRecord, Reaction, StepError};
 use std::alloc::{AllocError, Global};
 use std::marker::Model;
-use tree_model::{Fault, Kind, LogRecord, Reaction, StepError};
-use tree_node::Node;
+use tree_faults::{Count, FaultCause};
+use tree_process::Process;
 
 /// A process, and the count of its log, where that is known. A step leaves the count that its reaction says, so that no
 /// log is read for it. A count is not known before the first step of a process, and after its device failed: then its log
 /// is read.
 #[derive(Drop)]
 pub(crate) struct CountedNode<L: LogStore> {
-    node: Node<L>,
+    node: Process<L>,
     count: Option<Count>,
 }
 
 impl<L: LogStore> Model for CountedNode<L> {
     ghost use Rattle.std.specs.Prelude.{◌≡◌, IfSome};
-    ghost use Rattle.fault_journal.specs.Counts.{count_in};
-    ghost use Rattle.tree_node.specs.Nodes.{core_of};
-    ghost use Rattle.tree_node.specs.declared.node.Node.{Node as AnyNode};
+    ghost use Rattle.tree_faults.specs.Counts.{count_in};
+    ghost use Rattle.tree_process.specs.Nodes.{core_of};
+    ghost use Rattle.tree_process.specs.declared.node.Process.{Process as AnyNode};
 
     ghost Value = { AnyNode L };
 
@@ -43,11 +43,11 @@ impl<L: LogStore> Model for CountedNode<L> {
 }
 
 /// The count of a process's log, by its records.
-fn count_of<L: LogStore>(node: &Node<L>) -> Result<Count, AllocError>
+fn count_of<L: LogStore>(node: &Process<L>) -> Result<Count, AllocError>
     ensures { IfOk result (λ count. count ≡ count_in (core_of node.now)) }
 {
     let records = node.records()?.len();
-    let unforced = node.left_behind(node.log_size())?;
+    let unforced = node.unforced_left(node.log_size())?;
     Ok(Count {
         records: records as u64,
         forced: records.saturating_sub(unforced) as u64,
@@ -55,7 +55,7 @@ fn count_of<L: LogStore>(node: &Node<L>) -> Result<Count, AllocError>
 }
 
 /// How many bytes after its forced front a process keeps in a restart that names these.
-fn keep_of<L: LogStore>(node: &Node<L>, bytes: Option<u64>) -> usize
+fn keep_of<L: LogStore>(node: &Process<L>, bytes: Option<u64>) -> usize
     ensures { KeepsBytes (core_of node.now) bytes result }
 {
     match bytes {
@@ -65,20 +65,20 @@ fn keep_of<L: LogStore>(node: &Node<L>, bytes: Option<u64>) -> usize
 }
 
 /// How many of its unforced records it keeps then.
-pub(crate) fn kept_by<L: LogStore>(node: &Node<L>, bytes: Option<u64>) -> Result<u64, AllocError>
+pub(crate) fn kept_by<L: LogStore>(node: &Process<L>, bytes: Option<u64>) -> Result<u64, AllocError>
     ensures { IfOk result (KeepsCount (core_of node.now) bytes) }
 {
     let keep = keep_of(node, bytes);
-    Ok(node.left_behind(keep)? as u64)
+    Ok(node.unforced_left(keep)? as u64)
 }
 
 /// The form of a process's log.
-fn form_by<L: LogStore>(node: &Node<L>) -> LogForm
+fn form_by<L: LogStore>(node: &Process<L>) -> LogForm
     ensures { result ≡ form_of (core_of node.now).place }
 {
     match node {
-        Node::Coordinator(coordinator) => LogForm::of(coordinator.me(), Kind::Coordinator),
-        Node::Manager(manager) => LogForm::of(manager.me(), Kind::Manager),
+        Process::Coordinator(coordinator) => LogForm::of(coordinator.me(), Kind::Coordinator),
+        Process::Manager(manager) => LogForm::of(manager.me(), Kind::Manager),
     }
 }
 
@@ -102,7 +102,7 @@ fn push_records(
 }
 
 /// The bytes of a log of just the records that a process has.
-fn whole_bytes<L: LogStore>(alloc: Global, node: &Node<L>) -> Result<Vec<u8>, AllocError>
+fn whole_bytes<L: LogStore>(alloc: Global, node: &Process<L>) -> Result<Vec<u8>, AllocError>
     ensures { IfOk result (λ bytes. bytes.items ≡ log_bytes (core_of node.now)) }
 {
     node.records_are_sound();
@@ -116,17 +116,17 @@ fn whole_bytes<L: LogStore>(alloc: Global, node: &Node<L>) -> Result<Vec<u8>, Al
 /// The fault of a step with this cause, by the count before it.
 pub(crate) fn fault_of<L: LogStore>(
     alloc: Global,
-    node: &Node<L>,
-    cause: &Cause,
+    node: &Process<L>,
+    cause: &FaultCause,
     before: Count,
 ) -> Result<Fault, AllocError>
     ensures { IfOk result (λ fault. fault ≡ fault_by cause.now before (core_of node.now)) }
 {
     let now = count_of(node)?;
     Ok(match cause {
-        Cause::Act(_) | Cause::Message(_) => before.left_by_input(now),
-        Cause::Restart(kept) => before.left_by_restart(*kept, now),
-        Cause::Trim(text) => before.left_by_trim(text, &whole_bytes(alloc, node)?, now),
+        FaultCause::Act(_) | FaultCause::Message(_) => before.left_by_input(now),
+        FaultCause::Restart(kept) => before.left_by_restart(*kept, now),
+        FaultCause::Trim(text) => before.left_by_trim(text, &whole_bytes(alloc, node)?, now),
     })
 }
 
@@ -167,14 +167,14 @@ fn count_after_trim(made: &Result<u64, StepError>) -> Option<Count>
 
 impl<L: LogStore> CountedNode<L> {
     /// A process, the count of whose log is not known.
-    pub(crate) fn new(node: Node<L>) -> CountedNode<L>
+    pub(crate) fn new(node: Process<L>) -> CountedNode<L>
         ensures { result ≡ node }
     {
         CountedNode { node, count: None }
     }
 
     /// The process.
-    pub(crate) fn node(&self) -> &Node<L>
+    pub(crate) fn node(&self) -> &Process<L>
         ensures { result.now ≡ self.now }
     {
         &self.node

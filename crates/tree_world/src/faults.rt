@@ -1,17 +1,17 @@
 //! The steps in which a device failed, in the trace of a tree that runs.
 
 ghost use Rattle.std.specs.Prelude.{◌≡◌, IfOk, None, OnErr, OnOk, ◌++◌, length, slice_get};
-ghost use Rattle.tree_model.specs.Plays.{sent_as};
-ghost use Rattle.fault_journal.specs.Faults.{happening_by, last_step, placed_in};
+ghost use Rattle.protocol.specs.Plays.{sent_as};
+ghost use Rattle.tree_faults.specs.Faults.{happening_by, last_step, placed_in};
 ghost use Rattle.tree_world.specs.Nodes.{kept_at};
-ghost use Rattle.fault_journal.specs.Traces.{AreInPlace, trace_by};
+ghost use Rattle.tree_faults.specs.Traces.{AreInPlace, trace_by};
 ghost use Rattle.tree_world.specs.Worlds.{running_state};
 
 use crate::running_tree::RunningTree;
-use fault_journal::{Cause, failed_entry};
 use log_store::LogStore;
+use protocol::{Envelope, Happening, Input, JournalEntry, Step};
 use std::alloc::{AllocError, Global};
-use tree_model::{Entry, Envelope, Happening, Input, Step};
+use tree_faults::{FaultCause, failed_entry};
 
 /// What happened as the message with this number was delivered, of these; None if there is none.
 fn delivery_of(
@@ -19,7 +19,7 @@ fn delivery_of(
     sent: &[Envelope],
     number: u64,
 ) -> Result<Option<Happening>, AllocError>
-    ensures { IfOk result (λ found. found ≡ happening_by sent.now (Cause.Message number)) }
+    ensures { IfOk result (λ found. found ≡ happening_by sent.now (FaultCause.Message number)) }
 {
     if number == 0 {
         return Ok(None);
@@ -35,17 +35,17 @@ fn delivery_of(
 
 impl<L: LogStore> RunningTree<L> {
     /// What was to happen in a step with this cause, made again.
-    fn happening_of(&self, cause: &Cause) -> Result<Option<Happening>, AllocError>
+    fn happening_of(&self, cause: &FaultCause) -> Result<Option<Happening>, AllocError>
         ensures { IfOk result (λ found. found ≡ happening_by self.now.journal.net cause.now) }
     {
         Ok(match cause {
-            Cause::Act(act) => Some(Happening::Input(Input::Act(act.copied(self.alloc)?))),
-            Cause::Message(number) => {
+            FaultCause::Act(act) => Some(Happening::Input(Input::Act(act.copied(self.alloc)?))),
+            FaultCause::Message(number) => {
                 let sent = self.journal.sent()?;
                 delivery_of(self.alloc, &sent, *number)?
             }
-            Cause::Restart(kept) => Some(Happening::Restart(*kept)),
-            Cause::Trim(_) => Some(Happening::Trim),
+            FaultCause::Restart(kept) => Some(Happening::Restart(*kept)),
+            FaultCause::Trim(_) => Some(Happening::Trim),
         })
     }
 
@@ -84,7 +84,7 @@ impl<L: LogStore> RunningTree<L> {
     }
 
     /// Every step, with those in which a device failed, as a list made again.
-    pub(crate) fn trace(&self) -> Result<Vec<Entry>, AllocError>
+    pub(crate) fn trace(&self) -> Result<Vec<JournalEntry>, AllocError>
         requires { AreInPlace (running_state self.now) self.now.faults }
         ensures { IfOk result (λ trace. trace.items ≡ trace_by (running_state self.now) self.now.faults) }
     {

@@ -15,6 +15,6 @@ mod unforced;
 mod world;
 
 pub use byte_logs::logs_left;
-pub use reopening::ReopenError;
-pub use tree_node::{Node, OpenError, copied_tree};
+pub use reopening::TreeReopenError;
+pub use tree_process::{Process, ProcessOpenError, copied_tree};
 pub use world::World;

@@ -1,23 +1,23 @@
 //! The processes of a tree.
 
 ghost use Rattle.std.specs.Prelude.{◌≡◌, IfErr, IfOk, IfSome, option_map};
-ghost use Rattle.core_model.specs.Inputs.{input_of};
-ghost use Rattle.fault_journal.specs.Counts.{CountsAt, KeepsAt};
-ghost use Rattle.fault_journal.specs.Faults.{fault_by};
-ghost use Rattle.live_table.specs.Known.{Knows};
-ghost use Rattle.tree_model.specs.declared.events.StepError.TheVariants.{Device};
-ghost use Rattle.tree_node.specs.Nodes.{live_at, standing_at};
+ghost use Rattle.process_state.specs.Inputs.{input_of};
+ghost use Rattle.tree_faults.specs.Counts.{CountsAt, KeepsAt};
+ghost use Rattle.tree_faults.specs.Faults.{fault_by};
+ghost use Rattle.case_table.specs.Known.{KnowsCases};
+ghost use Rattle.protocol.specs.declared.events.StepError.TheVariants.{Device};
+ghost use Rattle.tree_process.specs.Nodes.{live_at, standing_at};
 ghost use Rattle.tree_world.specs.LogsLeft.{LogStandsBy};
 ghost use Rattle.tree_world.specs.Nodes.{BreaksUnder, NoStepAt, SpellsLogBy, StepsAt, kept_at, log_by, node_in, nodes_at};
 ghost use Rattle.tree_world.specs.Restarts.{NoRestartAt, NoTrimAt, RestartsAt, TrimsAt};
 
 use crate::counted::{CountedNode, fault_of, kept_by};
-use core_model::InputRef;
-use fault_journal::{Count, LastFault};
 use indexmap::IndexMap;
 use log_store::LogStore;
+use process_state::InputRef;
+use protocol::{Fault, LogRecord, ProcessId, Reaction, StepError};
 use std::alloc::{AllocError, Global};
-use tree_model::{Fault, LogRecord, ProcessId, Reaction, StepError};
+use tree_faults::{Count, LastFault};
 
 /// The processes of a tree, each by its name.
 #[derive(Drop)]
@@ -115,7 +115,7 @@ impl<L: LogStore> Nodes<L> {
     /// How many cases are live at a process, if there is one.
     pub(crate) fn live(&self, process: ProcessId) -> Option<usize>
         ensures known { IfSome (node_in self.now.nodes.entries process)
-            (λ node. IfSome result (Knows (standing_at node))) }
+            (λ node. IfSome result (KnowsCases (standing_at node))) }
         ensures entries { result ≡ option_map live_at (node_in self.now.nodes.entries process) }
     {
         match self.nodes.get(&process) {

@@ -4,31 +4,31 @@ ghost use Rattle.std.specs.Prelude.{◌≡◌, ◌+◌, ◌<◌, ◌≤◌, ◌+
 ghost use Rattle.std.specs.Vec.{vec_capacity, vec_len};
 ghost use Rattle.indexmap.specs.IndexMap.{spare};
 ghost use Rattle.std.specs.Map.{lookup};
-ghost use Rattle.tree_model.specs.contracts.names.ProcessIdPartialEq.TheImpl as processes;
-ghost use Rattle.tree_model.specs.declared.names.ProcessId.{ProcessId as AnyProcess};
-ghost use Rattle.tree_model.specs.Names.{same_process};
-ghost use Rattle.tree_model.specs.Trees.{IsTree};
-ghost use Rattle.core_law.specs.worlds.Runs.{IsOpened};
-ghost use Rattle.core_law.specs.worlds.Modelled.{KeepsHeadline};
+ghost use Rattle.protocol.specs.contracts.names.ProcessIdPartialEq.TheImpl as processes;
+ghost use Rattle.protocol.specs.declared.names.ProcessId.{ProcessId as AnyProcess};
+ghost use Rattle.protocol.specs.Names.{same_process};
+ghost use Rattle.protocol.specs.Trees.{IsTree};
+ghost use Rattle.tree_state.specs.Runs.{IsOpenedTree};
+ghost use Rattle.proof_runs.specs.worlds.Modelled.{KeepsHeadline};
 ghost use Rattle.log_store.specs.Memory.{memory_bytes};
-ghost use Rattle.manager_model.specs.Data.{Rests, no_data};
-ghost use Rattle.tree_node.specs.Nodes.{core_of, data_of};
-ghost use Rattle.tree_node.specs.Openings.{HandsBack, OpenedAs, ProcessNotOpened};
+ghost use Rattle.resource_manager.specs.Data.{DataRests, no_data};
+ghost use Rattle.tree_process.specs.Nodes.{core_of, data_of};
+ghost use Rattle.tree_process.specs.Openings.{HandsStoreBack, OpenedAs, ProcessNotOpened};
 ghost use Rattle.tree_world.specs.Nodes.{kept_at};
-ghost use Rattle.tree_world.specs.Openings.{AreHandedBack, AreOpened, NotOpened};
+ghost use Rattle.tree_world.specs.Openings.{AreHandedBack, AreOpened, TreeNotOpened};
 ghost use Rattle.tree_world.specs.Worlds.{state, trace};
 
 use crate::counted::CountedNode;
 use crate::nodes::Nodes;
 use crate::running_tree::RunningTree;
 use crate::world::World;
-use fault_journal::Faults;
 use indexmap::IndexMap;
 use log_store::{LogStore, MemoryStore};
+use protocol::{ProcessId, Tree, TreeProcess};
 use std::alloc::{AllocError, Global};
-use tree_model::{ProcessId, Tree, TreeEntry};
-use tree_node::{Node, OpenError, copied_tree, open_node};
-use world_journal::Journal;
+use tree_faults::Faults;
+use tree_journal::Journal;
+use tree_process::{Process, ProcessOpenError, copied_tree, open_node};
 
 /// A value more, by its process's name, where there is room.
 pub(crate) fn put_by_name<V: Drop>(values: &mut IndexMap<ProcessId, V>, name: ProcessId, value: V)
@@ -54,21 +54,21 @@ pub(crate) fn put_back<L>(stores: &mut Vec<L>, store: L)
 /// Opens the process of an entry over this store. With a refusal the store is handed back.
 fn opened<L: LogStore + Drop>(
     alloc: Global,
-    tree: &[TreeEntry],
-    entry: &TreeEntry,
+    tree: &[TreeProcess],
+    entry: &TreeProcess,
     store: L,
-) -> Result<Node<L>, (OpenError, L)>
+) -> Result<Process<L>, (ProcessOpenError, L)>
     ensures ok { IfOk result (λ node. OpenedAs tree.now entry.now (core_of node)) }
-    ensures holdings { IfOk result (λ node. Rests no_data (data_of node)) }
+    ensures holdings { IfOk result (λ node. DataRests no_data (data_of node)) }
     ensures err { IfErr result (λ e. ProcessNotOpened L.bytes L.failures entry.now.id (Some store) e.0) }
-    ensures handed_back { IfErr result (λ e. HandsBack L.failures store e.1 e.0) }
+    ensures handed_back { IfErr result (λ e. HandsStoreBack L.failures store e.1 e.0) }
 {
     if !store.bytes().is_empty() {
-        return Err((OpenError::Store(entry.id), store));
+        return Err((ProcessOpenError::Store(entry.id), store));
     }
     match copied_tree(alloc, tree) {
         Ok(copy) => open_node(alloc, entry, copy, store),
-        Err(_) => Err((OpenError::Memory, store)),
+        Err(_) => Err((ProcessOpenError::Memory, store)),
     }
 }
 
@@ -76,18 +76,18 @@ fn opened<L: LogStore + Drop>(
 /// a refusal all stores are in the list again, and none is open.
 fn open_from<L: LogStore + Drop>(
     alloc: Global,
-    tree: &[TreeEntry],
+    tree: &[TreeProcess],
     place: usize,
     stores: &mut Vec<L>,
     nodes: &mut IndexMap<ProcessId, CountedNode<L>>,
-) -> Result<(), OpenError>
+) -> Result<(), ProcessOpenError>
     requires tree { IsTree tree.now }
     requires place { place ≤ length tree.now }
     requires empty { nodes.old.entries ≡ [] }
     requires room { length tree.now ≤ spare nodes.old }
     ensures ok { OnOk result (AreOpened tree.now (drop place tree.now) (kept_at nodes.new.entries)) }
     ensures spare { OnOk result (place ≤ spare nodes.new) }
-    ensures err { IfErr result (NotOpened L.bytes L.failures (drop place tree.now) (reverse stores.old.items)) }
+    ensures err { IfErr result (TreeNotOpened L.bytes L.failures (drop place tree.now) (reverse stores.old.items)) }
     ensures handed_back { IfErr result (AreHandedBack L.bytes L.forced L.failures (drop place tree.now)
         (reverse stores.old.items) (reverse stores.new.items)) }
     ensures len { OnErr result (vec_len stores.new ≡ vec_len stores.old) }
@@ -97,7 +97,7 @@ fn open_from<L: LogStore + Drop>(
         return Ok(());
     };
     let Some(store) = stores.pop() else {
-        return Err(OpenError::Store(entry.id));
+        return Err(ProcessOpenError::Store(entry.id));
     };
     let node = match opened(alloc, tree, entry, store) {
         Ok(node) => node,
@@ -143,20 +143,20 @@ impl<L: LogStore + Drop> World<L> {
         alloc: Global,
         tree: Tree,
         stores: Vec<L>,
-    ) -> Result<World<L>, (OpenError, Vec<L>)>
+    ) -> Result<World<L>, (ProcessOpenError, Vec<L>)>
         requires { IsTree tree }
-        ensures opened { IfOk result (λ world. IsOpened (state world) tree) }
+        ensures opened { IfOk result (λ world. IsOpenedTree (state world) tree) }
         ensures trace { IfOk result (λ world. trace world ≡ []) }
         ensures headline { IfOk result (λ world. KeepsHeadline (state world)) }
         ensures flag { IfOk result (λ world. world.reopened ≡ false) }
-        ensures err { IfErr result (λ e. NotOpened L.bytes L.failures tree stores.items e.0) }
+        ensures err { IfErr result (λ e. TreeNotOpened L.bytes L.failures tree stores.items e.0) }
         ensures handed_back { IfErr result (λ e. AreHandedBack L.bytes L.forced L.failures tree
             stores.items e.1.items e.0) }
     {
         let mut stores = stores;
         let mut nodes = match IndexMap::with_capacity(alloc, tree.entries().len()) {
             Ok(nodes) => nodes,
-            Err(_) => return Err((OpenError::Memory, stores)),
+            Err(_) => return Err((ProcessOpenError::Memory, stores)),
         };
         stores.reverse();
         if let Err(error) = open_from(alloc, tree.entries(), 0, &mut stores, &mut nodes) {
@@ -181,13 +181,13 @@ impl<L: LogStore + Drop> World<L> {
 
 impl World<MemoryStore> {
     /// The same over stores in memory. Memory is the only refusal that comes.
-    pub fn new(alloc: Global, tree: Tree) -> Result<World<MemoryStore>, OpenError>
+    pub fn new(alloc: Global, tree: Tree) -> Result<World<MemoryStore>, ProcessOpenError>
         requires { IsTree tree }
-        ensures opened { IfOk result (λ world. IsOpened (state world) tree) }
+        ensures opened { IfOk result (λ world. IsOpenedTree (state world) tree) }
         ensures trace { IfOk result (λ world. trace world ≡ []) }
         ensures headline { IfOk result (λ world. KeepsHeadline (state world)) }
         ensures flag { IfOk result (λ world. world.reopened ≡ false) }
-        ensures err { IfErr result (λ e. e ≡ OpenError.Memory) }
+        ensures err { IfErr result (λ e. e ≡ ProcessOpenError.Memory) }
     {
         let stores = memory_stores(alloc, tree.entries().len())?;
         match World::with_stores(alloc, tree, stores) {

@@ -2,10 +2,10 @@
 
 ghost use Rattle.std.specs.Prelude.{◌≡◌, IfNone, IfOk, IfSome, drop, false, true};
 ghost use Rattle.std.specs.List.{list_all};
-ghost use Rattle.inquire_core.specs.Numbered.{is_reached as is_reached_in};
+ghost use Rattle.coord_records.specs.Numbered.{is_reached as is_reached_in};
 ghost use Rattle.log_rules.specs.order.Logs.{read_log};
-ghost use Rattle.logs_script.specs.Places.{placed_in};
-ghost use Rattle.tree_model.specs.Records.{boot_after, record_case};
+ghost use Rattle.log_script.specs.Places.{placed_in};
+ghost use Rattle.protocol.specs.Records.{boot_after, record_case};
 ghost use Rattle.tree_world.specs.OwnNames.{
   climbs_to as climbs_in,
   damage_in as damage_read,
@@ -22,17 +22,17 @@ ghost use Rattle.tree_world.specs.OwnNames.{
   reports_those_below as reports_all_below,
 };
 
-use inquire_core::is_own;
+use coord_records::is_own;
+use log_records::{LogOpenError, find};
 use log_text::{HEADER_SIZE, LogForm, ReadFault, first_frame, read_record};
-use rec_log::{OpenError, find};
+use protocol::{Case, Kind, LogRecord, ProcessId, Record, Reports, Ticket, Tree, TreeProcess};
 use std::alloc::{AllocError, Global};
-use tree_model::{Case, Kind, LogRecord, ProcessId, Record, Reports, Ticket, Tree, TreeEntry};
 
 /// Boots and counts in the logs of a tree that is opened again are below this.
 const TOP: u64 = 1 << 62;
 
 /// Whether a climb to the parents from a process, of N steps at most, meets the first one.
-#[tactic(auto, unfolding(tree_model::specs::Names::same_process))]
+#[tactic(auto, unfolding(protocol::specs::Names::same_process))]
 fn climbs_to(tree: &Tree, top: ProcessId, process: ProcessId, steps: usize) -> bool
     ensures { result ≡ climbs_in steps tree.now top process }
 {
@@ -58,7 +58,7 @@ fn lies_below(tree: &Tree, top: ProcessId, process: ProcessId) -> bool
 }
 
 /// Whether a ticket is of a child of this process.
-#[tactic(auto, unfolding(tree_model::specs::Names::same_process))]
+#[tactic(auto, unfolding(protocol::specs::Names::same_process))]
 fn is_of_child(tree: &Tree, me: ProcessId, ticket: &Ticket) -> bool
     ensures { result ≡ is_childs tree.now me ticket.now }
 {
@@ -100,7 +100,7 @@ fn reports_those_below(tree: &Tree, me: ProcessId, reports: &Reports) -> bool
 }
 
 /// Whether the case of a record, if it has one, is of this process.
-fn has_own_case(tree: &Tree, entry: &TreeEntry, record: &LogRecord) -> bool
+fn has_own_case(tree: &Tree, entry: &TreeProcess, record: &LogRecord) -> bool
     ensures { result ≡ is_own_case tree.now entry.now record.now.parent (record_case record.now.entry) }
 {
     match record.entry.case() {
@@ -158,7 +158,7 @@ fn is_reached_by(kind: Kind, boot: u64, record: &Record) -> bool
 }
 
 /// Whether a record may be in the log of this process, if the log has reached this boot.
-fn is_at_home(tree: &Tree, entry: &TreeEntry, boot: u64, record: &LogRecord) -> bool
+fn is_at_home(tree: &Tree, entry: &TreeProcess, boot: u64, record: &LogRecord) -> bool
     ensures { result ≡ stands_at_home tree.now entry.now boot record.now }
 {
     has_own_case(tree, entry, record)
@@ -167,7 +167,7 @@ fn is_at_home(tree: &Tree, entry: &TreeEntry, boot: u64, record: &LogRecord) -> 
 }
 
 /// The boot that a log has reached after what was read, if that record may be there.
-fn passed(tree: &Tree, entry: &TreeEntry, boot: u64, read: LogRecord) -> Option<u64>
+fn passed(tree: &Tree, entry: &TreeProcess, boot: u64, read: LogRecord) -> Option<u64>
     ensures some { IfSome result (λ next. (stands_at_home tree.now entry.now boot read ≡ true)
         × (next ≡ boot_after boot read.entry)) }
     ensures none { IfNone result (stands_at_home tree.now entry.now boot read ≡ false) }
@@ -183,7 +183,7 @@ fn passed(tree: &Tree, entry: &TreeEntry, boot: u64, read: LogRecord) -> Option<
 fn stranger_in(
     alloc: Global,
     tree: &Tree,
-    entry: &TreeEntry,
+    entry: &TreeProcess,
     form: LogForm,
     frames: &[u8],
 ) -> Result<Option<usize>, AllocError>
@@ -224,7 +224,7 @@ fn damage_in(alloc: Global, form: LogForm, bytes: &[u8]) -> Result<Option<usize>
 {
     match find(form, bytes, alloc) {
         Ok(_) => Ok(None),
-        Err(OpenError::Damaged(place)) => Ok(Some(place)),
+        Err(LogOpenError::Damaged(place)) => Ok(Some(place)),
         Err(_) => Err(AllocError),
     }
 }
@@ -244,7 +244,7 @@ fn sound_bytes(bytes: &[u8], damage: Option<usize>) -> &[u8]
 pub(crate) fn fault_in(
     alloc: Global,
     tree: &Tree,
-    entry: &TreeEntry,
+    entry: &TreeProcess,
     bytes: &[u8],
 ) -> Result<Option<usize>, AllocError>
     ensures { IfOk result (λ found. found ≡ fault_of tree.now entry.now bytes.now) }

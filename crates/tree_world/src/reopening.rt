@@ -3,11 +3,11 @@
 ghost use Rattle.std.specs.Prelude.{◌≡◌, ◌≤◌, ℕ, List, None, [], true, IfErr, IfOk, OnErr, OnOk, drop, length, reverse};
 ghost use Rattle.std.specs.Vec.{vec_capacity, vec_len};
 ghost use Rattle.indexmap.specs.IndexMap.{spare};
-ghost use Rattle.tree_model.specs.Trees.{IsTree};
-ghost use Rattle.tree_model.specs.World.{IsRun, Made, World as ModelWorld};
-ghost use Rattle.tree_node.specs.Nodes.{core_of, data_of};
-ghost use Rattle.tree_node.specs.Reopenings.{kind_by};
-ghost use Rattle.reopened_trees.specs.Reopened.{AreLeft, GoesOnReopened, IsReopened};
+ghost use Rattle.protocol.specs.Trees.{IsTree};
+ghost use Rattle.protocol.specs.World.{IsRun, Made, World as ModelWorld};
+ghost use Rattle.tree_process.specs.Nodes.{core_of, data_of};
+ghost use Rattle.tree_process.specs.Reopenings.{kind_by};
+ghost use Rattle.proof_reopened.specs.Reopened.{AreLogsLeft, GoesOnReopened, IsReopened};
 ghost use Rattle.tree_world.specs.Nodes.{kept_at};
 ghost use Rattle.tree_world.specs.Readied.{
   AllRestart,
@@ -20,13 +20,13 @@ ghost use Rattle.tree_world.specs.Readied.{
   IsReadied,
   IsReady,
   NotReadied,
-  NotRestarted,
+  TreeNotRestarted,
   RestartsIn,
 };
 ghost use Rattle.tree_world.specs.Reopenings.{
   AreReturned,
   IsReturned,
-  NotReopened,
+  TreeNotReopened,
   error_of_migration,
   error_of_node,
   first_fault,
@@ -41,19 +41,19 @@ use crate::opening::{put_back, put_by_name};
 use crate::own_names::fault_in;
 use crate::running_tree::RunningTree;
 use crate::world::World;
-use fault_journal::Faults;
 use indexmap::IndexMap;
+use log_records::{MigrateError, RecLog};
 use log_store::LogStore;
-use rec_log::{MigrateError, RecLog};
+use protocol::{Happening, ProcessId, Tree, TreeProcess};
 use std::alloc::Global;
 use thiserror::Error;
-use tree_model::{Happening, ProcessId, Tree, TreeEntry};
-use tree_node::{Node, ReopenError as NodeError, copied_tree, reopen_over};
-use world_journal::Journal;
+use tree_faults::Faults;
+use tree_journal::Journal;
+use tree_process::{Process, ProcessReopenError as NodeError, copied_tree, reopen_over};
 
 /// Why a tree was not opened over the logs that an earlier run left.
 #[derive(Clone, Copy, Debug, PartialEq, Eq, Error)]
-pub enum ReopenError {
+pub enum TreeReopenError {
     /// A growth was refused.
     #[error("no memory")]
     Memory,
@@ -66,37 +66,37 @@ pub enum ReopenError {
     Damaged(ProcessId, usize),
 }
 
-impl ReopenError {
+impl TreeReopenError {
     /// The number of the error, 1 to 3.
     pub fn number(self) -> u8
         ensures { result ≡ reopen_error_number self }
     {
         match self {
-            ReopenError::Memory => 1,
-            ReopenError::Device(_) => 2,
-            ReopenError::Damaged(_, _) => 3,
+            TreeReopenError::Memory => 1,
+            TreeReopenError::Device(_) => 2,
+            TreeReopenError::Damaged(_, _) => 3,
         }
     }
 }
 
-fn of_migration(process: ProcessId, error: MigrateError) -> ReopenError
+fn of_migration(process: ProcessId, error: MigrateError) -> TreeReopenError
     ensures { result ≡ error_of_migration process error }
 {
     match error {
-        MigrateError::Memory => ReopenError::Memory,
-        MigrateError::Device => ReopenError::Device(process),
-        MigrateError::Damaged(place) => ReopenError::Damaged(process, place),
+        MigrateError::Memory => TreeReopenError::Memory,
+        MigrateError::Device => TreeReopenError::Device(process),
+        MigrateError::Damaged(place) => TreeReopenError::Damaged(process, place),
     }
 }
 
-fn of_node(process: ProcessId, error: NodeError) -> ReopenError
+fn of_node(process: ProcessId, error: NodeError) -> TreeReopenError
     ensures { result ≡ error_of_node process error }
 {
     match error {
-        NodeError::Memory => ReopenError::Memory,
-        NodeError::Device => ReopenError::Device(process),
-        NodeError::Damaged(place) => ReopenError::Damaged(process, place),
-        NodeError::Unfit | NodeError::OldFormat => ReopenError::Damaged(process, 0),
+        NodeError::Memory => TreeReopenError::Memory,
+        NodeError::Device => TreeReopenError::Device(process),
+        NodeError::Damaged(place) => TreeReopenError::Damaged(process, place),
+        NodeError::Unfit | NodeError::OldFormat => TreeReopenError::Damaged(process, 0),
     }
 }
 
@@ -104,9 +104,9 @@ fn of_node(process: ProcessId, error: NodeError) -> ReopenError
 fn ready<L: LogStore + Drop>(
     alloc: Global,
     tree: &Tree,
-    entry: &TreeEntry,
+    entry: &TreeProcess,
     store: L,
-) -> Result<L, (ReopenError, L)>
+) -> Result<L, (TreeReopenError, L)>
     requires { kind_by entry.now.kind entry.now.parent ≡ entry.now.kind }
     ensures ok { IfOk result (IsReadied L.bytes L.failures tree.now entry.now store) }
     ensures err { IfErr result (λ e. NotReadied L.bytes L.failures tree.now entry.now store e.0) }
@@ -114,8 +114,8 @@ fn ready<L: LogStore + Drop>(
 {
     match fault_in(alloc, tree, entry, store.bytes()) {
         Ok(None) => {}
-        Ok(Some(place)) => return Err((ReopenError::Damaged(entry.id, place), store)),
-        Err(_) => return Err((ReopenError::Memory, store)),
+        Ok(Some(place)) => return Err((TreeReopenError::Damaged(entry.id, place), store)),
+        Err(_) => return Err((TreeReopenError::Memory, store)),
     }
     match RecLog::migrate(store, entry.id, entry.kind, alloc) {
         Ok(store) => Ok(store),
@@ -130,7 +130,7 @@ fn ready_from<L: LogStore + Drop>(
     tree: &Tree,
     place: usize,
     stores: &mut Vec<L>,
-) -> Result<(), ReopenError>
+) -> Result<(), TreeReopenError>
     requires tree { IsTree tree.now }
     requires place { place ≤ length tree.now }
     ensures ok { OnOk result (AreReadied L.bytes L.failures tree.now (drop place tree.now)
@@ -146,7 +146,7 @@ fn ready_from<L: LogStore + Drop>(
         return Ok(());
     };
     let Some(store) = stores.pop() else {
-        return Err(ReopenError::Device(entry.id));
+        return Err(TreeReopenError::Device(entry.id));
     };
     let store = match ready(alloc, tree, entry, store) {
         Ok(store) => store,
@@ -176,7 +176,7 @@ fn restart_from<L: LogStore + Drop>(
     stores: &mut Vec<L>,
     nodes: &mut IndexMap<ProcessId, CountedNode<L>>,
     journal: &mut Journal,
-) -> Result<(), ReopenError>
+) -> Result<(), TreeReopenError>
     requires tree { IsTree tree.now }
     requires place { place ≤ length tree.now }
     requires empty { nodes.old.entries ≡ [] }
@@ -196,7 +196,7 @@ fn restart_from<L: LogStore + Drop>(
         return Ok(());
     };
     let Some(store) = stores.pop() else {
-        return Err(ReopenError::Device(entry.id));
+        return Err(TreeReopenError::Device(entry.id));
     };
     let node = match restarted(alloc, tree, entry, store, journal) {
         Ok(node) => node,
@@ -222,21 +222,21 @@ fn restart_from<L: LogStore + Drop>(
 fn restarted<L: LogStore + Drop>(
     alloc: Global,
     tree: &Tree,
-    entry: &TreeEntry,
+    entry: &TreeProcess,
     store: L,
     journal: &mut Journal,
-) -> Result<Node<L>, (ReopenError, L)>
+) -> Result<Process<L>, (TreeReopenError, L)>
     requires { IsReady L.bytes entry.now store }
     ensures ok { IfOk result (λ node. RestartsIn L.bytes L.forced L.failures tree.now entry.now store
         (core_of node) (data_of node) journal.old journal.new) }
-    ensures err { IfErr result (λ e. NotRestarted L.bytes L.failures tree.now entry.now store e.0) }
+    ensures err { IfErr result (λ e. TreeNotRestarted L.bytes L.failures tree.now entry.now store e.0) }
     ensures handed_back { IfErr result (λ e. IsGivenBack L.bytes L.forced L.failures entry.now store e.1 e.0) }
 {
     if journal.make_room().is_err() {
-        return Err((ReopenError::Memory, store));
+        return Err((TreeReopenError::Memory, store));
     }
     let Ok(copy) = copied_tree(alloc, tree.entries()) else {
-        return Err((ReopenError::Memory, store));
+        return Err((TreeReopenError::Memory, store));
     };
     match reopen_over(alloc, entry, copy, store) {
         Ok((node, reaction)) => {
@@ -267,21 +267,21 @@ impl<L: LogStore + Drop> World<L> {
         alloc: Global,
         tree: Tree,
         stores: Vec<L>,
-    ) -> Result<World<L>, (ReopenError, Vec<L>)>
+    ) -> Result<World<L>, (TreeReopenError, Vec<L>)>
         requires { IsTree tree }
         ensures reopened { IfOk result (λ world. IsReopened tree (logs_in L.bytes tree stores.items) (state world)) }
         ensures flag { IfOk result (λ world. world.reopened ≡ true) }
         ensures sound { IfOk result (λ _. first_fault L.bytes tree stores.items ≡ None) }
         ensures goes_on { IfOk result (λ world. (es : List Made) (w : ModelWorld) → IsRun tree es w
-            → AreLeft tree w (logs_in L.bytes tree stores.items) → GoesOnReopened es w (state world)) }
-        ensures err { IfErr result (λ e. NotReopened L.bytes L.failures tree stores.items e.0) }
+            → AreLogsLeft tree w (logs_in L.bytes tree stores.items) → GoesOnReopened es w (state world)) }
+        ensures err { IfErr result (λ e. TreeNotReopened L.bytes L.failures tree stores.items e.0) }
         ensures handed_back { IfErr result (λ e. AreReturned L.bytes L.forced L.failures tree
             stores.items e.1.items e.0) }
     {
         let mut stores = stores;
         let mut nodes = match IndexMap::with_capacity(alloc, tree.entries().len()) {
             Ok(nodes) => nodes,
-            Err(_) => return Err((ReopenError::Memory, stores)),
+            Err(_) => return Err((TreeReopenError::Memory, stores)),
         };
         let mut journal = Journal::new(alloc);
         stores.reverse();

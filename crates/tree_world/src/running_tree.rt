@@ -1,25 +1,23 @@
 //! How a tree that runs makes each event.
 
 ghost use Rattle.std.specs.Prelude.{◌≡◌, ◌≢◌, ◌<◌, [], Err, IfErr, IfOk, IsFalse, IsTrue, None, OnOk, length, map};
-ghost use Rattle.tree_model.specs.declared.events.StepError.TheVariants.{Device};
-ghost use Rattle.tree_model.specs.Plays.{process_of_act};
-ghost use Rattle.core_law.specs.Steps.{trim_reaction};
-ghost use Rattle.core_law.specs.worlds.Worlds.{Applies, Stops};
-ghost use Rattle.core_law.specs.worlds.Runs.{Leads, LeadsUntil};
-ghost use Rattle.world_journal.specs.Journals.{IsReady};
-ghost use Rattle.fault_journal.specs.Traces.{AddsAfter, AddsToTrace, AddsUntil, AreInPlace, NotedUntil};
+ghost use Rattle.protocol.specs.declared.events.StepError.TheVariants.{Device};
+ghost use Rattle.protocol.specs.Plays.{process_of_act};
+ghost use Rattle.tree_state.specs.Steps.{trim_reaction};
+ghost use Rattle.tree_state.specs.Worlds.{Applies, Stops};
+ghost use Rattle.tree_state.specs.Runs.{EventsLead, LeadsUntil};
+ghost use Rattle.tree_journal.specs.Journals.{IsReadyJournal};
+ghost use Rattle.tree_faults.specs.Traces.{AddsAfter, AddsToTrace, AddsUntil, AreInPlace, NotedUntil};
 ghost use Rattle.tree_world.specs.Worlds.{logs_at, running_state};
 
 use crate::byte_logs::are_bytes;
 use crate::nodes::Nodes;
-use core_model::InputRef;
-use fault_journal::{Cause, Faults};
 use log_store::LogStore;
+use process_state::InputRef;
+use protocol::{Act, Event, Happening, LogRecord, ProcessId, Reaction, Sequence, StepError, Tree};
 use std::alloc::{AllocError, Global};
-use tree_model::{
-    Act, Event, Happening, LogRecord, ProcessId, Reaction, Sequence, StepError, Tree,
-};
-use world_journal::Journal;
+use tree_faults::{FaultCause, Faults};
+use tree_journal::Journal;
 
 /// At most N messages are delivered by one settle.
 const SETTLE_LIMIT: u32 = 10_000;
@@ -157,7 +155,7 @@ impl<L: LogStore> RunningTree<L> {
     /// Makes these events, in order, up to the first that is refused.
     pub(crate) fn make_all(&mut self, events: &[Event]) -> Result<(), (usize, StepError)>
         requires { AreInPlace (running_state self.old) self.old.faults }
-        ensures ok { OnOk result (Leads (running_state self.old) events.now (running_state self.new)) }
+        ensures ok { OnOk result (EventsLead (running_state self.old) events.now (running_state self.new)) }
         ensures err { IfErr result (λ refusal. LeadsUntil (running_state self.old) events.now refusal.0
             refusal.1 (running_state self.new)) }
         ensures within { IfErr result (λ refusal. refusal.0 < length events.now) }
@@ -190,7 +188,7 @@ impl<L: LogStore> RunningTree<L> {
         let process = process_of(self.tree.root(), &act);
         let (before, made) = self.nodes.step(process, InputRef::Act(&act));
         if is_fault(&made) {
-            self.faults.note(process, Cause::Act(act), before);
+            self.faults.note(process, FaultCause::Act(act), before);
             return Err(StepError::Device);
         }
         self.journal.close_act(process, act, made)
@@ -213,7 +211,7 @@ impl<L: LogStore> RunningTree<L> {
 
     /// The same, where a step can be entered.
     fn deliver_ready(&mut self, number: u64) -> Result<(), StepError>
-        requires ready { IsReady self.old.journal }
+        requires ready { IsReadyJournal self.old.journal }
         requires counted { self.old.faults.last ≡ None }
         ensures ok { OnOk result (Applies (running_state self.old)
             (Event.Deliver number) (running_state self.new)) }
@@ -230,7 +228,7 @@ impl<L: LogStore> RunningTree<L> {
         let input = InputRef::Message(number, &envelope.message);
         let (before, made) = self.nodes.step(to, input);
         if is_fault(&made) {
-            self.faults.note(to, Cause::Message(number), before);
+            self.faults.note(to, FaultCause::Message(number), before);
             return Err(StepError::Device);
         }
         self.journal.close_message(to, number, made)
@@ -277,7 +275,8 @@ impl<L: LogStore> RunningTree<L> {
                 Ok(())
             }
             Err(StepError::Device) => {
-                self.faults.note(process, Cause::Restart(keeps), before);
+                self.faults
+                    .note(process, FaultCause::Restart(keeps), before);
                 Err(StepError::Device)
             }
             Err(error) => Err(error),
@@ -307,7 +306,7 @@ impl<L: LogStore> RunningTree<L> {
             }
             Err(StepError::Device) => {
                 self.nodes.log_stands(process);
-                self.faults.note(process, Cause::Trim(text), before);
+                self.faults.note(process, FaultCause::Trim(text), before);
                 Err(StepError::Device)
             }
             Err(error) => Err(error),

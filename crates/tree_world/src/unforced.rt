@@ -1,7 +1,7 @@
 //! The records of a process's log that are not forced, which a crash may take.
 
 ghost use Rattle.std.specs.Prelude.{◌≡◌, IfOk, map};
-ghost use Rattle.rec_log.specs.Sights.{record_size};
+ghost use Rattle.log_records.specs.Sights.{record_size};
 ghost use Rattle.tree_world.specs.Nodes.{nodes_at};
 ghost use Rattle.tree_world.specs.Unforced.{unforced_by};
 ghost use Rattle.tree_world.specs.Worlds.{state};
@@ -9,8 +9,8 @@ ghost use Rattle.tree_world.specs.Worlds.{state};
 use crate::nodes::Nodes;
 use crate::world::World;
 use log_store::LogStore;
+use protocol::ProcessId;
 use std::alloc::{AllocError, Global};
-use tree_model::ProcessId;
 
 impl<L: LogStore> Nodes<L> {
     /// The same of a process; none, if there is no such process.

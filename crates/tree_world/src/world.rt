@@ -1,27 +1,27 @@
 //! The tree that runs, as a caller sees it.
 
 ghost use Rattle.std.specs.Prelude.{◌≡◌, ◌<◌, ℕ, List, false, IfErr, IfOk, IfSome, OnOk, length, map, option_map, slice_get};
-ghost use Rattle.tree_model.specs.World.{Made, World as ModelWorld};
-ghost use Rattle.core_law.specs.worlds.Worlds.{Applies, Stops};
-ghost use Rattle.core_law.specs.worlds.Runs.{Leads, LeadsUntil};
-ghost use Rattle.core_law.specs.worlds.Ties.{FollowsBehindFaults, GoesOnBehindFaults};
-ghost use Rattle.core_law.specs.worlds.Modelled.{KeepsHeadline};
-ghost use Rattle.reopened_trees.specs.Earlier.{Earlier};
-ghost use Rattle.reopened_trees.specs.Since.{FollowsSince, GoesOnKeeping};
-ghost use Rattle.short_steps.specs.Shown.{entry_part, shown_part};
-ghost use Rattle.live_table.specs.Known.{Knows};
-ghost use Rattle.tree_node.specs.Nodes.{live_at, standing_at};
+ghost use Rattle.protocol.specs.World.{Made, World as ModelWorld};
+ghost use Rattle.tree_state.specs.Worlds.{Applies, Stops};
+ghost use Rattle.tree_state.specs.Runs.{EventsLead, LeadsUntil};
+ghost use Rattle.proof_runs.specs.worlds.Follows.{FollowsBehindFaults, GoesOnBehindFaults};
+ghost use Rattle.proof_runs.specs.worlds.Modelled.{KeepsHeadline};
+ghost use Rattle.proof_reopened.specs.Earlier.{Earlier};
+ghost use Rattle.proof_reopened.specs.Since.{FollowsSince, GoesOnKeeping};
+ghost use Rattle.tree_journal.specs.Shown.{entry_part, shown_part};
+ghost use Rattle.case_table.specs.Known.{KnowsCases};
+ghost use Rattle.tree_process.specs.Nodes.{live_at, standing_at};
 ghost use Rattle.tree_world.specs.LogsLeft.{LogStandsBy};
 ghost use Rattle.tree_world.specs.Nodes.{SpellsLogBy, node_in};
-ghost use Rattle.fault_journal.specs.Traces.{TraceGoesOnFrom, TraceIsRun};
+ghost use Rattle.tree_faults.specs.Traces.{TraceGoesOnFrom, TraceIsRun};
 ghost use Rattle.tree_world.specs.Worlds.{logs_at, state, trace};
 
 use crate::running_tree::RunningTree;
 use log_store::LogStore;
+use protocol::{Envelope, Event, JournalEntry, LogRecord, ProcessId, StepError, Tree};
 use std::alloc::AllocError;
 use std::marker::Model;
-use tree_model::{Entry, Envelope, Event, LogRecord, ProcessId, StepError, Tree};
-use world_journal::Shown;
+use tree_journal::ShownStep;
 
 /// A tree of processes, each with its log in a store; every message ever sent, with the mark whether it was
 /// delivered; and every step that was made.
@@ -59,14 +59,14 @@ impl<L: LogStore> World<L> {
     }
 
     /// The step at this place, from 0, with its reaction, made again; None, if N were not made.
-    pub fn entry(&self, place: usize) -> Result<Option<Entry>, AllocError>
+    pub fn entry(&self, place: usize) -> Result<Option<JournalEntry>, AllocError>
         ensures { IfOk result (λ found. found ≡ slice_get (state self.now).entries place) }
     {
         self.running.journal.entry(place)
     }
 
     /// Every step that was made, with its reaction, as a list made again.
-    pub fn steps(&self) -> Result<Vec<Entry>, AllocError>
+    pub fn steps(&self) -> Result<Vec<JournalEntry>, AllocError>
         ensures { IfOk result (λ steps. steps.items ≡ (state self.now).entries) }
     {
         self.running.journal.entries()
@@ -75,7 +75,7 @@ impl<L: LogStore> World<L> {
     /// The steps of the run, whole: those that were made, and among them each in which a device failed, after those made
     /// before it, as a list made again. Such a step names its event, how many of its records stand and how many more are
     /// forced, and shows nothing.
-    pub fn trace(&self) -> Result<Vec<Entry>, AllocError>
+    pub fn trace(&self) -> Result<Vec<JournalEntry>, AllocError>
         ensures steps { IfOk result (λ steps. steps.items ≡ trace self.now) }
         ensures run { self.now.reopened ≡ false → TraceIsRun (state self.now) (trace self.now) }
     {
@@ -83,7 +83,7 @@ impl<L: LogStore> World<L> {
     }
 
     /// What the step at this place shows, from 0, as the journal has it; None, if N were not made.
-    pub fn shown(&self, place: usize) -> Option<Shown<'_>>
+    pub fn shown(&self, place: usize) -> Option<ShownStep<'_>>
         ensures { option_map shown_part result
             ≡ option_map entry_part (slice_get (state self.now).entries place) }
     {
@@ -113,7 +113,7 @@ impl<L: LogStore> World<L> {
 
     /// How many cases are live at a process, if there is one: those that are not Unknown.
     pub fn live(&self, process: ProcessId) -> Option<usize>
-        ensures known { IfSome (node_in self.now.nodes process) (λ node. IfSome result (Knows (standing_at node))) }
+        ensures known { IfSome (node_in self.now.nodes process) (λ node. IfSome result (KnowsCases (standing_at node))) }
         ensures entries { result ≡ option_map live_at (node_in self.now.nodes process) }
     {
         self.running.nodes.live(process)
@@ -170,7 +170,7 @@ impl<L: LogStore> World<L> {
     /// next was not. However it ends, the tree stands for a run that goes on, as after one event, and the
     /// same holds of it.
     pub fn run(&mut self, events: &[Event]) -> Result<(), (usize, StepError)>
-        ensures ok { OnOk result (Leads (state self.old) events.now (state self.new)) }
+        ensures ok { OnOk result (EventsLead (state self.old) events.now (state self.new)) }
         ensures err { IfErr result (λ refusal. LeadsUntil (state self.old) events.now refusal.0
             refusal.1 (state self.new)) }
         ensures within { IfErr result (λ refusal. refusal.0 < length events.now) }

@@ -7,12 +7,12 @@ use Rattle.std.proofs.lemmas.Bool.Decides.{nat_tests}
 use Rattle.std.proofs.lemmas.List.Sums.{sum_by-cons, sum_by_push, sum_by-swap_remove}
 use Rattle.std.proofs.lemmas.List.Quantifiers.{position-Some}
 use Rattle.indexmap.specs.IndexMap.{swap_remove_by}
-use Rattle.xa_assoc.specs.declared.held.Seat.{Seat}
+use Rattle.xa_assoc.specs.declared.held.Suspended.{Suspended}
 use Rattle.xa_assoc.specs.Names.{same_seat}
 use Rattle.xa_assoc.specs.Seats.{count_of, holds}
 use Rattle.xa_assoc.proofs.Sound.{seat_is}
 
-pub any_counted : (p : Seat → Bool) (seats : List Seat) → nat_lt 0 (count_by p seats) ≡ list_any p seats
+pub any_counted : (p : Suspended → Bool) (seats : List Suspended) → nat_lt 0 (count_by p seats) ≡ list_any p seats
 any_counted p [] = refl
 any_counted p (s ∷ seats) = ap (nat_lt 0) (sum_by-cons (λ x. cond (p x) 1 0) s seats)
     ∙ by_test (p s) (any_counted p seats)
@@ -22,11 +22,11 @@ any_counted p (s ∷ seats) = ap (nat_lt 0) (sum_by-cons (λ x. cond (p x) 1 0) 
     by_test true behind = let some : 0 < 1 + count_by p seats = omega arith in grind (arith, nat_tests, some)
     by_test false behind = ap (nat_lt 0) (omega arith) ∙ behind
 
-pub count_pushed : (p : Seat → Bool) (seats : List Seat) (s : Seat)
+pub count_pushed : (p : Suspended → Bool) (seats : List Suspended) (s : Suspended)
     → count_by p (seats ++ s ∷ []) ≡ count_by p seats + cond (p s) 1 0
 count_pushed p seats s = sum_by_push (λ x. cond (p x) 1 0) seats s
 
-any_placed : (p : Seat → Bool) (seats : List Seat)
+any_placed : (p : Suspended → Bool) (seats : List Suspended)
     → nat_lt (position_or_len p seats) (length seats) ≡ list_any p seats
 any_placed p [] = refl
 any_placed p (s ∷ seats) = by_test (p s) (any_placed p seats)
@@ -36,7 +36,7 @@ any_placed p (s ∷ seats) = by_test (p s) (any_placed p seats)
     by_test true behind = grind (arith, nat_tests)
     by_test false behind = grind (arith, nat_tests, behind)
 
-pub count_removed : (p : Seat → Bool) (seats : List Seat) (s : Seat) → holds seats s ≡ true
+pub count_removed : (p : Suspended → Bool) (seats : List Suspended) (s : Suspended) → holds seats s ≡ true
     → count_by p (swap_remove_by (same_seat s) seats) + cond (p s) 1 0 ≡ count_by p seats
 count_removed p [] s h = absurd cc
 count_removed p (x ∷ seats) s h = by_place (position (same_seat s) (x ∷ seats)) refl
@@ -55,7 +55,7 @@ count_removed p (x ∷ seats) s h = by_place (position (same_seat s) (x ∷ seat
         (sym one) (sum_by-swap_remove (λ y. cond (p y) 1 0) (x ∷ seats) i x found.0)
 
 -- a seat that is counted was counted
-pub counted_one : (p : Seat → Bool) (seats : List Seat) (s : Seat) → holds seats s ≡ true
+pub counted_one : (p : Suspended → Bool) (seats : List Suspended) (s : Suspended) → holds seats s ≡ true
     → p s ≡ true → 1 ≤ count_by p seats
 counted_one p seats s h counts = let rest = count_removed p seats s h in let one : ◌≡◌ {A = ℕ}
     (cond (p s) 1 0) 1 = ap (λ b. cond b 1 0) counts in omega (arith, rest, one)
@@ -65,8 +65,8 @@ number_is a b h = grind (arith, nat_tests)
 
 -- Counts after a seat that is taken or given up: that of its own key goes up or down by one, and no other
 -- does.
-module _ {K : Type 0} (eq : K → K → Bool) (of : Seat → K) (is : (a b : K) → eq a b ≡ true → a ≡ b) where
-  pub counted_more : (seats after : List Seat) (old new : List (K × ℕ)) (s : Seat)
+module _ {K : Type 0} (eq : K → K → Bool) (of : Suspended → K) (is : (a b : K) → eq a b ≡ true → a ≡ b) where
+  pub counted_more : (seats after : List Suspended) (old new : List (K × ℕ)) (s : Suspended)
       → ((k : K) → count_of eq old k ≡ count_by (λ o. eq (of o) k) seats)
       → after ≡ seats ++ s ∷ []
       → count_of eq new (of s) ≡ count_of eq old (of s) + 1
@@ -84,7 +84,7 @@ module _ {K : Type 0} (eq : K → K → Bool) (of : Seat → K) (is : (a b : K) 
       by_test false apart = let same_count = others k apart in let was =
           counted k in omega (arith, same_count, was)
 
-  pub counted_less : (seats after : List Seat) (old new : List (K × ℕ)) (s : Seat)
+  pub counted_less : (seats after : List Suspended) (old new : List (K × ℕ)) (s : Suspended)
       → ((k : K) → count_of eq old k ≡ count_by (λ o. eq (of o) k) seats)
       → holds seats s ≡ true
       → after ≡ swap_remove_by (same_seat s) seats
@@ -95,7 +95,7 @@ module _ {K : Type 0} (eq : K → K → Bool) (of : Seat → K) (is : (a b : K) 
       by_test (eq (of s) k) refl (count_removed (λ o. eq (of o) k) seats s taken)
       ∙ ap (count_by (λ o. eq (of o) k)) (sym removed)
     where
-      gone : List Seat
+      gone : List Suspended
       gone = swap_remove_by (same_seat s) seats
 
       at_own : count_by (λ o. eq (of o) (of s)) gone + 1 ≡ count_by (λ o. eq (of o) (of s)) seats

@@ -18,7 +18,7 @@ use Rattle.xa_branch.proofs.Names.{same_is, same_refl}
 use Rattle.xa_branch.specs.Branches.{is_known, off_row}
 use Rattle.xa_branch.specs.Names.{same}
 use Rattle.xa_assoc.specs.declared.states.States.{States}
-use Rattle.xa_assoc.specs.Answers.{Answers, Checked, Does, Ends, Finishes, Refuses, Same, Takes, Wanted, is_held, state_at}
+use Rattle.xa_assoc.specs.Answers.{AnswersCall, Checked, DoesCall, EndsWork, TablesFinish, RefusesCall, SameStates, TakesTableRow, Wanted, is_held, state_at}
 use Rattle.xa_assoc.specs.Ready.{finish_refusal, has_rows, is_closed, is_work, is_work_verb, judged, ready, unless_refused}
 
 -- Which calls a verb makes.
@@ -96,17 +96,17 @@ works_as verb.Recover flags c h =
 -- legal flags, and the checks after them
 pub answered : (wanted : Wanted) (old new : States) (v : Verb) (t : ℕ) (x : Xid) (flags : ℕ) (c : Call)
     (answer : Code) → legal v flags ≡ Ok c
-    → Checked wanted old new c t x answer → Answers wanted old new v t x flags answer
+    → Checked wanted old new c t x answer → AnswersCall wanted old new v t x flags answer
 answered wanted old new v t x flags c answer e checked =
     subst (λ (r : Result Call Code). MatchResult r (λ d. Checked wanted old new d t x answer)
-    (λ refusal. Refuses old new answer refusal)) (sym e) checked
+    (λ refusal. RefusesCall old new answer refusal)) (sym e) checked
 
 -- a start or an end that is none of these six is an end TMFAIL
 pub fails : (wanted : Wanted) (old new : States) (c : Call) (t : ℕ) (x : Xid) (answer : Code)
     → is_work c ≡ true
     → c ≢ call.Start → c ≢ call.StartJoin → c ≢ call.StartResume → c ≢ call.EndSuspend → c ≢ call.EndMigrate
     → c ≢ call.EndSuccess
-    → Ends old new t x false answer → Does wanted old new c t x answer
+    → EndsWork old new t x false answer → DoesCall wanted old new c t x answer
 fails wanted old new call.Start t x answer w s1 s2 s3 s4 s5 s6 f = absurd (s1 refl)
 fails wanted old new call.StartJoin t x answer w s1 s2 s3 s4 s5 s6 f = absurd (s2 refl)
 fails wanted old new call.StartResume t x answer w s1 s2 s3 s4 s5 s6 f = absurd (s3 refl)
@@ -119,7 +119,7 @@ fails wanted old new _ t x answer w s1 s2 s3 s4 s5 s6 f = absurd cc
 -- a call that is neither a start nor an end
 finishes : (wanted : Wanted) (old new : States) (c : Call) (t : ℕ) (x : Xid) (answer : Code)
     → is_work c ≡ false
-    → Finishes old new x c (wanted c) answer → Does wanted old new c t x answer
+    → TablesFinish old new x c (wanted c) answer → DoesCall wanted old new c t x answer
 finishes wanted old new call.Start t x answer w f = absurd cc
 finishes wanted old new call.StartJoin t x answer w f = absurd cc
 finishes wanted old new call.StartResume t x answer w f = absurd cc
@@ -241,9 +241,9 @@ passed m v x flags c h = judged_ok m v x flags c (legal v flags) refl h
 pub finishing : (wanted : Wanted) (old new : States) (v : Verb) (t : ℕ) (x : Xid) (flags : ℕ) (c : Call)
     (answer : Code) → is_work_verb v ≡ false → ready old v x flags ≡ Ok c
     → (Contains (branch_rows (state_at old x) c) (wanted c)
-    → (answer ≡ (wanted c).0) × Takes old new x (wanted c).1)
-    → ((Contains (branch_rows (state_at old x) c) (wanted c) → ⊥) → Refuses old new answer (off_row c))
-    → Answers wanted old new v t x flags answer
+    → (answer ≡ (wanted c).0) × TakesTableRow old new x (wanted c).1)
+    → ((Contains (branch_rows (state_at old x) c) (wanted c) → ⊥) → RefusesCall old new answer (off_row c))
+    → AnswersCall wanted old new v t x flags answer
 finishing wanted old new v t x flags c answer w is made off =
     let p = passed old v x flags c is in
     let q = p.passes in
@@ -261,13 +261,13 @@ finishing wanted old new v t x flags c answer w is made off =
 -- a call that takes its manager's row, which the table has
 pub finished : (wanted : Wanted) (old new : States) (v : Verb) (t : ℕ) (x : Xid) (flags : ℕ) (c : Call)
     → is_work_verb v ≡ false → ready old v x flags ≡ Ok c
-    → Contains (branch_rows (state_at old x) c) (wanted c) → Takes old new x (wanted c).1
-    → Answers wanted old new v t x flags (wanted c).0
+    → Contains (branch_rows (state_at old x) c) (wanted c) → TakesTableRow old new x (wanted c).1
+    → AnswersCall wanted old new v t x flags (wanted c).0
 finished wanted old new v t x flags c w is listed takes =
     finishing wanted old new v t x flags c (wanted c).0 w is (λ r. (refl, takes)) (λ n. absurd (n listed))
 
 checked : (wanted : Wanted) (old new : States) (t : ℕ) (x : Xid) (c : Call) (e : Code) → is_work c ≡ false
-    → finish_refusal old c x ≡ Some e → Same old new
+    → finish_refusal old c x ≡ Some e → SameStates old new
     → Checked wanted old new c t x e
 checked wanted old new t x c e w is stays = record {
   closed = λ r. (by_closed _ _ _ _ e (ap is_closed r) is, stays);
@@ -286,8 +286,8 @@ checked wanted old new t x c e w is stays = record {
 
 refused_by : (wanted : Wanted) (old new : States) (v : Verb) (t : ℕ) (x : Xid) (flags : ℕ) (c : Call)
     (e : Code) (o : Option Code) → is_work_verb v ≡ false → legal v flags ≡ Ok c
-    → finish_refusal old c x ≡ o → unless_refused o c ≡ Err e → Same old new
-    → Answers wanted old new v t x flags e
+    → finish_refusal old c x ≡ o → unless_refused o c ≡ Err e → SameStates old new
+    → AnswersCall wanted old new v t x flags e
 refused_by wanted old new v t x flags c e None w l is h stays = absurd cc
 refused_by wanted old new v t x flags c e (Some d) w l is h stays =
     let one : d ≡ e = cc in
@@ -296,17 +296,17 @@ refused_by wanted old new v t x flags c e (Some d) w l is h stays =
 
 judged_err : (wanted : Wanted) (old new : States) (v : Verb) (t : ℕ) (x : Xid) (flags : ℕ) (e : Code)
     (l : Result Call Code) → is_work_verb v ≡ false → legal v flags ≡ l
-    → judged old x l ≡ Err e → Same old new → Answers wanted old new v t x flags e
+    → judged old x l ≡ Err e → SameStates old new → AnswersCall wanted old new v t x flags e
 judged_err wanted old new v t x flags e (Ok c) w is h stays =
     refused_by wanted old new v t x flags c e (finish_refusal old c x) w is refl h stays
 judged_err wanted old new v t x flags e (Err d) w is h stays =
     let one : e ≡ d = cc in
     subst (λ (r : Result Call Code). MatchResult r (λ c. Checked wanted old new c t x e)
-    (λ refusal. Refuses old new e refusal)) (sym is) (one, stays)
+    (λ refusal. RefusesCall old new e refusal)) (sym is) (one, stays)
 
 -- a call that `ready` refuses answers so, and changes nothing
 pub refused_call : (wanted : Wanted) (old new : States) (v : Verb) (t : ℕ) (x : Xid) (flags : ℕ) (e : Code)
     → is_work_verb v ≡ false → ready old v x flags ≡ Err e
-    → Same old new → Answers wanted old new v t x flags e
+    → SameStates old new → AnswersCall wanted old new v t x flags e
 refused_call wanted old new v t x flags e w h stays =
     judged_err wanted old new v t x flags e (legal v flags) w refl h stays

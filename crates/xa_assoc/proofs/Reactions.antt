@@ -9,18 +9,18 @@ use Rattle.xa_tables.specs.declared.call.Call.TheVariants as call
 use Rattle.xa_tables.specs.declared.states.BranchState.{BranchState}
 use Rattle.xa_tables.specs.declared.states.BranchState.TheVariants.{S0, S1, S2, S3, S4, S5}
 use Rattle.xa_xid.specs.declared.xid.Xid.{Xid}
-use Rattle.xa_assoc.specs.Associations.{AssocList, Row, Steps, start_plan, resume_plan, suspend_plan, end_plan}
-use Rattle.xa_branch.specs.Branches.{BranchList, Moves, Stays}
+use Rattle.xa_assoc.specs.Associations.{AssocList, AssocRow, AssocSteps, start_plan, resume_plan, suspend_plan, end_plan}
+use Rattle.xa_branch.specs.Branches.{BranchList, BranchMoves, Stays}
 use Rattle.xa_assoc.specs.declared.states.States.{States}
-use Rattle.xa_assoc.specs.Answers.{Reacts, join_reaction, state_at}
-use Rattle.xa_assoc.specs.Reacting.{IsAt, by_state, resumed, left_by, suspend_call, end_call}
+use Rattle.xa_assoc.specs.Answers.{ReactsByRows, join_reaction, state_at}
+use Rattle.xa_assoc.specs.Reacting.{IsAtWork, by_state, resumed, left_by, suspend_call, end_call}
 
 pub stays : (old new : BranchList) → new ≡ old → Stays old new
 stays old new e = subst (λ (b : BranchList). Stays old b) (sym e)
     (record { branches = refl; scans = refl; room = omega arith })
 
 -- a plan refuses by these, and its rows answer otherwise
-pub record IsPlan (plan : Result Row Code) : Type 0 where
+pub record IsPlan (plan : Result AssocRow Code) : Type 0 where
   pub refuses : IfErr plan (λ c. (c ≡ code.Proto) ⊎ (c ≡ code.RmErr))
   pub answers : IfOk plan (λ r. (r.1 ≢ code.Proto) × (r.1 ≢ code.RmErr))
 
@@ -28,21 +28,21 @@ pub start_is_plan : (a : AssocList) (t : ℕ) (x : Xid) → IsPlan (start_plan a
 start_is_plan a t x = record { refuses = search rules; answers = search rules }
 
 -- what holds of each row's answer holds of an answer that is no refusal
-pub answer_is : (old new : AssocList) (t : ℕ) (x : Xid) (P : Code → Type 0) (plan : Result Row Code)
+pub answer_is : (old new : AssocList) (t : ℕ) (x : Xid) (P : Code → Type 0) (plan : Result AssocRow Code)
     (answer : Code)
-    → IsPlan plan → IfOk plan (λ r. P r.1) → Steps old new t x plan answer → answer ≢ code.Proto
+    → IsPlan plan → IfOk plan (λ r. P r.1) → AssocSteps old new t x plan answer → answer ≢ code.Proto
     → answer ≢ code.RmErr → P answer
 answer_is old new t x P (Ok r) answer plan holds steps p q = subst P (sym steps.0) holds
 answer_is old new t x P (Err e) answer plan holds steps p q =
     absurd (elim plan.refuses [ inl is ↦ p (steps.0 ∙ is) | inr is ↦ q (steps.0 ∙ is) ])
 
 -- a row was made, of the associations and then of the branches
-pub made : (old new : States) (t : ℕ) (x : Xid) (c : Call) (plan : Result Row Code) (to : BranchState)
+pub made : (old new : States) (t : ℕ) (x : Xid) (c : Call) (plan : Result AssocRow Code) (to : BranchState)
     (by answer : Code)
-    → IsPlan plan → Steps old.associations new.associations t x plan by → by ≢ code.Proto → by ≢ code.RmErr
-    → Contains (branch_rows (state_at old x) c) (by, to) → answer ≡ by → Moves old.branches new.branches x to
+    → IsPlan plan → AssocSteps old.associations new.associations t x plan by → by ≢ code.Proto → by ≢ code.RmErr
+    → Contains (branch_rows (state_at old x) c) (by, to) → answer ≡ by → BranchMoves old.branches new.branches x to
     → new.init ≡ old.init
-    → Reacts old new t x c plan to answer
+    → ReactsByRows old new t x c plan to answer
 made old new t x c (Ok r) to by answer plan steps p q listed is branch init =
     record {
       answers = is ∙ steps.0;
@@ -57,24 +57,24 @@ made old new t x c (Err e) to by answer plan steps p q listed is branch init =
     absurd (elim plan.refuses [ inl is ↦ p (steps.0 ∙ is) | inr is ↦ q (steps.0 ∙ is) ])
 
 -- the same of a branch at work or lost, which moved to a state
-pub made_step : (old new : States) (t : ℕ) (x : Xid) (c : Call) (plan : Result Row Code)
+pub made_step : (old new : States) (t : ℕ) (x : Xid) (c : Call) (plan : Result AssocRow Code)
     (to moved_to : BranchState) (by : Code)
-    → IsPlan plan → Steps old.associations new.associations t x plan by → by ≢ code.Proto → by ≢ code.RmErr
+    → IsPlan plan → AssocSteps old.associations new.associations t x plan by → by ≢ code.Proto → by ≢ code.RmErr
     → IfOk plan (λ r. Contains (branch_rows (state_at old x) c) (r.1, to)) → moved_to ≡ to
-    → Moves old.branches new.branches x moved_to → new.init ≡ old.init → Reacts old new t x c plan to by
+    → BranchMoves old.branches new.branches x moved_to → new.init ≡ old.init → ReactsByRows old new t x c plan to by
 made_step old new t x c plan to moved_to by is_plan steps p q rows state_is moved init =
     let listed : Contains (branch_rows (state_at old x) c) (by, to) =
     answer_is old.associations new.associations t x
     (λ a. Contains (branch_rows (state_at old x) c) (a, to)) plan by is_plan rows steps p q in
     made old new t x c plan to by by is_plan steps p q listed refl
-    (subst (λ s. Moves old.branches new.branches x s) state_is moved) init
+    (subst (λ s. BranchMoves old.branches new.branches x s) state_is moved) init
 
 -- a call was refused by the associations
-pub refused : (old new : States) (t : ℕ) (x : Xid) (c : Call) (plan : Result Row Code) (to : BranchState)
+pub refused : (old new : States) (t : ℕ) (x : Xid) (c : Call) (plan : Result AssocRow Code) (to : BranchState)
     (answer : Code)
-    → IsPlan plan → Steps old.associations new.associations t x plan answer
+    → IsPlan plan → AssocSteps old.associations new.associations t x plan answer
     → (answer ≡ code.Proto) ⊎ (answer ≡ code.RmErr)
-    → new.branches ≡ old.branches → new.init ≡ old.init → Reacts old new t x c plan to answer
+    → new.branches ≡ old.branches → new.init ≡ old.init → ReactsByRows old new t x c plan to answer
 refused old new t x c (Ok r) to answer plan steps is branches init =
     absurd (elim is [ inl p ↦ plan.answers.0 (sym steps.0 ∙ p) | inr q ↦ plan.answers.1 (sym steps.0 ∙ q) ])
 refused old new t x c (Err e) to answer plan steps is branches init = (
@@ -83,7 +83,7 @@ refused old new t x c (Err e) to answer plan steps is branches init = (
       { init = init; branches = stays old.branches new.branches branches; associations = steps.1 },
 )
 
-pub join_listed : (s : BranchState) → IsAt false s → Contains (branch_rows s call.StartJoin) (code.Ok, S1)
+pub join_listed : (s : BranchState) → IsAtWork false s → Contains (branch_rows s call.StartJoin) (code.Ok, S1)
 join_listed S0 h = absurd h
 join_listed S1 h = (0, omega arith, refl)
 join_listed S2 h = (0, omega arith, refl)
@@ -101,7 +101,7 @@ joins_by m t x s is at = elim at [ inl one ↦ by S1 refl (is ∙ one) | inr two
         → state_at m x ≡ at → join_reaction m t x ≡ start_plan m.associations t x
     by at plan is = ap (λ r. by_state r (start_plan m.associations t x) (Err code.Proto)) is ∙ plan
 
-pub start_listed : (s : BranchState) (a : AssocList) (t : ℕ) (x : Xid) → IsAt false s
+pub start_listed : (s : BranchState) (a : AssocList) (t : ℕ) (x : Xid) → IsAtWork false s
     → IfOk (start_plan a t x) (λ r. Contains (branch_rows s call.StartJoin) (r.1, S1))
 start_listed s a t x h = let listed = join_listed s h in search rules
 
@@ -116,7 +116,7 @@ pub end_is_plan : (a : AssocList) (t : ℕ) (x : Xid) (lost succeeds : Bool)
     → IsPlan (end_plan a t x lost succeeds)
 end_is_plan a t x lost succeeds = record { refuses = search rules; answers = search rules }
 
-pub resume_listed : (lost : Bool) (s : BranchState) (a : AssocList) (t : ℕ) (x : Xid) → IsAt lost s
+pub resume_listed : (lost : Bool) (s : BranchState) (a : AssocList) (t : ℕ) (x : Xid) → IsAtWork lost s
     → IfOk (resume_plan a t x lost) (λ r. Contains (branch_rows s call.StartResume) (r.1, resumed lost))
 resume_listed true S4 a t x h = let listed : Contains (branch_rows S4 call.StartResume)
     (code.RbRollback, S4) = (0, omega arith, refl) in search rules
@@ -134,7 +134,7 @@ resume_listed false S3 a t x h = absurd h
 resume_listed false S4 a t x h = absurd h
 resume_listed false S5 a t x h = absurd h
 
-left_listed : (s : BranchState) (active : Bool) → IsAt false s
+left_listed : (s : BranchState) (active : Bool) → IsAtWork false s
     → Contains (branch_rows s call.EndSuspend) (code.Ok, left_by false active)
 left_listed S1 true h = (0, omega arith, refl)
 left_listed S1 false h = (1, omega arith, refl)
@@ -145,7 +145,7 @@ left_listed S3 active h = absurd h
 left_listed S4 active h = absurd h
 left_listed S5 active h = absurd h
 
-moved_listed : (s : BranchState) (active : Bool) → IsAt false s
+moved_listed : (s : BranchState) (active : Bool) → IsAtWork false s
     → Contains (branch_rows s call.EndMigrate) (code.Ok, left_by false active)
 moved_listed S1 true h = (0, omega arith, refl)
 moved_listed S1 false h = (1, omega arith, refl)
@@ -156,7 +156,7 @@ moved_listed S3 active h = absurd h
 moved_listed S4 active h = absurd h
 moved_listed S5 active h = absurd h
 
-kept_listed : (s : BranchState) (active : Bool) → IsAt false s
+kept_listed : (s : BranchState) (active : Bool) → IsAtWork false s
     → Contains (branch_rows s call.EndMigrate) (code.NoMigrate, left_by false active)
 kept_listed S1 true h = (2, omega arith, refl)
 kept_listed S1 false h = (3, omega arith, refl)
@@ -167,7 +167,7 @@ kept_listed S3 active h = absurd h
 kept_listed S4 active h = absurd h
 kept_listed S5 active h = absurd h
 
-lost_listed : (s : BranchState) (migrate : Bool) → IsAt true s
+lost_listed : (s : BranchState) (migrate : Bool) → IsAtWork true s
     → Contains (branch_rows s (suspend_call migrate)) (code.RbRollback, S4)
 lost_listed S4 true h = (0, omega arith, refl)
 lost_listed S4 false h = (0, omega arith, refl)
@@ -178,14 +178,14 @@ lost_listed S3 migrate h = absurd h
 lost_listed S5 migrate h = absurd h
 
 pub suspend_listed : (lost migrate active : Bool) (s : BranchState) (a : AssocList) (t : ℕ) (x : Xid)
-    → IsAt lost s → IfOk (suspend_plan a t x lost migrate)
+    → IsAtWork lost s → IfOk (suspend_plan a t x lost migrate)
     (λ r. Contains (branch_rows s (suspend_call migrate)) (r.1, left_by lost active))
 suspend_listed true migrate active s a t x h = let listed = lost_listed s migrate h in search rules
 suspend_listed false true active s a t x h = let listed = moved_listed s active h in let kept =
     kept_listed s active h in search rules
 suspend_listed false false active s a t x h = let listed = left_listed s active h in search rules
 
-done_listed : (s : BranchState) (active : Bool) → IsAt false s
+done_listed : (s : BranchState) (active : Bool) → IsAtWork false s
     → Contains (branch_rows s call.EndSuccess) (code.Ok, left_by false active)
 done_listed S1 true h = (0, omega arith, refl)
 done_listed S1 false h = (1, omega arith, refl)
@@ -196,7 +196,7 @@ done_listed S3 active h = absurd h
 done_listed S4 active h = absurd h
 done_listed S5 active h = absurd h
 
-failed_listed : (s : BranchState) (lost succeeds : Bool) → IsAt lost s → (lost || not succeeds) ≡ true
+failed_listed : (s : BranchState) (lost succeeds : Bool) → IsAtWork lost s → (lost || not succeeds) ≡ true
     → Contains (branch_rows s (end_call succeeds)) (code.RbRollback, S4)
 failed_listed S4 true true h f = (0, omega arith, refl)
 failed_listed S4 true false h f = (0, omega arith, refl)
@@ -214,7 +214,7 @@ failed_listed S4 false succeeds h f = absurd h
 failed_listed S5 false succeeds h f = absurd h
 
 pub end_listed : (lost succeeds active : Bool) (s : BranchState) (a : AssocList) (t : ℕ) (x : Xid)
-    → IsAt lost s → IfOk (end_plan a t x lost succeeds)
+    → IsAtWork lost s → IfOk (end_plan a t x lost succeeds)
     (λ r. Contains (branch_rows s (end_call succeeds)) (r.1, left_by (lost || not succeeds) active))
 end_listed true true active s a t x h = let listed = failed_listed s true true h refl in search rules
 end_listed true false active s a t x h = let listed = failed_listed s true false h refl in search rules

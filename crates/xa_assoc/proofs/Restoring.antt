@@ -11,7 +11,7 @@ use Rattle.xa_codes.specs.declared.code.Code.TheVariants as code
 use Rattle.xa_tables.specs.declared.states.BranchState.{BranchState}
 use Rattle.xa_tables.specs.declared.states.BranchState.TheVariants.{S3, S5}
 use Rattle.xa_xid.specs.declared.xid.Xid.{Xid}
-use Rattle.xa_branch.specs.Branches.{Begins, BranchList, is_known, placed}
+use Rattle.xa_branch.specs.Branches.{BeginsState, BranchList, is_known, placed}
 use Rattle.xa_branch.specs.Names.{same}
 use Rattle.xa_branch.proofs.Placed.{placed_last}
 use Rattle.xa_assoc.specs.Restored.{has_twice, restore_refusal, state_left, states_left}
@@ -123,7 +123,7 @@ pub record Taken (left : List (Xid × Bool)) (i : ℕ) (old new : BranchList) (e
   pub short : length left ≤ 1024
   pub front : old.branches ≡ states_left (take i left)
   pub next : take (i + 1) left ≡ take i left ++ e ∷ []
-  pub begins : Begins old new e.0 (state_left e.1) c
+  pub begins : BeginsState old new e.0 (state_left e.1) c
 
 known_front : (left : List (Xid × Bool)) (i : ℕ) (old new : BranchList) (e : Xid × Bool) (c : Code)
     → Taken left i old new e c

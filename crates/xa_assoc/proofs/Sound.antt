@@ -9,21 +9,21 @@ use Rattle.xa_tables.specs.declared.states.AssocState.{AssocState}
 use Rattle.xa_tables.specs.declared.states.AssocState.TheVariants.{T0, T1, T2, M}
 use Rattle.xa_xid.specs.declared.xid.Xid.{Xid}
 use Rattle.xa_branch.proofs.Names.{same_is, same_flips}
-use Rattle.xa_assoc.specs.declared.held.Seat.{Seat}
+use Rattle.xa_assoc.specs.declared.held.Suspended.{Suspended}
 use Rattle.xa_assoc.specs.Names.{same, same_seat}
-use Rattle.xa_assoc.specs.Associations.{AssocList, active_of, has_seat, own_state, moved_of, has_some, is_holder, holds_any, listed_after, is_active, IsSound, Recounts, Turns, Moves, Settles}
+use Rattle.xa_assoc.specs.Associations.{AssocList, active_of, has_seat, own_state, moved_of, has_some, is_holder, holds_any, listed_after, is_active, IsSound, Recounts, Turns, AssocMoves, Settles}
 
-seat_thread : (t : ℕ) (x : Xid) (s : Seat) → same_seat (record { thread = t; xid = x }) s
+seat_thread : (t : ℕ) (x : Xid) (s : Suspended) → same_seat (record { thread = t; xid = x }) s
     ≡ true → nat_eq s.thread t ≡ true
 seat_thread t x s h = grind (arith, nat_tests)
 
 -- a thread that has suspended a branch has suspended some branch
-pub has_some-seat : (t : ℕ) (x : Xid) (seats : List Seat)
+pub has_some-seat : (t : ℕ) (x : Xid) (seats : List Suspended)
     → list_any (same_seat (record { thread = t; xid = x })) seats ≡ true → has_some seats t ≡ true
 has_some-seat t x [] h = absurd cc
 has_some-seat t x (s ∷ seats) h = grind (arith, seat_thread t x s, has_some-seat t x seats)
 
-state_by : Option Xid → List Seat → ℕ → Xid → AssocState
+state_by : Option Xid → List Suspended → ℕ → Xid → AssocState
 state_by o seats t x =
     if option_map_or (λ y. same y x) o false then T1
     else if list_any (same_seat (record { thread = t; xid = x })) seats then T2
@@ -45,7 +45,7 @@ moved_by moved x = moved_of (record { holders = []; seats = []; moved = moved; m
 
 -- a turn, and then the list of threads is settled
 pub settled : (old mid new : AssocList) (t : ℕ) (x : Xid) (from to : AssocState) → Turns old mid t x from to
-    → Settles mid new t → listed_after old new t from to ≡ holds_any new t → Moves old new t x from to
+    → Settles mid new t → listed_after old new t from to ≡ holds_any new t → AssocMoves old new t x from to
 settled old mid new t x from to turns settles listed = record {
   turns = record {
     own = own_state-same mid new t x (settles.active t) settles.seats ∙ turns.own;
@@ -123,13 +123,13 @@ unfolding state2
 own_state-none a t x b none seat = state2_is a t x ∙ ap (λ o. state2 (option_map_or (λ z. same z x) o false)
     (has_seat a t x)) none ∙ ap (λ c. state2 false c) seat
 
-pub seat_is : (a b : Seat) → same_seat a b ≡ true → a ≡ b
+pub seat_is : (a b : Suspended) → same_seat a b ≡ true → a ≡ b
 seat_is a b h = search rules
 
-seat_refl : (a : Seat) → same_seat a a ≡ true
+seat_refl : (a : Suspended) → same_seat a a ≡ true
 seat_refl a = search rules
 
-pub seat_flips : (a b : Seat) → same_seat a b ≡ false → same_seat b a ≡ false
+pub seat_flips : (a b : Suspended) → same_seat a b ≡ false → same_seat b a ≡ false
 seat_flips a b h = flips (same_seat b a) refl where
   flips : (r : Bool) → same_seat b a ≡ r → r ≡ false
   flips false e = refl
@@ -152,7 +152,7 @@ kept_removed old new t sound seats free others u x seat =
 
 -- a count is raised, and then an active branch is left
 pub set_out : (old mid new : AssocList) (t : ℕ) (x : Xid) (n : ℕ) → Recounts old mid x n
-    → n ≡ moved_of old x + 1 → Moves mid new t x T1 T0 → Moves old new t x T1 M
+    → n ≡ moved_of old x + 1 → AssocMoves mid new t x T1 T0 → AssocMoves old new t x T1 M
 set_out old mid new t x n counted more moves =
     let held : (u : ℕ) → active_of mid u ≡ active_of old u = λ u. ap (λ h. active_of
     (record { holders = h; seats = []; moved = []; migrates = true }) u) counted.holders in
@@ -175,8 +175,8 @@ set_out old mid new t x n counted more moves =
     }
 
 -- a thread enters, and then a count is lowered
-pub pick_up : (old mid new : AssocList) (t : ℕ) (x : Xid) (n : ℕ) → Moves old mid t x T0 T1
-    → Recounts mid new x n → n + 1 ≡ moved_of old x → Moves old new t x M T1
+pub pick_up : (old mid new : AssocList) (t : ℕ) (x : Xid) (n : ℕ) → AssocMoves old mid t x T0 T1
+    → Recounts mid new x n → n + 1 ≡ moved_of old x → AssocMoves old new t x M T1
 pick_up old mid new t x n moves counted less =
     let held : (u : ℕ) → active_of new u ≡ active_of mid u = λ u. ap (λ h. active_of
     (record { holders = h; seats = []; moved = []; migrates = true }) u) counted.holders in

@@ -10,14 +10,14 @@ use Rattle.xa_tables.specs.declared.call.Call.{Call}
 use Rattle.xa_tables.specs.declared.states.AssocState.{AssocState}
 use Rattle.xa_tables.specs.declared.states.AssocState.TheVariants.{T0, T1, T2, M}
 use Rattle.xa_xid.specs.declared.xid.Xid.{Xid}
-use Rattle.xa_assoc.specs.declared.held.Seat.{Seat}
+use Rattle.xa_assoc.specs.declared.held.Suspended.{Suspended}
 use Rattle.xa_assoc.specs.Names.{same, same_seat}
 
 -- the threads that hold associations, each with the branch that it is active in; which branches they have
 -- suspended; how often a branch is suspended for migration; and whether the manager migrates
 pub record AssocList : Type 0 where
   pub holders : List (ℕ × Option Xid)
-  pub seats : List Seat
+  pub seats : List Suspended
   pub moved : List (Xid × ℕ)
   pub migrates : Bool
 
@@ -34,7 +34,7 @@ abbrev pub has_seat : AssocList → ℕ → Xid → Bool
 has_seat a t x = list_any (same_seat (record { thread = t; xid = x })) a.seats
 
 -- a thread has suspended some branch
-abbrev pub has_some : List Seat → ℕ → Bool
+abbrev pub has_some : List Suspended → ℕ → Bool
 has_some seats t = list_any (λ s. nat_eq s.thread t) seats
 
 -- the state of a thread's own association with a branch
@@ -54,25 +54,25 @@ abbrev pub holds_any : AssocList → ℕ → Bool
 holds_any a t = is_some (active_of a t) || has_some a.seats t
 
 -- each thread that holds associations is listed once, as the keys of a map are
-abbrev pub AreListedOnce : List (ℕ × Option Xid) → Type 0
-AreListedOnce [] = Unit {0}
-AreListedOnce (e ∷ es) = AllByRecursion (λ f. nat_eq f.0 e.0 ≡ false) es × AreListedOnce es
+abbrev pub AreThreadsListedOnce : List (ℕ × Option Xid) → Type 0
+AreThreadsListedOnce [] = Unit {0}
+AreThreadsListedOnce (e ∷ es) = AllByRecursion (λ f. nat_eq f.0 e.0 ≡ false) es × AreThreadsListedOnce es
 
 -- nothing is listed that is counted no times
-abbrev pub AreCounted : {K : Type 0} → List (K × ℕ) → Type 0
-AreCounted es = AllByRecursion (λ e. 0 < e.1) es
+abbrev pub ArePositiveCounts : {K : Type 0} → List (K × ℕ) → Type 0
+ArePositiveCounts es = AllByRecursion (λ e. 0 < e.1) es
 
 -- each thread is listed once among those that hold associations, and a branch as suspended for migration only if it is
-pub record IsListed (a : AssocList) : Type 0 where
-  pub once : AreListedOnce a.holders
-  pub counted : AreCounted a.moved
+pub record IsAssocList (a : AssocList) : Type 0 where
+  pub once : AreThreadsListedOnce a.holders
+  pub counted : ArePositiveCounts a.moved
 
 -- no thread has suspended the branch that it is active in, and one that has suspended a branch is listed; a branch is
 -- listed as suspended for migration only if it is
 pub record IsSound (a : AssocList) : Type 0 where
   pub apart : (t : ℕ) (x : Xid) → is_active a t x ≡ true → has_seat a t x ≡ false
   pub kept : (t : ℕ) (x : Xid) → has_seat a t x ≡ true → is_holder a t ≡ true
-  pub counted : AreCounted a.moved
+  pub counted : ArePositiveCounts a.moved
 
 -- a thread is active in a branch, whichever it is
 abbrev pub has_active : AssocList → Xid → Bool
@@ -123,7 +123,7 @@ listed_after old new t M T0 = is_holder old t
 listed_after old new t from to = holds_any new t
 
 -- one association turns, and its thread is listed from now on exactly where it holds one
-pub record Moves (old new : AssocList) (t : ℕ) (x : Xid) (from to : AssocState) : Type 0 where
+pub record AssocMoves (old new : AssocList) (t : ℕ) (x : Xid) (from to : AssocState) : Type 0 where
   pub turns : Turns old new t x from to
   pub holder : is_holder new t ≡ listed_after old new t from to
 
@@ -145,11 +145,11 @@ pub record Recounts (old new : AssocList) (x : Xid) (n : ℕ) : Type 0 where
   pub migrates : new.migrates ≡ old.migrates
 
 -- a row of the table of associations: where it comes from, what it answers and where it leads
-abbrev pub Row : Type 0
-Row = AssocState × Code × AssocState
+abbrev pub AssocRow : Type 0
+AssocRow = AssocState × Code × AssocState
 
 -- a row of the table of associations: the state, the answer, and the state after it
-abbrev pub row : AssocState → Code → AssocState → Result Row Code
+abbrev pub row : AssocState → Code → AssocState → Result AssocRow Code
 row from answer to = Ok (from, answer, to)
 
 -- a thread may hold one association more: it holds some already, or fewer than 256 threads do
@@ -157,7 +157,7 @@ abbrev pub has_room : AssocList → ℕ → Bool
 has_room a t = is_holder a t || nat_lt (length a.holders) 256
 
 -- a start, with TMJOIN or not: which row applies, or the first refusal
-abbrev pub start_plan : AssocList → ℕ → Xid → Result Row Code
+abbrev pub start_plan : AssocList → ℕ → Xid → Result AssocRow Code
 start_plan a t x =
     if is_some (active_of a t) || has_seat a t x then Err code.Proto
     else if has_room a t then row T0 code.Ok T1
@@ -165,7 +165,7 @@ start_plan a t x =
 
 -- what a resume finds of a branch that it has not suspended itself: the oldest migrated one, which belongs to
 -- nobody
-abbrev pub moved_plan : AssocList → ℕ → Xid → Bool → Result Row Code
+abbrev pub moved_plan : AssocList → ℕ → Xid → Bool → Result AssocRow Code
 moved_plan a t x lost =
     if moved_of a x == 0 then Err code.Proto
     else if lost then row M code.RbRollback T0
@@ -173,14 +173,14 @@ moved_plan a t x lost =
     else Err code.RmErr
 
 -- a start TMRESUME of a branch that is lost (in S4) or not
-abbrev pub resume_plan : AssocList → ℕ → Xid → Bool → Result Row Code
+abbrev pub resume_plan : AssocList → ℕ → Xid → Bool → Result AssocRow Code
 resume_plan a t x lost =
     if is_some (active_of a t) then Err code.Proto
     else if has_seat a t x then (if lost then row T2 code.RbRollback T0 else row T2 code.Ok T1)
     else moved_plan a t x lost
 
 -- an end TMSUSPEND, with TMMIGRATE or not
-abbrev pub suspend_plan : AssocList → ℕ → Xid → Bool → Bool → Result Row Code
+abbrev pub suspend_plan : AssocList → ℕ → Xid → Bool → Bool → Result AssocRow Code
 suspend_plan a t x lost migrate =
     if not (is_active a t x) then Err code.Proto
     else if lost then row T1 code.RbRollback T0
@@ -190,7 +190,7 @@ suspend_plan a t x lost migrate =
     else Err code.RmErr
 
 -- an end TMSUCCESS or TMFAIL
-abbrev pub end_plan : AssocList → ℕ → Xid → Bool → Bool → Result Row Code
+abbrev pub end_plan : AssocList → ℕ → Xid → Bool → Bool → Result AssocRow Code
 end_plan a t x lost succeeds =
     let answer = if succeeds && not lost then code.Ok else code.RbRollback in
     if is_active a t x then row T1 answer T0
@@ -198,11 +198,11 @@ end_plan a t x lost succeeds =
     else Err code.Proto
 
 -- a call made the row that applies and answered by it, or was refused and changed nothing
-abbrev pub Steps : AssocList → AssocList → ℕ → Xid → Result Row Code → Code → Type 0
-Steps old new t x plan answer = MatchResult plan
-    (λ r. (answer ≡ r.1) × Moves old new t x r.0 r.2)
+abbrev pub AssocSteps : AssocList → AssocList → ℕ → Xid → Result AssocRow Code → Code → Type 0
+AssocSteps old new t x plan answer = MatchResult plan
+    (λ r. (answer ≡ r.1) × AssocMoves old new t x r.0 r.2)
     (λ refusal. (answer ≡ refusal) × (new ≡ old))
 
 -- what a plan makes is in the table
-abbrev pub IsRowOf : Call → Result Row Code → Type 0
+abbrev pub IsRowOf : Call → Result AssocRow Code → Type 0
 IsRowOf call plan = IfOk plan (λ r. Contains (assoc_rows r.0 call) (r.1, r.2))

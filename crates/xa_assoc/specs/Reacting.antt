@@ -6,11 +6,11 @@ use Rattle.xa_tables.specs.declared.call.Call.{Call}
 use Rattle.xa_tables.specs.declared.call.Call.TheVariants as call
 use Rattle.xa_tables.specs.declared.states.BranchState.{BranchState}
 use Rattle.xa_tables.specs.declared.states.BranchState.TheVariants.{S0, S1, S2, S3, S4, S5}
-use Rattle.xa_assoc.specs.Associations.{Row}
+use Rattle.xa_assoc.specs.Associations.{AssocRow}
 
 -- what a call on a branch does by the branch's state: work goes on in S1 and S2, is lost in S4, and the rest
 -- is refused
-abbrev pub by_state : BranchState → Result Row Code → Result Row Code → Result Row Code
+abbrev pub by_state : BranchState → Result AssocRow Code → Result AssocRow Code → Result AssocRow Code
 by_state S0 work lost = Err code.NotA
 by_state S1 work lost = work
 by_state S2 work lost = work
@@ -19,12 +19,12 @@ by_state S4 work lost = lost
 by_state S5 work lost = Err code.Proto
 
 -- a branch is at work (in S1 or S2), or its work is lost (in S4)
-abbrev pub IsAt : Bool → BranchState → Type 0
-IsAt true S4 = Unit {0}
-IsAt true _ = ⊥
-IsAt false S1 = Unit {0}
-IsAt false S2 = Unit {0}
-IsAt false _ = ⊥
+abbrev pub IsAtWork : Bool → BranchState → Type 0
+IsAtWork true S4 = Unit {0}
+IsAtWork true _ = ⊥
+IsAtWork false S1 = Unit {0}
+IsAtWork false S2 = Unit {0}
+IsAtWork false _ = ⊥
 
 -- where a resume leads
 abbrev pub resumed : Bool → BranchState

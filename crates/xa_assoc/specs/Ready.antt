@@ -13,7 +13,7 @@ use Rattle.xa_tables.specs.declared.states.InitState.{InitState}
 use Rattle.xa_tables.specs.declared.states.InitState.TheVariants.{R0, R1}
 use Rattle.xa_xid.specs.declared.xid.Xid.{Xid}
 use Rattle.xa_xid.specs.Xids.{null_xid}
-use Rattle.xa_branch.specs.Branches.{StandsAt, is_known}
+use Rattle.xa_branch.specs.Branches.{BranchStandsAt, is_known}
 use Rattle.xa_branch.specs.Names.{same}
 use Rattle.xa_assoc.specs.declared.states.States.{States}
 use Rattle.xa_assoc.specs.Answers.{is_held, state_at}
@@ -79,8 +79,8 @@ abbrev pub ready : States → Verb → Xid → ℕ → Result Call Code
 ready m v x flags = judged m x (legal v flags)
 
 -- the call that finishes a branch by a row of the table, with the branch's place and its state
-pub record IsReady (m : States) (v : Verb) (x : Xid) (flags : ℕ) (c : Call) (place : ℕ)
+pub record IsReadyCall (m : States) (v : Verb) (x : Xid) (flags : ℕ) (c : Call) (place : ℕ)
     (from : BranchState) : Type 0 where
   pub checked : ready m v x flags ≡ Ok c
-  pub stands : StandsAt m.branches.branches x place
+  pub stands : BranchStandsAt m.branches.branches x place
   pub state : from ≡ state_at m x

@@ -1,9 +1,9 @@
 //! Each thread's associations, and those that belong to nobody.
 
 ghost use Rattle.std.specs.Prelude.{◌≡◌, ◌≢◌, ◌≤◌, ◌<◌, ◌+◌, ◌^◌, ◌↔◌, IsTrue, [], IfOk, OnOk, OnErr, IsOk, Some, None, is_some, true, false, option_map, ◌||◌};
-ghost use Rattle.xa_assoc.specs.Associations.{AssocList, active_of, has_seat, own_state, moved_of, Moves, Turns, Settles, Recounts, has_some, is_holder, is_active, has_room, Steps, start_plan, resume_plan, moved_plan, suspend_plan, end_plan, has_active, has_suspended, IsBare, IsListed};
+ghost use Rattle.xa_assoc.specs.Associations.{AssocList, active_of, has_seat, own_state, moved_of, AssocMoves, Turns, Settles, Recounts, has_some, is_holder, is_active, has_room, AssocSteps, start_plan, resume_plan, moved_plan, suspend_plan, end_plan, has_active, has_suspended, IsBare, IsAssocList};
 
-use crate::held::{OfBranch, Seat};
+use crate::held::{OfBranch, Suspended};
 use crate::seats::{Seats, count, recount};
 use indexmap::IndexMap;
 use std::alloc::{AllocError, Global};
@@ -62,7 +62,7 @@ impl Associations {
 
     /// Each thread that holds associations is listed once, and a branch as suspended for migration only if it is.
     pub fn are_listed_once(&self)
-        ensures { IsListed self.now }
+        ensures { IsAssocList self.now }
     {
         let _ = self.active.len();
     }
@@ -135,7 +135,7 @@ impl Associations {
     /// A start without TMRESUME. Proto: the thread is active in a branch, or has suspended this one. RmErr:
     /// it holds nothing and 256 threads hold associations. Either changes nothing.
     pub fn start(&mut self, thread: u32, xid: &Xid) -> Result<Code, AllocError>
-        ensures answer { IfOk result (Steps self.old self.new thread xid.now
+        ensures answer { IfOk result (AssocSteps self.old self.new thread xid.now
             (start_plan self.old thread xid.now)) }
         ensures err { OnErr result (self.new ≡ self.old) }
     {
@@ -154,7 +154,7 @@ impl Associations {
     /// thread is active in a branch, or there is none to resume. RmErr: it holds nothing and 256 threads
     /// hold associations. The last two change nothing.
     pub fn resume(&mut self, thread: u32, xid: &Xid, lost: bool) -> Result<Code, AllocError>
-        ensures answer { IfOk result (Steps self.old self.new thread xid.now
+        ensures answer { IfOk result (AssocSteps self.old self.new thread xid.now
             (resume_plan self.old thread xid.now lost)) }
         ensures err { OnErr result (self.new ≡ self.old) }
     {
@@ -175,7 +175,7 @@ impl Associations {
     fn resume_migrated(&mut self, thread: u32, xid: &Xid, lost: bool) -> Result<Code, AllocError>
         requires free { active_of self.old thread ≡ None }
         requires own { has_seat self.old thread xid.now ≡ false }
-        ensures answer { IfOk result (Steps self.old self.new thread xid.now
+        ensures answer { IfOk result (AssocSteps self.old self.new thread xid.now
             (moved_plan self.old thread xid.now lost)) }
         ensures err { OnErr result (self.new ≡ self.old) }
     {
@@ -204,7 +204,7 @@ impl Associations {
         lost: bool,
         migrate: bool,
     ) -> Result<Code, AllocError>
-        ensures answer { IfOk result (Steps self.old self.new thread xid.now
+        ensures answer { IfOk result (AssocSteps self.old self.new thread xid.now
             (suspend_plan self.old thread xid.now lost migrate)) }
         ensures err { OnErr result (self.new ≡ self.old) }
     {
@@ -233,7 +233,7 @@ impl Associations {
     /// An end TMSUCCESS, or else TMFAIL, of a branch that is lost (in S4) or not. RbRollback: it is lost, or
     /// the work failed. Proto: the thread holds no association with the branch, and nothing changes.
     pub fn end(&mut self, thread: u32, xid: &Xid, lost: bool, succeeds: bool) -> Code
-        ensures { Steps self.old self.new thread xid.now
+        ensures { AssocSteps self.old self.new thread xid.now
             (end_plan self.old thread xid.now lost succeeds) result }
     {
         if self.is_active(thread, xid) {
@@ -325,7 +325,7 @@ impl Associations {
     fn enter(&mut self, thread: u32, xid: &Xid) -> Result<(), AllocError>
         requires from { own_state self.old thread xid.now ≡ AssocState.T0 }
         requires free { active_of self.old thread ≡ None }
-        ensures ok { OnOk result (Moves self.old self.new thread xid.now AssocState.T0 AssocState.T1) }
+        ensures ok { OnOk result (AssocMoves self.old self.new thread xid.now AssocState.T0 AssocState.T1) }
         ensures err { OnErr result (self.new ≡ self.old) }
     {
         self.active.insert(thread, Some(*xid))?;
@@ -335,7 +335,7 @@ impl Associations {
     /// T1 to T0.
     fn leave(&mut self, thread: u32, xid: &Xid)
         requires from { own_state self.old thread xid.now ≡ AssocState.T1 }
-        ensures { Moves self.old self.new thread xid.now AssocState.T1 AssocState.T0 }
+        ensures { AssocMoves self.old self.new thread xid.now AssocState.T1 AssocState.T0 }
     {
         if self.has_suspended(thread) {
             self.clear_active(thread, xid);
@@ -348,7 +348,7 @@ impl Associations {
     fn clear_active(&mut self, thread: u32, xid: &Xid)
         requires from { own_state self.old thread xid.now ≡ AssocState.T1 }
         requires suspends { has_some self.old.seats thread ≡ true }
-        ensures { Moves self.old self.new thread xid.now AssocState.T1 AssocState.T0 }
+        ensures { AssocMoves self.old self.new thread xid.now AssocState.T1 AssocState.T0 }
     {
         let _ = self.active.insert(thread, None).unwrap();
     }
@@ -357,7 +357,7 @@ impl Associations {
     fn remove_active(&mut self, thread: u32, xid: &Xid)
         requires from { own_state self.old thread xid.now ≡ AssocState.T1 }
         requires alone { has_some self.old.seats thread ≡ false }
-        ensures { Moves self.old self.new thread xid.now AssocState.T1 AssocState.T0 }
+        ensures { AssocMoves self.old self.new thread xid.now AssocState.T1 AssocState.T0 }
     {
         let _ = self.active.swap_remove(&thread);
     }
@@ -365,10 +365,10 @@ impl Associations {
     /// T1 to T2.
     fn set_aside(&mut self, thread: u32, xid: &Xid) -> Result<(), AllocError>
         requires from { own_state self.old thread xid.now ≡ AssocState.T1 }
-        ensures ok { OnOk result (Moves self.old self.new thread xid.now AssocState.T1 AssocState.T2) }
+        ensures ok { OnOk result (AssocMoves self.old self.new thread xid.now AssocState.T1 AssocState.T2) }
         ensures err { OnErr result (self.new ≡ self.old) }
     {
-        self.suspended.insert(Seat { thread, xid: *xid })?;
+        self.suspended.insert(Suspended { thread, xid: *xid })?;
         let _ = self.active.insert(thread, None).unwrap();
         Ok(())
     }
@@ -377,16 +377,16 @@ impl Associations {
     fn take_up(&mut self, thread: u32, xid: &Xid)
         requires from { own_state self.old thread xid.now ≡ AssocState.T2 }
         requires free { active_of self.old thread ≡ None }
-        ensures { Moves self.old self.new thread xid.now AssocState.T2 AssocState.T1 }
+        ensures { AssocMoves self.old self.new thread xid.now AssocState.T2 AssocState.T1 }
     {
-        self.suspended.remove(&Seat { thread, xid: *xid });
+        self.suspended.remove(&Suspended { thread, xid: *xid });
         let _ = self.active.insert(thread, Some(*xid)).unwrap();
     }
 
     /// T2 to T0.
     fn give_up(&mut self, thread: u32, xid: &Xid)
         requires from { own_state self.old thread xid.now ≡ AssocState.T2 }
-        ensures { Moves self.old self.new thread xid.now AssocState.T2 AssocState.T0 }
+        ensures { AssocMoves self.old self.new thread xid.now AssocState.T2 AssocState.T0 }
     {
         self.remove_seat(thread, xid);
         self.settle(thread);
@@ -398,7 +398,7 @@ impl Associations {
         ensures turns { Turns self.old self.new thread xid.now AssocState.T2 AssocState.T0 }
         ensures holder { is_holder self.new thread ≡ true }
     {
-        self.suspended.remove(&Seat { thread, xid: *xid });
+        self.suspended.remove(&Suspended { thread, xid: *xid });
     }
 
     /// Counts how often a branch is suspended for migration.
@@ -415,7 +415,7 @@ impl Associations {
     fn set_out(&mut self, thread: u32, xid: &Xid) -> Result<(), AllocError>
         requires from { own_state self.old thread xid.now ≡ AssocState.T1 }
         requires fits { moved_of self.old xid.now + 1 < 2 ^ 64 }
-        ensures ok { OnOk result (Moves self.old self.new thread xid.now AssocState.T1 AssocState.M) }
+        ensures ok { OnOk result (AssocMoves self.old self.new thread xid.now AssocState.T1 AssocState.M) }
         ensures err { OnErr result (self.new ≡ self.old) }
     {
         let count = self.migrations(xid) + 1;
@@ -429,7 +429,7 @@ impl Associations {
         requires from { own_state self.old thread xid.now ≡ AssocState.T0 }
         requires free { active_of self.old thread ≡ None }
         requires migrated { 0 < moved_of self.old xid.now }
-        ensures ok { OnOk result (Moves self.old self.new thread xid.now AssocState.M AssocState.T1) }
+        ensures ok { OnOk result (AssocMoves self.old self.new thread xid.now AssocState.M AssocState.T1) }
         ensures err { OnErr result (self.new ≡ self.old) }
     {
         let count = self.migrations(xid) - 1;
@@ -442,7 +442,7 @@ impl Associations {
     fn discard(&mut self, thread: u32, xid: &Xid)
         requires from { own_state self.old thread xid.now ≡ AssocState.T0 }
         requires migrated { 0 < moved_of self.old xid.now }
-        ensures { Moves self.old self.new thread xid.now AssocState.M AssocState.T0 }
+        ensures { AssocMoves self.old self.new thread xid.now AssocState.M AssocState.T0 }
     {
         let count = self.migrations(xid) - 1;
         self.recount(xid, count).unwrap();

@@ -4,7 +4,7 @@ use xa_xid::Xid;
 
 /// A branch that a thread has suspended.
 #[derive(Clone, Copy, PartialEq, Eq, Hash)]
-pub(crate) struct Seat {
+pub(crate) struct Suspended {
     pub(crate) thread: u32,
     pub(crate) xid: Xid,
 }

@@ -3,11 +3,11 @@
 ghost use Rattle.std.specs.Prelude.{◌≡◌, ◌≤◌, ◌<◌, ◌^◌, OnOk, OnErr, IsOk, IsTrue, true, false, []};
 ghost use Rattle.std.specs.List.{list_any};
 ghost use Rattle.indexmap.specs.IndexMap.{spare};
-ghost use Rattle.xa_assoc.specs.Associations.{AreCounted, has_some};
+ghost use Rattle.xa_assoc.specs.Associations.{ArePositiveCounts, has_some};
 ghost use Rattle.xa_assoc.specs.Names.{same, same_seat};
 ghost use Rattle.xa_assoc.specs.Seats.{count_of, holds, Turns};
 
-use crate::held::Seat;
+use crate::held::Suspended;
 use indexmap::{IndexMap, IndexSet};
 use std::alloc::{AllocError, Global};
 use std::hash::Hash;
@@ -17,17 +17,17 @@ use xa_xid::Xid;
 /// The suspended associations.
 #[derive(Drop)]
 pub(crate) struct Seats {
-    taken: IndexSet<Seat>,
+    taken: IndexSet<Suspended>,
     by_thread: IndexMap<u32, u64>,
     by_branch: IndexMap<Xid, u64>,
 }
 
 impl Model for Seats {
     ghost use Rattle.std.specs.Prelude.{List};
-    ghost use Rattle.xa_assoc.specs.declared.held.Seat.{Seat};
+    ghost use Rattle.xa_assoc.specs.declared.held.Suspended.{Suspended};
     ghost use Rattle.xa_assoc.specs.Seats.{IsCounted};
 
-    ghost Value = { List Seat };
+    ghost Value = { List Suspended };
 
     ghost view = { λ s. s.taken.keys };
 
@@ -50,7 +50,7 @@ impl Seats {
     pub(crate) fn contains(&self, thread: u32, xid: &Xid) -> bool
         ensures { result ≡ holds self.now (record { thread = thread; xid = xid.now }) }
     {
-        !self.taken.is_empty() && self.taken.contains(&Seat { thread, xid: *xid })
+        !self.taken.is_empty() && self.taken.contains(&Suspended { thread, xid: *xid })
     }
 
     /// Whether a thread has suspended any branch.
@@ -68,7 +68,7 @@ impl Seats {
     }
 
     /// A thread suspends a branch that it has not suspended.
-    pub(crate) fn insert(&mut self, seat: Seat) -> Result<(), AllocError>
+    pub(crate) fn insert(&mut self, seat: Suspended) -> Result<(), AllocError>
         requires free { holds self.old seat ≡ false }
         ensures ok { OnOk result (Turns self.old self.new seat true) }
         ensures err { OnErr result (self.new ≡ self.old) }
@@ -86,7 +86,7 @@ impl Seats {
     }
 
     /// A thread has suspended a branch no longer.
-    pub(crate) fn remove(&mut self, seat: &Seat)
+    pub(crate) fn remove(&mut self, seat: &Suspended)
         requires taken { holds self.old seat.now ≡ true }
         ensures { Turns self.old self.new seat.now false }
     {
@@ -126,7 +126,7 @@ pub(crate) fn recount<K: Eq + Hash + Drop>(
     ensures err { OnErr result (counts.new.entries ≡ counts.old.entries) }
     ensures fewer { count ≤ count_of K.eq counts.old.entries key → IsOk result }
     ensures room { 0 < spare counts.old → IsOk result }
-    ensures counted { AreCounted counts.old.entries → AreCounted counts.new.entries }
+    ensures counted { ArePositiveCounts counts.old.entries → ArePositiveCounts counts.new.entries }
 {
     if count == 0 {
         let _ = counts.swap_remove(&key);

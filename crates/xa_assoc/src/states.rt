@@ -3,7 +3,7 @@
 use crate::associations::Associations;
 use crate::reacting::{has_rows, is_failed, is_refusal, resumed, state_left};
 use std::alloc::{AllocError, Global};
-use xa_branch::Branches;
+use xa_branch::BranchStates;
 use xa_codes::{Code, Flags};
 use xa_tables::{BranchState, Call, InitState, Verb, legal_call};
 use xa_xid::Xid;
@@ -16,29 +16,29 @@ const BRANCHES: usize = 1024;
 #[derive(Drop)]
 pub struct States {
     init: InitState,
-    branches: Branches,
+    branches: BranchStates,
     associations: Associations,
 }
 
 impl States {
     ghost use Rattle.std.specs.Prelude.{◌≡◌, ◌≢◌, ◌≤◌, ◌||◌, not, length, IfOk, IfErr, OnErr, MatchResult, Err, Some, None, true, false};
     ghost use Rattle.xa_tables.specs.declared.call.Call.TheVariants as call;
-    ghost use Rattle.xa_assoc.specs.Associations.{IsListed, active_of, start_plan, resume_plan, suspend_plan, end_plan};
-    ghost use Rattle.xa_branch.specs.Branches.{AreListedOnce, Finds, StandsAt, in_doubt};
+    ghost use Rattle.xa_assoc.specs.Associations.{IsAssocList, active_of, start_plan, resume_plan, suspend_plan, end_plan};
+    ghost use Rattle.xa_branch.specs.Branches.{AreBranchesListedOnce, FindsBranchAt, BranchStandsAt, in_doubt};
     ghost use Rattle.xa_xid.specs.declared.xid.Xid.{Xid as AnyXid};
-    ghost use Rattle.xa_assoc.specs.Reacting.{IsAt, resumed, suspend_call, end_call};
-    ghost use Rattle.xa_assoc.specs.Answers.{BeginsIdle, Same, IsNew, Opens, Closes, Wanted, Answers, Recovers, Takes, map_ok, Reacts, Resumes, Suspends, Ends, left_state, is_held, start_reaction, join_reaction, state_at};
-    ghost use Rattle.xa_assoc.specs.Ready.{IsReady, is_work_verb, is_closed, leaves, ready};
+    ghost use Rattle.xa_assoc.specs.Reacting.{IsAtWork, resumed, suspend_call, end_call};
+    ghost use Rattle.xa_assoc.specs.Answers.{BeginsIdle, SameStates, AreNewStates, OpensManager, Closes, Wanted, AnswersCall, Recovers, TakesTableRow, map_ok, ReactsByRows, Resumes, Suspends, EndsWork, left_state, is_held, start_reaction, join_reaction, state_at};
+    ghost use Rattle.xa_assoc.specs.Ready.{IsReadyCall, is_work_verb, is_closed, leaves, ready};
     ghost use Rattle.xa_tables.specs.Calls.{legal};
     ghost use Rattle.xa_assoc.specs.Restored.{Restored, restore_refusal};
 
     /// A manager that is not open.
     pub fn new(alloc: Global) -> Self
-        ensures { IsNew result }
+        ensures { AreNewStates result }
     {
         States {
             init: InitState::R0,
-            branches: Branches::new(alloc),
+            branches: BranchStates::new(alloc),
             associations: Associations::new(alloc, true),
         }
     }
@@ -54,7 +54,7 @@ impl States {
         if left.len() > BRANCHES {
             return Ok(Err(Code::RmErr));
         }
-        let mut branches = Branches::new(alloc);
+        let mut branches = BranchStates::new(alloc);
         for (xid, decided) in left {
             let code = branches.restore(xid, state_left(*decided))?;
             if code != Code::Ok {
@@ -79,7 +79,7 @@ impl States {
     /// of memory.
     pub fn begin_idle(&mut self, xid: &Xid) -> Result<bool, AllocError>
         ensures begun { IfOk result (BeginsIdle self.old self.new xid.now) }
-        ensures err { OnErr result (Same self.old self.new) }
+        ensures err { OnErr result (SameStates self.old self.new) }
     {
         match self.branches.begin_idle(xid)? {
             Code::Ok => Ok(true),
@@ -110,14 +110,14 @@ impl States {
 
     /// Each known branch is listed once, and none that is in S0.
     pub fn branches_are_listed_once(&self)
-        ensures { AreListedOnce self.now.branches.branches }
+        ensures { AreBranchesListedOnce self.now.branches.branches }
     {
         self.branches.are_listed_once();
     }
 
     /// Each thread that holds associations is listed once, and a branch as suspended for migration only if it is.
     pub fn associations_are_listed_once(&self)
-        ensures { IsListed self.now.associations }
+        ensures { IsAssocList self.now.associations }
     {
         self.associations.are_listed_once();
     }
@@ -132,7 +132,7 @@ impl States {
     /// Opens the manager, which migrates associations or not. Where it is open nothing changes. Inval,
     /// Async: the flags; nothing changes.
     pub fn open(&mut self, flags: Flags, migrates: bool) -> Code
-        ensures { Opens self.old self.new flags.0 migrates result }
+        ensures { OpensManager self.old self.new flags.0 migrates result }
     {
         if let Err(refusal) = legal_call(Verb::Open, flags) {
             return refusal;
@@ -172,8 +172,8 @@ impl States {
     ) -> Result<Code, AllocError>
         requires { is_work_verb verb ≡ true }
         ensures answer { IfOk result (λ answer. (wanted : Wanted)
-            → Answers wanted self.old self.new verb thread xid.now flags.0 answer) }
-        ensures err { OnErr result ((leaves (legal verb flags.0) ≡ false) × Same self.old self.new) }
+            → AnswersCall wanted self.old self.new verb thread xid.now flags.0 answer) }
+        ensures err { OnErr result ((leaves (legal verb flags.0) ≡ false) × SameStates self.old self.new) }
     {
         let call = match legal_call(verb, flags) {
             Ok(call) => call,
@@ -205,7 +205,7 @@ impl States {
         xid: &Xid,
         flags: Flags,
     ) -> Result<(Call, usize, BranchState), Code>
-        ensures ok { IfOk result (λ given. IsReady self.now verb xid.now flags.0 given.0 given.1 given.2) }
+        ensures ok { IfOk result (λ given. IsReadyCall self.now verb xid.now flags.0 given.0 given.1 given.2) }
         ensures err { IfErr result (λ refusal. ready self.now verb xid.now flags.0 ≡ Err refusal) }
     {
         let call = legal_call(verb, flags)?;
@@ -226,7 +226,7 @@ impl States {
 
     /// Where a branch is among the known ones, and its state.
     pub fn find(&self, xid: &Xid) -> Option<(usize, BranchState)>
-        ensures { Finds self.now.branches.branches xid.now result }
+        ensures { FindsBranchAt self.now.branches.branches xid.now result }
     {
         self.branches.find(xid)
     }
@@ -234,9 +234,9 @@ impl States {
     /// The known branch that is at a place comes to the state after the row that it takes. Where no
     /// branch stands nothing changes. It takes no memory.
     pub fn finish(&mut self, place: usize, to: BranchState)
-        ensures taken { (x : AnyXid) → StandsAt self.old.branches.branches x place
-            → Takes self.old self.new x to }
-        ensures nowhere { length self.old.branches.branches ≤ place → Same self.old self.new }
+        ensures taken { (x : AnyXid) → BranchStandsAt self.old.branches.branches x place
+            → TakesTableRow self.old self.new x to }
+        ensures nowhere { length self.old.branches.branches ≤ place → SameStates self.old self.new }
     {
         self.branches.place(place, to);
     }
@@ -245,7 +245,7 @@ impl States {
     /// open. False: it is not in S3, and nothing changes.
     pub fn decided(&mut self, xid: &Xid) -> bool
         ensures decided { result ≡ true → (state_at self.old xid.now ≡ BranchState.S3)
-            × Takes self.old self.new xid.now BranchState.S5 }
+            × TakesTableRow self.old self.new xid.now BranchState.S5 }
         ensures refused { result ≡ false
             → (state_at self.old xid.now ≢ BranchState.S3) × (self.new ≡ self.old) }
     {
@@ -263,7 +263,7 @@ impl States {
     ) -> Result<Result<Vec<Xid>, Code>, AllocError>
         ensures answer { IfOk result
             (λ answer. Recovers self.old self.new thread count flags.0 (map_ok answer)) }
-        ensures err { OnErr result (Same self.old self.new) }
+        ensures err { OnErr result (SameStates self.old self.new) }
     {
         let call = match legal_call(Verb::Recover, flags) {
             Ok(call) => call,
@@ -278,9 +278,9 @@ impl States {
     /// A start of a new branch.
     fn start(&mut self, thread: u32, xid: &Xid) -> Result<Code, AllocError>
         ensures answer { IfOk result
-            (Reacts self.old self.new thread xid.now call.Start
+            (ReactsByRows self.old self.new thread xid.now call.Start
             (start_reaction self.old thread xid.now) BranchState.S1) }
-        ensures err { OnErr result (Same self.old self.new) }
+        ensures err { OnErr result (SameStates self.old self.new) }
     {
         if self.branches.is_known(xid) {
             return Ok(Code::DupId);
@@ -300,9 +300,9 @@ impl States {
     /// A start TMJOIN.
     fn join(&mut self, thread: u32, xid: &Xid) -> Result<Code, AllocError>
         ensures answer { IfOk result
-            (Reacts self.old self.new thread xid.now call.StartJoin
+            (ReactsByRows self.old self.new thread xid.now call.StartJoin
             (join_reaction self.old thread xid.now) BranchState.S1) }
-        ensures err { OnErr result (Same self.old self.new) }
+        ensures err { OnErr result (SameStates self.old self.new) }
     {
         let Some((place, state)) = self.branches.find(xid) else {
             return Ok(Code::NotA);
@@ -315,12 +315,12 @@ impl States {
     }
 
     fn join_work(&mut self, place: usize, thread: u32, xid: &Xid) -> Result<Code, AllocError>
-        requires at { IsAt false (state_at self.old xid.now) }
-        requires place { StandsAt self.old.branches.branches xid.now place }
+        requires at { IsAtWork false (state_at self.old xid.now) }
+        requires place { BranchStandsAt self.old.branches.branches xid.now place }
         ensures answer { IfOk result
-            (Reacts self.old self.new thread xid.now call.StartJoin
+            (ReactsByRows self.old self.new thread xid.now call.StartJoin
             (start_plan self.old.associations thread xid.now) BranchState.S1) }
-        ensures err { OnErr result (Same self.old self.new) }
+        ensures err { OnErr result (SameStates self.old self.new) }
     {
         let code = self.associations.start(thread, xid)?;
         if is_refusal(code) {
@@ -333,7 +333,7 @@ impl States {
     /// A start TMRESUME.
     fn resume(&mut self, thread: u32, xid: &Xid) -> Result<Code, AllocError>
         ensures answer { IfOk result (Resumes self.old self.new thread xid.now) }
-        ensures err { OnErr result (Same self.old self.new) }
+        ensures err { OnErr result (SameStates self.old self.new) }
     {
         let Some((place, state)) = self.branches.find(xid) else {
             return Ok(Code::NotA);
@@ -353,11 +353,11 @@ impl States {
         xid: &Xid,
         lost: bool,
     ) -> Result<Code, AllocError>
-        requires at { IsAt lost (state_at self.old xid.now) }
-        requires place { StandsAt self.old.branches.branches xid.now place }
-        ensures answer { IfOk result (Reacts self.old self.new thread xid.now call.StartResume
+        requires at { IsAtWork lost (state_at self.old xid.now) }
+        requires place { BranchStandsAt self.old.branches.branches xid.now place }
+        ensures answer { IfOk result (ReactsByRows self.old self.new thread xid.now call.StartResume
             (resume_plan self.old.associations thread xid.now lost) (resumed lost)) }
-        ensures err { OnErr result (Same self.old self.new) }
+        ensures err { OnErr result (SameStates self.old self.new) }
     {
         let code = self.associations.resume(thread, xid, lost)?;
         if is_refusal(code) {
@@ -370,7 +370,7 @@ impl States {
     /// An end TMSUSPEND, with TMMIGRATE or not.
     fn suspend(&mut self, thread: u32, xid: &Xid, migrate: bool) -> Result<Code, AllocError>
         ensures answer { IfOk result (Suspends self.old self.new thread xid.now migrate) }
-        ensures err { OnErr result (Same self.old self.new) }
+        ensures err { OnErr result (SameStates self.old self.new) }
     {
         let Some((place, state)) = self.branches.find(xid) else {
             return Ok(Code::NotA);
@@ -393,12 +393,12 @@ impl States {
         lost: bool,
         migrate: bool,
     ) -> Result<Code, AllocError>
-        requires at { IsAt lost (state_at self.old xid.now) }
-        requires place { StandsAt self.old.branches.branches xid.now place }
-        ensures answer { IfOk result (Reacts self.old self.new thread xid.now (suspend_call migrate)
+        requires at { IsAtWork lost (state_at self.old xid.now) }
+        requires place { BranchStandsAt self.old.branches.branches xid.now place }
+        ensures answer { IfOk result (ReactsByRows self.old self.new thread xid.now (suspend_call migrate)
             (suspend_plan self.old.associations thread xid.now lost migrate)
             (left_state self.new xid.now lost)) }
-        ensures err { OnErr result (Same self.old self.new) }
+        ensures err { OnErr result (SameStates self.old self.new) }
     {
         let code = self.associations.suspend(thread, xid, lost, migrate)?;
         if is_refusal(code) {
@@ -411,7 +411,7 @@ impl States {
 
     /// An end TMSUCCESS, or else TMFAIL.
     fn end(&mut self, thread: u32, xid: &Xid, succeeds: bool) -> Code
-        ensures { Ends self.old self.new thread xid.now succeeds result }
+        ensures { EndsWork self.old self.new thread xid.now succeeds result }
     {
         let Some((place, state)) = self.branches.find(xid) else {
             return Code::NotA;
@@ -425,9 +425,9 @@ impl States {
     }
 
     fn end_work(&mut self, place: usize, thread: u32, xid: &Xid, lost: bool, succeeds: bool) -> Code
-        requires at { IsAt lost (state_at self.old xid.now) }
-        requires place { StandsAt self.old.branches.branches xid.now place }
-        ensures { Reacts self.old self.new thread xid.now (end_call succeeds)
+        requires at { IsAtWork lost (state_at self.old xid.now) }
+        requires place { BranchStandsAt self.old.branches.branches xid.now place }
+        ensures { ReactsByRows self.old self.new thread xid.now (end_call succeeds)
             (end_plan self.old.associations thread xid.now lost succeeds)
             (left_state self.new xid.now (lost || not succeeds)) result }
     {

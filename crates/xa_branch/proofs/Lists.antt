@@ -5,7 +5,7 @@ use Rattle.std.specs.Map.{lookup}
 use Rattle.std.specs.Prelude.{nat_eq, is_some, IfOk}
 use Rattle.std.proofs.lemmas.Bool.Decides.{nat_tests}
 use Rattle.xa_xid.specs.declared.xid.Xid.{Xid}
-use Rattle.xa_branch.specs.Scans.{left_of, scan_of, has_scan, Leaves}
+use Rattle.xa_branch.specs.Scans.{left_of, scan_of, has_scan, SetsScan}
 
 -- what is left is what the map holds
 pub scan_of-left_of : (es : List (ℕ × Vec Xid)) (t : ℕ)
@@ -28,7 +28,7 @@ apart a b h = grind (arith, nat_tests)
 -- one thread's entry changes, and so does what is left for it
 pub leaves : (es fs : List (ℕ × Vec Xid)) (t : ℕ) (o : Option (Vec Xid)) → lookup (nat_eq t) fs ≡ o
     → ((q : ℕ) → nat_eq t q ≡ false → lookup (nat_eq q) fs ≡ lookup (nat_eq q) es)
-    → Leaves (left_of es) (left_of fs) t (option_map (λ v. v.items) o)
+    → SetsScan (left_of es) (left_of fs) t (option_map (λ v. v.items) o)
 leaves es fs t o own others = record {
   own = scan_of-left_of fs t ∙ ap (option_map (λ v. v.items)) own;
   others = λ q differs. scan_of-left_of fs q ∙ ap (option_map (λ v. v.items)) (others q (apart t q differs))

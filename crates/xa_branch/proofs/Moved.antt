@@ -7,7 +7,7 @@ use Rattle.indexmap.proofs.MapLemmas.{Found-position, insert_entry-first, remove
 use Rattle.xa_tables.specs.declared.states.BranchState.{BranchState}
 use Rattle.xa_tables.specs.declared.states.BranchState.TheVariants.{S0, S1, S2, S3, S4, S5}
 use Rattle.xa_xid.specs.declared.xid.Xid.{Xid}
-use Rattle.xa_branch.specs.Branches.{BranchList, Moves, placed}
+use Rattle.xa_branch.specs.Branches.{BranchList, BranchMoves, placed}
 use Rattle.xa_branch.specs.Names.{same}
 use Rattle.few_keys.proofs.Places.{taken_at}
 use Rattle.xa_branch.proofs.Names.{same_is, same_refl, same_flips}
@@ -34,7 +34,7 @@ others (e ∷ bs) x y s apart = grind (arith, others bs x y s apart, same_is x e
 -- a state is written at the index of a branch: the branch moves
 pub moves_at : (old new : BranchList) (x : Xid) (i : ℕ) (s : BranchState) → s ≢ S0
     → position (same x) (keys_of old.branches) ≡ Some i → new.branches ≡ set_value_at old.branches i s
-    → new.scans ≡ old.scans → Moves old new x s
+    → new.scans ≡ old.scans → BranchMoves old new x s
 moves_at old new x i s stays at written scans =
     let put : new.branches ≡ insert_entry same old.branches x s = written
     ∙ sym (insert_entry-first same x s old.branches i (Found-position (same x) old.branches i at).first) in
@@ -52,7 +52,7 @@ pub goes_at : {H : Type 0} (m n : IndexMap Xid BranchState H) (old new : BranchL
     (r : Option (Xid × BranchState)) → old.branches ≡ m.entries → new.branches ≡ n.entries
     → position (same x) (keys_of old.branches) ≡ Some i → r ≡ slice_get m.entries i
     → n.entries ≡ remove m.entries i → IfSome r (λ e. Updates same m n e.0 None) → new.scans ≡ old.scans
-    → Moves old new x S0
+    → BranchMoves old new x S0
 goes_at m n old new x i r before behind at is removed out scans =
     let place : position (same x) (keys_of m.entries) ≡ Some i = rw (← before) at in
     let gone = taken_at same same_is m n x i r place is out in

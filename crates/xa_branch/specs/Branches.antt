@@ -12,7 +12,7 @@ use Rattle.xa_tables.specs.declared.states.BranchState.TheVariants.{S0}
 use Rattle.xa_tables.specs.Tables.{is_in_doubt}
 use Rattle.xa_xid.specs.declared.xid.Xid.{Xid}
 use Rattle.xa_branch.specs.Names.{same}
-use Rattle.xa_branch.specs.Scans.{ScanList, scan_of, has_scan, Leaves}
+use Rattle.xa_branch.specs.Scans.{ScanList, scan_of, has_scan, SetsScan}
 
 -- the known branches in order of beginning, how many more fit without a growth, and the open scans
 pub record BranchList : Type 0 where
@@ -34,19 +34,19 @@ placed bs x S0 = remove_entry (same x) bs
 placed bs x s = insert_entry same bs x s
 
 -- each branch is listed once, and none that is in S0
-pub record AreListedOnce (bs : List (Xid × BranchState)) : Type 0 where
+pub record AreBranchesListedOnce (bs : List (Xid × BranchState)) : Type 0 where
   pub once : IsDistinct same (keys_of bs)
   pub begun : AllByRecursion (λ e. e.1 ≢ S0) bs
 
 -- a known branch is at this place among them
-pub record StandsAt (bs : List (Xid × BranchState)) (x : Xid) (place : ℕ) : Type 0 where
+pub record BranchStandsAt (bs : List (Xid × BranchState)) (x : Xid) (place : ℕ) : Type 0 where
   pub within : place < length bs
   pub stands : position (same x) (keys_of bs) ≡ Some place
 
 -- where a branch stands and its state, if it is known
-abbrev pub Finds : List (Xid × BranchState) → Xid → Option (ℕ × BranchState) → Type 0
-Finds bs x None = is_known bs x ≡ false
-Finds bs x (Some found) = StandsAt bs x found.0 × (lookup (same x) bs ≡ Some found.1)
+abbrev pub FindsBranchAt : List (Xid × BranchState) → Xid → Option (ℕ × BranchState) → Type 0
+FindsBranchAt bs x None = is_known bs x ≡ false
+FindsBranchAt bs x (Some found) = BranchStandsAt bs x found.0 × (lookup (same x) bs ≡ Some found.1)
 
 -- branches and scans stay as they are
 pub record Stays (old new : BranchList) : Type 0 where
@@ -55,7 +55,7 @@ pub record Stays (old new : BranchList) : Type 0 where
   pub room : old.room ≤ new.room
 
 -- one branch moves to a state, and nothing else changes
-pub record Moves (old new : BranchList) (x : Xid) (s : BranchState) : Type 0 where
+pub record BranchMoves (old new : BranchList) (x : Xid) (s : BranchState) : Type 0 where
   pub order : new.branches ≡ placed old.branches x s
   pub own : state_in new.branches x ≡ s
   pub others : (y : Xid) → same x y ≡ false → state_in new.branches y ≡ state_in old.branches y
@@ -67,9 +67,9 @@ begin_answer bs x = if is_known bs x then code.DupId else if nat_lt (length bs) 
     else code.RmErr
 
 -- a begin of a branch in a state made this answer, and changes nothing where it is refused
-pub record Begins (old new : BranchList) (x : Xid) (s : BranchState) (answer : Code) : Type 0 where
+pub record BeginsState (old new : BranchList) (x : Xid) (s : BranchState) (answer : Code) : Type 0 where
   pub first : answer ≡ begin_answer old.branches x
-  pub made : answer ≡ code.Ok → Moves old new x s
+  pub made : answer ≡ code.Ok → BranchMoves old new x s
   pub refused : (answer ≡ code.Ok → ⊥) → new ≡ old
 
 -- what a known branch answers to a call that has no row
@@ -107,10 +107,10 @@ scanned b thread call = if starts_scan call then in_doubt b.branches
     else unwrap_or (scan_of b.scans thread) []
 
 -- a recover was not refused and gave these
-pub record Scans (old new : BranchList) (thread count : ℕ) (call : Call) (given : List Xid) : Type 0 where
+pub record ScansBranches (old new : BranchList) (thread count : ℕ) (call : Call) (given : List Xid) : Type 0 where
   pub made : scan_refusal old.scans thread call ≡ None
   pub next : given ≡ take count (scanned old thread call)
-  pub left : Leaves old.scans new.scans thread (if ends_scan call then None
+  pub left : SetsScan old.scans new.scans thread (if ends_scan call then None
       else Some (drop count (scanned old thread call)))
   pub branches : new.branches ≡ old.branches
   pub room : new.room ≡ old.room

@@ -21,6 +21,6 @@ abbrev pub has_scan : ScanList → ℕ → Bool
 has_scan scans thread = is_some (scan_of scans thread)
 
 -- one thread's scan becomes this, and the others stay
-pub record Leaves (old new : ScanList) (thread : ℕ) (rest : Option (List Xid)) : Type 0 where
+pub record SetsScan (old new : ScanList) (thread : ℕ) (rest : Option (List Xid)) : Type 0 where
   pub own : scan_of new thread ≡ rest
   pub others : (other : ℕ) → other ≢ thread → scan_of new other ≡ scan_of old other

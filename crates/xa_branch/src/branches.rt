@@ -3,7 +3,7 @@
 ghost use Rattle.std.specs.Prelude.{◌≡◌, ◌≢◌, ◌⊎◌, ◌≤◌, ◌<◌, ◌+◌, [], length, IfOk, OnOk, OnErr, MatchResult, IsOk, Some, None, Bool, true, false, nat_le, position};
 ghost use Rattle.std.specs.Map.{keys_of, lookup};
 ghost use Rattle.xa_branch.specs.Names.{same};
-ghost use Rattle.xa_branch.specs.Branches.{AreListedOnce, BranchList, Finds, Moves, Begins, Scans as Scanned, is_known, state_in, Stays, in_doubt, starts_scan, ends_scan, scan_refusal};
+ghost use Rattle.xa_branch.specs.Branches.{AreBranchesListedOnce, BranchList, FindsBranchAt, BranchMoves, BeginsState, ScansBranches, is_known, state_in, Stays, in_doubt, starts_scan, ends_scan, scan_refusal};
 
 use crate::scans::Scans;
 use few_keys::place_of;
@@ -33,13 +33,13 @@ fn ends(call: Call) -> bool
 
 /// The known branches with their states, and the open scans.
 #[derive(Drop)]
-pub struct Branches {
+pub struct BranchStates {
     alloc: Global,
     states: IndexMap<Xid, BranchState>,
     scans: Scans,
 }
 
-impl Model for Branches {
+impl Model for BranchStates {
     ghost use Rattle.std.specs.Prelude.{◌≢◌, ◌≤◌, length};
     ghost use Rattle.std.specs.List.{AllByRecursion};
     ghost use Rattle.xa_tables.specs.declared.states.BranchState.TheVariants.{S0};
@@ -54,13 +54,13 @@ impl Model for Branches {
         × AllByRecursion (λ e. e.1 ≢ S0) b.states.entries };
 }
 
-impl Branches {
+impl BranchStates {
     /// No branches and no scans.
     pub fn new(alloc: Global) -> Self
         ensures branches { result.branches ≡ [] }
         ensures scans { result.scans ≡ [] }
     {
-        Branches {
+        BranchStates {
             alloc,
             states: IndexMap::new(alloc),
             scans: Scans::new(alloc),
@@ -76,7 +76,7 @@ impl Branches {
 
     /// Each known branch is listed once, and none that is in S0.
     pub fn are_listed_once(&self)
-        ensures { AreListedOnce self.now.branches }
+        ensures { AreBranchesListedOnce self.now.branches }
     {
         let _ = self.states.len();
     }
@@ -101,7 +101,7 @@ impl Branches {
 
     /// Where a branch is among the known ones, and its state.
     pub fn find(&self, xid: &Xid) -> Option<(usize, BranchState)>
-        ensures { Finds self.now.branches xid.now result }
+        ensures { FindsBranchAt self.now.branches xid.now result }
     {
         let place = place_of(&self.states, xid)?;
         Some((place, self.states[place]))
@@ -137,7 +137,7 @@ impl Branches {
 
     /// Begins a branch, in S1. DupId: it is known. RmErr: 1,024 branches are known. Either changes nothing.
     pub fn begin(&mut self, xid: &Xid) -> Result<Code, AllocError>
-        ensures begun { IfOk result (Begins self.old self.new xid.now BranchState.S1) }
+        ensures begun { IfOk result (BeginsState self.old self.new xid.now BranchState.S1) }
         ensures err { OnErr result (Stays self.old self.new) }
         ensures succeeds { 0 < self.old.room → IsOk result }
     {
@@ -146,7 +146,7 @@ impl Branches {
 
     /// Begins a branch that no thread is in, in S2. The refusals are those of `begin`.
     pub fn begin_idle(&mut self, xid: &Xid) -> Result<Code, AllocError>
-        ensures begun { IfOk result (Begins self.old self.new xid.now BranchState.S2) }
+        ensures begun { IfOk result (BeginsState self.old self.new xid.now BranchState.S2) }
         ensures err { OnErr result (Stays self.old self.new) }
     {
         self.enter(xid, BranchState::S2)
@@ -156,7 +156,7 @@ impl Branches {
     /// Either changes nothing.
     pub fn restore(&mut self, xid: &Xid, state: BranchState) -> Result<Code, AllocError>
         requires { (state ≡ BranchState.S3) ⊎ (state ≡ BranchState.S5) }
-        ensures restored { IfOk result (Begins self.old self.new xid.now state) }
+        ensures restored { IfOk result (BeginsState self.old self.new xid.now state) }
         ensures err { OnErr result (Stays self.old self.new) }
         ensures succeeds { 0 < self.old.room → IsOk result }
     {
@@ -165,7 +165,7 @@ impl Branches {
 
     fn enter(&mut self, xid: &Xid, state: BranchState) -> Result<Code, AllocError>
         requires { state ≡ BranchState.S0 → ⊥ }
-        ensures entered { IfOk result (Begins self.old self.new xid.now state) }
+        ensures entered { IfOk result (BeginsState self.old self.new xid.now state) }
         ensures err { OnErr result (Stays self.old self.new) }
         ensures succeeds { 0 < self.old.room → IsOk result }
     {
@@ -183,7 +183,7 @@ impl Branches {
     /// and nothing changes.
     pub fn decided(&mut self, xid: &Xid) -> bool
         ensures decided { result ≡ true → (state_in self.old.branches xid.now ≡ BranchState.S3)
-            × Moves self.old self.new xid.now BranchState.S5 }
+            × BranchMoves self.old self.new xid.now BranchState.S5 }
         ensures refused { result ≡ false → (state_in self.old.branches xid.now
             ≢ BranchState.S3) × (self.new ≡ self.old) }
     {
@@ -201,7 +201,7 @@ impl Branches {
     /// branch stands nothing changes.
     pub fn place(&mut self, index: usize, to: BranchState)
         ensures moved { (x : Xid) → position (same x) (keys_of self.old.branches) ≡ Some index
-            → Moves self.old self.new x to }
+            → BranchMoves self.old self.new x to }
         ensures nowhere { length self.old.branches ≤ index → Stays self.old self.new }
     {
         if to == BranchState::S0 {
@@ -222,7 +222,7 @@ impl Branches {
         call: Call,
     ) -> Result<Result<Vec<Xid>, Code>, AllocError>
         ensures answer { IfOk result (λ answer. MatchResult answer
-            (λ v. Scanned self.old self.new thread count call v.items)
+            (λ v. ScansBranches self.old self.new thread count call v.items)
             (λ code. (scan_refusal self.old.scans thread call ≡ Some code) × (self.new ≡ self.old))) }
         ensures err { OnErr result (self.new ≡ self.old) }
     {

@@ -1,7 +1,7 @@
 //! The open scans of the branches in doubt.
 
 ghost use Rattle.std.specs.Prelude.{◌≡◌, [], IfOk, OnOk, OnErr, Some, None, nat_le, length, take, drop, unwrap_or, if◌then◌else◌};
-ghost use Rattle.xa_branch.specs.Scans.{has_scan, scan_of, Leaves};
+ghost use Rattle.xa_branch.specs.Scans.{has_scan, scan_of, SetsScan};
 
 use indexmap::IndexMap;
 use std::alloc::{AllocError, Global};
@@ -79,7 +79,7 @@ impl Scans {
         ends: bool,
     ) -> Result<Vec<Xid>, AllocError>
         ensures given { IfOk result (λ v. v.items ≡ take count rest.now) }
-        ensures left { OnOk result (Leaves self.old self.new thread
+        ensures left { OnOk result (SetsScan self.old self.new thread
             (if ends then None else Some (drop count rest.now))) }
         ensures err { OnErr result (self.new ≡ self.old) }
     {
@@ -95,7 +95,7 @@ impl Scans {
 
     /// Leaves a thread a scan with this rest.
     fn set(&mut self, thread: u32, rest: Vec<Xid>) -> Result<(), AllocError>
-        ensures ok { OnOk result (Leaves self.old self.new thread (Some rest.items)) }
+        ensures ok { OnOk result (SetsScan self.old self.new thread (Some rest.items)) }
         ensures err { OnErr result (self.new ≡ self.old) }
     {
         self.left.insert(thread, rest)?;
@@ -104,7 +104,7 @@ impl Scans {
 
     /// Closes a thread's scan.
     fn close(&mut self, thread: u32)
-        ensures { Leaves self.old self.new thread None }
+        ensures { SetsScan self.old self.new thread None }
     {
         let _ = self.left.swap_remove(&thread);
     }

@@ -16,67 +16,67 @@ use Rattle.xa_xid.specs.declared.xid.Xid.{Xid}
 use Rattle.xa_assoc.specs.Associations.{IsBare}
 use Rattle.xa_branch.specs.Branches.{BranchList, state_in}
 use Rattle.xa_assoc.specs.declared.states.States.{States}
-use Rattle.xa_assoc.specs.Answers.{Answers, Closed, Closes, IsNew, Opened, Opens, Recovers, Same, Takes as TakesRow, Wanted, state_at}
+use Rattle.xa_assoc.specs.Answers.{AnswersCall, Closed, Closes, AreNewStates, Opened, OpensManager, Recovers, SameStates, TakesTableRow, Wanted, state_at}
 use Rattle.xa_assoc.specs.Ready.{is_work_verb}
 use Rattle.xa_assoc.specs.Restored.{Restored}
 use Rattle.xa_assoc.proofs.Finishing.{finishing, refused_call}
 use Rattle.xa_assoc.proofs.Reactions.{stays}
-use Rattle.xa_law.specs.Moves.{Declines, FitsRows, Leads as LeadsMoves, Makes as MakesMove, Move, Open as OpenMove, Close as CloseMove, Branch as BranchMove, Recover as RecoverMove, Work as WorkMove, Decide as DecideMove, Restart as RestartMove}
+use Rattle.proof_xa.specs.Moves.{Declines, FitsRows, MovesLead, MakesMove, XaMove, Open as OpenMove, Close as CloseMove, Branch as BranchMove, Recover as RecoverMove, Work as WorkMove, Decide as DecideMove, Restart as RestartMove}
 use Rattle.xa_codes.specs.Codes.{is_own}
-use Rattle.xa_law.proofs.Histories.{legal_history}
+use Rattle.proof_xa.proofs.Histories.{legal_history}
 use Rattle.xa_assoc.specs.declared.errors.WorkError.{WorkError}
 use Rattle.xa_assoc.specs.declared.errors.WorkError.TheVariants as work_error
-use Rattle.tree_model.specs.declared.messages.Op.{Op}
-use Rattle.tree_model.specs.declared.messages.Op.TheVariants.{Put, Get, Delete}
-use Rattle.tree_model.specs.declared.records.LogRecord.{LogRecord}
-use Rattle.tree_model.specs.declared.records.Write.{Write}
+use Rattle.protocol.specs.declared.messages.Op.{Op}
+use Rattle.protocol.specs.declared.messages.Op.TheVariants.{Put, Get, Delete}
+use Rattle.protocol.specs.declared.records.LogRecord.{LogRecord}
+use Rattle.protocol.specs.declared.records.Write.{Write}
 use Rattle.log_text.specs.Parts.{name_in}
-use Rattle.tree_model.specs.declared.names.Kind.TheVariants.{Manager}
-use Rattle.tree_model.specs.declared.names.Outcome.{Outcome}
-use Rattle.tree_model.specs.Records.{same_bytes}
+use Rattle.protocol.specs.declared.names.Kind.TheVariants.{Manager}
+use Rattle.protocol.specs.declared.names.Outcome.{Outcome}
+use Rattle.protocol.specs.Records.{same_bytes}
 use Rattle.log_rules.specs.order.Logs.{Whole, read_log}
-use Rattle.log_rules.specs.order.Orders.{SeenLog, left_by as in_doubt_by, nothing_seen}
+use Rattle.log_rules.specs.order.Orders.{SeenLog, in_doubt_by, nothing_seen}
 use Rattle.log_text.specs.Forms.{log_form}
-use Rattle.rec_log.specs.Openings.{Opens as OpensLog}
-use Rattle.rec_log.specs.Sights.{Kept, LogSight, LogState, RestartBreaks, left_by, records_of}
-use Rattle.tree_model.specs.Nodes.{Written, is_any_forced}
-use Rattle.core_model.specs.States.{wrote}
-use Rattle.kv_core.specs.Replays.{seen_after, seen_of}
-use Rattle.kv_turns.specs.declared.entries.Entry.{Entry}
-use Rattle.kv_turns.specs.declared.entries.Entry.TheVariants as entry
-use Rattle.kv_turns.specs.declared.turns.Turn.{Turn}
-use Rattle.kv_turns.specs.Turns.{entry_record, turn_of}
-use Rattle.tree_model.specs.ManagerRows.{presumption_of}
+use Rattle.log_records.specs.Openings.{OpensLog}
+use Rattle.log_records.specs.Sights.{Kept, LogSight, LogState, LogRestartBreaks, left_by, records_of}
+use Rattle.protocol.specs.Nodes.{Written, is_any_forced}
+use Rattle.process_state.specs.States.{wrote}
+use Rattle.kv_state.specs.Replays.{seen_after, seen_of}
+use Rattle.kv_calls.specs.declared.entries.BranchRecord.{BranchRecord}
+use Rattle.kv_calls.specs.declared.entries.BranchRecord.TheVariants as entry
+use Rattle.kv_calls.specs.declared.turns.CallRow.{CallRow}
+use Rattle.kv_calls.specs.Turns.{entry_record, turn_of}
+use Rattle.protocol.specs.ManagerRows.{presumption_of}
 use Rattle.kv_store.specs.writes.Writes.{writes_of}
-use Rattle.kv_core.specs.Stores.{KeySight, MovesTables, state_of}
-use Rattle.kv_core.specs.Works.{IsRefused}
-use Rattle.kv_core.specs.Ends.{IsDue, known_of, wrote_some}
-use Rattle.xa_law.specs.Rows.{rows_of}
-use Rattle.xa_law.proofs.TurnRows.{checks_alone, fits}
-use Rattle.manager_model.specs.declared.errors.DecideError.TheVariants as decide_error
-use Rattle.manager_model.specs.declared.errors.TrimError.TheVariants as trim_error
-use Rattle.kv_manager.specs.Sights.{KvSight, SameManager}
-use Rattle.kv_manager.specs.Turns.{Calls, Fails, Finishes, Logs, Makes as MakesTurn, Refuses as RefusesWork, Takes as TakesTurn, Made, Broke, Spent, Failed, Refused, Taken}
-use Rattle.kv_manager.specs.Restarts.{NotRestarted, RestartFails, Restarted, opened}
-use Rattle.manager_model.specs.declared.errors.RestartError.{RestartError}
-use Rattle.manager_model.specs.declared.errors.RestartError.TheVariants as restart_error
+use Rattle.kv_state.specs.Stores.{KeySight, MovesTables, state_of}
+use Rattle.kv_state.specs.Works.{IsRefusedWork}
+use Rattle.kv_state.specs.Ends.{IsDue, known_of, wrote_some}
+use Rattle.proof_xa.specs.Rows.{rows_of}
+use Rattle.proof_xa.proofs.TurnRows.{checks_alone, fits}
+use Rattle.resource_manager.specs.declared.errors.DecideError.TheVariants as decide_error
+use Rattle.resource_manager.specs.declared.errors.TrimError.TheVariants as trim_error
+use Rattle.kv_manager.specs.Sights.{KvSight, SameKv}
+use Rattle.kv_manager.specs.Turns.{KvCalls, KvFails, KvFinishes, LogsTurn, KvMakes, RefusesWork, KvTakes, Made, Broke, Spent, Failed, Refused, Taken}
+use Rattle.kv_manager.specs.Restarts.{KvNotRestarted, KvRestartFails, Restarted, opened}
+use Rattle.resource_manager.specs.declared.errors.RestartError.{RestartError}
+use Rattle.resource_manager.specs.declared.errors.RestartError.TheVariants as restart_error
 use Rattle.xa_engine.specs.declared.script.request.BranchCall.{BranchCall}
 use Rattle.xa_engine.specs.declared.script.request.BranchCall.TheVariants.{Start, End, Prepare, Commit, Rollback, Forget}
 use Rattle.xa_engine.specs.declared.script.request.Request.{Request}
 use Rattle.xa_engine.specs.declared.script.request.Request.TheVariants.{Open, Close, Branch, Recover, Work, Restart, Trim, Decide}
-use Rattle.xa_engine.specs.declared.answer.Answer.{Answer}
-use Rattle.xa_engine.specs.declared.answer.Answer.TheVariants as answer
+use Rattle.xa_engine.specs.declared.answer.RequestAnswer.{RequestAnswer}
+use Rattle.xa_engine.specs.declared.answer.RequestAnswer.TheVariants as answer
 use Rattle.xa_engine.specs.Histories.{IsHistory, ShowEach, Shows, verb_of}
-use Rattle.xa_engine.specs.Makes.{Boots, CallsBranch, Decides, IsRead, IsWritten, Makes, Moves, Trims, Works, kept_bytes}
-use Rattle.xa_engine.specs.Runs.{IsFresh, Leads}
+use Rattle.xa_engine.specs.Makes.{Boots, CallsBranch, RequestDecides, IsRead, IsWritten, RequestMakes, RequestMoves, RequestTrims, RequestWorks, kept_bytes}
+use Rattle.xa_engine.specs.Runs.{IsFreshManager, RequestsLead}
 
 -- a request is a move
-pub record Moved (old new : KvSight) (r : Request) (a : Answer) : Type 0 where
-  pub move : Move
+pub record Moved (old new : KvSight) (r : Request) (a : RequestAnswer) : Type 0 where
+  pub move : XaMove
   pub shown : Shows r a move
   pub makes : MakesMove old.store.tables new.store.tables move
 
-same_one : (old new : States) → new ≡ old → Same old new
+same_one : (old new : States) → new ≡ old → SameStates old new
 same_one old new one = record {
   init = ap (λ (m : States). m.init) one;
   branches = stays old.branches new.branches (ap (λ (m : States). m.branches) one);
@@ -85,13 +85,13 @@ same_one old new one = record {
 
 -- The moves of calls on the manager.
 
-declined : (old new : States) (c : Code) → c ≡ code.RmFail → Same old new → Declines old new c
+declined : (old new : States) (c : Code) → c ≡ code.RmFail → SameStates old new → Declines old new c
 declined old new c is same = (ap is_own is, same)
 
 -- a call that leaves the log alone: a failed manager declines it, and else the tables do this
 by_failed : (old new : KvSight) (Refuses X : Type 0) (Does : KeySight → KeySight → Type 0)
-    → Calls old new Refuses Does
-    → (Refuses → SameManager old new → X) → (Does old.store new.store → X) → X
+    → KvCalls old new Refuses Does
+    → (Refuses → SameKv old new → X) → (Does old.store new.store → X) → X
 by_failed old new Refuses X Does calls off on = by_test old.log.sight.failed refl
   where
     by_test : (b : Bool) → old.log.sight.failed ≡ b → X
@@ -99,21 +99,21 @@ by_failed old new Refuses X Does calls off on = by_test old.log.sight.failed ref
     by_test false e = on (calls.works e)
 
 open_moved : (old new : KvSight) (flags : ℕ) (migrates : Bool) (c : Code)
-    → Moves old new c (λ a b. Opens a b flags migrates c)
+    → RequestMoves old new c (λ a b. OpensManager a b flags migrates c)
     → MakesMove old.store.tables new.store.tables (OpenMove flags migrates c)
 open_moved old new flags migrates c calls =
     by_failed old new _ _ _ calls (λ is same. inl
     (declined old.store.tables new.store.tables c is same.tables)) (λ does. inr does.tables)
 
 close_moved : (old new : KvSight) (flags : ℕ) (c : Code)
-    → Moves old new c (λ a b. Closes a b flags c)
+    → RequestMoves old new c (λ a b. Closes a b flags c)
     → MakesMove old.store.tables new.store.tables (CloseMove flags c)
 close_moved old new flags c calls =
     by_failed old new _ _ _ calls (λ is same. inl
     (declined old.store.tables new.store.tables c is same.tables)) (λ does. inr does.tables)
 
 scan_moved : (old new : KvSight) (t count flags : ℕ) (r : Result (List Xid) Code)
-    → Calls old new (r ≡ Err code.RmFail) (λ before behind. MovesTables before behind
+    → KvCalls old new (r ≡ Err code.RmFail) (λ before behind. MovesTables before behind
     (λ a b. Recovers a b t count flags r))
     → MakesMove old.store.tables new.store.tables (RecoverMove t count flags r)
 scan_moved old new t count flags r calls =
@@ -136,7 +136,7 @@ abbrev MovesBranch : KvSight → KvSight → Verb → ℕ → Xid → ℕ → Co
 MovesBranch old new v t x flags c = MakesMove old.store.tables new.store.tables (BranchMove v t x flags c)
 
 work_moved : (old new : KvSight) (v : Verb) (t : ℕ) (x : Xid) (flags : ℕ) (c : Code)
-    → ((wanted : Wanted) → Moves old new c (λ a b. Answers wanted a b v t x flags c))
+    → ((wanted : Wanted) → RequestMoves old new c (λ a b. AnswersCall wanted a b v t x flags c))
     → MovesBranch old new v t x flags c
 work_moved old new v t x flags c joins =
     by_failed old new _ _ _ (joins (wanted_for old.store x))
@@ -144,17 +144,17 @@ work_moved old new v t x flags c joins =
     (λ does. inr (wanted_for old.store x, wanted_fits old.store x, does.tables))
 
 turn_moved : (old new : KvSight) (v : Verb) (t : ℕ) (x : Xid) (flags : ℕ) (c : Code)
-    (due : Call × Turn) → is_work_verb v ≡ false
-    → IsDue old.store v x flags due → TakesTurn old new x due.1 c → MovesBranch old new v t x flags c
+    (due : Call × CallRow) → is_work_verb v ≡ false
+    → IsDue old.store v x flags due → KvTakes old new x due.1 c → MovesBranch old new v t x flags c
 turn_moved old new v t x flags c due w is (Made says makes) = inr (
   wanted_for old.store x,
   wanted_fits old.store x,
   finishing (wanted_for old.store x) old.store.tables new.store.tables v t x flags due.0 c w is.checked
       (λ listed. (
-        says ∙ ap (λ (u : Turn). u.code) is.turn,
-        subst (λ (u : Turn). TakesRow old.store.tables new.store.tables x u.to) is.turn makes.tables,
+        says ∙ ap (λ (u : CallRow). u.code) is.turn,
+        subst (λ (u : CallRow). TakesTableRow old.store.tables new.store.tables x u.to) is.turn makes.tables,
       ))
-      (λ none. absurd (none (subst (λ (u : Turn). Contains (branch_rows (state_of old.store x) due.0)
+      (λ none. absurd (none (subst (λ (u : CallRow). Contains (branch_rows (state_of old.store x) due.0)
       (u.code, u.to)) is.turn is.listed))),
 )
 turn_moved old new v t x flags c due w is (Broke says fails) =
@@ -164,7 +164,7 @@ turn_moved old new v t x flags c due w is (Spent says commits spent same) = inl 
 
 finish_moved : (old new : KvSight) (v : Verb) (t : ℕ) (x : Xid) (flags : ℕ)
     (c : Code) → is_work_verb v ≡ false
-    → Finishes old new v x flags c → MovesBranch old new v t x flags c
+    → KvFinishes old new v x flags c → MovesBranch old new v t x flags c
 finish_moved old new v t x flags c w (Failed failed says same) =
     inl (declined old.store.tables new.store.tables c says same.tables)
 finish_moved old new v t x flags c w (Refused works off same) = inr (
@@ -189,10 +189,10 @@ branch_moved Forget old new t x flags c h = finish_moved old new verb.Forget t x
 -- Operations on data.
 
 abbrev Stands : KvSight → KvSight → Type 0
-Stands old new = Same old.store.tables new.store.tables
+Stands old new = SameStates old.store.tables new.store.tables
 
 refused_same : (before behind : KeySight) (refusal : Option WorkError) (e : WorkError)
-    → IsRefused before behind refusal e → Same before.tables behind.tables
+    → IsRefusedWork before behind refusal e → SameStates before.tables behind.tables
 refused_same before behind refusal work_error.Memory h = h.1.tables
 refused_same before behind refusal work_error.NotAssociated h = h.1.tables
 refused_same before behind refusal (work_error.Locked y) h = h.1.tables
@@ -209,12 +209,12 @@ refusal_stands old new refusal e calls =
 
 done_stands : (old new : KvSight) (Does : KeySight → KeySight → Type 0)
     → ((before behind : KeySight) → Does before behind → behind.tables ≡ before.tables)
-    → Calls old new ⊥ Does → Stands old new
+    → KvCalls old new ⊥ Does → Stands old new
 done_stands old new Does one calls =
     by_failed old new _ _ _ calls (λ never same. absurd never)
     (λ does. same_one old.store.tables new.store.tables (one old.store new.store does))
 
-read_stands : (old new : KvSight) (t : ℕ) (k : List ℕ) (a : Answer) → IsRead old new t k a → Stands old new
+read_stands : (old new : KvSight) (t : ℕ) (k : List ℕ) (a : RequestAnswer) → IsRead old new t k a → Stands old new
 read_stands old new t k (answer.Found v) h = done_stands old new _ (λ before behind reads. reads.tables) h
 read_stands old new t k (answer.Refused e) h = refusal_stands old new _ e h.1
 read_stands old new t k (answer.Code c) h = absurd h
@@ -226,7 +226,7 @@ read_stands old new t k (answer.Trimmed n) h = absurd h
 read_stands old new t k (answer.NotTrimmed e) h = absurd h
 read_stands old new t k (answer.NotDecided e) h = absurd h
 
-write_stands : (old new : KvSight) (t : ℕ) (k : List ℕ) (v : Option (List ℕ)) (a : Answer)
+write_stands : (old new : KvSight) (t : ℕ) (k : List ℕ) (v : Option (List ℕ)) (a : RequestAnswer)
     → IsWritten old new t k v a → Stands old new
 write_stands old new t k v answer.Done h = done_stands old new _ (λ before behind writes. writes.tables) h
 write_stands old new t k v (answer.Refused e) h = refusal_stands old new _ e h.1
@@ -239,7 +239,7 @@ write_stands old new t k v (answer.Trimmed n) h = absurd h
 write_stands old new t k v (answer.NotTrimmed e) h = absurd h
 write_stands old new t k v (answer.NotDecided e) h = absurd h
 
-op_stands : (old new : KvSight) (t : ℕ) (op : Op) (a : Answer) → Works old new t op a → Stands old new
+op_stands : (old new : KvSight) (t : ℕ) (op : Op) (a : RequestAnswer) → RequestWorks old new t op a → Stands old new
 op_stands old new t (Get k) a h = read_stands old new t k a h
 op_stands old new t (Put k v) a h = write_stands old new t k (Some v) a h
 op_stands old new t (Delete k) a h = write_stands old new t k None a h
@@ -247,13 +247,13 @@ op_stands old new t (Delete k) a h = write_stands old new t k None a h
 -- Restarts.
 
 unbooted_stands : (old new : KvSight) (keep : ℕ) (e : RestartError) → (e ≡ restart_error.Memory → ⊥)
-    → NotRestarted old new keep e → Stands old new
+    → KvNotRestarted old new keep e → Stands old new
 unbooted_stands old new keep restart_error.Memory no_memory h = absurd (no_memory refl)
 unbooted_stands old new keep restart_error.Device no_memory h =
     same_one old.store.tables new.store.tables (ap (λ (s : KeySight). s.tables) h.store)
 unbooted_stands old new keep restart_error.Exhausted no_memory h = h.1.tables
 
-boot_moved : (old new : KvSight) (keep : Option ℕ) (a : Answer) → Boots old new keep a
+boot_moved : (old new : KvSight) (keep : Option ℕ) (a : RequestAnswer) → Boots old new keep a
     → Moved old new (Restart keep) a
 boot_moved old new keep (answer.Booted n) h = record {
   move = RestartMove (in_doubt_by h.2.left.seen);
@@ -273,7 +273,7 @@ boot_moved old new keep (answer.NotDecided e) h = absurd h
 
 -- Trims.
 
-trim_moved : (old new : KvSight) (a : Answer) → Trims old new a → Moved old new Trim a
+trim_moved : (old new : KvSight) (a : RequestAnswer) → RequestTrims old new a → Moved old new Trim a
 trim_moved old new (answer.Trimmed n) h = record { move = WorkMove; shown = refl; makes = h.0.tables }
 trim_moved old new (answer.NotTrimmed trim_error.Memory) h = absurd (h.0 refl)
 trim_moved old new (answer.NotTrimmed trim_error.Device) h =
@@ -291,7 +291,7 @@ trim_moved old new (answer.NotDecided e) h = absurd h
 
 -- Decisions of operators.
 
-decide_moved : (old new : KvSight) (x : Xid) (o : Outcome) (a : Answer) → Decides old new x o a
+decide_moved : (old new : KvSight) (x : Xid) (o : Outcome) (a : RequestAnswer) → RequestDecides old new x o a
     → Moved old new (Decide x o) a
 decide_moved old new x o answer.Done h = record {
   move = DecideMove x;
@@ -318,7 +318,7 @@ decide_moved old new x o (answer.NotTrimmed e) h = absurd h
 
 -- Each request.
 
-moved : (old new : KvSight) (r : Request) (a : Answer) → Makes old new r a → Moved old new r a
+moved : (old new : KvSight) (r : Request) (a : RequestAnswer) → RequestMakes old new r a → Moved old new r a
 moved old new (Open flags migrates) (answer.Code c) h =
     record {
       move = OpenMove flags.0 migrates c;
@@ -391,12 +391,12 @@ moved old new (Decide x o) a h = decide_moved old new x o a h
 -- Whole runs.
 
 -- a run of the tables
-record Run (m : KvSight) (rs : List Request) (given : List Answer) (n : KvSight) : Type 0 where
-  moves : List Move
+record Run (m : KvSight) (rs : List Request) (given : List RequestAnswer) (n : KvSight) : Type 0 where
+  moves : List XaMove
   shown : ShowEach rs given moves
-  leads : LeadsMoves m.store.tables moves n.store.tables
+  leads : MovesLead m.store.tables moves n.store.tables
 
-run_of : (m n : KvSight) (rs : List Request) (given : List Answer) → Leads m rs given n → Run m rs given n
+run_of : (m n : KvSight) (rs : List Request) (given : List RequestAnswer) → RequestsLead m rs given n → Run m rs given n
 run_of m n [] [] e = record { moves = []; shown = tt; leads = ap (λ (s : KvSight). s.store.tables) e.0 }
 run_of m n [] (a ∷ given) e = absurd e
 run_of m n (r ∷ rs) [] e = absurd e
@@ -418,7 +418,7 @@ seen_nothing : (ls : List LogRecord) (t : SeenLog) → ls ≡ [] → seen_of ls 
 unfolding seen_after
 seen_nothing ls t none e = let one : seen_of [] ≡ Some t = subst (λ ks. seen_of ks ≡ Some t) none e in cc
 
-new_tables : (m : KvSight) → IsFresh m → IsNew m.store.tables
+new_tables : (m : KvSight) → IsFreshManager m → AreNewStates m.store.tables
 new_tables m fresh =
     let left = fresh.starts.left in
     let nothing = seen_nothing (records_of fresh.log.sight.kept) left.seen
@@ -433,8 +433,8 @@ new_tables m fresh =
       seats = tables.seats;
     }
 
-pub legal_history_of : (m n : KvSight) (rs : List Request) (given : List Answer) → IsFresh m
-    → Leads m rs given n → IsHistory m rs given n
+pub legal_history_of : (m n : KvSight) (rs : List Request) (given : List RequestAnswer) → IsFreshManager m
+    → RequestsLead m rs given n → IsHistory m rs given n
 legal_history_of m n rs given fresh leads =
     let run = run_of m n rs given leads in
     record {

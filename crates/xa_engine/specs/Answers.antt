@@ -8,14 +8,14 @@ use Rattle.xa_xid.specs.Text.{xid_text}
 use Rattle.xa_assoc.specs.Errors.{number_of}
 use Rattle.xa_assoc.specs.declared.errors.WorkError.{WorkError}
 use Rattle.xa_assoc.specs.declared.errors.WorkError.TheVariants.{Locked}
-use Rattle.manager_model.specs.declared.errors.RestartError.{RestartError}
-use Rattle.manager_model.specs.declared.errors.RestartError.TheVariants.{Memory, Device, Exhausted}
-use Rattle.manager_model.specs.declared.errors.DecideError.{DecideError}
-use Rattle.manager_model.specs.declared.errors.DecideError.TheVariants as decide_error
-use Rattle.manager_model.specs.declared.errors.TrimError.{TrimError}
-use Rattle.manager_model.specs.declared.errors.TrimError.TheVariants as trim_error
-use Rattle.xa_engine.specs.declared.answer.Answer.{Answer}
-use Rattle.xa_engine.specs.declared.answer.Answer.TheVariants.{Code, Given, Found, Done, Refused, Booted, NotBooted, Trimmed, NotTrimmed, NotDecided}
+use Rattle.resource_manager.specs.declared.errors.RestartError.{RestartError}
+use Rattle.resource_manager.specs.declared.errors.RestartError.TheVariants.{Memory, Device, Exhausted}
+use Rattle.resource_manager.specs.declared.errors.DecideError.{DecideError}
+use Rattle.resource_manager.specs.declared.errors.DecideError.TheVariants as decide_error
+use Rattle.resource_manager.specs.declared.errors.TrimError.{TrimError}
+use Rattle.resource_manager.specs.declared.errors.TrimError.TheVariants as trim_error
+use Rattle.xa_engine.specs.declared.answer.RequestAnswer.{RequestAnswer}
+use Rattle.xa_engine.specs.declared.answer.RequestAnswer.TheVariants.{Code, Given, Found, Done, Refused, Booted, NotBooted, Trimmed, NotTrimmed, NotDecided}
 
 -- a branch after a space
 abbrev pub branch_text : Xid → List ℕ
@@ -55,7 +55,7 @@ decide_number decide_error.Failed = 5
 decide_number decide_error.NotInDoubt = 7
 
 -- the line of an answer
-abbrev pub answer_text : Answer → List ℕ
+abbrev pub answer_text : RequestAnswer → List ℕ
 answer_text (Code c) = code_name c ++ 10 ∷ []
 answer_text (Given xs) = given_text xs
 answer_text (Found None) = codes "= none" ++ 10 ∷ []

@@ -4,17 +4,17 @@ ghost use Rattle.std.specs.Prelude.{◌≡◌, ◌++◌, ◌∷◌, [], OnOk, de
 ghost use Rattle.xa_xid.specs.Text.{xid_text};
 ghost use Rattle.xa_engine.specs.Answers.{answer_text, branch_text, decide_number, given_text, refusal_text, restart_number, trim_number};
 
-use manager_model::{DecideError, RestartError, TrimError};
+use protocol::{Bytes, Sequence};
+use resource_manager::{DecideError, RestartError, TrimError};
 use std::alloc::{AllocError, Global};
 use trace_lines::{push, push_number};
-use tree_model::{Bytes, Sequence};
 use xa_assoc::WorkError;
 use xa_codes::Code;
 use xa_xid::Xid;
 
 /// What a request is answered.
 #[derive(Drop)]
-pub enum Answer {
+pub enum RequestAnswer {
     Code(Code),
     /// The branches that a recover gives.
     Given(Sequence<Xid>),
@@ -131,20 +131,24 @@ fn push_refusal(alloc: Global, out: &mut Vec<u8>, error: &WorkError) -> Result<(
 }
 
 /// Adds the line of an answer. Where memory is refused, a beginning of it may stand.
-pub fn push_answer(alloc: Global, out: &mut Vec<u8>, answer: &Answer) -> Result<(), AllocError>
+pub fn push_answer(
+    alloc: Global,
+    out: &mut Vec<u8>,
+    answer: &RequestAnswer,
+) -> Result<(), AllocError>
     ensures { OnOk result (out.new.items ≡ out.old.items ++ answer_text answer.now) }
 {
     match answer {
-        Answer::Code(code) => push_line(out, code.name()),
-        Answer::Given(xids) => push_given(alloc, out, xids.as_slice()),
-        Answer::Found(None) => push_line(out, "= none"),
-        Answer::Found(Some(value)) => push_found(out, value.as_slice()),
-        Answer::Done => push_line(out, "done"),
-        Answer::Refused(error) => push_refusal(alloc, out, error),
-        Answer::Booted(boot) => push_numbered(out, "boot ", *boot),
-        Answer::NotBooted(error) => push_numbered(out, "refused ", restart_number(*error)),
-        Answer::Trimmed(remain) => push_numbered(out, "trim ", *remain),
-        Answer::NotTrimmed(error) => push_numbered(out, "refused ", trim_number(*error)),
-        Answer::NotDecided(error) => push_numbered(out, "refused ", decide_number(*error)),
+        RequestAnswer::Code(code) => push_line(out, code.name()),
+        RequestAnswer::Given(xids) => push_given(alloc, out, xids.as_slice()),
+        RequestAnswer::Found(None) => push_line(out, "= none"),
+        RequestAnswer::Found(Some(value)) => push_found(out, value.as_slice()),
+        RequestAnswer::Done => push_line(out, "done"),
+        RequestAnswer::Refused(error) => push_refusal(alloc, out, error),
+        RequestAnswer::Booted(boot) => push_numbered(out, "boot ", *boot),
+        RequestAnswer::NotBooted(error) => push_numbered(out, "refused ", restart_number(*error)),
+        RequestAnswer::Trimmed(remain) => push_numbered(out, "trim ", *remain),
+        RequestAnswer::NotTrimmed(error) => push_numbered(out, "refused ", trim_number(*error)),
+        RequestAnswer::NotDecided(error) => push_numbered(out, "refused ", decide_number(*error)),
     }
 }

@@ -1,18 +1,18 @@
 //! The requests of a script, made of a manager.
 
 ghost use Rattle.std.specs.Prelude.{◌≡◌, IfOk, Some, None};
-ghost use Rattle.key_tables.specs.declared.holders.Mode.TheVariants as mode;
-ghost use Rattle.kv_core.specs.Works.{Reads, Writes, work_refusal};
-ghost use Rattle.kv_manager.specs.Turns.{Calls, Refuses};
-ghost use Rattle.xa_engine.specs.Makes.{Boots, CallsBranch, Decides, IsRead, IsRefused, IsWritten, Makes, Scans, Trims, Works};
+ghost use Rattle.key_lists.specs.declared.holders.Mode.TheVariants as mode;
+ghost use Rattle.kv_state.specs.Works.{ReadsKey, WritesKey, work_refusal};
+ghost use Rattle.kv_manager.specs.Turns.{KvCalls, RefusesWork};
+ghost use Rattle.xa_engine.specs.Makes.{Boots, CallsBranch, RequestDecides, IsRead, IsRefused, IsWritten, RequestMakes, RequestScans, RequestTrims, RequestWorks};
 
-use crate::answer::Answer;
+use crate::answer::RequestAnswer;
 use crate::script::{BranchCall, Request};
 use kv_manager::KvManager;
 use log_store::MemoryStore;
-use manager_model::{DecideError, RestartError, TrimError};
+use protocol::{Op, Outcome, Sequence};
+use resource_manager::{DecideError, RestartError, TrimError};
 use std::alloc::AllocError;
-use tree_model::{Op, Outcome, Sequence};
 use xa_assoc::WorkError;
 use xa_codes::{Code, Flags};
 use xa_xid::Xid;
@@ -21,18 +21,20 @@ use xa_xid::Xid;
 pub type Manager = KvManager<MemoryStore>;
 
 /// Makes a request. An error says that memory was refused.
-pub fn make(manager: &mut Manager, request: &Request) -> Result<Answer, AllocError>
-    ensures { IfOk result (λ answer. Makes manager.old manager.new request.now answer) }
+pub fn make(manager: &mut Manager, request: &Request) -> Result<RequestAnswer, AllocError>
+    ensures { IfOk result (λ answer. RequestMakes manager.old manager.new request.now answer) }
 {
     match request {
-        Request::Open { flags, migrates } => Ok(Answer::Code(manager.open(*flags, *migrates))),
-        Request::Close { flags } => Ok(Answer::Code(manager.close(*flags))),
+        Request::Open { flags, migrates } => Ok(RequestAnswer::Code(manager.open(
+            *flags, *migrates,
+        ))),
+        Request::Close { flags } => Ok(RequestAnswer::Code(manager.close(*flags))),
         Request::Branch {
             call,
             thread,
             xid,
             flags,
-        } => Ok(Answer::Code(call_branch(manager, *call, *thread, xid, *flags)?)),
+        } => Ok(RequestAnswer::Code(call_branch(manager, *call, *thread, xid, *flags)?)),
         Request::Recover {
             thread,
             count,
@@ -66,18 +68,23 @@ fn call_branch(
 }
 
 /// A scan of the branches in doubt.
-fn scan(manager: &mut Manager, thread: u32, count: u32, flags: Flags) -> Result<Answer, AllocError>
-    ensures { IfOk result (λ answer. Scans manager.old manager.new thread count flags.0 answer) }
+fn scan(
+    manager: &mut Manager,
+    thread: u32,
+    count: u32,
+    flags: Flags,
+) -> Result<RequestAnswer, AllocError>
+    ensures { IfOk result (λ answer. RequestScans manager.old manager.new thread count flags.0 answer) }
 {
     match manager.recover(thread, count, flags)? {
-        Ok(xids) => Ok(Answer::Given(Sequence::from_vec(xids))),
-        Err(code) => Ok(Answer::Code(code)),
+        Ok(xids) => Ok(RequestAnswer::Given(Sequence::from_vec(xids))),
+        Err(code) => Ok(RequestAnswer::Code(code)),
     }
 }
 
 /// An operation on data.
-fn work(manager: &mut Manager, thread: u32, op: &Op) -> Result<Answer, AllocError>
-    ensures { IfOk result (λ answer. Works manager.old manager.new thread op.now answer) }
+fn work(manager: &mut Manager, thread: u32, op: &Op) -> Result<RequestAnswer, AllocError>
+    ensures { IfOk result (λ answer. RequestWorks manager.old manager.new thread op.now answer) }
 {
     match op {
         Op::Get(key) => get(manager, thread, key.as_slice()),
@@ -87,45 +94,50 @@ fn work(manager: &mut Manager, thread: u32, op: &Op) -> Result<Answer, AllocErro
 }
 
 /// The answer of refused work.
-fn refused(error: WorkError) -> Result<Answer, AllocError>
+fn refused(error: WorkError) -> Result<RequestAnswer, AllocError>
     ensures { IfOk result (λ answer. IsRefused error answer) }
 {
     match error {
         WorkError::Memory => Err(AllocError),
-        error => Ok(Answer::Refused(error)),
+        error => Ok(RequestAnswer::Refused(error)),
     }
 }
 
-fn get(manager: &mut Manager, thread: u32, key: &[u8]) -> Result<Answer, AllocError>
+fn get(manager: &mut Manager, thread: u32, key: &[u8]) -> Result<RequestAnswer, AllocError>
     ensures { IfOk result (λ answer. IsRead manager.old manager.new thread key.now answer) }
 {
     match manager.get(thread, key) {
-        Ok(value) => Ok(Answer::Found(value)),
+        Ok(value) => Ok(RequestAnswer::Found(value)),
         Err(error) => refused(error),
     }
 }
 
-fn put(manager: &mut Manager, thread: u32, key: &[u8], value: &[u8]) -> Result<Answer, AllocError>
+fn put(
+    manager: &mut Manager,
+    thread: u32,
+    key: &[u8],
+    value: &[u8],
+) -> Result<RequestAnswer, AllocError>
     ensures { IfOk result (λ answer. IsWritten manager.old manager.new thread
         key.now (Some value.now) answer) }
 {
     match manager.put(thread, key, value) {
-        Ok(()) => Ok(Answer::Done),
+        Ok(()) => Ok(RequestAnswer::Done),
         Err(error) => refused(error),
     }
 }
 
-fn delete(manager: &mut Manager, thread: u32, key: &[u8]) -> Result<Answer, AllocError>
+fn delete(manager: &mut Manager, thread: u32, key: &[u8]) -> Result<RequestAnswer, AllocError>
     ensures { IfOk result (λ answer. IsWritten manager.old manager.new thread key.now None answer) }
 {
     match manager.delete(thread, key) {
-        Ok(()) => Ok(Answer::Done),
+        Ok(()) => Ok(RequestAnswer::Done),
         Err(error) => refused(error),
     }
 }
 
 /// A restart that keeps N of the unforced bytes of the log, or all of them.
-fn restart(manager: &mut Manager, keep: Option<u64>) -> Result<Answer, AllocError>
+fn restart(manager: &mut Manager, keep: Option<u64>) -> Result<RequestAnswer, AllocError>
     ensures { IfOk result (λ answer. Boots manager.old manager.new keep answer) }
 {
     let keep = match keep {
@@ -133,30 +145,30 @@ fn restart(manager: &mut Manager, keep: Option<u64>) -> Result<Answer, AllocErro
         Some(keep) => keep as usize,
     };
     match manager.restart(keep) {
-        Ok(_) => Ok(Answer::Booted(manager.boot())),
+        Ok(_) => Ok(RequestAnswer::Booted(manager.boot())),
         Err(RestartError::Memory) => Err(AllocError),
-        Err(error) => Ok(Answer::NotBooted(error)),
+        Err(error) => Ok(RequestAnswer::NotBooted(error)),
     }
 }
 
 /// A trim of the log.
-fn trim(manager: &mut Manager) -> Result<Answer, AllocError>
-    ensures { IfOk result (λ answer. Trims manager.old manager.new answer) }
+fn trim(manager: &mut Manager) -> Result<RequestAnswer, AllocError>
+    ensures { IfOk result (λ answer. RequestTrims manager.old manager.new answer) }
 {
     match manager.trim() {
-        Ok(remain) => Ok(Answer::Trimmed(remain as u64)),
+        Ok(remain) => Ok(RequestAnswer::Trimmed(remain as u64)),
         Err(TrimError::Memory) => Err(AllocError),
-        Err(error) => Ok(Answer::NotTrimmed(error)),
+        Err(error) => Ok(RequestAnswer::NotTrimmed(error)),
     }
 }
 
 /// An operator's decision.
-fn decide(manager: &mut Manager, xid: &Xid, outcome: Outcome) -> Result<Answer, AllocError>
-    ensures { IfOk result (λ answer. Decides manager.old manager.new xid.now outcome answer) }
+fn decide(manager: &mut Manager, xid: &Xid, outcome: Outcome) -> Result<RequestAnswer, AllocError>
+    ensures { IfOk result (λ answer. RequestDecides manager.old manager.new xid.now outcome answer) }
 {
     match manager.decide(xid, outcome) {
-        Ok(()) => Ok(Answer::Done),
+        Ok(()) => Ok(RequestAnswer::Done),
         Err(DecideError::Memory) => Err(AllocError),
-        Err(error) => Ok(Answer::NotDecided(error)),
+        Err(error) => Ok(RequestAnswer::NotDecided(error)),
     }
 }

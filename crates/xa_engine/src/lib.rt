@@ -9,7 +9,7 @@ mod law;
 pub mod script;
 mod xa;
 
-pub use answer::{Answer, push_answer};
+pub use answer::{RequestAnswer, push_answer};
 pub use calls::{Manager, make};
 pub use law::histories_are_legal;
 pub use report_io::{Failure, Status};

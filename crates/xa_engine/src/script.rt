@@ -3,6 +3,6 @@
 mod reading;
 mod request;
 
-pub use reading::{ScriptError, asking_lines, requests_of};
+pub use reading::{XaScriptError, asking_lines, requests_of};
 pub(crate) use request::request_of;
-pub use request::{BranchCall, Call, Request, Word};
+pub use request::{BranchCall, Request, RequestCall, RequestWord};

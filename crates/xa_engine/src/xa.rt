@@ -6,20 +6,20 @@ ghost use Rattle.report_io.specs.Streams.{IsInput, WritesFront};
 ghost use Rattle.report_io.specs.declared.status.Status.{Status as AnyStatus};
 ghost use Rattle.xa_engine.specs.declared.script.request.Request.{Request as AnyRequest};
 ghost use Rattle.xa_engine.specs.script.Scripts.{IsFirstBadLine, SpellEach, call_lines};
-ghost use Rattle.xa_engine.specs.Runs.{HasSoundLog, IsFresh, IsReport, IsSoundManager, Reports, Runs, Steps, fault_text};
+ghost use Rattle.xa_engine.specs.Runs.{HasSoundLog, IsFreshManager, IsXaReport, IsSoundManager, Reports, Runs, RequestSteps, fault_text};
 
 use crate::answer::push_answer;
 use crate::calls::{Manager, make};
-use crate::script::{Request, ScriptError, asking_lines, request_of};
+use crate::script::{Request, XaScriptError, asking_lines, request_of};
 use kv_manager::{KvManager, RecordsError, RestoreError};
+use log_records::LogOpenError;
 use log_store::MemoryStore;
-use rec_log::OpenError;
+use protocol::ProcessId;
 use report_io::{Failure, Status, read_all, write_all};
 use script_words::says_nothing;
 use std::alloc::{AllocError, Global};
 use std::io::{Read, Write};
 use trace_lines::{push, push_number};
-use tree_model::ProcessId;
 
 /// Reads an XA script, makes its requests of a key store whose log is in memory, and writes their answers;
 /// or one line that says why the script is refused. After a failed read, or where memory is refused, nothing
@@ -30,11 +30,11 @@ pub fn run_xa<R: Read, W: Write>(
     writer: &mut W,
 ) -> Result<Status, Failure>
     ensures written { IfOk result (λ status. (input : List ℕ) × (text : List ℕ)
-        × IsInput (R.remaining reader.old) input × IsReport status input text
+        × IsInput (R.remaining reader.old) input × IsXaReport status input text
         × Appends (W.contents writer.old) (W.contents writer.new) text) }
     ensures cut { IfErr result (λ e. e ≡ Failure.Write → (input : List ℕ)
         × (text : List ℕ) × (status : AnyStatus)
-        × IsInput (R.remaining reader.old) input × IsReport status input text
+        × IsInput (R.remaining reader.old) input × IsXaReport status input text
         × WritesFront (W.contents writer.old) (W.contents writer.new) text) }
     ensures unread { IfErr result (λ e. e ≡ Failure.Read
         → Keeps (W.contents writer.old) (W.contents writer.new)) }
@@ -51,7 +51,7 @@ pub fn run_xa<R: Read, W: Write>(
 
 /// The answer to an input.
 fn report(alloc: Global, input: &[u8]) -> Result<(Vec<u8>, Status), AllocError>
-    ensures { IfOk result (λ r. IsReport r.1 input.now r.0.items) }
+    ensures { IfOk result (λ r. IsXaReport r.1 input.now r.0.items) }
 {
     let lines = match asking_lines(alloc, input)? {
         Ok(lines) => lines,
@@ -59,19 +59,22 @@ fn report(alloc: Global, input: &[u8]) -> Result<(Vec<u8>, Status), AllocError>
     };
     match answers(alloc, &lines)? {
         Ok(text) => Ok((text, Status::Ended)),
-        Err(number) => Ok((refusal(alloc, ScriptError::Line(number))?, Status::Refused)),
+        Err(number) => Ok((
+            refusal(alloc, XaScriptError::Line(number))?,
+            Status::Refused,
+        )),
     }
 }
 
 /// The line of a refused script.
-fn refusal(alloc: Global, error: ScriptError) -> Result<Vec<u8>, AllocError>
+fn refusal(alloc: Global, error: XaScriptError) -> Result<Vec<u8>, AllocError>
     ensures { IfOk result (λ text. text.items ≡ fault_text error) }
 {
     let mut out = Vec::new(alloc);
     match error {
-        ScriptError::Utf8 => push(&mut out, "error 4\n")?,
-        ScriptError::TooLong => push(&mut out, "error 5\n")?,
-        ScriptError::Line(number) => {
+        XaScriptError::Utf8 => push(&mut out, "error 4\n")?,
+        XaScriptError::TooLong => push(&mut out, "error 5\n")?,
+        XaScriptError::Line(number) => {
             push(&mut out, "error 3 ")?;
             push_number(&mut out, number as u64)?;
             push(&mut out, "\n")?;
@@ -85,16 +88,16 @@ const PROCESS: ProcessId = ProcessId(1);
 
 /// A manager over a store in memory whose log begins with it. An error says that memory was refused: nothing
 /// that is in an empty store is refused, and the device of one in memory does not fail.
-#[tactic(auto, using(tree_node::proofs::Refusals::manager_refused))]
+#[tactic(auto, using(tree_process::proofs::Refusals::manager_refused))]
 pub fn first_manager(alloc: Global) -> Result<Manager, AllocError>
-    ensures { IfOk result (λ manager. IsFresh manager) }
+    ensures { IfOk result (λ manager. IsFreshManager manager) }
 {
     match KvManager::restore(MemoryStore::new(alloc), PROCESS, alloc) {
         Ok(manager) => Ok(manager),
-        Err((RestoreError::Log(OpenError::Memory), _store)) => Err(AllocError),
-        Err((RestoreError::Log(OpenError::Device), _store)) => unreachable!(),
-        Err((RestoreError::Log(OpenError::Damaged(_)), _store)) => unreachable!(),
-        Err((RestoreError::Log(OpenError::OldFormat), _store)) => unreachable!(),
+        Err((RestoreError::Log(LogOpenError::Memory), _store)) => Err(AllocError),
+        Err((RestoreError::Log(LogOpenError::Device), _store)) => unreachable!(),
+        Err((RestoreError::Log(LogOpenError::Damaged(_)), _store)) => unreachable!(),
+        Err((RestoreError::Log(LogOpenError::OldFormat), _store)) => unreachable!(),
         Err((RestoreError::Records(RecordsError::Memory), _store)) => Err(AllocError),
         Err((RestoreError::Records(RecordsError::Device), _store)) => unreachable!(),
         Err((RestoreError::Records(RecordsError::Unfit), _store)) => unreachable!(),
@@ -146,7 +149,7 @@ fn log_is_sound(manager: &Manager)
     ensures { HasSoundLog manager.now }
 {
     manager.records_are_sound();
-    manager.records_are_ordered();
+    manager.records_are_in_order();
     let _size = manager.log_size();
 }
 
@@ -166,7 +169,7 @@ fn step(
     out: &mut Vec<u8>,
     request: &Request,
 ) -> Result<(), AllocError>
-    ensures { OnOk result (Steps manager.old manager.new request.now out.old.items out.new.items) }
+    ensures { OnOk result (RequestSteps manager.old manager.new request.now out.old.items out.new.items) }
 {
     let answer = make(manager, request)?;
     is_sound(manager);

@@ -1,7 +1,7 @@
 -- A part of an XID in an array of 64 bytes.
 use Rattle.std.specs.Prelude.{◌≡◌, ℕ, ◌≤◌, ◌-◌, List, ◌++◌, length, take, replicate}
 use Rattle.std.proofs.Common.{ap, sym, ◌∙◌, arith, length-take}
-use Rattle.xa_xid.specs.declared.part.Part.TheInside.{Inside}
+use Rattle.xa_xid.specs.declared.part.XidPart.TheInside.{Inside}
 
 -- a part, and zeros after it up to 64 bytes
 abbrev pub filled : List ℕ → List ℕ

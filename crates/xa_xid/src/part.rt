@@ -10,12 +10,12 @@ use std::marker::Model;
 
 /// At most 64 bytes.
 #[derive(Clone, Copy, Debug)]
-pub struct Part {
+pub struct XidPart {
     len: u8,
     bytes: [u8; 64],
 }
 
-impl Model for Part {
+impl Model for XidPart {
     ghost use Rattle.std.specs.Prelude.{ℕ, List, length, take};
     ghost use Rattle.xa_xid.specs.Part.{IsPart, filled, filled_again};
 
@@ -30,7 +30,7 @@ impl Model for Part {
     ghost inverse_ok = { λ p h. filled_again p.len p.bytes h };
 }
 
-impl Part {
+impl XidPart {
     /// The part of these bytes.
     pub fn new(bytes: &[u8]) -> Self
         requires { length bytes.now ≤ 64 }
@@ -38,7 +38,7 @@ impl Part {
     {
         let mut filled = [0; 64];
         filled[..bytes.len()].copy_from_slice(bytes);
-        Part {
+        XidPart {
             len: bytes.len() as u8,
             bytes: filled,
         }
@@ -81,17 +81,17 @@ fn are_equal(a: &[u8; 64], b: &[u8; 64], count: usize) -> bool
     true
 }
 
-impl PartialEq for Part {
+impl PartialEq for XidPart {
     ghost eq = { pointwise nat_eq };
 
     ghost laws = { partial_equiv_from_equiv nat_list_eq_equiv };
 
-    fn eq(&self, other: &Part) -> bool {
+    fn eq(&self, other: &XidPart) -> bool {
         self.len == other.len
             && are_equal(&self.bytes, &other.bytes, (self.len as usize).div_ceil(8))
     }
 }
 
-impl Eq for Part {
+impl Eq for XidPart {
     ghost laws = { nat_list_eq_equiv };
 }

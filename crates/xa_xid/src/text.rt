@@ -6,7 +6,7 @@ ghost use Rattle.xa_xid.specs.Xids.{XidParts, IsXid, FitsParts};
 ghost use Rattle.xa_xid.specs.Text.{xid_text, ArePieces, IsTextFault};
 
 use crate::error::XidError;
-use crate::part::Part;
+use crate::part::XidPart;
 use crate::xid::{Xid, fault_of_xid};
 use spellings::hexadecimal::{self, Hexadecimal, is_hexadecimal};
 use spellings::numeral::integer_of;
@@ -76,7 +76,7 @@ fn pieces_of(text: &str) -> Option<(i32, &str, &str)>
 }
 
 /// The part that a hexadecimal text spells.
-fn part_of(text: &str) -> Part
+fn part_of(text: &str) -> XidPart
     requires spelled { IsHexadecimal text.now }
     requires size { length text.now ≤ 128 }
     ensures { Spells text.now result }
@@ -84,5 +84,5 @@ fn part_of(text: &str) -> Part
     let mut bytes = [0; 64];
     let len = text.len() / 2;
     hexadecimal::decode(text, &mut bytes[..len]);
-    Part::new(&bytes[..len])
+    XidPart::new(&bytes[..len])
 }

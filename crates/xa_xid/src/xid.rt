@@ -9,7 +9,7 @@ ghost use Rattle.xa_xid.specs.Xids.{branch_fault, xid_fault};
 ghost use Rattle.xa_xid.specs.declared.xid.Xid.{Xid as AnyXid};
 
 use crate::error::XidError;
-use crate::part::Part;
+use crate::part::XidPart;
 use std::hash::{Hash, Hasher};
 use std::marker::Model;
 
@@ -22,13 +22,13 @@ pub struct Xid {
     /// The digest of the parts, which each look-up asks for.
     digest: u64,
     format: i32,
-    gtrid: Part,
-    bqual: Part,
+    gtrid: XidPart,
+    bqual: XidPart,
 }
 
 /// A number made of all parts.
 #[tactic(auto, unfolding(crate::specs::Digests::xid_digest))]
-fn digest_of(format: i32, gtrid: &Part, bqual: &Part) -> u64
+fn digest_of(format: i32, gtrid: &XidPart, bqual: &XidPart) -> u64
     ensures { result ≡ xid_digest (record { format = format; gtrid = gtrid.now; bqual = bqual.now }) }
 {
     bqual.digest(gtrid.digest(format.cast_unsigned() as u64))
@@ -87,8 +87,8 @@ impl Xid {
         ensures value { result ≡ record { format = format; gtrid = gtrid.now; bqual = bqual.now } }
         ensures sound { IsXid result }
     {
-        let gtrid = Part::new(gtrid);
-        let bqual = Part::new(bqual);
+        let gtrid = XidPart::new(gtrid);
+        let bqual = XidPart::new(bqual);
         Xid {
             digest: digest_of(format, &gtrid, &bqual),
             format,

@@ -6,15 +6,15 @@ ghost use Rattle.audit_engine.specs.logs.Reports.{IsLogReport, IsShown};
 ghost use Rattle.report_io.specs.Streams.{IsInput, WritesFront};
 ghost use Rattle.report_io.specs.declared.status.Status.{Status as AnyStatus};
 
-use link_script::ScriptError;
 use log_lines::push_held;
+use log_records::{LogOpenError, find};
+use log_script::{ProcessLog, bytes_of, damaged, read_logs, refusal};
 use log_text::LogForm;
-use logs_script::{ProcessLog, bytes_of, damaged, read_logs, refusal};
-use rec_log::{OpenError, find};
+use protocol::TreeProcess;
 use report_io::{Failure, Status, read_all, write_all};
 use std::alloc::{AllocError, Global};
 use std::io::{Read, Write};
-use tree_model::TreeEntry;
+use tree_script::ScriptError;
 
 /// Reads a tree with its logs, and writes what each log holds, in the order of the tree: a line `log P`, a
 /// line for each record with the place of its first byte, and `torn N` where the log has a torn tail; or one
@@ -59,7 +59,7 @@ fn report(alloc: Global, input: &[u8]) -> Result<(Vec<u8>, Status), AllocError>
 /// What the logs of these processes hold; or the line of the first that is damaged.
 fn shown(
     alloc: Global,
-    entries: &[TreeEntry],
+    entries: &[TreeProcess],
     logs: &[ProcessLog],
 ) -> Result<(Vec<u8>, Status), AllocError>
     ensures { IfOk result (λ r. IsShown r.1 entries.now logs.now r.0.items) }
@@ -70,11 +70,11 @@ fn shown(
         let form = LogForm::of_bytes(bytes, entry.id, entry.kind);
         match find(form, bytes, alloc) {
             Ok(found) => push_held(alloc, &mut out, form, bytes, found)?,
-            Err(OpenError::Damaged(place)) => {
+            Err(LogOpenError::Damaged(place)) => {
                 return Ok((damaged(alloc, entry.id, place)?, Status::Refused));
             }
-            Err(OpenError::Memory) => return Err(AllocError),
-            Err(OpenError::Device | OpenError::OldFormat) => unreachable!(),
+            Err(LogOpenError::Memory) => return Err(AllocError),
+            Err(LogOpenError::Device | LogOpenError::OldFormat) => unreachable!(),
         }
     }
     Ok((out, Status::Ended))

@@ -3,9 +3,9 @@ use Rattle.std.proofs.Common.{◌≡◌, ℕ, ◌+◌, ◌<◌, ◌≤◌, Bool,
 use Rattle.std.proofs.lemmas.Grind.{common_steps}
 use Rattle.std.proofs.lemmas.Bool.Decides.{nat_tests}
 use Rattle.std.specs.List.{AllByRecursion, position_or_len}
-use Rattle.tree_model.specs.declared.records.Write.{Write}
-use Rattle.tree_model.specs.Records.{same_bytes}
-use Rattle.tree_model.specs.Plays.{with_write}
+use Rattle.protocol.specs.declared.records.Write.{Write}
+use Rattle.protocol.specs.Records.{same_bytes}
+use Rattle.protocol.specs.Plays.{with_write}
 use Rattle.log_rules.specs.order.Orders.{keys_once, names_key}
 use Rattle.log_rules.specs.sound.Sound.{IsSoundWrite}
 use Rattle.kv_store.proofs.Order.{same_is, same_other_way}

@@ -9,10 +9,10 @@ use Rattle.std.specs.Prelude.{IfNone, IfSome}
 use Rattle.indexmap.specs.IndexMap.{IndexMap, Updates, insert_entry, set_value_at}
 use Rattle.indexmap.proofs.MapLemmas.{Found-position, Missing-position, insert_entry-first}
 use Rattle.xa_xid.specs.declared.xid.Xid.{Xid}
-use Rattle.tree_model.specs.declared.records.Write.{Write}
-use Rattle.tree_model.specs.Plays.{with_write}
+use Rattle.protocol.specs.declared.records.Write.{Write}
+use Rattle.protocol.specs.Plays.{with_write}
 use Rattle.log_rules.specs.order.Orders.{names_key}
-use Rattle.kv_store.specs.writes.Writes.{AreKept, HasRoomAt, Leaves, SameWrites, is_within_limit, room_of, same, table_of, workspace_of, writes_in, writes_of}
+use Rattle.kv_store.specs.writes.Writes.{AreKept, HasRoomAt, LeavesWrites, SameWrites, is_within_limit, room_of, same, table_of, workspace_of, writes_in, writes_of}
 use Rattle.kv_store.proofs.writes.Lists.{none_kept}
 use Rattle.kv_store.proofs.writes.Tables.{Lists, kept_left, leaves, leaves_same, room_is, same_is, writes_are}
 
@@ -70,7 +70,7 @@ module _ (es fs : Lists) (x : Xid) (v : Vec Write) (put : fs ≡ insert_entry sa
       by_test true e = subst (λ z. lookup (same z) fs ≡ Some v) (same_is x y e) own
       by_test false e = ap (lookup (same y)) put ∙ put_others es x y v e
 
-  put_leaves : (ws : List Write) → v.items ≡ ws → Leaves (table_of es) (table_of fs) x ws
+  put_leaves : (ws : List Write) → v.items ≡ ws → LeavesWrites (table_of es) (table_of fs) x ws
   put_leaves ws is = leaves es fs x (Some v) ws each own is
 
   put_stays : (o : Option (Vec Write)) → lookup (same x) es ≡ o
@@ -124,7 +124,7 @@ room_at es x i w has had =
 -- a write is put into the list at the place of a branch
 pub wrote_at : (es : Lists) (x : Xid) (i : ℕ) (w v : Vec Write) (k : List ℕ) (u : Option (List ℕ))
     → position (same x) (keys_of (table_of es)) ≡ Some i → slice_get (values_of es) i ≡ Some w
-    → v.items ≡ with_write w.items k u → Leaves (table_of es) (table_of (set_value_at es i v)) x
+    → v.items ≡ with_write w.items k u → LeavesWrites (table_of es) (table_of (set_value_at es i v)) x
     (with_write (writes_of (table_of es) x) k u)
 wrote_at es x i w v k u stands had is =
     let at : position (same x) (keys_of es) ≡ Some i = ap (position (same x)) (sym (keys_are es)) ∙ stands in
@@ -157,7 +157,7 @@ listed es x o stands = ap (position (same x)) (sym (keys_are es)) ∙ stands
 
 -- the map has lost the list of a branch
 pub taken_out : {H : Type 0} (m n : IndexMap Xid (Vec Write) H) (x : Xid) → Updates same m n x None
-    → Leaves (table_of m.entries) (table_of n.entries) x []
+    → LeavesWrites (table_of m.entries) (table_of n.entries) x []
 taken_out m n x out = leaves m.entries n.entries x None [] out.0 out.1 refl
 
 -- what each branch has is what a branch can have written, whichever entry is taken out
@@ -169,5 +169,5 @@ kept_taken m n (Some e) kept out stays = kept_left _ _ e.0 [] kept (taken_out m 
 
 -- a branch without a list stays without writes
 pub not_taken : (es : Lists) (x : Xid) → position (same x) (keys_of (table_of es)) ≡ None
-    → Leaves (table_of es) (table_of es) x []
+    → LeavesWrites (table_of es) (table_of es) x []
 not_taken es x none = record { own = not_listed es x none; others = λ y apart. refl }

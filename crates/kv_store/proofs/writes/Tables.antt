@@ -3,8 +3,8 @@ use Rattle.std.proofs.Common.{rules, ◌≡◌, Bool, true, false, cond, Option,
 use Rattle.std.specs.Global.{Vec}
 use Rattle.std.specs.Map.{lookup}
 use Rattle.xa_xid.specs.declared.xid.Xid.{Xid}
-use Rattle.tree_model.specs.declared.records.Write.{Write}
-use Rattle.kv_store.specs.writes.Writes.{AreKept, AreWrites, Leaves, SameWrites, Workspace, room_of, room_in, same, table_of, workspace_of, writes_in, writes_of}
+use Rattle.protocol.specs.declared.records.Write.{Write}
+use Rattle.kv_store.specs.writes.Writes.{AreKept, AreWrites, LeavesWrites, SameWrites, Workspace, room_of, room_in, same, table_of, workspace_of, writes_in, writes_of}
 use Rattle.kv_store.proofs.writes.Lists.{none_kept}
 
 pub same_is : (a b : Xid) → same a b ≡ true → a ≡ b
@@ -38,7 +38,7 @@ room_is es x o found = ap room_in (space_is es x ∙ ap (option_map workspace_of
 pub leaves : (es fs : Lists) (x : Xid) (o : Option (Vec Write)) (ws : List Write)
     → ((y : Xid) → lookup (same y) fs ≡ cond (same x y) o (lookup (same y) es))
     → lookup (same x) fs ≡ o → writes_in (option_map workspace_of o) ≡ ws
-    → Leaves (table_of es) (table_of fs) x ws
+    → LeavesWrites (table_of es) (table_of fs) x ws
 leaves es fs x o ws each here is = record {
   own = writes_are fs x o here ∙ is;
   others = λ y apart. writes_are fs y (lookup (same y) es)
@@ -46,7 +46,7 @@ leaves es fs x o ws each here is = record {
       ∙ sym (writes_are es y (lookup (same y) es) refl);
 }
 
-pub leaves_same : (t u : List (Xid × Workspace)) (x : Xid) → Leaves t u x (writes_of t x) → SameWrites t u
+pub leaves_same : (t u : List (Xid × Workspace)) (x : Xid) → LeavesWrites t u x (writes_of t x) → SameWrites t u
 leaves_same t u x left y = by_test (same x y) refl
   where
     by_test : (b : Bool) → same x y ≡ b → writes_of u y ≡ writes_of t y
@@ -55,7 +55,7 @@ leaves_same t u x left y = by_test (same x y) refl
 
 -- what a branch can have written stays so
 pub kept_left : (t u : List (Xid × Workspace)) (x : Xid) (ws : List Write) → AreKept t
-    → Leaves t u x ws → AreWrites ws → AreKept u
+    → LeavesWrites t u x ws → AreWrites ws → AreKept u
 kept_left t u x ws kept left new y = by_test (same x y) refl
   where
     by_test : (b : Bool) → same x y ≡ b → AreWrites (writes_of u y)

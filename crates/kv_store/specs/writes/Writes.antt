@@ -6,8 +6,8 @@ use Rattle.std.specs.List.{AllByRecursion}
 use Rattle.std.specs.Map.{keys_of, lookup}
 use Rattle.xa_xid.specs.declared.xid.Xid.{Xid}
 use Rattle.xa_xid.specs.contracts.xid.XidPartialEq.TheImpl as names
-use Rattle.tree_model.specs.declared.records.Write.{Write}
-use Rattle.tree_model.specs.Records.{same_bytes}
+use Rattle.protocol.specs.declared.records.Write.{Write}
+use Rattle.protocol.specs.Records.{same_bytes}
 use Rattle.log_rules.specs.order.Orders.{keys_once, names_key}
 use Rattle.log_rules.specs.sound.Sound.{IsSoundWrite}
 
@@ -66,7 +66,7 @@ HasRoomFor t x k None = is_within_limit (writes_of t x) k ≡ false
 HasRoomFor t x k (Some place) = (is_within_limit (writes_of t x) k ≡ true) × HasRoomAt t x place
 
 -- one branch is left with these writes, and the others with theirs
-pub record Leaves (old new : WriteTable) (x : Xid) (ws : List Write) : Type 0 where
+pub record LeavesWrites (old new : WriteTable) (x : Xid) (ws : List Write) : Type 0 where
   pub own : writes_of new x ≡ ws
   pub others : (y : Xid) → same x y ≡ false → writes_of new y ≡ writes_of old y
 

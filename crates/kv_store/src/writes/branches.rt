@@ -4,15 +4,15 @@ ghost use Rattle.std.specs.Prelude.{◌≡◌, [], Some, None, true, IfOk, OnOk,
 ghost use Rattle.std.specs.Map.{keys_of, lookup};
 ghost use Rattle.std.specs.Option.{option_copied};
 ghost use Rattle.log_rules.specs.sound.Sound.{IsSoundWrite};
-ghost use Rattle.tree_model.specs.Plays.{with_write};
-ghost use Rattle.kv_store.specs.writes.Writes.{AreKept, AreWrites, HasRoomAt, HasRoomFor, Leaves, ListedAt, SameWrites, is_of, is_within_limit, same, table_of, writes_of};
+ghost use Rattle.protocol.specs.Plays.{with_write};
+ghost use Rattle.kv_store.specs.writes.Writes.{AreKept, AreWrites, HasRoomAt, HasRoomFor, LeavesWrites, ListedAt, SameWrites, is_of, is_within_limit, same, table_of, writes_of};
 
 use crate::writes::list::{copied, find, is_within_limit, put};
 use few_keys::place_of;
 use indexmap::IndexMap;
+use protocol::Write;
 use std::alloc::{AllocError, Global};
 use std::marker::Model;
-use tree_model::Write;
 use xa_xid::Xid;
 
 /// The list of each branch.
@@ -111,7 +111,7 @@ impl BranchWrites {
     pub fn put_at(&mut self, place: usize, write: Write)
         requires room { (x : Xid) × HasRoomFor self.old x write.key (Some place) }
         requires sound { IsSoundWrite write }
-        ensures { (x : Xid) → position (same x) (keys_of self.old) ≡ Some place → Leaves self.old self.new x
+        ensures { (x : Xid) → position (same x) (keys_of self.old) ≡ Some place → LeavesWrites self.old self.new x
             (with_write (writes_of self.old x) write.key write.value) }
     {
         put(&mut self.lists[place], write);
@@ -120,7 +120,7 @@ impl BranchWrites {
     /// The writes of a branch that a log says it promised. Memory: nothing changed.
     pub fn restore(&mut self, xid: &Xid, writes: &[Write]) -> Result<(), AllocError>
         requires { AreWrites writes.now }
-        ensures ok { OnOk result (Leaves self.old self.new xid.now writes.now) }
+        ensures ok { OnOk result (LeavesWrites self.old self.new xid.now writes.now) }
         ensures err { OnErr result (SameWrites self.old self.new) }
     {
         let list = copied(writes, self.alloc)?;
@@ -130,7 +130,7 @@ impl BranchWrites {
 
     /// The branch is gone whose list stands here, if it has one, with its writes. It takes no memory.
     pub fn remove_at(&mut self, place: Option<usize>)
-        ensures { (x : Xid) → ListedAt self.old x place → Leaves self.old self.new x [] }
+        ensures { (x : Xid) → ListedAt self.old x place → LeavesWrites self.old self.new x [] }
     {
         if let Some(place) = place {
             let _ = self.lists.swap_remove_index(place);

@@ -3,11 +3,11 @@
 ghost use Rattle.std.specs.Prelude.{◌≡◌, ◌<◌, IfOk, find, position};
 ghost use Rattle.std.specs.Vec.{vec_capacity, vec_len};
 ghost use Rattle.std.specs.Option.{option_copied};
-ghost use Rattle.tree_model.specs.Plays.{with_write};
+ghost use Rattle.protocol.specs.Plays.{with_write};
 ghost use Rattle.kv_store.specs.writes.Writes.{is_of, is_within_limit};
 
+use protocol::Write;
 use std::alloc::{AllocError, Global};
-use tree_model::Write;
 
 /// The most different keys that a branch writes.
 const KEYS: usize = 64;

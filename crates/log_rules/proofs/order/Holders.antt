@@ -4,14 +4,14 @@ use Rattle.std.specs.Global.{Vec}
 use Rattle.std.specs.List.{AllByRecursion, IsDistinct}
 use Rattle.std.specs.Map.{KeepsOthers, keys_of, lookup, remove_entry}
 use Rattle.indexmap.specs.IndexMap.{insert_entry}
-use Rattle.key_tables.specs.Tables.{same_key}
-use Rattle.key_tables.proofs.Tables.{apart_keys, key_test, tests_key}
+use Rattle.key_lists.specs.Tables.{same_key}
+use Rattle.key_lists.proofs.Tables.{apart_keys, key_test, tests_key}
 use Rattle.xa_xid.specs.declared.xid.Xid.{Xid}
-use Rattle.tree_model.specs.declared.records.Write.{Write}
-use Rattle.tree_model.specs.Records.{same_bytes}
+use Rattle.protocol.specs.declared.records.Write.{Write}
+use Rattle.protocol.specs.Records.{same_bytes}
 use Rattle.log_rules.specs.declared.order.seen.Promise.{Promise}
 use Rattle.log_rules.specs.order.Orders.{holds, key_open, keys_free, names_key, opens, same}
-use Rattle.log_rules.specs.order.Holders.{IsKept, IsListed, holder_of, holds_at}
+use Rattle.log_rules.specs.order.Holders.{AreHolders, IsListed, holder_of, holds_at}
 use Rattle.log_rules.proofs.order.Keys.{same_bytes_is_equality}
 
 same_is : (a b : Xid) → same a b ≡ true → a ≡ b
@@ -49,13 +49,13 @@ all_removed P test (e ∷ es) all = by_test (test e.0) (all_removed P test es al
 
 -- What is kept.
 
-pub kept_nothing : (held : List (Vec ℕ × Xid)) (live : List (Xid × Promise)) → live ≡ [] → IsKept held live
-kept_nothing held live none = subst (λ es. IsKept held es) (sym none) (record { listed = tt })
+pub kept_nothing : (held : List (Vec ℕ × Xid)) (live : List (Xid × Promise)) → live ≡ [] → AreHolders held live
+kept_nothing held live none = subst (λ es. AreHolders held es) (sym none) (record { listed = tt })
 
 -- a branch is not open any more
 pub kept_shut : (held : List (Vec ℕ × Xid)) (live : List (Xid × Promise)) (x : Xid)
-    (p : Promise) → IsKept held live
-    → opens p.mark ≡ false → IsKept held (insert_entry same live x p)
+    (p : Promise) → AreHolders held live
+    → opens p.mark ≡ false → AreHolders held (insert_entry same live x p)
 kept_shut held live x p kept shut = record {
   listed = all_inserted (IsListed held) live x p kept.listed (λ y one k h. absurd (never k h));
 }
@@ -64,8 +64,8 @@ kept_shut held live x p kept shut = record {
     never k h = let shuts : holds p k ≡ false = ap (λ b. b && names_key p.writes k) shut in cc
 
 pub kept_removed : (held : List (Vec ℕ × Xid)) (live : List (Xid × Promise))
-    (test : Xid → Bool) → IsKept held live
-    → IsKept held (remove_entry test live)
+    (test : Xid → Bool) → AreHolders held live
+    → AreHolders held (remove_entry test live)
 kept_removed held live test kept = record { listed = all_removed (IsListed held) test live kept.listed }
 
 -- a key of writes that are free is of no open branch
@@ -110,9 +110,9 @@ relisted old new (e ∷ es) ws free others all =
         either (holds e.1 k) (key_open (map (λ e. e.1) es) k) shut
 
 pub kept_relisted : (old new : List (Vec ℕ × Xid)) (live : List (Xid × Promise))
-    (ws : List Write) → IsKept old live
+    (ws : List Write) → AreHolders old live
     → keys_free (map (λ e. e.1) live) ws ≡ true
-    → ((k : List ℕ) → names_key ws k ≡ false → holder_of new k ≡ holder_of old k) → IsKept new live
+    → ((k : List ℕ) → names_key ws k ≡ false → holder_of new k ≡ holder_of old k) → AreHolders new live
 kept_relisted old new live ws kept free others = record {
   listed = relisted old new live ws (λ k named. free_key (map (λ e. e.1) live) ws k
       free named) others kept.listed;
@@ -120,9 +120,9 @@ kept_relisted old new live ws kept free others = record {
 
 -- a branch promises writes whose keys are listed for it
 pub kept_promised : (held : List (Vec ℕ × Xid)) (live : List (Xid × Promise)) (x : Xid)
-    (p : Promise) → IsKept held live
+    (p : Promise) → AreHolders held live
     → ((k : List ℕ) → names_key p.writes k ≡ true → holder_of held k ≡ Some x)
-    → IsKept held (insert_entry same live x p)
+    → AreHolders held (insert_entry same live x p)
 kept_promised held live x p kept own = record {
   listed = all_inserted (IsListed held) live x p kept.listed
       (λ y one k h. own k (both (opens p.mark) (names_key p.writes k) h) ∙ ap Some (same_is x y one));
@@ -193,7 +193,7 @@ complete held (e ∷ es) k apart all some = by_test (holds e.1 k) refl some (com
     by_test false h some behind = found (holder_of held k) (behind some)
 
 pub open_is_listed : (held : List (Vec ℕ × Xid)) (live : List (Xid × Promise)) (k : List ℕ)
-    → IsDistinct same (keys_of live) → IsKept held live
+    → IsDistinct same (keys_of live) → AreHolders held live
     → open_by live k (holder_of held k) ≡ key_open (map (λ e. e.1) live) k
 open_is_listed held live k apart kept = by_test (key_open (map (λ e. e.1) live) k)
     refl (holder_of held k) refl
@@ -217,13 +217,13 @@ none_open [] k none = refl
 none_open (e ∷ es) k none = absurd (omega arith)
 
 pub none_listed : (held : List (Vec ℕ × Xid)) (live : List (Xid × Promise)) (k : List ℕ)
-    → IsDistinct same (keys_of live) → IsKept held live → holder_of held k ≡ None
+    → IsDistinct same (keys_of live) → AreHolders held live → holder_of held k ≡ None
     → false ≡ key_open (map (λ e. e.1) live) k
 none_listed held live k apart kept none = sym (ap (open_by live k) none)
     ∙ open_is_listed held live k apart kept
 
 pub one_listed : (held : List (Vec ℕ × Xid)) (live : List (Xid × Promise)) (k : List ℕ) (x : Xid)
-    → IsDistinct same (keys_of live) → IsKept held live → holder_of held k ≡ Some x
+    → IsDistinct same (keys_of live) → AreHolders held live → holder_of held k ≡ Some x
     → holds_at (lookup (same x) live) k ≡ key_open (map (λ e. e.1) live) k
 one_listed held live k x apart kept one = sym (ap (open_by live k) one)
     ∙ open_is_listed held live k apart kept

@@ -1,7 +1,7 @@
 -- The test of bytes that the definitions use is that of the code.
 use Rattle.std.proofs.Common.{◌≡◌, ℕ, Bool, true, false, List, [], ◌∷◌, refl, ◌&&◌, nat_eq, if◌then◌else◌}
 use Rattle.std.specs.Str.{bytes_eq}
-use Rattle.tree_model.specs.Records.{same_bytes}
+use Rattle.protocol.specs.Records.{same_bytes}
 
 by_test : (b r s : Bool) → r ≡ s → (b && r) ≡ (if b then s else false)
 by_test true r s h = h

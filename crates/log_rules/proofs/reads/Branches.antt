@@ -4,20 +4,20 @@ use Rattle.std.proofs.lemmas.List.Folds.{list_any-append}
 use Rattle.std.specs.List.{AllByRecursion, list_any}
 use Rattle.std.specs.Prelude.{option_map}
 use Rattle.xa_xid.specs.Xids.{XidParts}
-use Rattle.tree_model.specs.declared.names.Kind.TheVariants.{Manager}
-use Rattle.tree_model.specs.declared.names.ProcessId.{ProcessId}
-use Rattle.tree_model.specs.declared.records.Branch.{Branch}
-use Rattle.tree_model.specs.declared.records.Branch.TheVariants.{Case as CaseBranch, Foreign}
-use Rattle.tree_model.specs.declared.records.LogRecord.{LogRecord}
-use Rattle.tree_model.specs.declared.records.Record.{Record}
-use Rattle.tree_model.specs.declared.records.Record.TheVariants.{Opened, Collecting, Prepare, Commit, Abort, End, Prepared, Committed, RolledBack, Direct, HeurCommit, HeurRollback, Told, Forgot, Base, Pair, Cleared}
-use Rattle.tree_model.specs.declared.records.Write.{Write}
-use Rattle.tree_model.specs.LogNames.{foreign_to, is_own, name_by, name_xid, own_by, own_records, parent_of, renamed, same_parent}
-use Rattle.tree_model.specs.NameLaws.{same_case-refl, same_case_tells, same_process_tells}
-use Rattle.tree_model.specs.Nodes.{AtLeaf, Place}
-use Rattle.tree_model.specs.Records.{branch_case, has, prepares_branch, record_branch, record_case, same_branch}
-use Rattle.tree_model.specs.Restarts.{is_open}
-use Rattle.tree_model.specs.Standings.{Decided, Finished, Mark, Promised, ToldOf, Unmarked, mark_after}
+use Rattle.protocol.specs.declared.names.Kind.TheVariants.{Manager}
+use Rattle.protocol.specs.declared.names.ProcessId.{ProcessId}
+use Rattle.protocol.specs.declared.records.BranchName.{BranchName}
+use Rattle.protocol.specs.declared.records.BranchName.TheVariants.{Case as CaseBranch, Foreign}
+use Rattle.protocol.specs.declared.records.LogRecord.{LogRecord}
+use Rattle.protocol.specs.declared.records.Record.{Record}
+use Rattle.protocol.specs.declared.records.Record.TheVariants.{Opened, Collecting, Prepare, Commit, Abort, End, Prepared, Committed, RolledBack, Direct, HeurCommit, HeurRollback, Told, Forgot, Base, Pair, Cleared}
+use Rattle.protocol.specs.declared.records.Write.{Write}
+use Rattle.protocol.specs.LogNames.{foreign_to, is_own, name_by, name_xid, own_by, own_records, parent_of, renamed, same_parent}
+use Rattle.protocol.specs.NameLaws.{same_case-refl, same_case_tells, same_process_tells}
+use Rattle.protocol.specs.Nodes.{AtLeaf, Place}
+use Rattle.protocol.specs.Records.{branch_case, has, prepares_branch, record_branch, record_case, same_branch}
+use Rattle.protocol.specs.Restarts.{is_open}
+use Rattle.protocol.specs.Standings.{Decided, Finished, Mark, Promised, ToldOf, Unmarked, mark_after}
 use Rattle.log_text.proofs.NameReading.{same_xid_is, same_xid_refl}
 use Rattle.log_rules.specs.declared.trim.lives.Said.{Said}
 use Rattle.log_rules.specs.declared.trim.lives.Said.TheVariants.{Nothing, Over, Waits}
@@ -29,12 +29,12 @@ use Rattle.log_rules.proofs.reads.OwnNames.{one_name, own_parent}
 
 -- Names.
 
-branch_itself : (b : Branch) → same_branch b b ≡ true
+branch_itself : (b : BranchName) → same_branch b b ≡ true
 unfolding same_branch
 branch_itself (CaseBranch c) = same_case-refl c
 branch_itself (Foreign x) = same_xid_refl x
 
-branch_is : (a b : Branch) → same_branch a b ≡ true → a ≡ b
+branch_is : (a b : BranchName) → same_branch a b ≡ true → a ≡ b
 unfolding same_branch
 branch_is (CaseBranch c) (CaseBranch d) h = let one : c ≡ d = grind (arith, same_case_tells) in
     ap CaseBranch one
@@ -49,17 +49,17 @@ same_parent_itself None (Some q) h = absurd (cc)
 same_parent_itself (Some p) (Some q) h = ap Some (grind (arith, same_process_tells))
 
 -- the branch that a process reads in a name
-abbrev pub read_name : Place → Option ProcessId → Branch → Branch
+abbrev pub read_name : Place → Option ProcessId → BranchName → BranchName
 read_name place q (CaseBranch d) =
     if is_own place q d then CaseBranch d else Foreign (name_xid q (CaseBranch d))
 read_name place q (Foreign y) = Foreign y
 
 -- the XID of a branch that a process read
-abbrev xid_read : Place → Branch → XidParts
+abbrev xid_read : Place → BranchName → XidParts
 xid_read place (CaseBranch d) = name_xid (parent_of place.role) (CaseBranch d)
 xid_read place (Foreign y) = y
 
-xid_kept : (place : Place) (q : Option ProcessId) (b : Branch)
+xid_kept : (place : Place) (q : Option ProcessId) (b : BranchName)
     → xid_read place (read_name place q b) ≡ name_xid q b
 xid_kept place q (CaseBranch d) = by_test (is_own place q d) refl
   where
@@ -72,7 +72,7 @@ xid_kept place q (CaseBranch d) = by_test (is_own place q d) refl
 xid_kept place q (Foreign y) = refl
 
 -- two names have one XID exactly where they are read as one branch
-pub alike : (place : Place) (p q : Option ProcessId) (a b : Branch) → IsSoundName p a → IsSoundName q b
+pub alike : (place : Place) (p q : Option ProcessId) (a b : BranchName) → IsSoundName p a → IsSoundName q b
     → same (name_xid p a) (name_xid q b) ≡ same_branch (read_name place q b) (read_name place p a)
 alike place p q a b h k = by_test (same_branch (read_name place q b) (read_name place p a)) refl
   where
@@ -111,7 +111,7 @@ live_is_open Finished = refl
 
 -- what one record of a manager's log is, as it is read: of a branch, or of none
 pub record IsRead (place : Place) (entry : Record) (q : Option ProcessId) (read : List Record) (p : Option
-    ProcessId) (a : Branch) : Type 0 where
+    ProcessId) (a : BranchName) : Type 0 where
   pub says : (m : Mark) → said_so (fold (mark_after (read_name place p a)) m read)
       ≡ (if is_of (name_xid p a) (record { entry = entry; parent = q }) then said_after (said_so m) entry
       else said_so m)
@@ -131,14 +131,14 @@ no_promise : (t : Bool) → false ≡ (t && false)
 no_promise true = refl
 no_promise false = refl
 
-module _ (place : Place) (p : Option ProcessId) (a : Branch) (sound : IsSoundName p a) where
-  of_prepared : (q : Option ProcessId) (b : Branch) (ws : List Write)
+module _ (place : Place) (p : Option ProcessId) (a : BranchName) (sound : IsSoundName p a) where
+  of_prepared : (q : Option ProcessId) (b : BranchName) (ws : List Write)
       → is_of (name_xid p a) (record { entry = Prepared b ws; parent = q })
       ≡ same (name_xid p a) (name_xid q b)
   of_prepared q (CaseBranch d) ws = refl
   of_prepared q (Foreign y) ws = refl
 
-  one_prepared : (q : Option ProcessId) (b : Branch) (ws : List Write) → IsSoundName q b
+  one_prepared : (q : Option ProcessId) (b : BranchName) (ws : List Write) → IsSoundName q b
       → IsRead place (Prepared b ws) q (Prepared (read_name place q b) ws ∷ []) p a
   unfolding has
   one_prepared q b ws h =
@@ -152,11 +152,11 @@ module _ (place : Place) (p : Option ProcessId) (a : Branch) (sound : IsSoundNam
             (read_name place q b) (read_name place p a)) t;
       }
 
-  one_other : (q : Option ProcessId) (b : Branch) (r : Branch → Record) (n : Mark) (s : Said)
+  one_other : (q : Option ProcessId) (b : BranchName) (r : BranchName → Record) (n : Mark) (s : Said)
       → IsSoundName q b
-      → ((c : Branch) (m : Mark) → mark_after (read_name place p a) m (r c)
+      → ((c : BranchName) (m : Mark) → mark_after (read_name place p a) m (r c)
       ≡ (if same_branch c (read_name place p a) then n else m))
-      → ((c d : Branch) → prepares_branch d (r c) ≡ false)
+      → ((c d : BranchName) → prepares_branch d (r c) ≡ false)
       → ((m : Mark) → said_after (said_so m) (r b) ≡ s) → said_so n ≡ s → is_prepared (r b) ≡ false
       → (is_of (name_xid p a) (record { entry = r b; parent = q }) ≡ same (name_xid p a) (name_xid q b))
       → IsRead place (r b) q (r (read_name place q b) ∷ []) p a
@@ -182,9 +182,9 @@ module _ (place : Place) (p : Option ProcessId) (a : Branch) (sound : IsSoundNam
   }
 
 -- a manager's record as its process reads it
-pub read_as : (place : Place) (s : ProcessId) → place.role ≡ AtLeaf s → (r : Branch
-    → Record) (q : Option ProcessId) (b : Branch)
-    → ((c d : Branch) → renamed d (r c) ≡ r d) → ((c : Branch) → record_case (r c) ≡ branch_case c)
+pub read_as : (place : Place) (s : ProcessId) → place.role ≡ AtLeaf s → (r : BranchName
+    → Record) (q : Option ProcessId) (b : BranchName)
+    → ((c d : BranchName) → renamed d (r c) ≡ r d) → ((c : BranchName) → record_case (r c) ≡ branch_case c)
     → own_by place (record { entry = r b; parent = q }) (record_case (r b)) ≡ r (read_name place q b) ∷ []
 read_as place s role r q (Foreign y) name case = ap (own_by place (record {
   entry = r (Foreign y);
@@ -201,17 +201,17 @@ read_as place s role r q (CaseBranch d) name case =
         ∙ ap (λ z. z ∷ []) (name (CaseBranch d) (Foreign (name_xid q (CaseBranch d))))
 
 module _ (place : Place) (s : ProcessId) (role : place.role
-    ≡ AtLeaf s) (p : Option ProcessId) (a : Branch) (sound : IsSoundName p a) where
+    ≡ AtLeaf s) (p : Option ProcessId) (a : BranchName) (sound : IsSoundName p a) where
   -- a record of a branch as it is read
-  read_branch : (r : Branch → Record) (q : Option ProcessId) (b : Branch)
-      → ((c d : Branch) → renamed d (r c) ≡ r d) → ((c : Branch) → record_case (r c) ≡ branch_case c)
+  read_branch : (r : BranchName → Record) (q : Option ProcessId) (b : BranchName)
+      → ((c d : BranchName) → renamed d (r c) ≡ r d) → ((c : BranchName) → record_case (r c) ≡ branch_case c)
       → IsRead place (r b) q (r (read_name place q b) ∷ []) p a
       → IsRead place (r b) q (own_by place (record { entry = r b; parent = q }) (record_case (r b))) p a
   read_branch r q b name case is = subst (λ rs. IsRead place (r b) q rs p a) (sym (read_as place s role r q b
       name case)) is
 
-  of_branch : (r : Branch → Record) (q : Option ProcessId) (b : Branch) → ((c : Branch) → record_case (r c)
-      ≡ branch_case c) → ((c : Branch) → record_branch (r c) ≡ Some c)
+  of_branch : (r : BranchName → Record) (q : Option ProcessId) (b : BranchName) → ((c : BranchName) → record_case (r c)
+      ≡ branch_case c) → ((c : BranchName) → record_branch (r c) ≡ Some c)
       → is_of (name_xid p a) (record { entry = r b; parent = q }) ≡ same (name_xid p a) (name_xid q b)
   of_branch r q (CaseBranch d) case named = ap (λ o. is_name (name_xid p a) (option_map (name_xid q) (name_by
       o (record_branch (r (CaseBranch d)))))) (case (CaseBranch d))
@@ -221,13 +221,13 @@ module _ (place : Place) (s : ProcessId) (role : place.role
       ∙ ap (λ o. is_name (name_xid p a) (option_map (name_xid q) o)) (named (Foreign y))
 
   -- a record of a branch that sets this mark
-  read_other : (r : Branch → Record) (n : Mark) (t : Said) (q : Option ProcessId) (b : Branch)
+  read_other : (r : BranchName → Record) (n : Mark) (t : Said) (q : Option ProcessId) (b : BranchName)
       → IsSoundName q b
-      → ((c d : Branch) → renamed d (r c) ≡ r d) → ((c : Branch) → record_case (r c) ≡ branch_case c)
-      → ((c : Branch) → record_branch (r c) ≡ Some c)
-      → ((c : Branch) (m : Mark) → mark_after (read_name place p a) m (r c)
+      → ((c d : BranchName) → renamed d (r c) ≡ r d) → ((c : BranchName) → record_case (r c) ≡ branch_case c)
+      → ((c : BranchName) → record_branch (r c) ≡ Some c)
+      → ((c : BranchName) (m : Mark) → mark_after (read_name place p a) m (r c)
       ≡ (if same_branch c (read_name place p a) then n else m))
-      → ((c d : Branch) → prepares_branch d (r c) ≡ false) → ((m : Mark) → said_after (said_so m) (r b)
+      → ((c d : BranchName) → prepares_branch d (r c) ≡ false) → ((m : Mark) → said_after (said_so m) (r b)
       ≡ t) → said_so n ≡ t → is_prepared (r b) ≡ false
       → IsRead place (r b) q (own_by place (record { entry = r b; parent = q }) (record_case (r b))) p a
   read_other r n t q b h name case named mark none said is plain =

@@ -1,12 +1,12 @@
 -- The last Opened of a log, as its process reads it.
 use Rattle.std.proofs.Common.{◌≡◌, Bool, true, false, ◌||◌, if◌then◌else◌, ℕ, List, [], ◌∷◌, ◌++◌, fold, refl, sym, ap, ◌∙◌, append-nil, append_assoc}
 use Rattle.std.specs.List.{AllByRecursion, list_any}
-use Rattle.tree_model.specs.declared.records.LogRecord.{LogRecord}
-use Rattle.tree_model.specs.declared.records.Record.{Record}
-use Rattle.tree_model.specs.declared.records.Record.TheVariants.{Opened}
-use Rattle.tree_model.specs.LogNames.{own_by, own_records}
-use Rattle.tree_model.specs.Nodes.{Place}
-use Rattle.tree_model.specs.Records.{boot_after, is_opened, record_case}
+use Rattle.protocol.specs.declared.records.LogRecord.{LogRecord}
+use Rattle.protocol.specs.declared.records.Record.{Record}
+use Rattle.protocol.specs.declared.records.Record.TheVariants.{Opened}
+use Rattle.protocol.specs.LogNames.{own_by, own_records}
+use Rattle.protocol.specs.Nodes.{Place}
+use Rattle.protocol.specs.Records.{boot_after, is_opened, record_case}
 use Rattle.log_rules.specs.trim.Trims.{opened_after}
 
 -- what a record is read as: an Opened as itself, any other as what leaves the boot

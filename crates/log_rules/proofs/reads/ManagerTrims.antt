@@ -2,18 +2,18 @@
 use Rattle.std.proofs.Common.{◌≡◌, Bool, true, false, not, ◌&&◌, if◌then◌else◌, ℕ, List, [], ◌∷◌, ◌++◌, Option, Some, None, fold, refl, sym, ap, ◌∙◌}
 use Rattle.std.specs.List.{AllByRecursion, list_any}
 use Rattle.std.specs.Prelude.{option_map}
-use Rattle.tree_model.specs.declared.names.Kind.TheVariants.{Manager}
-use Rattle.tree_model.specs.declared.names.ProcessId.{ProcessId}
-use Rattle.tree_model.specs.declared.records.Branch.{Branch}
-use Rattle.tree_model.specs.declared.records.Branch.TheVariants.{Case as CaseBranch, Foreign}
-use Rattle.tree_model.specs.declared.records.LogRecord.{LogRecord}
-use Rattle.tree_model.specs.declared.records.Record.{Record}
-use Rattle.tree_model.specs.declared.records.Record.TheVariants.{Opened, Collecting, Prepare, Commit, Abort, End, Prepared, Committed, RolledBack, Direct, HeurCommit, HeurRollback, Told, Forgot, Base, Pair, Cleared}
-use Rattle.tree_model.specs.LogNames.{name_by, name_xid, own_by, own_records, renamed}
-use Rattle.tree_model.specs.Nodes.{AtLeaf, Place, Role}
-use Rattle.tree_model.specs.Records.{boot_after, boot_of, branch_case, is_opened, record_branch, record_case}
-use Rattle.tree_model.specs.Restarts.{branch_stays, data_records, is_open, trimmed, stays as model_stays, staying as model_staying}
-use Rattle.tree_model.specs.Standings.{Unmarked, mark_of}
+use Rattle.protocol.specs.declared.names.Kind.TheVariants.{Manager}
+use Rattle.protocol.specs.declared.names.ProcessId.{ProcessId}
+use Rattle.protocol.specs.declared.records.BranchName.{BranchName}
+use Rattle.protocol.specs.declared.records.BranchName.TheVariants.{Case as CaseBranch, Foreign}
+use Rattle.protocol.specs.declared.records.LogRecord.{LogRecord}
+use Rattle.protocol.specs.declared.records.Record.{Record}
+use Rattle.protocol.specs.declared.records.Record.TheVariants.{Opened, Collecting, Prepare, Commit, Abort, End, Prepared, Committed, RolledBack, Direct, HeurCommit, HeurRollback, Told, Forgot, Base, Pair, Cleared}
+use Rattle.protocol.specs.LogNames.{name_by, name_xid, own_by, own_records, renamed}
+use Rattle.protocol.specs.Nodes.{AtLeaf, Place, Role}
+use Rattle.protocol.specs.Records.{boot_after, boot_of, branch_case, is_opened, record_branch, record_case}
+use Rattle.protocol.specs.Restarts.{branch_stays, data_records, is_open, trimmed, stays as model_stays, staying as model_staying}
+use Rattle.protocol.specs.Standings.{Unmarked, mark_of}
 use Rattle.log_rules.specs.trim.Tables.{is_live, log_name}
 use Rattle.log_rules.specs.trim.Trims.{front_of_trim, last_opened, opened_after, prepares, said_of, stays, stays_by, staying}
 use Rattle.log_rules.specs.sound.Sound.{IsSound, IsSoundName}
@@ -25,8 +25,8 @@ model_branch_stays : (role : Role) (s : ProcessId) (rs after : List Record) (r :
     → model_stays role rs after r ≡ branch_stays rs after (record_branch r)
 model_branch_stays role s rs after r is = ap (λ z. model_stays z rs after r) is
 
-named_so : (r : Branch → Record) (q : Option ProcessId) (b : Branch) → ((c : Branch) → record_case (r c)
-    ≡ branch_case c) → ((c : Branch) → record_branch (r c) ≡ Some c)
+named_so : (r : BranchName → Record) (q : Option ProcessId) (b : BranchName) → ((c : BranchName) → record_case (r c)
+    ≡ branch_case c) → ((c : BranchName) → record_branch (r c) ≡ Some c)
     → log_name (record { entry = r b; parent = q }) ≡ Some (name_xid q b)
 named_so r q (CaseBranch d) case named = ap (λ o. option_map (name_xid q) (name_by o (record_branch (r
     (CaseBranch d))))) (case (CaseBranch d))
@@ -40,7 +40,7 @@ module _ (place : Place) (s : ProcessId) (role : place.role
   read = own_records place ls
 
   -- a record of a branch stays where the branch that is read is open and was not promised again
-  branch_as_model : (q : Option ProcessId) (b : Branch) (rest : List LogRecord) → IsSoundName q b
+  branch_as_model : (q : Option ProcessId) (b : BranchName) (rest : List LogRecord) → IsSoundName q b
       → AllByRecursion (IsSound Manager) rest
       → stays_by ls rest (Some (name_xid q b))
       ≡ branch_stays read (own_records place rest) (Some (read_name place q b))
@@ -76,10 +76,10 @@ module _ (place : Place) (s : ProcessId) (role : place.role
       by_test true = ap (λ t. t ++ own_records place (staying ls rest)) own ∙ ap (λ t. r ∷ t) behind
       by_test false = behind
 
-  branch_stays_alike : (r : Branch → Record) (q : Option ProcessId) (b : Branch) (rest : List LogRecord)
+  branch_stays_alike : (r : BranchName → Record) (q : Option ProcessId) (b : BranchName) (rest : List LogRecord)
       → IsSoundName q b → AllByRecursion (IsSound Manager) rest
-      → ((c d : Branch) → renamed d (r c) ≡ r d) → ((c : Branch) → record_case (r c) ≡ branch_case c)
-      → ((c : Branch) → record_branch (r c) ≡ Some c)
+      → ((c d : BranchName) → renamed d (r c) ≡ r d) → ((c : BranchName) → record_case (r c) ≡ branch_case c)
+      → ((c : BranchName) → record_branch (r c) ≡ Some c)
       → own_records place (staying ls rest) ≡ model_staying place.role read (own_records place rest)
       → StaysAlike (record { entry = r b; parent = q }) rest
   branch_stays_alike r q b rest name h renames case named behind =
@@ -138,9 +138,9 @@ module _ (place : Place) (s : ProcessId) (role : place.role
   staying_alike (l ∷ rest) h = record_stays l.entry l.parent rest h.0 h.1 (staying_alike rest h.1)
 
 module _ (place : Place) (s : ProcessId) (role : place.role ≡ AtLeaf s) where
-  other_boot : (r : Branch → Record) (q : Option ProcessId) (b : Branch) → ((c d : Branch)
-      → renamed d (r c) ≡ r d) → ((c : Branch) → record_case (r c) ≡ branch_case c)
-      → ((c : Branch) (n : ℕ) → boot_after n (r c) ≡ n) → is_opened (r b) ≡ false
+  other_boot : (r : BranchName → Record) (q : Option ProcessId) (b : BranchName) → ((c d : BranchName)
+      → renamed d (r c) ≡ r d) → ((c : BranchName) → record_case (r c) ≡ branch_case c)
+      → ((c : BranchName) (n : ℕ) → boot_after n (r c) ≡ n) → is_opened (r b) ≡ false
       → ReadsBoot place (record { entry = r b; parent = q })
   other_boot r q b renames case leaves none = record {
     opened = λ is. absurd (cc);

@@ -2,14 +2,14 @@
 use Rattle.std.proofs.Common.{◌≡◌, Bool, true, false, Option, Some, None, refl, sym, ap, subst, ◌∙◌, arith}
 use Rattle.std.proofs.lemmas.Grind.{common_steps}
 use Rattle.xa_xid.specs.declared.xid.Xid.{Xid}
-use Rattle.tree_model.specs.declared.names.Case.{Case}
-use Rattle.tree_model.specs.declared.names.ProcessId.{ProcessId}
-use Rattle.tree_model.specs.declared.records.Branch.{Branch}
-use Rattle.tree_model.specs.declared.records.Branch.TheVariants.{Case as CaseBranch}
-use Rattle.tree_model.specs.LogNames.{is_own, name_xid, parent_of, same_parent}
-use Rattle.tree_model.specs.NameLaws.{same_case-refl, same_case_tells, same_process_tells}
-use Rattle.tree_model.specs.Names.{same_case}
-use Rattle.tree_model.specs.Nodes.{Place}
+use Rattle.protocol.specs.declared.names.Case.{Case}
+use Rattle.protocol.specs.declared.names.ProcessId.{ProcessId}
+use Rattle.protocol.specs.declared.records.BranchName.{BranchName}
+use Rattle.protocol.specs.declared.records.BranchName.TheVariants.{Case as CaseBranch}
+use Rattle.protocol.specs.LogNames.{is_own, name_xid, parent_of, same_parent}
+use Rattle.protocol.specs.NameLaws.{same_case-refl, same_case_tells, same_process_tells}
+use Rattle.protocol.specs.Names.{same_case}
+use Rattle.protocol.specs.Nodes.{Place}
 use Rattle.log_text.specs.Parts.{name_in}
 use Rattle.log_rules.specs.trim.Tables.{same}
 use Rattle.log_rules.proofs.trim.Names.{same_by_parts, same_refl}
@@ -19,12 +19,12 @@ use Rattle.log_rules.proofs.sound.Names.{names_read_back}
 -- Names.
 
 -- two whole names with one XID are one
-pub one_name : (p q : Option ProcessId) (a b : Branch) → IsSoundName p a → IsSoundName q b
+pub one_name : (p q : Option ProcessId) (a b : BranchName) → IsSoundName p a → IsSoundName q b
     → name_xid p a ≡ name_xid q b
-    → ◌≡◌ {A = Option ProcessId × Branch} (p, a) (q, b)
+    → ◌≡◌ {A = Option ProcessId × BranchName} (p, a) (q, b)
 one_name p q a b h k e = sym (names_read_back p a h) ∙ ap name_in e ∙ names_read_back q b k
 
-abbrev case_in : Case → Branch → Case
+abbrev case_in : Case → BranchName → Case
 case_in d (CaseBranch c) = c
 case_in d b = d
 

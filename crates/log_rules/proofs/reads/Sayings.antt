@@ -1,11 +1,11 @@
 -- What the records of a coordinator's case say of it, in any order of the tests.
 use Rattle.std.proofs.Common.{◌≡◌, Bool, true, false, not, ◌||◌, cond, if◌then◌else◌, refl, Some, None, is_some}
-use Rattle.tree_model.specs.declared.records.Record.{Record}
-use Rattle.tree_model.specs.declared.records.Record.TheVariants.{Opened, Collecting, Prepare, Commit, Abort, End, Prepared, Committed, RolledBack, Direct, HeurCommit, HeurRollback, Told, Forgot, Base, Pair, Cleared}
-use Rattle.tree_model.specs.declared.standings.Standing.TheVariants.{Unknown}
-use Rattle.tree_model.specs.Records.{none_of}
-use Rattle.tree_model.specs.Restarts.{is_known}
-use Rattle.tree_model.specs.Standings.{standing_by}
+use Rattle.protocol.specs.declared.records.Record.{Record}
+use Rattle.protocol.specs.declared.records.Record.TheVariants.{Opened, Collecting, Prepare, Commit, Abort, End, Prepared, Committed, RolledBack, Direct, HeurCommit, HeurRollback, Told, Forgot, Base, Pair, Cleared}
+use Rattle.protocol.specs.declared.standings.Standing.TheVariants.{Unknown}
+use Rattle.protocol.specs.Records.{none_of}
+use Rattle.protocol.specs.Restarts.{is_known}
+use Rattle.protocol.specs.Standings.{standing_by}
 use Rattle.log_rules.specs.declared.trim.lives.Said.{Said}
 use Rattle.log_rules.specs.declared.trim.lives.Said.TheVariants.{Nothing, Waits, Settled, Owes, Over, Reported}
 use Rattle.log_rules.specs.trim.Tables.{is_live, said_after}

@@ -3,25 +3,25 @@ use Rattle.std.proofs.Common.{◌≡◌, Bool, true, false, not, ◌&&◌, ◌||
 use Rattle.std.proofs.lemmas.Grind.{common_steps}
 use Rattle.std.specs.List.{AllByRecursion, list_any}
 use Rattle.xa_xid.specs.declared.xid.Xid.{Xid}
-use Rattle.tree_model.specs.declared.names.Case.{Case}
-use Rattle.tree_model.specs.declared.names.Kind.TheVariants.{Coordinator}
-use Rattle.tree_model.specs.declared.names.Presumption.{Presumption}
-use Rattle.tree_model.specs.declared.names.Presumption.TheVariants.{PresumeAbort, PresumeCommit}
-use Rattle.tree_model.specs.declared.names.ProcessId.{ProcessId}
-use Rattle.tree_model.specs.declared.names.Ticket.{Ticket}
-use Rattle.tree_model.specs.declared.records.Branch.TheVariants.{Case as CaseBranch}
-use Rattle.tree_model.specs.declared.records.LogRecord.{LogRecord}
-use Rattle.tree_model.specs.declared.records.Record.{Record}
-use Rattle.tree_model.specs.declared.records.Record.TheVariants.{Opened, Collecting, Prepare, Commit, Abort, End, Prepared, Committed, RolledBack, Direct, HeurCommit, HeurRollback, Told, Forgot, Base, Pair, Cleared}
-use Rattle.tree_model.specs.declared.standings.Standing.{Standing}
-use Rattle.tree_model.specs.declared.standings.Standing.TheVariants.{Unknown, Active, Collecting as CollectingStanding, Prepared as PreparedStanding, Committing, Aborting, Heuristic}
-use Rattle.tree_model.specs.LogNames.{foreign_to, is_own, name_xid, own_by, own_records}
-use Rattle.tree_model.specs.Memory.{fresh_memory, Idle}
-use Rattle.tree_model.specs.Names.{same_case}
-use Rattle.tree_model.specs.Nodes.{AtLeaf, AtRoot, Below, Place, Role, IsCoordinator}
-use Rattle.tree_model.specs.Records.{boot_after, boot_of, has, is_abort, is_collecting, is_commit, is_end, is_opened, is_prepare, none_of, owing_by, owing_in, is_reported, record_case, reported_after}
-use Rattle.tree_model.specs.Restarts.{case_stays, data_records, is_known, recorded_view, trimmed, stays as model_stays, staying as model_staying}
-use Rattle.tree_model.specs.Standings.{CoordinatorView, coordinator_standing, known_view, phase_standing, standing_by}
+use Rattle.protocol.specs.declared.names.Case.{Case}
+use Rattle.protocol.specs.declared.names.Kind.TheVariants.{Coordinator}
+use Rattle.protocol.specs.declared.names.Presumption.{Presumption}
+use Rattle.protocol.specs.declared.names.Presumption.TheVariants.{PresumeAbort, PresumeCommit}
+use Rattle.protocol.specs.declared.names.ProcessId.{ProcessId}
+use Rattle.protocol.specs.declared.names.Ticket.{Ticket}
+use Rattle.protocol.specs.declared.records.BranchName.TheVariants.{Case as CaseBranch}
+use Rattle.protocol.specs.declared.records.LogRecord.{LogRecord}
+use Rattle.protocol.specs.declared.records.Record.{Record}
+use Rattle.protocol.specs.declared.records.Record.TheVariants.{Opened, Collecting, Prepare, Commit, Abort, End, Prepared, Committed, RolledBack, Direct, HeurCommit, HeurRollback, Told, Forgot, Base, Pair, Cleared}
+use Rattle.protocol.specs.declared.standings.Standing.{Standing}
+use Rattle.protocol.specs.declared.standings.Standing.TheVariants.{Unknown, Active, Collecting as CollectingStanding, Prepared as PreparedStanding, Committing, Aborting, Heuristic}
+use Rattle.protocol.specs.LogNames.{foreign_to, is_own, name_xid, own_by, own_records}
+use Rattle.protocol.specs.Memory.{fresh_memory, Idle}
+use Rattle.protocol.specs.Names.{same_case}
+use Rattle.protocol.specs.Nodes.{AtLeaf, AtRoot, Below, Place, Role, IsCoordinator}
+use Rattle.protocol.specs.Records.{boot_after, boot_of, has, is_abort, is_collecting, is_commit, is_end, is_opened, is_prepare, none_of, owing_by, owing_in, is_reported, record_case, reported_after}
+use Rattle.protocol.specs.Restarts.{case_stays, data_records, is_known, recorded_view, trimmed, stays as model_stays, staying as model_staying}
+use Rattle.protocol.specs.Standings.{CoordinatorView, coordinator_standing, known_view, phase_standing, standing_by}
 use Rattle.log_rules.specs.declared.trim.lives.Said.TheVariants.{Nothing}
 use Rattle.log_rules.specs.trim.Tables.{is_live, is_prepared, log_name}
 use Rattle.log_rules.specs.trim.Trims.{front_of_trim, is_of, last_opened, opened_after, prepares, said_of, stays, stays_by, staying}

@@ -6,26 +6,26 @@ use Rattle.std.proofs.Math.Seq.{take-length}
 use Rattle.std.proofs.lemmas.Bool.Decides.{nat_tests}
 use Rattle.std.proofs.lemmas.Slice.Eq.{bytes_eq-Decides}
 use Rattle.byteorder.specs.Endian.{big_bytes, big_number}
-use Rattle.tree_model.specs.declared.names.Case.{Case}
-use Rattle.tree_model.specs.declared.names.Kind.{Kind}
-use Rattle.tree_model.specs.declared.names.Kind.TheVariants.{Coordinator, Manager}
-use Rattle.tree_model.specs.declared.names.Outcome.TheVariants.{Committed as CommittedOutcome, Aborted as AbortedOutcome}
-use Rattle.tree_model.specs.declared.names.ProcessId.{ProcessId}
-use Rattle.tree_model.specs.declared.names.Ticket.{Ticket}
-use Rattle.tree_model.specs.declared.records.Branch.{Branch}
-use Rattle.tree_model.specs.declared.records.Branch.TheVariants.{Case as CaseBranch, Foreign}
-use Rattle.tree_model.specs.declared.records.LogRecord.{LogRecord}
-use Rattle.tree_model.specs.declared.records.Record.{Record}
-use Rattle.tree_model.specs.declared.records.Record.TheVariants.{Opened, Collecting, Prepare, Commit, Abort, End, Prepared, Committed, RolledBack, Direct, HeurCommit, HeurRollback, Told, Forgot, Base, Pair, Cleared}
-use Rattle.tree_model.specs.declared.records.Reports.{Reports}
-use Rattle.tree_model.specs.declared.records.Write.{Write}
+use Rattle.protocol.specs.declared.names.Case.{Case}
+use Rattle.protocol.specs.declared.names.Kind.{Kind}
+use Rattle.protocol.specs.declared.names.Kind.TheVariants.{Coordinator, Manager}
+use Rattle.protocol.specs.declared.names.Outcome.TheVariants.{Committed as CommittedOutcome, Aborted as AbortedOutcome}
+use Rattle.protocol.specs.declared.names.ProcessId.{ProcessId}
+use Rattle.protocol.specs.declared.names.Ticket.{Ticket}
+use Rattle.protocol.specs.declared.records.BranchName.{BranchName}
+use Rattle.protocol.specs.declared.records.BranchName.TheVariants.{Case as CaseBranch, Foreign}
+use Rattle.protocol.specs.declared.records.LogRecord.{LogRecord}
+use Rattle.protocol.specs.declared.records.Record.{Record}
+use Rattle.protocol.specs.declared.records.Record.TheVariants.{Opened, Collecting, Prepare, Commit, Abort, End, Prepared, Committed, RolledBack, Direct, HeurCommit, HeurRollback, Told, Forgot, Base, Pair, Cleared}
+use Rattle.protocol.specs.declared.records.Reports.{Reports}
+use Rattle.protocol.specs.declared.records.Write.{Write}
 use Rattle.log_text.specs.declared.form.LogForm.{LogForm}
 use Rattle.log_text.specs.declared.form.LogFormat.{LogFormat}
 use Rattle.log_text.specs.declared.form.LogFormat.TheVariants.{First, Second}
 use Rattle.log_text.specs.Parts.{Front, Name, key_at, name_at, reports_of, tickets_of, value_at, writes_of}
 use Rattle.log_text.specs.Payloads.{key_text, kind_byte, name_text, opened_by, owner_text, payload_text, tickets_text, value_text, writes_text}
 use Rattle.log_text.specs.Reading.{alone_record, bare, below, boot_by, branch_record, case_record, coordinator_record, kind_record, listing, manager_record, named, of_branch, of_case, of_name, opened_boot, owned_boot, pair_by, pair_of, read_record, told, writing}
-use Rattle.tree_model.specs.LogNames.{unnamed}
+use Rattle.protocol.specs.LogNames.{unnamed}
 use Rattle.log_rules.specs.sound.Written.{AreBytes, IsWrittenAs, ReadIsWritten}
 use Rattle.log_rules.proofs.sound.Cuts.{IsCut, both, empty, first_bytes, is_number, key_cut, none_some, number_again, passed, reports_cut, some_is, tickets_cut, value_cut, writes_cut}
 use Rattle.log_rules.proofs.sound.CutNames.{name_cut}
@@ -167,7 +167,7 @@ case_cut form kind xs p c rest l h w e = by_kind (kind == 6) (kind == 7) (kind =
         listed_cut form kind xs p c rest l (tickets_of rest) r h w refl g
     by_kind false false false false six seven eight r g = absurd (none_some l g)
 
-of_case_cut : (form : LogForm) (kind : ℕ) (xs : List ℕ) (p : Option ProcessId) (b : Branch) (rest : List ℕ) (l : LogRecord)
+of_case_cut : (form : LogForm) (kind : ℕ) (xs : List ℕ) (p : Option ProcessId) (b : BranchName) (rest : List ℕ) (l : LogRecord)
     → AreBytes rest → xs ≡ name_text p b ++ rest → of_case kind p b rest ≡ Some l → IsWrittenAs form l kind xs
 of_case_cut form kind xs p (CaseBranch c) rest l h w e = case_cut form kind xs p c rest l h w e
 of_case_cut form kind xs p (Foreign x) rest l h w e = absurd (none_some l e)
@@ -187,12 +187,12 @@ coordinator_cut form kind xs l h e = of_name_cut form kind xs l (name_at xs) h r
 -- Records of managers.
 
 -- what a record of a branch must be to be written so
-pub record IsBranchWritten (form : LogForm) (p : Option ProcessId) (b : Branch) (kind : ℕ) (rest : List ℕ)
+pub record IsBranchWritten (form : LogForm) (p : Option ProcessId) (b : BranchName) (kind : ℕ) (rest : List ℕ)
     (r : Record) : Type 0 where
   pub same_kind : kind_byte r ≡ kind
   pub same_payload : payload_text form p r ≡ name_text p b ++ rest
 
-bare_cut : (form : LogForm) (p : Option ProcessId) (b : Branch) (kind : ℕ) (r : Record) → bare kind b ≡ Some r
+bare_cut : (form : LogForm) (p : Option ProcessId) (b : BranchName) (kind : ℕ) (r : Record) → bare kind b ≡ Some r
     → IsBranchWritten form p b kind [] r
 bare_cut form p b kind r e = by_tests (kind == 18) (kind == 19) (kind == 21) (kind == 22)
     (kind == 24) refl refl refl refl refl e
@@ -217,7 +217,7 @@ bare_cut form p b kind r e = by_tests (kind == 18) (kind == 19) (kind == 21) (ki
     by_tests false false false false true i j k m n q = alone 24 (Forgot b) (is_number kind 24 n) refl refl q
     by_tests false false false false false i j k m n q = absurd (none_some r q)
 
-told_cut : (form : LogForm) (p : Option ProcessId) (b : Branch) (kind : ℕ) (rest : List ℕ) (r : Record) → kind ≡ 23
+told_cut : (form : LogForm) (p : Option ProcessId) (b : BranchName) (kind : ℕ) (rest : List ℕ) (r : Record) → kind ≡ 23
     → told b rest ≡ Some r → IsBranchWritten form p b kind rest r
 told_cut form p b kind [] r is e = absurd (none_some r e)
 told_cut form p b kind (o ∷ q ∷ rest) r is e = absurd (none_some r e)
@@ -242,7 +242,7 @@ told_cut form p b kind (o ∷ []) r is e = by_tests (o == 1) (o == 0) refl refl 
         })
     by_tests false false i j f = absurd (none_some r f)
 
-writing_cut : (form : LogForm) (p : Option ProcessId) (b : Branch) (kind : ℕ) (rest : List ℕ) (r : Record)
+writing_cut : (form : LogForm) (p : Option ProcessId) (b : BranchName) (kind : ℕ) (rest : List ℕ) (r : Record)
     (o : Option (List Write))
     → ((kind == 17) || (kind == 20)) ≡ true → AreBytes rest → writes_of rest ≡ o
     → option_map (writing kind b) o ≡ Some r → IsBranchWritten form p b kind rest r
@@ -263,7 +263,7 @@ writing_cut form p b kind rest r (Some ws) of h is e =
         let twenty : kind ≡ 20 = is_number kind 20 (ap (λ a. a || (kind == 20)) (sym i) ∙ of) in
         record { same_kind = sym twenty; same_payload = ap (λ t. name_text p b ++ t) text }
 
-branch_cut : (form : LogForm) (p : Option ProcessId) (b : Branch) (kind : ℕ) (rest : List ℕ) (r : Record) → AreBytes rest
+branch_cut : (form : LogForm) (p : Option ProcessId) (b : BranchName) (kind : ℕ) (rest : List ℕ) (r : Record) → AreBytes rest
     → branch_record kind b rest ≡ Some r → IsBranchWritten form p b kind rest r
 branch_cut form p b kind rest r h e = by_tests ((kind == 17) || (kind == 20)) (kind == 23)
     (length rest == 0) refl refl refl e
@@ -278,7 +278,7 @@ branch_cut form p b kind rest r h e = by_tests ((kind == 17) || (kind == 20)) (k
         (sym (empty rest k)) (bare_cut form p b kind r f)
     by_tests false false false i j k f = absurd (none_some r f)
 
-named_cut : (form : LogForm) (kind : ℕ) (xs : List ℕ) (p : Option ProcessId) (b : Branch) (rest : List ℕ) (l : LogRecord)
+named_cut : (form : LogForm) (kind : ℕ) (xs : List ℕ) (p : Option ProcessId) (b : BranchName) (rest : List ℕ) (l : LogRecord)
     (o : Option Record)
     → AreBytes rest → xs ≡ name_text p b ++ rest → branch_record kind b rest ≡ o
     → option_map (named p) o ≡ Some l → IsWrittenAs form l kind xs

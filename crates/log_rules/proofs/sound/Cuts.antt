@@ -5,9 +5,9 @@ use Rattle.std.proofs.lemmas.Bool.Decides.{nat_tests}
 use Rattle.std.proofs.lemmas.Grind.{common_steps}
 use Rattle.std.proofs.lemmas.List.{take-append-drop}
 use Rattle.byteorder.specs.Endian.{big_bytes, big_number}
-use Rattle.tree_model.specs.declared.names.Ticket.{Ticket}
-use Rattle.tree_model.specs.declared.records.Reports.{Reports}
-use Rattle.tree_model.specs.declared.records.Write.{Write}
+use Rattle.protocol.specs.declared.names.Ticket.{Ticket}
+use Rattle.protocol.specs.declared.records.Reports.{Reports}
+use Rattle.protocol.specs.declared.records.Write.{Write}
 use Rattle.log_text.specs.Parts.{Front, all_of, alone, and_more, fits_ticket, front_of, key_at, left_at, piece_at, put_of, reports_by, reports_of, ticket_at, ticket_in, tickets_at, tickets_of, value_at, with_first, write_at, write_by, writes_of}
 use Rattle.log_text.specs.Payloads.{key_text, left_text, reports_text, ticket_text, tickets_text, value_text, write_text, writes_text}
 use Rattle.log_rules.specs.sound.Written.{AreBytes}

@@ -7,15 +7,15 @@ use Rattle.std.specs.List.{All, AllByRecursion}
 use Rattle.std.proofs.lemmas.List.Elements.{All-append, All-from_recursion}
 use Rattle.byteorder.specs.Endian.{big_bytes}
 use Rattle.xa_xid.specs.Xids.{FitsParts, IsXid, xid_fault}
-use Rattle.tree_model.specs.declared.names.Presumption.{Presumption}
-use Rattle.tree_model.specs.declared.names.Presumption.TheVariants.{PresumeAbort, PresumeCommit}
-use Rattle.tree_model.specs.declared.names.ProcessId.{ProcessId}
-use Rattle.tree_model.specs.declared.names.Ticket.{Ticket}
-use Rattle.tree_model.specs.declared.names.Txn.{Txn}
-use Rattle.tree_model.specs.declared.records.Branch.{Branch}
-use Rattle.tree_model.specs.declared.records.Branch.TheVariants.{Case as CaseBranch, Foreign}
-use Rattle.tree_model.specs.Branches.{below_bytes, branch_format, branch_parts, ticket_bytes, txn_bytes}
-use Rattle.tree_model.specs.LogNames.{below_of, name_xid}
+use Rattle.protocol.specs.declared.names.Presumption.{Presumption}
+use Rattle.protocol.specs.declared.names.Presumption.TheVariants.{PresumeAbort, PresumeCommit}
+use Rattle.protocol.specs.declared.names.ProcessId.{ProcessId}
+use Rattle.protocol.specs.declared.names.Ticket.{Ticket}
+use Rattle.protocol.specs.declared.names.Txn.{Txn}
+use Rattle.protocol.specs.declared.records.BranchName.{BranchName}
+use Rattle.protocol.specs.declared.records.BranchName.TheVariants.{Case as CaseBranch, Foreign}
+use Rattle.protocol.specs.Branches.{below_bytes, branch_format, branch_parts, ticket_bytes, txn_bytes}
+use Rattle.protocol.specs.LogNames.{below_of, name_xid}
 use Rattle.log_text.proofs.xids.BranchLaws.{length-ticket_bytes, length-txn_bytes}
 use Rattle.log_text.specs.Parts.{case_name, name_at, name_in}
 use Rattle.log_text.specs.Payloads.{name_text}
@@ -86,7 +86,7 @@ case_is_xid x b = record {
   sound = case_fault x.presumption b (length (txn_bytes x)) (length-txn_bytes x);
 }
 
-pub name_is_xid : (p : Option ProcessId) (b : Branch) → IsSoundName p b → IsXid (name_xid p b)
+pub name_is_xid : (p : Option ProcessId) (b : BranchName) → IsSoundName p b → IsXid (name_xid p b)
 name_is_xid p (CaseBranch c) s = case_is_xid c.txn (below_of c.ticket p)
 name_is_xid p (Foreign x) s = s.fits
 
@@ -105,7 +105,7 @@ names_read_back p (CaseBranch c) s = case_of c.txn (below_of c.ticket p) _ s.fit
 names_read_back p (Foreign x) s = foreign_of x s.fits.fits s.whole.1
     ∙ ap (λ q. (q, Foreign x)) (sym s.whole.0)
 
-pub name_back : (p : Option ProcessId) (b : Branch) (rest : List ℕ) → IsSoundName p b
+pub name_back : (p : Option ProcessId) (b : BranchName) (rest : List ℕ) → IsSoundName p b
     → name_at (name_text p b ++ rest) ≡ Some ((p, b), rest)
 unfolding name_at
 name_back p b rest s =

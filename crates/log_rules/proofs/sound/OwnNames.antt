@@ -1,12 +1,12 @@
 -- The name that an XID is read as is whole.
 use Rattle.std.proofs.Common.{◌≡◌, Bool, true, false, cond, Option, Some, None, refl, sym, ap, ◌∙◌}
 use Rattle.xa_xid.specs.Xids.{XidParts}
-use Rattle.tree_model.specs.declared.names.ProcessId.{ProcessId}
-use Rattle.tree_model.specs.declared.names.Ticket.{Ticket}
-use Rattle.tree_model.specs.declared.names.Txn.{Txn}
-use Rattle.tree_model.specs.declared.records.Branch.TheVariants.{Case as CaseBranch, Foreign}
-use Rattle.tree_model.specs.Branches.{FitsBelow, FitsTxn, branch_parts}
-use Rattle.tree_model.specs.Records.{same_xid}
+use Rattle.protocol.specs.declared.names.ProcessId.{ProcessId}
+use Rattle.protocol.specs.declared.names.Ticket.{Ticket}
+use Rattle.protocol.specs.declared.names.Txn.{Txn}
+use Rattle.protocol.specs.declared.records.BranchName.TheVariants.{Case as CaseBranch, Foreign}
+use Rattle.protocol.specs.Branches.{FitsBelow, FitsTxn, branch_parts}
+use Rattle.protocol.specs.Records.{same_xid}
 use Rattle.log_text.specs.Parts.{Name, below_in, case_name, name_in, presumption_in, txn_in}
 use Rattle.log_text.proofs.NameReading.{case_of, fits_below_in, fits_txn_in}
 use Rattle.log_rules.specs.sound.Sound.{IsSoundName, NamesAreSound}

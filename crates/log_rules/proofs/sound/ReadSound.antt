@@ -13,26 +13,26 @@ use Rattle.xa_xid.specs.declared.error.XidError.{XidError}
 use Rattle.xa_xid.specs.declared.error.XidError.TheVariants.{Truncated}
 use Rattle.xa_xid.specs.Bytes.{format_of, front_fault, front_parts, xid_bytes}
 use Rattle.xa_xid.specs.Xids.{IsXid, XidParts, xid_fault}
-use Rattle.tree_model.specs.declared.names.Case.{Case}
-use Rattle.tree_model.specs.declared.names.Kind.{Kind}
-use Rattle.tree_model.specs.declared.names.Kind.TheVariants.{Coordinator, Manager}
-use Rattle.tree_model.specs.declared.names.Outcome.TheVariants.{Committed as CommittedOutcome, Aborted as AbortedOutcome}
-use Rattle.tree_model.specs.declared.names.ProcessId.{ProcessId}
-use Rattle.tree_model.specs.declared.names.Ticket.{Ticket}
-use Rattle.tree_model.specs.declared.records.Branch.{Branch}
-use Rattle.tree_model.specs.declared.records.Branch.TheVariants.{Case as CaseBranch, Foreign}
-use Rattle.tree_model.specs.declared.records.LogRecord.{LogRecord}
-use Rattle.tree_model.specs.declared.records.Record.{Record}
-use Rattle.tree_model.specs.declared.records.Record.TheVariants.{Opened, Collecting, Prepare, Commit, Abort, End, Prepared, Committed, RolledBack, Direct, HeurCommit, HeurRollback, Told, Forgot, Base, Pair, Cleared}
-use Rattle.tree_model.specs.declared.records.Reports.{Reports}
-use Rattle.tree_model.specs.declared.records.Write.{Write}
+use Rattle.protocol.specs.declared.names.Case.{Case}
+use Rattle.protocol.specs.declared.names.Kind.{Kind}
+use Rattle.protocol.specs.declared.names.Kind.TheVariants.{Coordinator, Manager}
+use Rattle.protocol.specs.declared.names.Outcome.TheVariants.{Committed as CommittedOutcome, Aborted as AbortedOutcome}
+use Rattle.protocol.specs.declared.names.ProcessId.{ProcessId}
+use Rattle.protocol.specs.declared.names.Ticket.{Ticket}
+use Rattle.protocol.specs.declared.records.BranchName.{BranchName}
+use Rattle.protocol.specs.declared.records.BranchName.TheVariants.{Case as CaseBranch, Foreign}
+use Rattle.protocol.specs.declared.records.LogRecord.{LogRecord}
+use Rattle.protocol.specs.declared.records.Record.{Record}
+use Rattle.protocol.specs.declared.records.Record.TheVariants.{Opened, Collecting, Prepare, Commit, Abort, End, Prepared, Committed, RolledBack, Direct, HeurCommit, HeurRollback, Told, Forgot, Base, Pair, Cleared}
+use Rattle.protocol.specs.declared.records.Reports.{Reports}
+use Rattle.protocol.specs.declared.records.Write.{Write}
 use Rattle.log_text.specs.Parts.{Front, Name, all_of, and_more, fits_ticket, front_of, key_at, left_at, name_at, name_in, piece_at, put_of, reports_by, reports_of, ticket_at, ticket_in, tickets_at, tickets_of, value_at, with_first, write_at, write_by, writes_of, xid_at}
 use Rattle.log_text.specs.declared.form.LogForm.{LogForm}
 use Rattle.log_text.specs.declared.form.LogFormat.{LogFormat}
 use Rattle.log_text.specs.declared.form.LogFormat.TheVariants.{First, Second}
 use Rattle.log_text.specs.Payloads.{owner_text}
 use Rattle.log_text.specs.Reading.{alone_record, bare, below, boot_by, branch_record, case_record, coordinator_record, kind_record, listing, manager_record, named, of_branch, of_case, of_name, opened_boot, pair_by, pair_of, read_record, told, writing}
-use Rattle.tree_model.specs.LogNames.{unnamed}
+use Rattle.protocol.specs.LogNames.{unnamed}
 use Rattle.log_rules.specs.sound.Sound.{AreSoundReports, AreSoundTickets, AreSoundWrites, IsSound, IsSoundEntry, IsSoundKey, IsSoundName, IsSoundTicket, IsSoundWrite}
 use Rattle.log_rules.specs.sound.Written.{AreBytes, ReadIsSound}
 use Rattle.log_rules.proofs.sound.Cuts.{alone_is, at_most, both, bytes_behind, first_bytes, front_tickets_cut, none_some, passed, piece_cut, some_is, tail_bytes, ticket_cut, write_cut}
@@ -342,7 +342,7 @@ case_sound kind p c rest l h n e =
         (λ ts is. tickets_sound rest ts h is) g
     by_kind false false false false g = absurd (none_some l g)
 
-of_case_sound : (kind : ℕ) (p : Option ProcessId) (b : Branch) (rest : List ℕ) (l : LogRecord) → AreBytes rest
+of_case_sound : (kind : ℕ) (p : Option ProcessId) (b : BranchName) (rest : List ℕ) (l : LogRecord) → AreBytes rest
     → IsSoundName p b → of_case kind p b rest ≡ Some l → IsSound Coordinator l
 of_case_sound kind p (CaseBranch c) rest l h n e = case_sound kind p c rest l h n e
 of_case_sound kind p (Foreign x) rest l h n e = absurd (none_some l e)
@@ -361,7 +361,7 @@ coordinator_sound kind xs l h e = of_name_sound kind xs l (name_at xs) h refl e
 
 -- Records of managers.
 
-bare_sound : (p : Option ProcessId) (b : Branch) (kind : ℕ) (r : Record)
+bare_sound : (p : Option ProcessId) (b : BranchName) (kind : ℕ) (r : Record)
     → IsSoundName p b → bare kind b ≡ Some r
     → IsSoundEntry Manager p r
 bare_sound p b kind r n e = by_tests (kind == 18) (kind == 19) (kind == 21) (kind == 22) (kind == 24) e
@@ -381,7 +381,7 @@ bare_sound p b kind r n e = by_tests (kind == 18) (kind == 19) (kind == 21) (kin
     by_tests false false false false true q = alone (Forgot b) n q
     by_tests false false false false false q = absurd (none_some r q)
 
-told_sound : (p : Option ProcessId) (b : Branch) (rest : List ℕ) (r : Record)
+told_sound : (p : Option ProcessId) (b : BranchName) (rest : List ℕ) (r : Record)
     → IsSoundName p b → told b rest ≡ Some r
     → IsSoundEntry Manager p r
 told_sound p b [] r n e = absurd (none_some r e)
@@ -395,7 +395,7 @@ told_sound p b (o ∷ []) r n e = by_tests (o == 1) (o == 0) e
     by_tests false true f = subst (IsSoundEntry Manager p) (some_is _ r f) n
     by_tests false false f = absurd (none_some r f)
 
-writing_sound : (p : Option ProcessId) (b : Branch) (kind : ℕ) (r : Record)
+writing_sound : (p : Option ProcessId) (b : BranchName) (kind : ℕ) (r : Record)
     (o : Option (List Write)) → IsSoundName p b
     → ((ws : List Write) → o ≡ Some ws → AreSoundWrites ws) → option_map (writing kind b) o ≡ Some r
     → IsSoundEntry Manager p r
@@ -407,7 +407,7 @@ writing_sound p b kind r (Some ws) n is e = subst (IsSoundEntry Manager p)
     by_kind true = (n, is ws refl)
     by_kind false = (n, is ws refl)
 
-branch_sound : (p : Option ProcessId) (b : Branch) (kind : ℕ) (rest : List ℕ) (r : Record) → AreBytes rest
+branch_sound : (p : Option ProcessId) (b : BranchName) (kind : ℕ) (rest : List ℕ) (r : Record) → AreBytes rest
     → IsSoundName p b → branch_record kind b rest ≡ Some r → IsSoundEntry Manager p r
 branch_sound p b kind rest r h n e = by_tests ((kind == 17) || (kind == 20)) (kind == 23) (length rest == 0) e
   where

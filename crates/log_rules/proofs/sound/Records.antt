@@ -3,22 +3,22 @@ use Rattle.std.proofs.Common.{◌≡◌, ◌<◌, ◌^◌, ℕ, true, bytes_eq, 
 use Rattle.std.proofs.lemmas.Bool.Decides.{nat_tests}
 use Rattle.std.proofs.lemmas.Slice.Eq.{bytes_eq-Decides}
 use Rattle.byteorder.specs.Endian.{big_bytes}
-use Rattle.tree_model.specs.declared.names.Kind.{Kind}
-use Rattle.tree_model.specs.declared.names.Kind.TheVariants.{Coordinator, Manager}
-use Rattle.tree_model.specs.declared.names.Outcome.TheVariants.{Committed as CommittedOutcome, Aborted as AbortedOutcome}
-use Rattle.tree_model.specs.declared.names.ProcessId.{ProcessId}
-use Rattle.tree_model.specs.declared.records.Branch.{Branch}
-use Rattle.tree_model.specs.declared.records.Branch.TheVariants.{Case as CaseBranch}
-use Rattle.tree_model.specs.declared.records.LogRecord.{LogRecord}
-use Rattle.tree_model.specs.declared.records.Record.{Record}
-use Rattle.tree_model.specs.declared.records.Record.TheVariants.{Opened, Collecting, Prepare, Commit, Abort, End, Prepared, Committed, RolledBack, Direct, HeurCommit, HeurRollback, Told, Forgot, Base, Pair, Cleared}
+use Rattle.protocol.specs.declared.names.Kind.{Kind}
+use Rattle.protocol.specs.declared.names.Kind.TheVariants.{Coordinator, Manager}
+use Rattle.protocol.specs.declared.names.Outcome.TheVariants.{Committed as CommittedOutcome, Aborted as AbortedOutcome}
+use Rattle.protocol.specs.declared.names.ProcessId.{ProcessId}
+use Rattle.protocol.specs.declared.records.BranchName.{BranchName}
+use Rattle.protocol.specs.declared.records.BranchName.TheVariants.{Case as CaseBranch}
+use Rattle.protocol.specs.declared.records.LogRecord.{LogRecord}
+use Rattle.protocol.specs.declared.records.Record.{Record}
+use Rattle.protocol.specs.declared.records.Record.TheVariants.{Opened, Collecting, Prepare, Commit, Abort, End, Prepared, Committed, RolledBack, Direct, HeurCommit, HeurRollback, Told, Forgot, Base, Pair, Cleared}
 use Rattle.log_text.specs.declared.form.LogForm.{LogForm}
 use Rattle.log_text.specs.declared.form.LogFormat.{LogFormat}
 use Rattle.log_text.specs.declared.form.LogFormat.TheVariants.{First, Second}
 use Rattle.log_text.specs.Parts.{name_at, value_at}
 use Rattle.log_text.specs.Payloads.{kind_byte, name_text, opened_text, owner_text, payload_text, reports_text, tickets_text, value_text, writes_text}
 use Rattle.log_text.specs.Reading.{below, coordinator_record, listing, manager_record, named, of_branch, of_name, opened_boot, pair_by, pair_of, read_record, writing}
-use Rattle.tree_model.specs.LogNames.{unnamed}
+use Rattle.protocol.specs.LogNames.{unnamed}
 use Rattle.log_rules.specs.sound.Sound.{IsSoundEntry, IsSoundName, RecordsReadBack}
 use Rattle.log_rules.proofs.sound.Names.{name_back}
 use Rattle.log_rules.proofs.sound.Parts.{key_back, number_back, reports_back, tickets_back, value_back, writes_back}
@@ -37,20 +37,20 @@ below_back n h =
     limit n h = grind (arith, nat_tests)
 
 -- what is after the name of a case
-case_back : (kind : ℕ) (p : Option ProcessId) (b : Branch) (rest payload : List ℕ) → IsSoundName p b
+case_back : (kind : ℕ) (p : Option ProcessId) (b : BranchName) (rest payload : List ℕ) → IsSoundName p b
     → payload ≡ name_text p b ++ rest
     → coordinator_record kind payload ≡ of_name kind (Some ((p, b), rest))
 unfolding coordinator_record
 case_back kind p b rest payload s e = ap (λ t. of_name kind (name_at t)) e
     ∙ ap (of_name kind) (name_back p b rest s)
 
-branch_back : (kind : ℕ) (p : Option ProcessId) (b : Branch) (rest payload : List ℕ) → IsSoundName p b
+branch_back : (kind : ℕ) (p : Option ProcessId) (b : BranchName) (rest payload : List ℕ) → IsSoundName p b
     → payload ≡ name_text p b ++ rest
     → of_branch kind (name_at payload) ≡ of_branch kind (Some ((p, b), rest))
 branch_back kind p b rest payload s e = ap (λ t. of_branch kind (name_at t)) e
     ∙ ap (of_branch kind) (name_back p b rest s)
 
-bare_name : (p : Option ProcessId) (b : Branch) → name_text p b ≡ name_text p b ++ []
+bare_name : (p : Option ProcessId) (b : BranchName) → name_text p b ≡ name_text p b ++ []
 bare_name p b = sym (append-nil (name_text p b))
 
 abbrev form_of : LogFormat → ProcessId → Kind → LogForm

@@ -2,16 +2,16 @@
 use Rattle.std.proofs.Common.{◌≡◌, ℕ, Bool, true, false, if◌then◌else◌, List, Option, Some, None, refl, ap, ◌∙◌}
 use Rattle.indexmap.specs.IndexMap.{insert_entry}
 use Rattle.xa_xid.specs.declared.xid.Xid.{Xid}
-use Rattle.tree_model.specs.declared.names.Ticket.{Ticket}
-use Rattle.tree_model.specs.declared.records.LogRecord.{LogRecord}
-use Rattle.tree_model.specs.declared.records.Record.{Record}
-use Rattle.tree_model.specs.declared.records.Record.TheVariants as entry
-use Rattle.tree_model.specs.Records.{is_opened, none_of}
+use Rattle.protocol.specs.declared.names.Ticket.{Ticket}
+use Rattle.protocol.specs.declared.records.LogRecord.{LogRecord}
+use Rattle.protocol.specs.declared.records.Record.{Record}
+use Rattle.protocol.specs.declared.records.Record.TheVariants as entry
+use Rattle.protocol.specs.Records.{is_opened, none_of}
 use Rattle.log_rules.specs.declared.trim.lives.Life.{Life}
 use Rattle.log_rules.specs.declared.trim.lives.Said.{Said}
 use Rattle.log_rules.specs.declared.trim.lives.Said.TheVariants as said
-use Rattle.log_text.specs.declared.mark.Deed.TheVariants as deed
-use Rattle.log_rules.specs.trim.Tables.{Table, decides, is_prepared, life_after, life_in, log_name, noted, noted_by, said_after, same}
+use Rattle.log_text.specs.declared.mark.MarkDeed.TheVariants as deed
+use Rattle.log_rules.specs.trim.Tables.{SaidTable, decides, is_prepared, life_after, life_in, log_name, noted, noted_by, said_after, same}
 use Rattle.log_text.specs.Marks.{decision_by, deed_of, mark_of, opens}
 use Rattle.log_rules.specs.trim.Marks.{life_by, marked, marked_by, promises, said_by}
 
@@ -136,10 +136,10 @@ life_is i life r =
     ∙ ap (λ (b : Bool). record { said = said_after life.said r; since = if b then i else life.since })
     (promised r)
 
-noted_is : (i : ℕ) (t : Table) (r : Record) (o : Option Xid) → marked_by i t (deed_of r) o ≡ noted_by i t r o
+noted_is : (i : ℕ) (t : SaidTable) (r : Record) (o : Option Xid) → marked_by i t (deed_of r) o ≡ noted_by i t r o
 noted_is i t r None = refl
 noted_is i t r (Some x) = ap (λ (life : Life). insert_entry same t x life) (life_is i (life_in t x) r)
 
 -- the mark of a record makes the table that the record makes
-pub marked_is : (i : ℕ) (t : Table) (l : LogRecord) → marked i t (mark_of l) ≡ noted i t l
+pub marked_is : (i : ℕ) (t : SaidTable) (l : LogRecord) → marked i t (mark_of l) ≡ noted i t l
 marked_is i t l = noted_is i t l.entry (log_name l)

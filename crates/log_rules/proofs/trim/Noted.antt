@@ -5,10 +5,10 @@ use Rattle.std.specs.List.{list_any}
 use Rattle.std.specs.Map.{lookup}
 use Rattle.indexmap.specs.IndexMap.{insert_entry}
 use Rattle.xa_xid.specs.declared.xid.Xid.{Xid}
-use Rattle.tree_model.specs.declared.records.LogRecord.{LogRecord}
-use Rattle.tree_model.specs.declared.records.Record.{Record}
+use Rattle.protocol.specs.declared.records.LogRecord.{LogRecord}
+use Rattle.protocol.specs.declared.records.Record.{Record}
 use Rattle.log_rules.specs.declared.trim.lives.Life.{Life}
-use Rattle.log_rules.specs.trim.Tables.{Table, is_prepared, life_after, life_in, lives_from, log_name, no_life, noted, noted_by, said_after, same}
+use Rattle.log_rules.specs.trim.Tables.{SaidTable, is_prepared, life_after, life_in, lives_from, log_name, no_life, noted, noted_by, said_after, same}
 use Rattle.log_rules.specs.trim.Trims.{is_name, is_of, prepares, said_behind}
 use Rattle.log_rules.proofs.trim.Names.{same_by_parts}
 
@@ -25,7 +25,7 @@ in_turn true false v w o h = refl
 in_turn false true v w o h = refl
 in_turn false false v w o h = refl
 
-inserted_by : (x y : Xid) (v : Life) (e : Xid × Life) (t more : Table) (b : Bool) → same y e.0 ≡ b
+inserted_by : (x y : Xid) (v : Life) (e : Xid × Life) (t more : SaidTable) (b : Bool) → same y e.0 ≡ b
     → lookup (same x) more ≡ (if same x y then Some v else lookup (same x) t)
     → lookup (same x) (if b then (e.0, v) ∷ t else e ∷ more)
     ≡ (if same x y then Some v else lookup (same x) (e ∷ t))
@@ -43,7 +43,7 @@ inserted_by x y v e t more false s h =
     true_is_false : true ≡ false → ⊥
     true_is_false q = absurd (cc)
 
-pub inserted : (x y : Xid) (v : Life) (t : Table)
+pub inserted : (x y : Xid) (v : Life) (t : SaidTable)
     → lookup (same x) (insert_entry same t y v) ≡ (if same x y then Some v else lookup (same x) t)
 inserted x y v [] = refl
 inserted x y v (e ∷ t) = inserted_by x y v e t (insert_entry same t y v) (same y e.0) refl (inserted x y v t)
@@ -54,13 +54,13 @@ inserted x y v (e ∷ t) = inserted_by x y v e t (insert_entry same t y v) (same
 abbrev pub life_behind : Xid → ℕ → Life → LogRecord → Life
 life_behind x i life l = if is_of x l then life_after i life l.entry else life
 
-noted_at : (x y : Xid) (i : ℕ) (t : Table) (r : Record) (b : Bool) → same x y ≡ b
+noted_at : (x y : Xid) (i : ℕ) (t : SaidTable) (r : Record) (b : Bool) → same x y ≡ b
     → unwrap_or (if b then Some (life_after i (life_in t y) r) else lookup (same x) t) no_life
     ≡ (if b then life_after i (life_in t x) r else life_in t x)
 noted_at x y i t r true s = ap (λ z. life_after i (life_in t z) r) (sym ((same_by_parts x y).0 s))
 noted_at x y i t r false s = refl
 
-noted_name : (x : Xid) (i : ℕ) (t : Table) (r : Record) (o : Option Xid)
+noted_name : (x : Xid) (i : ℕ) (t : SaidTable) (r : Record) (o : Option Xid)
     → life_in (noted_by i t r o) x ≡ (if is_name x o then life_after i (life_in t x) r else life_in t x)
 noted_name x i t r None = refl
 noted_name x i t r (Some y) =
@@ -72,7 +72,7 @@ unfoldable pub life_from : Xid → ℕ → Life → List LogRecord → Life
 life_from x i life [] = life
 life_from x i life (l ∷ ls) = life_from x (suc i) (life_behind x i life l) ls
 
-pub table_life : (x : Xid) (i : ℕ) (t : Table) (ls : List LogRecord)
+pub table_life : (x : Xid) (i : ℕ) (t : SaidTable) (ls : List LogRecord)
     → life_in (lives_from i t ls) x ≡ life_from x i (life_in t x) ls
 unfolding lives_from life_from
 table_life x i t [] = refl

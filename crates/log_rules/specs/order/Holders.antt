@@ -3,7 +3,7 @@ use Rattle.std.specs.Prelude.{◌≡◌, ℕ, Bool, false, true, List, Option, S
 use Rattle.std.specs.Global.{Vec}
 use Rattle.std.specs.List.{AllByRecursion}
 use Rattle.std.specs.Map.{lookup}
-use Rattle.key_tables.specs.Tables.{same_key}
+use Rattle.key_lists.specs.Tables.{same_key}
 use Rattle.xa_xid.specs.declared.xid.Xid.{Xid}
 use Rattle.log_rules.specs.declared.order.seen.Promise.{Promise}
 use Rattle.log_rules.specs.order.Orders.{holds}
@@ -22,5 +22,5 @@ abbrev pub IsListed : List (Vec ℕ × Xid) → Xid × Promise → Type 0
 IsListed held e = (k : List ℕ) → holds e.1 k ≡ true → holder_of held k ≡ Some e.0
 
 -- those of each branch are
-pub record IsKept (held : List (Vec ℕ × Xid)) (live : List (Xid × Promise)) : Type 0 where
+pub record AreHolders (held : List (Vec ℕ × Xid)) (live : List (Xid × Promise)) : Type 0 where
   pub listed : AllByRecursion (IsListed held) live

@@ -1,9 +1,9 @@
 -- What the bytes of a log are: records and a torn tail, or the place where they are damaged.
 use Rattle.std.specs.Prelude.{ℕ, zero, suc, ◌+◌, List, [], ◌∷◌, Option, Some, None, length, take, drop, if◌then◌else◌, nat_lt}
-use Rattle.tree_model.specs.declared.names.Kind.{Kind}
-use Rattle.tree_model.specs.declared.names.ProcessId.{ProcessId}
-use Rattle.tree_model.specs.declared.records.LogRecord.{LogRecord}
-use Rattle.tree_model.specs.Records.{same_bytes}
+use Rattle.protocol.specs.declared.names.Kind.{Kind}
+use Rattle.protocol.specs.declared.names.ProcessId.{ProcessId}
+use Rattle.protocol.specs.declared.records.LogRecord.{LogRecord}
+use Rattle.protocol.specs.Records.{same_bytes}
 use Rattle.log_text.specs.declared.form.LogForm.{LogForm}
 use Rattle.log_text.specs.Forms.{form_in, header, size_bytes}
 use Rattle.log_text.specs.Frames.{Cut, first_frame}

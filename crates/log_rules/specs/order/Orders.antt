@@ -4,17 +4,17 @@ use Rattle.std.specs.Map.{lookup, remove_entry}
 use Rattle.indexmap.specs.IndexMap.{insert_entry}
 use Rattle.xa_xid.specs.declared.xid.Xid.{Xid}
 use Rattle.xa_xid.specs.contracts.xid.XidPartialEq.TheImpl as names
-use Rattle.tree_model.specs.declared.names.ProcessId.{ProcessId}
-use Rattle.tree_model.specs.declared.records.Branch.TheVariants.{Case as CaseBranch}
-use Rattle.tree_model.specs.declared.records.LogRecord.{LogRecord}
-use Rattle.tree_model.specs.declared.records.Record.{Record}
-use Rattle.tree_model.specs.declared.records.Record.TheVariants.{Opened, Collecting, Prepare, Commit, Abort, End, Prepared, Committed, RolledBack, Direct, HeurCommit, HeurRollback, Told as ToldRecord, Forgot, Base as BaseRecord, Pair as PairRecord, Cleared}
-use Rattle.tree_model.specs.declared.records.Write.{Write}
-use Rattle.tree_model.specs.LogNames.{name_xid}
-use Rattle.tree_model.specs.Records.{same_bytes, is_opened}
-use Rattle.tree_model.specs.Store.{key_below}
-use Rattle.log_rules.specs.declared.order.seen.Mark.{Mark}
-use Rattle.log_rules.specs.declared.order.seen.Mark.TheVariants.{Open, Decided, Told}
+use Rattle.protocol.specs.declared.names.ProcessId.{ProcessId}
+use Rattle.protocol.specs.declared.records.BranchName.TheVariants.{Case as CaseBranch}
+use Rattle.protocol.specs.declared.records.LogRecord.{LogRecord}
+use Rattle.protocol.specs.declared.records.Record.{Record}
+use Rattle.protocol.specs.declared.records.Record.TheVariants.{Opened, Collecting, Prepare, Commit, Abort, End, Prepared, Committed, RolledBack, Direct, HeurCommit, HeurRollback, Told as ToldRecord, Forgot, Base as BaseRecord, Pair as PairRecord, Cleared}
+use Rattle.protocol.specs.declared.records.Write.{Write}
+use Rattle.protocol.specs.LogNames.{name_xid}
+use Rattle.protocol.specs.Records.{same_bytes, is_opened}
+use Rattle.protocol.specs.Store.{key_below}
+use Rattle.log_rules.specs.declared.order.seen.DoubtMark.{DoubtMark}
+use Rattle.log_rules.specs.declared.order.seen.DoubtMark.TheVariants.{Open, Decided, Told}
 use Rattle.log_rules.specs.declared.order.seen.Promise.{Promise}
 use Rattle.log_rules.specs.declared.order.seen.Data.{Data}
 use Rattle.log_rules.specs.declared.order.seen.Data.TheVariants.{Other, Base, Pair}
@@ -54,12 +54,12 @@ ranked s x least most rank =
     else None
 
 -- a branch is open: it promised, and nothing was decided
-abbrev pub opens : Mark → Bool
+abbrev pub opens : DoubtMark → Bool
 opens Open = true
 opens _ = false
 
 -- a branch was decided by an operator and was not told the outcome
-abbrev pub waits : Mark → Bool
+abbrev pub waits : DoubtMark → Bool
 waits Decided = true
 waits _ = false
 
@@ -95,8 +95,8 @@ promised s x = promised_by (found s x)
 
 -- the branches that are open or heuristic, in the order of their promises, and whether an operator decided
 -- them
-abbrev pub left_by : SeenLog → List (Xid × Bool)
-left_by s = map (λ e. (e.0, not (opens e.1.mark))) s.live
+abbrev pub in_doubt_by : SeenLog → List (Xid × Bool)
+in_doubt_by s = map (λ e. (e.0, not (opens e.1.mark))) s.live
 
 -- a write of this key is in the list
 unfoldable pub names_key : List Write → List ℕ → Bool

@@ -1,13 +1,13 @@
 -- What a process reads of a log that was trimmed.
 use Rattle.std.specs.Prelude.{◌≡◌, ◌++◌, true, List}
 use Rattle.std.specs.List.{AllByRecursion, list_any}
-use Rattle.tree_model.specs.declared.names.Kind.TheVariants.{Coordinator, Manager}
-use Rattle.tree_model.specs.declared.names.ProcessId.{ProcessId}
-use Rattle.tree_model.specs.declared.records.LogRecord.{LogRecord}
-use Rattle.tree_model.specs.LogNames.{own_records}
-use Rattle.tree_model.specs.Nodes.{AtLeaf, Place, IsCoordinator}
-use Rattle.tree_model.specs.Records.{is_opened}
-use Rattle.tree_model.specs.Restarts.{data_records, trimmed}
+use Rattle.protocol.specs.declared.names.Kind.TheVariants.{Coordinator, Manager}
+use Rattle.protocol.specs.declared.names.ProcessId.{ProcessId}
+use Rattle.protocol.specs.declared.records.LogRecord.{LogRecord}
+use Rattle.protocol.specs.LogNames.{own_records}
+use Rattle.protocol.specs.Nodes.{AtLeaf, Place, IsCoordinator}
+use Rattle.protocol.specs.Records.{is_opened}
+use Rattle.protocol.specs.Restarts.{data_records, trimmed}
 use Rattle.log_rules.specs.sound.Sound.{IsSound}
 use Rattle.log_rules.specs.trim.Trims.{front_of_trim}
 

@@ -2,31 +2,31 @@
 use Rattle.std.specs.Prelude.{◌≡◌, ◌<◌, ◌≤◌, ◌^◌, ⊤, ℕ, List, Option, Some, None, length}
 use Rattle.std.specs.List.{AllByRecursion}
 use Rattle.xa_xid.specs.Xids.{IsXid, XidParts}
-use Rattle.tree_model.specs.declared.names.Kind.{Kind}
-use Rattle.tree_model.specs.declared.names.Kind.TheVariants.{Coordinator, Manager}
-use Rattle.tree_model.specs.declared.names.ProcessId.{ProcessId}
-use Rattle.tree_model.specs.declared.names.Ticket.{Ticket}
-use Rattle.tree_model.specs.declared.records.Branch.{Branch}
-use Rattle.tree_model.specs.declared.records.Branch.TheVariants.{Case as CaseBranch, Foreign}
-use Rattle.tree_model.specs.declared.records.LogRecord.{LogRecord}
-use Rattle.tree_model.specs.declared.records.Record.{Record}
-use Rattle.tree_model.specs.declared.records.Record.TheVariants.{Opened, Collecting, Prepare, Commit, Abort, End, Prepared, Committed, RolledBack, Direct, HeurCommit, HeurRollback, Told, Forgot, Base, Pair, Cleared}
-use Rattle.tree_model.specs.declared.records.Reports.{Reports}
-use Rattle.tree_model.specs.declared.records.Write.{Write}
-use Rattle.tree_model.specs.Branches.{FitsBelow, FitsTxn}
-use Rattle.tree_model.specs.LogNames.{IsWholeName, below_of, name_xid}
+use Rattle.protocol.specs.declared.names.Kind.{Kind}
+use Rattle.protocol.specs.declared.names.Kind.TheVariants.{Coordinator, Manager}
+use Rattle.protocol.specs.declared.names.ProcessId.{ProcessId}
+use Rattle.protocol.specs.declared.names.Ticket.{Ticket}
+use Rattle.protocol.specs.declared.records.BranchName.{BranchName}
+use Rattle.protocol.specs.declared.records.BranchName.TheVariants.{Case as CaseBranch, Foreign}
+use Rattle.protocol.specs.declared.records.LogRecord.{LogRecord}
+use Rattle.protocol.specs.declared.records.Record.{Record}
+use Rattle.protocol.specs.declared.records.Record.TheVariants.{Opened, Collecting, Prepare, Commit, Abort, End, Prepared, Committed, RolledBack, Direct, HeurCommit, HeurRollback, Told, Forgot, Base, Pair, Cleared}
+use Rattle.protocol.specs.declared.records.Reports.{Reports}
+use Rattle.protocol.specs.declared.records.Write.{Write}
+use Rattle.protocol.specs.Branches.{FitsBelow, FitsTxn}
+use Rattle.protocol.specs.LogNames.{IsWholeName, below_of, name_xid}
 use Rattle.log_text.specs.declared.form.LogForm.{LogForm}
 use Rattle.log_text.specs.Parts.{name_in}
 use Rattle.log_text.specs.Payloads.{FitsFrameIn, kind_byte, payload_text}
 use Rattle.log_text.specs.Reading.{read_record}
 
 -- numbers that a name's fields can be; a foreign name is an XID
-abbrev pub FitsName : Option ProcessId → Branch → Type 0
+abbrev pub FitsName : Option ProcessId → BranchName → Type 0
 FitsName p (CaseBranch c) = FitsTxn c.txn × FitsBelow (below_of c.ticket p)
 FitsName p (Foreign x) = IsXid x
 
 -- a name is whole, and its numbers fit
-pub record IsSoundName (p : Option ProcessId) (b : Branch) : Type 0 where
+pub record IsSoundName (p : Option ProcessId) (b : BranchName) : Type 0 where
   pub whole : IsWholeName p (Some b)
   pub fits : FitsName p b
 
@@ -100,7 +100,7 @@ IsSound k l = IsSoundEntry k l.parent l.entry
 
 -- the XID that a log writes for a whole name reads as this name
 abbrev pub NamesReadBack : Type 0
-NamesReadBack = (p : Option ProcessId) (b : Branch) → IsSoundName p b → name_in (name_xid p b) ≡ (p, b)
+NamesReadBack = (p : Option ProcessId) (b : BranchName) → IsSoundName p b → name_in (name_xid p b) ≡ (p, b)
 
 -- the name that an XID is read as is whole
 abbrev pub NamesAreSound : Type 0

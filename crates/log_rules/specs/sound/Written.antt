@@ -1,6 +1,6 @@
 -- What is read of a payload was so written.
 use Rattle.std.specs.Prelude.{◌≡◌, ◌<◌, ℕ, List, Some, slice_index}
-use Rattle.tree_model.specs.declared.records.LogRecord.{LogRecord}
+use Rattle.protocol.specs.declared.records.LogRecord.{LogRecord}
 use Rattle.log_text.specs.declared.form.LogForm.{LogForm}
 use Rattle.log_text.specs.Payloads.{kind_byte, payload_text}
 use Rattle.log_text.specs.Reading.{read_record}

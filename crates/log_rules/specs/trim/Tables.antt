@@ -4,11 +4,11 @@ use Rattle.std.specs.Map.{lookup}
 use Rattle.indexmap.specs.IndexMap.{insert_entry}
 use Rattle.xa_xid.specs.declared.xid.Xid.{Xid}
 use Rattle.xa_xid.specs.contracts.xid.XidPartialEq.TheImpl as names
-use Rattle.tree_model.specs.declared.names.Ticket.{Ticket}
-use Rattle.tree_model.specs.declared.records.LogRecord.{LogRecord}
-use Rattle.tree_model.specs.declared.records.Record.{Record}
-use Rattle.tree_model.specs.declared.records.Record.TheVariants.{Collecting, Prepare, Commit, Abort, End, Prepared, Committed, RolledBack, Direct, HeurCommit, HeurRollback, Told, Forgot, Cleared}
-use Rattle.tree_model.specs.Records.{none_of}
+use Rattle.protocol.specs.declared.names.Ticket.{Ticket}
+use Rattle.protocol.specs.declared.records.LogRecord.{LogRecord}
+use Rattle.protocol.specs.declared.records.Record.{Record}
+use Rattle.protocol.specs.declared.records.Record.TheVariants.{Collecting, Prepare, Commit, Abort, End, Prepared, Committed, RolledBack, Direct, HeurCommit, HeurRollback, Told, Forgot, Cleared}
+use Rattle.protocol.specs.Records.{none_of}
 pub use Rattle.log_text.specs.Marks.{log_name}
 use Rattle.log_rules.specs.declared.trim.lives.Life.{Life}
 use Rattle.log_rules.specs.declared.trim.lives.Said.{Said}
@@ -73,15 +73,15 @@ is_prepared _ = false
 -- it.
 
 -- what the records have said of each name, under its XID
-abbrev pub Table : Type 0
-Table = List (Xid × Life)
+abbrev pub SaidTable : Type 0
+SaidTable = List (Xid × Life)
 
 -- what the table says of a name that no record has
 abbrev pub no_life : Life
 no_life = record { said = Nothing; since = 0 }
 
 -- what the table says of a name
-abbrev pub life_in : Table → Xid → Life
+abbrev pub life_in : SaidTable → Xid → Life
 life_in t x = unwrap_or (lookup (same x) t) no_life
 
 -- what it says after one more record of the name, before which N stand
@@ -92,34 +92,34 @@ life_after i life r = record {
 }
 
 -- the table after one more record of this name, if it has one
-abbrev pub noted_by : ℕ → Table → Record → Option Xid → Table
+abbrev pub noted_by : ℕ → SaidTable → Record → Option Xid → SaidTable
 noted_by i t r None = t
 noted_by i t r (Some x) = insert_entry same t x (life_after i (life_in t x) r)
 
 -- the table after one more record, before which N stand
-abbrev pub noted : ℕ → Table → LogRecord → Table
+abbrev pub noted : ℕ → SaidTable → LogRecord → SaidTable
 noted i t l = noted_by i t l.entry (log_name l)
 
 -- the table after these records, before which N stand
-unfoldable pub lives_from : ℕ → Table → List LogRecord → Table
+unfoldable pub lives_from : ℕ → SaidTable → List LogRecord → SaidTable
 lives_from i t [] = t
 lives_from i t (l ∷ ls) = lives_from (suc i) (noted i t l) ls
 
 -- what these records say of each name
-abbrev pub lives_of : List LogRecord → Table
+abbrev pub lives_of : List LogRecord → SaidTable
 lives_of ls = lives_from 0 [] ls
 
 -- a record of this name stays before which N stand, where it has a name: it is live, and was not
 -- prepared again after it
-abbrev pub keeps_by : Table → ℕ → Option Xid → Bool
+abbrev pub keeps_by : SaidTable → ℕ → Option Xid → Bool
 keeps_by t i None = false
 keeps_by t i (Some x) = is_live (life_in t x).said && nat_le (life_in t x).since i
 
 -- a record stays before which N stand: its name is live, and was not prepared again after it
-abbrev pub keeps : Table → ℕ → LogRecord → Bool
+abbrev pub keeps : SaidTable → ℕ → LogRecord → Bool
 keeps t i l = keeps_by t i (log_name l)
 
 -- the records that stay, of some before which N stand
-unfoldable pub picked : Table → ℕ → List LogRecord → List LogRecord
+unfoldable pub picked : SaidTable → ℕ → List LogRecord → List LogRecord
 picked t i [] = []
 picked t i (l ∷ ls) = if keeps t i l then l ∷ picked t (suc i) ls else picked t (suc i) ls

@@ -3,10 +3,10 @@
 use Rattle.std.specs.Prelude.{◌≡◌, ◌&&◌, not, Bool, false, if◌then◌else◌, List, [], ◌∷◌, ◌++◌, fold, Option, Some, None, map}
 use Rattle.std.specs.List.{list_any}
 use Rattle.xa_xid.specs.declared.xid.Xid.{Xid}
-use Rattle.tree_model.specs.declared.records.LogRecord.{LogRecord}
-use Rattle.tree_model.specs.Records.{is_opened}
-use Rattle.tree_model.specs.LogNames.{unnamed}
-use Rattle.tree_model.specs.Store.{base_records, data_of}
+use Rattle.protocol.specs.declared.records.LogRecord.{LogRecord}
+use Rattle.protocol.specs.Records.{is_opened}
+use Rattle.protocol.specs.LogNames.{unnamed}
+use Rattle.protocol.specs.Store.{base_records, data_of}
 use Rattle.log_rules.specs.declared.trim.lives.Said.{Said}
 use Rattle.log_rules.specs.declared.trim.lives.Said.TheVariants.{Nothing}
 use Rattle.log_rules.specs.trim.Tables.{is_live, is_prepared, lives_of, log_name, picked, said_after, same}

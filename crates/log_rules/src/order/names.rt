@@ -1,11 +1,11 @@
 //! The keys that writes name, and their order.
 
 ghost use Rattle.std.specs.Prelude.{◌≡◌};
-ghost use Rattle.tree_model.specs.Records.{same_bytes};
-ghost use Rattle.tree_model.specs.Store.{key_below};
+ghost use Rattle.protocol.specs.Records.{same_bytes};
+ghost use Rattle.protocol.specs.Store.{key_below};
 ghost use Rattle.log_rules.specs.order.Orders.{keys_once, names_key};
 
-use tree_model::Write;
+use protocol::Write;
 
 #[tactic(auto, using(crate::proofs::order::Keys::same_bytes_is_equality))]
 fn same_key(one: &[u8], other: &[u8]) -> bool
@@ -45,7 +45,7 @@ pub(crate) fn keys_once(writes: &[Write]) -> bool
 }
 
 /// Whether a key comes before another, by their bytes.
-#[tactic(auto, unfolding(tree_model::specs::Store::key_below))]
+#[tactic(auto, unfolding(protocol::specs::Store::key_below))]
 pub(crate) fn key_below(one: &[u8], other: &[u8]) -> bool
     ensures { result ≡ key_below one.now other.now }
 {

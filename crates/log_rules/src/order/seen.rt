@@ -1,7 +1,7 @@
 //! What the records of a log have said so far, and which may follow.
 
 ghost use Rattle.std.specs.Prelude.{◌≡◌, ℕ, List, [], IfOk, IfErr, OnOk, OnErr, None, Some, false, true, length, option_map};
-ghost use Rattle.key_tables.specs.Tables.{same_key};
+ghost use Rattle.key_lists.specs.Tables.{same_key};
 ghost use Rattle.log_rules.specs.order.Holders.{holder_of, holds_at};
 ghost use Rattle.log_rules.specs.order.Orders.{
   IsPlain,
@@ -16,7 +16,7 @@ ghost use Rattle.log_rules.specs.order.Orders.{
   key_open,
   keys_free,
   keys_once,
-  left_by,
+  in_doubt_by,
   names_key,
   nothing_seen,
   opened,
@@ -34,14 +34,14 @@ ghost use Rattle.log_rules.specs.order.Orders.{
 use crate::order::names::{key_below, keys_once, names_key};
 use indexmap::IndexMap;
 use log_text::{ReadFault, name_xid};
+use protocol::{BranchName, Bytes, LogRecord, ProcessId, Record, Sequence, Write, Writes};
 use std::alloc::{AllocError, Global};
 use std::marker::Model;
-use tree_model::{Branch, Bytes, LogRecord, ProcessId, Record, Sequence, Write, Writes};
 use xa_xid::Xid;
 
 /// What the last record of a branch that is open or heuristic leaves it as.
 #[derive(Clone, Copy, PartialEq, Eq)]
-pub enum Mark {
+pub enum DoubtMark {
     /// It promised.
     Open,
     /// An operator decided it.
@@ -53,7 +53,7 @@ pub enum Mark {
 /// A branch that is open or heuristic, and what it promised while it is open.
 #[derive(Drop)]
 pub struct Promise {
-    mark: Mark,
+    mark: DoubtMark,
     writes: Writes,
 }
 
@@ -83,7 +83,7 @@ pub struct Seen {
 }
 
 impl Model for Seen {
-    ghost use Rattle.log_rules.specs.order.Holders.{IsKept};
+    ghost use Rattle.log_rules.specs.order.Holders.{AreHolders};
     ghost use Rattle.log_rules.specs.order.Orders.{SeenLog};
 
     ghost Value = { SeenLog };
@@ -95,17 +95,17 @@ impl Model for Seen {
       live = s.live.entries;
     } };
 
-    ghost invariant = { λ s. IsKept s.holders.entries s.live.entries };
+    ghost invariant = { λ s. AreHolders s.holders.entries s.live.entries };
 }
 
 /// The most branches that are open or heuristic at a time.
 const BRANCHES: usize = 1024;
 
-impl Mark {
+impl DoubtMark {
     fn is_open(self) -> bool
         ensures { result ≡ opens self }
     {
-        matches!(self, Mark::Open)
+        matches!(self, DoubtMark::Open)
     }
 }
 
@@ -114,7 +114,7 @@ impl Promise {
     fn holds(&self, key: &[u8]) -> bool
         ensures { result ≡ holds self.now key.now }
     {
-        matches!(self.mark, Mark::Open) && names_key(self.writes.as_slice(), key)
+        matches!(self.mark, DoubtMark::Open) && names_key(self.writes.as_slice(), key)
     }
 }
 
@@ -194,7 +194,7 @@ impl Seen {
     /// The branches that are open or heuristic, in the order of their promises, and whether an operator
     /// decided them.
     pub fn left(&self) -> Result<Vec<(Xid, bool)>, AllocError>
-        ensures { IfOk result (λ left. left.items ≡ left_by self.now) }
+        ensures { IfOk result (λ left. left.items ≡ in_doubt_by self.now) }
     {
         let mut left = Vec::new(self.alloc);
         for (xid, promise) in &self.live {
@@ -268,14 +268,14 @@ impl Seen {
         Ok(())
     }
 
-    fn mark(&self, xid: &Xid) -> Option<Mark>
+    fn mark(&self, xid: &Xid) -> Option<DoubtMark>
         ensures { result ≡ option_map (λ p. p.mark) (found self.now xid.now) }
     {
         self.live.get(xid).map(|promise| promise.mark)
     }
 
     /// A branch is not open any more: an operator decided it, or it was told the outcome since.
-    fn set_mark(&mut self, xid: Xid, mark: Mark) -> Result<(), ReadFault>
+    fn set_mark(&mut self, xid: Xid, mark: DoubtMark) -> Result<(), ReadFault>
         requires { opens mark ≡ false }
         ensures ok { OnOk result (self.new ≡ with_promise self.old xid
             (record { mark = mark; writes = [] })) }
@@ -291,11 +291,11 @@ impl Seen {
     fn promise(&mut self, xid: Xid, writes: Writes) -> Result<(), ReadFault>
         requires { keys_free (promises self.old) writes ≡ true }
         ensures ok { OnOk result (self.new ≡ with_promise self.old xid
-            (record { mark = Mark.Open; writes = writes })) }
+            (record { mark = DoubtMark.Open; writes = writes })) }
         ensures err { IfErr result (λ e. e ≡ ReadFault.Memory) }
     {
         list_keys(self.alloc, &mut self.holders, writes.as_slice(), &xid)?;
-        let mark = Mark::Open;
+        let mark = DoubtMark::Open;
         self.live.insert(xid, Promise { mark, writes })?;
         self.before = Data::Other;
         Ok(())
@@ -329,7 +329,7 @@ impl Seen {
         ensures err { IfErr result (λ e. e ≡ ReadFault.Malformed → settled self.old xid ≡ None) }
     {
         match self.mark(&xid) {
-            Some(Mark::Open) => {
+            Some(DoubtMark::Open) => {
                 let _ = self.live.shift_remove(&xid);
                 self.before = Data::Other;
                 Ok(())
@@ -343,7 +343,7 @@ impl Seen {
         ensures err { IfErr result (λ e. e ≡ ReadFault.Malformed → decided self.old xid ≡ None) }
     {
         match self.mark(&xid) {
-            Some(Mark::Open) => self.set_mark(xid, Mark::Decided),
+            Some(DoubtMark::Open) => self.set_mark(xid, DoubtMark::Decided),
             _ => Err(ReadFault::Malformed),
         }
     }
@@ -353,7 +353,7 @@ impl Seen {
         ensures err { IfErr result (λ e. e ≡ ReadFault.Malformed → told self.old xid ≡ None) }
     {
         match self.mark(&xid) {
-            Some(Mark::Decided) => self.set_mark(xid, Mark::Told),
+            Some(DoubtMark::Decided) => self.set_mark(xid, DoubtMark::Told),
             _ => Err(ReadFault::Malformed),
         }
     }
@@ -363,7 +363,7 @@ impl Seen {
         ensures err { IfErr result (λ e. e ≡ ReadFault.Malformed → forgot self.old xid ≡ None) }
     {
         match self.mark(&xid) {
-            Some(Mark::Decided) | Some(Mark::Told) => {
+            Some(DoubtMark::Decided) | Some(DoubtMark::Told) => {
                 let _ = self.live.shift_remove(&xid);
                 self.before = Data::Other;
                 Ok(())
@@ -398,23 +398,38 @@ impl Seen {
         match entry {
             Record::Opened(boot) => self.opened(*boot),
             Record::Collecting(case, _) => self.ranked(
-                name_xid(parent, Branch::Case(*case)),
+                name_xid(parent, BranchName::Case(*case)),
                 0,
                 0,
                 1,
             ),
-            Record::Prepare(case, _) => self.ranked(name_xid(parent, Branch::Case(*case)), 0, 1, 2),
+            Record::Prepare(case, _) => self.ranked(
+                name_xid(parent, BranchName::Case(*case)),
+                0,
+                1,
+                2,
+            ),
             Record::Commit(case, _) | Record::Abort(case, _) => {
-                self.ranked(name_xid(parent, Branch::Case(*case)), 0, 2, 3)
+                self.ranked(name_xid(parent, BranchName::Case(*case)), 0, 2, 3)
             }
-            Record::End(case, None) => self.ranked(name_xid(parent, Branch::Case(*case)), 0, 3, 4),
+            Record::End(case, None) => self.ranked(
+                name_xid(parent, BranchName::Case(*case)),
+                0,
+                3,
+                4,
+            ),
             Record::End(case, Some(_)) => self.ranked(
-                name_xid(parent, Branch::Case(*case)),
+                name_xid(parent, BranchName::Case(*case)),
                 0,
                 3,
                 5,
             ),
-            Record::Cleared(case) => self.ranked(name_xid(parent, Branch::Case(*case)), 5, 5, 6),
+            Record::Cleared(case) => self.ranked(
+                name_xid(parent, BranchName::Case(*case)),
+                5,
+                5,
+                6,
+            ),
             Record::Committed(branch) | Record::RolledBack(branch) => {
                 self.settled(name_xid(parent, *branch))
             }

@@ -5,7 +5,7 @@ ghost use Rattle.log_rules.specs.trim.Tables.{is_live, keeps_by, life_in, no_lif
 ghost use Rattle.log_rules.specs.trim.Marks.{decided_by, life_by, marked, said_by};
 
 use indexmap::IndexMap;
-use log_text::{Deed, Mark};
+use log_text::{MarkDeed, TrimMark};
 use std::alloc::{AllocError, Global};
 use std::marker::Model;
 use xa_xid::Xid;
@@ -42,9 +42,9 @@ pub struct Lives {
 }
 
 impl Model for Lives {
-    ghost use Rattle.log_rules.specs.trim.Tables.{Table};
+    ghost use Rattle.log_rules.specs.trim.Tables.{SaidTable};
 
-    ghost Value = { Table };
+    ghost Value = { SaidTable };
 
     ghost view = { λ l. l.lives.entries };
 }
@@ -63,24 +63,24 @@ impl Said {
     }
 
     /// What is said after one more record of the name.
-    fn after(self, deed: Deed) -> Said
+    fn after(self, deed: MarkDeed) -> Said
         ensures { result ≡ said_by self deed }
     {
         match deed {
-            Deed::Begins => match self {
+            MarkDeed::Begins => match self {
                 Said::Nothing => Said::Waits,
                 said => said,
             },
-            Deed::Settles => self.decided(Said::Settled),
-            Deed::Owes => self.decided(Said::Owes),
-            Deed::Prepares | Deed::Waits => Said::Waits,
-            Deed::Reports => Said::Reported,
-            Deed::Clears => match self {
+            MarkDeed::Settles => self.decided(Said::Settled),
+            MarkDeed::Owes => self.decided(Said::Owes),
+            MarkDeed::Prepares | MarkDeed::Waits => Said::Waits,
+            MarkDeed::Reports => Said::Reported,
+            MarkDeed::Clears => match self {
                 Said::Reported => Said::Over,
                 said => said,
             },
-            Deed::Ends => Said::Over,
-            Deed::Opens | Deed::Nothing => self,
+            MarkDeed::Ends => Said::Over,
+            MarkDeed::Opens | MarkDeed::Nothing => self,
         }
     }
 
@@ -94,11 +94,11 @@ impl Said {
 
 impl Life {
     /// What is noted after one more record of the name, before which N stand.
-    fn after(self, place: usize, deed: Deed) -> Life
+    fn after(self, place: usize, deed: MarkDeed) -> Life
         ensures { result ≡ life_by place self deed }
     {
         let said = self.said.after(deed);
-        let since = if matches!(deed, Deed::Prepares) {
+        let since = if matches!(deed, MarkDeed::Prepares) {
             place
         } else {
             self.since
@@ -131,7 +131,7 @@ impl Lives {
     }
 
     /// Notes the record of this mark, before which N stand.
-    pub fn note(&mut self, place: usize, mark: &Mark) -> Result<(), AllocError>
+    pub fn note(&mut self, place: usize, mark: &TrimMark) -> Result<(), AllocError>
         ensures { OnOk result (self.new ≡ marked place self.old mark.now) }
     {
         let Some(name) = mark.name else {
@@ -143,7 +143,7 @@ impl Lives {
     }
 
     /// Whether the record stays that is after N others.
-    pub fn keeps(&self, place: usize, mark: &Mark) -> bool
+    pub fn keeps(&self, place: usize, mark: &TrimMark) -> bool
         ensures { result ≡ keeps_by self.now place mark.now.name }
     {
         match mark.name {

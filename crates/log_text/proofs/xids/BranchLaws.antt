@@ -6,11 +6,11 @@ use Rattle.log_text.proofs.NumberBytes.{AreBytes, bytes_behind, number_again}
 use Rattle.std.proofs.Common.{◌≢◌, Option, Some, None, [], ◌-◌, take, ◌≡◌, ◌+◌, ◌^◌, ◌<◌, ◌++◌, ℕ, List, length, drop, refl, arith, ap, ◌∙◌, sym}
 use Rattle.byteorder.specs.Endian.{big_bytes, big_number}
 use Rattle.byteorder.specs.Numbers.{big_number-reads_back, length-bytes_high_first}
-use Rattle.tree_model.specs.declared.names.ProcessId.{ProcessId}
-use Rattle.tree_model.specs.declared.names.Presumption.{Presumption}
-use Rattle.tree_model.specs.declared.names.Ticket.{Ticket}
-use Rattle.tree_model.specs.declared.names.Txn.{Txn}
-use Rattle.tree_model.specs.Branches.{txn_bytes, ticket_bytes, below_bytes, FitsTxn, FitsTicket}
+use Rattle.protocol.specs.declared.names.ProcessId.{ProcessId}
+use Rattle.protocol.specs.declared.names.Presumption.{Presumption}
+use Rattle.protocol.specs.declared.names.Ticket.{Ticket}
+use Rattle.protocol.specs.declared.names.Txn.{Txn}
+use Rattle.protocol.specs.Branches.{txn_bytes, ticket_bytes, below_bytes, FitsTxn, FitsBranchName}
 
 -- the first of two parts of a name is read from the whole, and the second after it
 behind : (n k : ℕ) (a b : List ℕ) → length a ≡ n → drop (n + k) (a ++ b) ≡ drop k b
@@ -49,7 +49,7 @@ pub record ReadsTicket (b : ProcessId × Ticket) (name : List ℕ) : Type 0 wher
   pub boot : big_number 8 (drop 8 name) ≡ b.1.boot
   pub number : big_number 8 (drop 16 name) ≡ b.1.number
 
-pub ticket_again : (b : ProcessId × Ticket) → FitsTicket b → ReadsTicket b (ticket_bytes b)
+pub ticket_again : (b : ProcessId × Ticket) → FitsBranchName b → ReadsTicket b (ticket_bytes b)
 unfolding ticket_bytes
 ticket_again x h =
     let p = big_bytes 4 x.0.0 in

@@ -1,7 +1,7 @@
 //! The XID of a case, and the case of an XID.
 
 ghost use Rattle.std.specs.Prelude.{◌≡◌, ◌≢◌, Option, IfOk, OnErr, IfSome, IfNone, length};
-ghost use Rattle.tree_model.specs.Branches.{
+ghost use Rattle.protocol.specs.Branches.{
   branch_format,
   branch_parts,
   below_bytes,
@@ -9,16 +9,16 @@ ghost use Rattle.tree_model.specs.Branches.{
   ticket_bytes,
   FitsTxn,
   FitsBelow,
-  FitsTicket,
+  FitsBranchName,
 };
-ghost use Rattle.tree_model.specs.declared.names.ProcessId.{ProcessId as AnyProcess};
-ghost use Rattle.tree_model.specs.declared.names.Presumption.{Presumption as AnyPresumption};
-ghost use Rattle.tree_model.specs.declared.names.Ticket.{Ticket as AnyTicket};
-ghost use Rattle.tree_model.specs.declared.names.Txn.{Txn as AnyTxn};
+ghost use Rattle.protocol.specs.declared.names.ProcessId.{ProcessId as AnyProcess};
+ghost use Rattle.protocol.specs.declared.names.Presumption.{Presumption as AnyPresumption};
+ghost use Rattle.protocol.specs.declared.names.Ticket.{Ticket as AnyTicket};
+ghost use Rattle.protocol.specs.declared.names.Txn.{Txn as AnyTxn};
 
 use byteorder::{BigEndian, ByteOrder};
+use protocol::{Presumption, ProcessId, Ticket, Txn};
 use thiserror::Error;
-use tree_model::{Presumption, ProcessId, Ticket, Txn};
 use xa_xid::Xid;
 
 /// An XID that names no case of a tree.
@@ -65,7 +65,7 @@ fn presumption_of(format: i32) -> Option<Presumption>
 }
 
 /// The gtrid of a transaction's cases.
-#[tactic(auto, unfolding(tree_model::specs::Branches::txn_bytes))]
+#[tactic(auto, unfolding(protocol::specs::Branches::txn_bytes))]
 pub(crate) fn txn_name(txn: Txn) -> [u8; 20]
     ensures { result ≡ txn_bytes txn }
 {
@@ -77,7 +77,7 @@ pub(crate) fn txn_name(txn: Txn) -> [u8; 20]
 }
 
 /// The bqual of the case of the ticket below this parent.
-#[tactic(auto, unfolding(tree_model::specs::Branches::ticket_bytes))]
+#[tactic(auto, unfolding(protocol::specs::Branches::ticket_bytes))]
 pub(crate) fn ticket_name(parent: ProcessId, ticket: Ticket) -> [u8; 24]
     ensures { result ≡ ticket_bytes (parent, ticket) }
 {
@@ -110,7 +110,7 @@ fn txn_read(presumption: Presumption, name: &[u8]) -> Option<Txn>
 fn ticket_read(name: &[u8]) -> (ProcessId, Ticket)
     requires { length name.now ≡ 24 }
     ensures spelled { ticket_bytes result ≡ name.now }
-    ensures all { (b : AnyProcess × AnyTicket) → FitsTicket b → ticket_bytes b ≡ name.now → result ≡ b }
+    ensures all { (b : AnyProcess × AnyTicket) → FitsBranchName b → ticket_bytes b ≡ name.now → result ≡ b }
 {
     let ticket = Ticket {
         child: ProcessId(BigEndian::read_u32(&name[4..])),

@@ -6,25 +6,25 @@ use Rattle.std.proofs.lemmas.List.Elements.{filter-append}
 use Rattle.script_words.specs.Lines.{is_skipped}
 use Rattle.script_words.proofs.Texts.{blank, text_at, texts}
 use Rattle.xa_engine.specs.declared.script.request.Request.{Request}
-use Rattle.xa_engine.specs.script.Requests.{Spells}
-use Rattle.xa_engine.specs.declared.script.reading.ScriptError.{ScriptError}
+use Rattle.xa_engine.specs.script.Requests.{SpellsRequest}
+use Rattle.xa_engine.specs.declared.script.reading.XaScriptError.{XaScriptError}
 use Rattle.xa_engine.specs.script.Scripts.{HasLines, IsFirstBadLine, IsScriptFault, call_lines, SpellEach}
 
 -- what was read of a line is spelled there, and where nothing was read nothing is
 pub spelled : (lines : List (Bor (List ℕ))) (i : ℕ) (o : Option Request) (r : Request) → o ≡ Some r
-    → IfSome o (λ q. Spells (get_or lines i blank).now q) → Spells (get_or (texts lines) i []) r
+    → IfSome o (λ q. SpellsRequest (get_or lines i blank).now q) → SpellsRequest (get_or (texts lines) i []) r
 spelled lines i o r is h =
-    subst (λ (l : List ℕ). Spells l r) (sym (text_at lines i))
-    (subst (λ (p : Option Request). IfSome p (λ q. Spells (get_or lines i blank).now q)) is h)
+    subst (λ (l : List ℕ). SpellsRequest l r) (sym (text_at lines i))
+    (subst (λ (p : Option Request). IfSome p (λ q. SpellsRequest (get_or lines i blank).now q)) is h)
 
 pub unspelled : (lines : List (Bor (List ℕ))) (i : ℕ) (o : Option Request) → o ≡ None
-    → IfNone o ((q : Request) → Spells (get_or lines i blank).now q → ⊥) → (q : Request)
-    → Spells (get_or (texts lines) i []) q → ⊥
+    → IfNone o ((q : Request) → SpellsRequest (get_or lines i blank).now q → ⊥) → (q : Request)
+    → SpellsRequest (get_or (texts lines) i []) q → ⊥
 unspelled lines i o is h =
-    subst (λ (l : List ℕ). (q : Request) → Spells l q → ⊥) (sym (text_at lines i))
-    (subst (λ (p : Option Request). IfNone p ((q : Request) → Spells (get_or lines i blank).now q → ⊥)) is h)
+    subst (λ (l : List ℕ). (q : Request) → SpellsRequest l q → ⊥) (sym (text_at lines i))
+    (subst (λ (p : Option Request). IfNone p ((q : Request) → SpellsRequest (get_or lines i blank).now q → ⊥)) is h)
 
-each_more : (ls : List (List ℕ)) (rs : List Request) (l : List ℕ) (r : Request) → SpellEach ls rs → Spells l r
+each_more : (ls : List (List ℕ)) (rs : List Request) (l : List ℕ) (r : Request) → SpellEach ls rs → SpellsRequest l r
     → SpellEach (ls ++ l ∷ []) (rs ++ r ∷ [])
 each_more [] [] l r h s = (s, tt)
 each_more [] (q ∷ rs) l r h s = absurd h
@@ -52,7 +52,7 @@ skips ls i rs lt skip h =
 
 -- one more line spells a request
 pub goes_on : (ls : List (List ℕ)) (i : ℕ) (rs : List Request) (r : Request) → i < length ls
-    → is_skipped (get_or ls i []) ≡ false → Spells (get_or ls i []) r → SpellEach (call_lines (take i ls)) rs
+    → is_skipped (get_or ls i []) ≡ false → SpellsRequest (get_or ls i []) r → SpellEach (call_lines (take i ls)) rs
     → SpellEach (call_lines (take (i + 1) ls)) (rs ++ r ∷ [])
 goes_on ls i rs r lt kept s h =
     let e = one_line ls i lt ∙ ap (λ (q : List (List ℕ)). call_lines (take i ls) ++ q)
@@ -66,10 +66,10 @@ pub ends : (ls : List (List ℕ)) (i : ℕ) (rs : List Request) → length ls �
 ends ls i rs past h = subst (λ (q : List (List ℕ)). SpellEach (call_lines q) rs) (take_all i ls past) h
 
 -- the lines that were read are those of the input
-pub lines_of : {A : Type 0} (input : List ℕ) (read : A → List (List ℕ)) (r : Result A ScriptError) (a : A)
+pub lines_of : {A : Type 0} (input : List ℕ) (read : A → List (List ℕ)) (r : Result A XaScriptError) (a : A)
     → r ≡ Ok a → MatchResult r (λ v. HasLines input (read v)) (λ e. IsScriptFault input e) → HasLines input (read a)
 lines_of input read r a is h =
-    subst (λ (q : Result _ ScriptError). MatchResult q (λ v. HasLines input (read v)) (λ e. IsScriptFault input e)) is h
+    subst (λ (q : Result _ XaScriptError). MatchResult q (λ v. HasLines input (read v)) (λ e. IsScriptFault input e)) is h
 
 -- the line that was told is the first that spells no request
 pub bad_of : {A : Type 0} (ls : List (List ℕ)) (P : A → Type 0) (r : Result A ℕ) (n : ℕ) → r ≡ Err n

@@ -4,8 +4,8 @@ use Rattle.std.specs.Prelude.{IsSomeAnd, IfNone}
 use Rattle.xa_codes.specs.FlagNames.{IsFlagText}
 use Rattle.spellings.specs.Words.{cut_at}
 use Rattle.xa_xid.specs.declared.xid.Xid.{Xid}
-use Rattle.xa_engine.specs.declared.script.request.Call.{Call}
-use Rattle.xa_engine.specs.declared.script.request.Call.TheVariants as call
+use Rattle.xa_engine.specs.declared.script.request.RequestCall.{RequestCall}
+use Rattle.xa_engine.specs.declared.script.request.RequestCall.TheVariants as call
 use Rattle.xa_engine.specs.declared.script.request.Request.{Request}
 use Rattle.xa_engine.specs.declared.script.request.Request.TheVariants.{Open, Close, Branch, Recover, Work, Restart, Trim, Decide}
 use Rattle.xa_engine.specs.script.Requests.{IsNumber, IsName, IsOpenOf, SpellsOpen, three_at, SpellsBranch, SpellsCall, SpellsRecover}
@@ -47,7 +47,7 @@ no_flags_branch rest p is none thread xid flags s =
     (λ q. IsNumber q.0 thread × IsName q.1 xid × IsFlagText q.2 flags)) (sym is) s in
     none flags t.2
 
-pub no_flags_close : (c : Call) (rest : List ℕ) → c ≡ call.Close → NamesNone rest
+pub no_flags_close : (c : RequestCall) (rest : List ℕ) → c ≡ call.Close → NamesNone rest
     → (r : Request) → SpellsCall c rest r → ⊥
 no_flags_close c rest is none (Open flags migrates) s = absurd (let e = s.0 in cc)
 no_flags_close c rest is none (Close flags) s = none flags.0 s.1

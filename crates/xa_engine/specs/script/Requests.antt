@@ -8,21 +8,21 @@ use Rattle.xa_xid.specs.Text.{xid_text}
 use Rattle.spellings.specs.Words.{cut_at}
 use Rattle.xa_xid.specs.Xids.{IsXid}
 use Rattle.xa_xid.specs.declared.xid.Xid.{Xid}
-use Rattle.tree_model.specs.declared.messages.Op.{Op}
-use Rattle.tree_model.specs.declared.names.Outcome.{Outcome}
+use Rattle.protocol.specs.declared.messages.Op.{Op}
+use Rattle.protocol.specs.declared.names.Outcome.{Outcome}
 use Rattle.script_words.specs.Steps.{same}
 use Rattle.script_words.specs.Operations.{op_by}
 use Rattle.script_words.specs.Outcomes.{outcome_at}
 use Rattle.xa_engine.specs.declared.script.request.BranchCall.TheVariants.{Start, End, Prepare, Commit, Rollback, Forget}
-use Rattle.xa_engine.specs.declared.script.request.Call.{Call}
-use Rattle.xa_engine.specs.declared.script.request.Call.TheVariants as call
-use Rattle.xa_engine.specs.declared.script.request.Word.{Word}
-use Rattle.xa_engine.specs.declared.script.request.Word.TheVariants as word
+use Rattle.xa_engine.specs.declared.script.request.RequestCall.{RequestCall}
+use Rattle.xa_engine.specs.declared.script.request.RequestCall.TheVariants as call
+use Rattle.xa_engine.specs.declared.script.request.RequestWord.{RequestWord}
+use Rattle.xa_engine.specs.declared.script.request.RequestWord.TheVariants as word
 use Rattle.xa_engine.specs.declared.script.request.Request.{Request}
 use Rattle.xa_engine.specs.declared.script.request.Request.TheVariants.{Open, Close, Branch, Recover, Work, Restart, Trim, Decide}
 
 -- what the first word of a line asks for
-abbrev pub word_at : List ℕ → Option Word
+abbrev pub word_at : List ℕ → Option RequestWord
 word_at w =
     if same w (codes "open") then Some (word.Call call.Open)
     else if same w (codes "close") then Some (word.Call call.Close)
@@ -48,7 +48,7 @@ abbrev pub IsName : List ℕ → Xid → Type 0
 IsName w x = IsXid x × (w ≡ xid_text x)
 
 -- an information text: 1 to 32 ASCII letters
-pub record IsInfo (w : List ℕ) : Type 0 where
+pub record IsInfoText (w : List ℕ) : Type 0 where
   pub some : 0 < length w
   pub short : length w ≤ 32
   pub letters : All IsAsciiAlphabetic w
@@ -58,7 +58,7 @@ pub record IsInfo (w : List ℕ) : Type 0 where
 abbrev pub IsOpenOf : List ℕ → Option (List ℕ × List ℕ) → ℕ → Bool → Type 0
 IsOpenOf rest None flags migrates = IsFlagText rest flags × (migrates ≡ true)
 IsOpenOf rest (Some p) flags migrates =
-    IsFlagText p.0 flags × IsInfo p.1 × (migrates ≡ not (same p.1 (codes "nomigrate")))
+    IsFlagText p.0 flags × IsInfoText p.1 × (migrates ≡ not (same p.1 (codes "nomigrate")))
 
 -- what is after `open` spells these flags, and whether the manager migrates associations
 abbrev pub SpellsOpen : List ℕ → ℕ → Bool → Type 0
@@ -97,7 +97,7 @@ abbrev pub SpellsDecision : List ℕ → Xid → Outcome → Type 0
 SpellsDecision rest xid o = IsSomeAnd (cut_at 32 rest) (λ p. IsName p.0 xid × (outcome_at p.1 ≡ Some o))
 
 -- what is after the name of a call spells it
-abbrev pub SpellsCall : Call → List ℕ → Request → Type 0
+abbrev pub SpellsCall : RequestCall → List ℕ → Request → Type 0
 SpellsCall c rest (Open flags migrates) = (c ≡ call.Open) × SpellsOpen rest flags.0 migrates
 SpellsCall c rest (Close flags) = (c ≡ call.Close) × IsFlagText rest flags.0
 SpellsCall c rest (Branch f thread xid flags) = (c ≡ call.Branch f) × SpellsBranch rest thread xid flags.0
@@ -118,13 +118,13 @@ SpellsWork verb rest (Work thread op) = SpellsTask verb rest thread op
 SpellsWork verb rest _ = ⊥
 
 -- the first word of a line and what is after it spell a request
-abbrev pub SpellsBy : Option Word → List ℕ → List ℕ → Request → Type 0
+abbrev pub SpellsBy : Option RequestWord → List ℕ → List ℕ → Request → Type 0
 SpellsBy None first rest request = ⊥
 SpellsBy (Some (word.Call c)) first rest request = SpellsCall c rest request
 SpellsBy (Some word.Work) first rest request = SpellsWork first rest request
 
 -- the request of a word that stands alone: `restart`, and all bytes are kept; or `trim`
-abbrev pub alone_by : Option Word → Option Request
+abbrev pub alone_by : Option RequestWord → Option Request
 alone_by (Some (word.Call call.Restart)) = Some (Restart None)
 alone_by (Some (word.Call call.Trim)) = Some Trim
 alone_by _ = None
@@ -139,5 +139,5 @@ SpellsCut line None request = IsAlone line request
 SpellsCut line (Some p) request = SpellsBy (word_at p.0) p.0 p.1 request
 
 -- a line spells a request: its words, with one space between
-abbrev pub Spells : List ℕ → Request → Type 0
-Spells line request = SpellsCut line (cut_at 32 line) request
+abbrev pub SpellsRequest : List ℕ → Request → Type 0
+SpellsRequest line request = SpellsCut line (cut_at 32 line) request

@@ -4,9 +4,9 @@ use Rattle.std.specs.Str.{IsUtf8}
 use Rattle.std.specs.Str.Lines.{lines}
 use Rattle.script_words.specs.Lines.{asked_in, is_skipped}
 use Rattle.xa_engine.specs.declared.script.request.Request.{Request}
-use Rattle.xa_engine.specs.declared.script.reading.ScriptError.{ScriptError}
-use Rattle.xa_engine.specs.declared.script.reading.ScriptError.TheVariants.{Line, Utf8, TooLong}
-use Rattle.xa_engine.specs.script.Requests.{Spells}
+use Rattle.xa_engine.specs.declared.script.reading.XaScriptError.{XaScriptError}
+use Rattle.xa_engine.specs.declared.script.reading.XaScriptError.TheVariants.{Line, Utf8, TooLong}
+use Rattle.xa_engine.specs.script.Requests.{SpellsRequest}
 
 -- the lines that are not skipped
 abbrev pub call_lines : List (List ℕ) → List (List ℕ)
@@ -15,7 +15,7 @@ call_lines ls = filter (λ line. not (is_skipped line)) ls
 -- lines spell requests, each one of them
 abbrev pub SpellEach : List (List ℕ) → List Request → Type 0
 SpellEach [] [] = Unit {0}
-SpellEach (line ∷ ls) (request ∷ requests) = Spells line request × SpellEach ls requests
+SpellEach (line ∷ ls) (request ∷ requests) = SpellsRequest line request × SpellEach ls requests
 SpellEach _ _ = ⊥
 
 -- an input is text of these lines, of which at most 100,000 are not skipped
@@ -26,7 +26,7 @@ pub record HasLines (input : List ℕ) (ls : List (List ℕ)) : Type 0 where
 
 -- an input is a script of these requests: text, of which at most 100,000 lines are not skipped, and these
 -- spell them
-pub record IsScript (input : List ℕ) (requests : List Request) : Type 0 where
+pub record IsXaScript (input : List ℕ) (requests : List Request) : Type 0 where
   pub text : IsUtf8 input
   pub short : asked_in (lines input) ≤ 100000
   pub calls : SpellEach (call_lines (lines input)) requests
@@ -39,10 +39,10 @@ pub record IsFirstBadLine (ls : List (List ℕ)) (number : ℕ) : Type 0 where
   pub front : List Request
   pub before : SpellEach (call_lines (take index ls)) front
   pub kept : is_skipped (slice_index_or ls index []) ≡ false
-  pub bad : (request : Request) → Spells (slice_index_or ls index []) request → ⊥
+  pub bad : (request : Request) → SpellsRequest (slice_index_or ls index []) request → ⊥
 
 -- what is wrong with an input, each fault where none of those above it is there
-abbrev pub IsScriptFault : List ℕ → ScriptError → Type 0
+abbrev pub IsScriptFault : List ℕ → XaScriptError → Type 0
 IsScriptFault input Utf8 = IsUtf8 input → ⊥
 IsScriptFault input TooLong = IsUtf8 input × (100000 < asked_in (lines input))
 IsScriptFault input (Line number) =

@@ -1,7 +1,7 @@
 //! A whole script.
 
 ghost use Rattle.std.specs.Prelude.{IfOk, MatchResult, map};
-ghost use Rattle.xa_engine.specs.script.Scripts.{HasLines, IsFirstBadLine, IsScript, IsScriptFault, SpellEach, call_lines};
+ghost use Rattle.xa_engine.specs.script.Scripts.{HasLines, IsFirstBadLine, IsXaScript, IsScriptFault, SpellEach, call_lines};
 
 use crate::script::request::{Request, request_of};
 use script_words::{count_asked, lines_of, says_nothing};
@@ -14,7 +14,7 @@ const LINES: usize = 100_000;
 
 /// Why a script is refused.
 #[derive(Clone, Copy, Debug, PartialEq, Eq, Error)]
-pub enum ScriptError {
+pub enum XaScriptError {
     /// A line that spells no request, by its number from 1. The first of them is named.
     #[error("line {0} is not a request")]
     Line(usize),
@@ -30,9 +30,9 @@ pub enum ScriptError {
 pub fn requests_of(
     alloc: Global,
     input: &[u8],
-) -> Result<Result<Vec<Request>, ScriptError>, AllocError>
+) -> Result<Result<Vec<Request>, XaScriptError>, AllocError>
     ensures { IfOk result (λ read. MatchResult read
-        (λ v. IsScript input.now v.items) (λ error. IsScriptFault input.now error)) }
+        (λ v. IsXaScript input.now v.items) (λ error. IsScriptFault input.now error)) }
 {
     let lines = match asking_lines(alloc, input)? {
         Ok(lines) => lines,
@@ -40,7 +40,7 @@ pub fn requests_of(
     };
     match requests_in(alloc, &lines)? {
         Ok(requests) => Ok(Ok(requests)),
-        Err(number) => Ok(Err(ScriptError::Line(number))),
+        Err(number) => Ok(Err(XaScriptError::Line(number))),
     }
 }
 
@@ -49,16 +49,16 @@ pub fn requests_of(
 pub fn asking_lines<'a>(
     alloc: Global,
     input: &'a [u8],
-) -> Result<Result<Vec<&'a str>, ScriptError>, AllocError>
+) -> Result<Result<Vec<&'a str>, XaScriptError>, AllocError>
     ensures { IfOk result (λ read. MatchResult read
         (λ v. HasLines input.now (map (λ s. s.now) v.items)) (λ error. IsScriptFault input.now error)) }
 {
     let Ok(text) = str::from_utf8(input) else {
-        return Ok(Err(ScriptError::Utf8));
+        return Ok(Err(XaScriptError::Utf8));
     };
     let lines = lines_of(alloc, text)?;
     if count_asked(&lines) > LINES {
-        return Ok(Err(ScriptError::TooLong));
+        return Ok(Err(XaScriptError::TooLong));
     }
     Ok(Ok(lines))
 }

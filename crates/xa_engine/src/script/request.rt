@@ -5,17 +5,17 @@ ghost use Rattle.std.specs.Char.{IsAsciiAlphabetic};
 ghost use Rattle.std.specs.List.{All};
 ghost use Rattle.xa_codes.specs.FlagNames.{IsFlagText};
 ghost use Rattle.xa_xid.specs.declared.xid.Xid.{Xid as AnyXid};
-ghost use Rattle.tree_model.specs.declared.messages.Op.{Op as AnyOp};
-ghost use Rattle.tree_model.specs.declared.names.Outcome.{Outcome as AnyOutcome};
+ghost use Rattle.protocol.specs.declared.messages.Op.{Op as AnyOp};
+ghost use Rattle.protocol.specs.declared.names.Outcome.{Outcome as AnyOutcome};
 ghost use Rattle.script_words.specs.Operations.{op_view};
 ghost use Rattle.xa_engine.specs.declared.script.request.Request.{Request as AnyRequest};
-ghost use Rattle.xa_engine.specs.script.Requests.{IsAlone, IsInfo, IsNumber, Spells, SpellsBranch, SpellsCall, SpellsDecision, SpellsOpen, SpellsRecover, SpellsTask, SpellsWork, three_at, word_at};
+ghost use Rattle.xa_engine.specs.script.Requests.{IsAlone, IsInfoText, IsNumber, SpellsRequest, SpellsBranch, SpellsCall, SpellsDecision, SpellsOpen, SpellsRecover, SpellsTask, SpellsWork, three_at, word_at};
 
+use protocol::{Op, Outcome};
 use script_words::{Task, outcome_of, task_by};
 use spellings::numeral;
 use spellings::word::cut;
 use std::alloc::{AllocError, Global};
-use tree_model::{Op, Outcome};
 use xa_codes::Flags;
 use xa_xid::Xid;
 
@@ -73,15 +73,15 @@ pub enum Request {
 
 /// What the first word of a line asks for.
 #[derive(Clone, Copy, PartialEq, Eq)]
-pub enum Word {
-    Call(Call),
+pub enum RequestWord {
+    Call(RequestCall),
     /// An operation on data.
     Work,
 }
 
 /// A call of a function, a restart, a trim or an operator's decision.
 #[derive(Clone, Copy, PartialEq, Eq)]
-pub enum Call {
+pub enum RequestCall {
     Open,
     Close,
     Recover,
@@ -92,38 +92,38 @@ pub enum Call {
 }
 
 /// What a word asks for.
-fn word_of(word: &str) -> Option<Word>
+fn word_of(word: &str) -> Option<RequestWord>
     ensures { result ≡ word_at word.now }
 {
     match word {
-        "open" => Some(Word::Call(Call::Open)),
-        "close" => Some(Word::Call(Call::Close)),
-        "recover" => Some(Word::Call(Call::Recover)),
-        "restart" => Some(Word::Call(Call::Restart)),
-        "trim" => Some(Word::Call(Call::Trim)),
-        "heur" => Some(Word::Call(Call::Decide)),
-        "start" => Some(Word::Call(Call::Branch(BranchCall::Start))),
-        "end" => Some(Word::Call(Call::Branch(BranchCall::End))),
-        "prepare" => Some(Word::Call(Call::Branch(BranchCall::Prepare))),
-        "commit" => Some(Word::Call(Call::Branch(BranchCall::Commit))),
-        "rollback" => Some(Word::Call(Call::Branch(BranchCall::Rollback))),
-        "forget" => Some(Word::Call(Call::Branch(BranchCall::Forget))),
-        "get" | "put" | "del" => Some(Word::Work),
+        "open" => Some(RequestWord::Call(RequestCall::Open)),
+        "close" => Some(RequestWord::Call(RequestCall::Close)),
+        "recover" => Some(RequestWord::Call(RequestCall::Recover)),
+        "restart" => Some(RequestWord::Call(RequestCall::Restart)),
+        "trim" => Some(RequestWord::Call(RequestCall::Trim)),
+        "heur" => Some(RequestWord::Call(RequestCall::Decide)),
+        "start" => Some(RequestWord::Call(RequestCall::Branch(BranchCall::Start))),
+        "end" => Some(RequestWord::Call(RequestCall::Branch(BranchCall::End))),
+        "prepare" => Some(RequestWord::Call(RequestCall::Branch(BranchCall::Prepare))),
+        "commit" => Some(RequestWord::Call(RequestCall::Branch(BranchCall::Commit))),
+        "rollback" => Some(RequestWord::Call(RequestCall::Branch(BranchCall::Rollback))),
+        "forget" => Some(RequestWord::Call(RequestCall::Branch(BranchCall::Forget))),
+        "get" | "put" | "del" => Some(RequestWord::Work),
         _ => None,
     }
 }
 
 /// The request of a line. None: it spells none.
 pub(crate) fn request_of(alloc: Global, line: &str) -> Result<Option<Request>, AllocError>
-    ensures found { IfOk result (λ read. IfSome read (λ request. Spells line.now request)) }
-    ensures none { IfOk result (λ read. IfNone read ((request : AnyRequest) → Spells line.now request → ⊥)) }
+    ensures found { IfOk result (λ read. IfSome read (λ request. SpellsRequest line.now request)) }
+    ensures none { IfOk result (λ read. IfNone read ((request : AnyRequest) → SpellsRequest line.now request → ⊥)) }
 {
     match cut(line, ' ') {
         None => Ok(alone_of(line)),
         Some((word, rest)) => match word_of(word) {
             None => Ok(None),
-            Some(Word::Call(call)) => Ok(call_of(call, rest)),
-            Some(Word::Work) => work_of(alloc, word, rest),
+            Some(RequestWord::Call(call)) => Ok(call_of(call, rest)),
+            Some(RequestWord::Work) => work_of(alloc, word, rest),
         },
     }
 }
@@ -134,27 +134,27 @@ fn alone_of(line: &str) -> Option<Request>
     ensures none { IfNone result ((request : AnyRequest) → IsAlone line.now request → ⊥) }
 {
     match word_of(line) {
-        Some(Word::Call(Call::Restart)) => Some(Request::Restart { keep: None }),
-        Some(Word::Call(Call::Trim)) => Some(Request::Trim),
+        Some(RequestWord::Call(RequestCall::Restart)) => Some(Request::Restart { keep: None }),
+        Some(RequestWord::Call(RequestCall::Trim)) => Some(Request::Trim),
         _ => None,
     }
 }
 
 /// The request of a call, by what is after its name.
-fn call_of(call: Call, rest: &str) -> Option<Request>
+fn call_of(call: RequestCall, rest: &str) -> Option<Request>
     ensures found { IfSome result (λ request. SpellsCall call rest.now request) }
     ensures none { IfNone result ((request : AnyRequest) → SpellsCall call rest.now request → ⊥) }
 {
     match call {
-        Call::Open => {
+        RequestCall::Open => {
             let (flags, migrates) = open_of(rest)?;
             Some(Request::Open { flags, migrates })
         }
-        Call::Close => {
+        RequestCall::Close => {
             let flags = Flags::parse(rest)?;
             Some(Request::Close { flags })
         }
-        Call::Recover => {
+        RequestCall::Recover => {
             let (thread, count, flags) = recover_of(rest)?;
             Some(Request::Recover {
                 thread,
@@ -162,16 +162,16 @@ fn call_of(call: Call, rest: &str) -> Option<Request>
                 flags,
             })
         }
-        Call::Restart => {
+        RequestCall::Restart => {
             let keep = numeral::number_of(rest)?;
             Some(Request::Restart { keep: Some(keep) })
         }
-        Call::Trim => None,
-        Call::Decide => {
+        RequestCall::Trim => None,
+        RequestCall::Decide => {
             let (xid, outcome) = decision_of(rest)?;
             Some(Request::Decide { xid, outcome })
         }
-        Call::Branch(call) => {
+        RequestCall::Branch(call) => {
             let (thread, xid, flags) = branch_of(rest)?;
             Some(Request::Branch {
                 call,
@@ -283,7 +283,7 @@ fn decision_of(rest: &str) -> Option<(Xid, Outcome)>
 
 /// Whether a word is an information text: 1 to 32 ASCII letters.
 fn is_info(word: &str) -> bool
-    ensures { IsTrue result ↔ IsInfo word.now }
+    ensures { IsTrue result ↔ IsInfoText word.now }
 {
     !word.is_empty() && word.len() <= 32 && are_letters(word.as_bytes())
 }

@@ -1,8 +1,8 @@
 use Rattle.std.proofs.Common.{rules, ◌≡◌, ◌∙◌, Some, ap, sym, unwrap_or}
 use Rattle.std.specs.Map.{lookup, set_value}
 use Rattle.indexmap.specs.IndexMap.{insert_entry}
-use Rattle.inquire_core.specs.Readings.{same}
-use Rattle.inquire_core.proofs.CaseTables.{put_there}
+use Rattle.coord_records.specs.Readings.{same}
+use Rattle.coord_records.proofs.CaseTables.{put_there}
 use Rattle.audit_cases.specs.Notes.{no_note, note_after}
 use Rattle.audit_cases.proofs.notes.note_of.Goals as goal
 

@@ -1,6 +1,6 @@
 use Rattle.std.proofs.Common.{◌∙◌, ◌++◌, ap}
 use Rattle.std.specs.Fmt.{decimal}
-use Rattle.tree_model.specs.Texts.{outcome_word}
+use Rattle.protocol.specs.Texts.{outcome_word}
 use Rattle.audit_engine.proofs.Explaining.{nothing_pushed}
 use Rattle.audit_engine.proofs.Texts.{on_ok}
 use Rattle.audit_engine.proofs.explain.push_found.Goals as goal

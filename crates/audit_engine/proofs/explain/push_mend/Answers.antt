@@ -1,6 +1,6 @@
 use Rattle.std.proofs.Common.{◌∙◌, ◌++◌, ap}
 use Rattle.std.specs.Fmt.{decimal}
-use Rattle.tree_model.specs.declared.names.ProcessId.{ProcessId}
+use Rattle.protocol.specs.declared.names.ProcessId.{ProcessId}
 use Rattle.audit_engine.proofs.Explaining.{mend_pushed}
 use Rattle.audit_engine.proofs.Texts.{on_ok}
 use Rattle.audit_engine.proofs.explain.push_mend.Goals as goal

@@ -1,5 +1,5 @@
 use Rattle.std.proofs.Common.{subst, sym}
-use Rattle.link_script.specs.Inputs.{IsScript}
+use Rattle.tree_script.specs.Inputs.{IsScript}
 use Rattle.tree_engine.proofs.TreeReports.{script_tree}
 use Rattle.std.proofs.lemmas.Result.{IfErr-weaker}
 use Rattle.cluster_engine.proofs.Reporting.{not_reported, reported}

@@ -1,5 +1,5 @@
 use Rattle.std.proofs.Common.{◌∙◌, refl, subst, sym}
-use Rattle.tree_cluster.specs.Opening.{SeatsTree}
+use Rattle.cluster_tree.specs.Opening.{SeatsTree}
 use Rattle.cluster_engine.specs.Made.{FirstMade, FirstStops}
 use Rattle.std.proofs.lemmas.Result.{IfErr-weaker}
 use Rattle.cluster_engine.proofs.Making.{some_passes}

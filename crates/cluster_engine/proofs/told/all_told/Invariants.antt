@@ -1,5 +1,5 @@
 use Rattle.std.proofs.Common.{◌≡◌, take}
-use Rattle.journal_turns.specs.Turns.{all_of}
+use Rattle.cluster_turns.specs.Turns.{all_of}
 use Rattle.cluster_engine.specs.Told.{told_in}
 use Rattle.cluster_engine.proofs.told.all_told.Given as goal
 

@@ -1,8 +1,8 @@
 use Rattle.std.proofs.Common.{◌≡◌, ◌+◌, ◌++◌, drop}
 use Rattle.trace_lines.specs.Trace.{entries_text}
-use Rattle.journal_turns.specs.Turns.{all_of}
+use Rattle.cluster_turns.specs.Turns.{all_of}
 use Rattle.tree_engine.specs.Failures.{message_count}
-use Rattle.tree_ties.specs.Views.{entries_in}
+use Rattle.cluster_ties.specs.Views.{entries_in}
 use Rattle.cluster_engine.proofs.trace.push_turns.Given as goal
 
 abbrev pub invariant-loop-place : goal.invariant-loop-place

@@ -1,7 +1,7 @@
 use Rattle.std.proofs.Common.{◌≡◌, ◌∙◌, ap, false, subst, sym}
 use Rattle.std.specs.List.{list_any}
 use Rattle.std.specs.Prelude.{slice_get}
-use Rattle.tree_model.specs.contracts.names.ProcessIdPartialEq.TheImpl as processes
+use Rattle.protocol.specs.contracts.names.ProcessIdPartialEq.TheImpl as processes
 use Rattle.cluster_journal.proofs.Counts.{if_true, not_false, not_true}
 use Rattle.cluster_journal.proofs.Names.{absent, named_at}
 use Rattle.cluster_journal.proofs.adding.add_message.Goals as goal

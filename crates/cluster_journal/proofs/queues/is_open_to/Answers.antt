@@ -1,5 +1,5 @@
 use Rattle.std.proofs.Common.{◌&&◌, ap}
-use Rattle.tree_model.specs.Names.{same_process}
+use Rattle.protocol.specs.Names.{same_process}
 use Rattle.cluster_journal.proofs.queues.is_open_to.Goals as goal
 
 pub returns-then-is_open : goal.returns-then-is_open

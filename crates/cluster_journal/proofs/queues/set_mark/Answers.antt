@@ -2,7 +2,7 @@ use Rattle.std.proofs.Common.{◌≡◌, ◌∙◌, ◌+◌, ◌<◌, Some, ap, 
 use Rattle.std.specs.Prelude.{slice_get}
 use Rattle.std.proofs.lemmas.Option.{slice_get-get_or}
 use Rattle.cluster_journal.specs.Marks.{IsTold, is_to, is_undelivered, marked, processes_of}
-use Rattle.cluster_journal.specs.declared.marks.Marked.{Marked}
+use Rattle.cluster_journal.specs.declared.marks.MarkedMessage.{MarkedMessage}
 use Rattle.cluster_journal.proofs.Counts.{fits_count, is_itself, recounted}
 use Rattle.cluster_journal.proofs.Numbers.{marks_it}
 use Rattle.cluster_journal.proofs.Queued.{linked_at, queued_mark, same_names}
@@ -42,7 +42,7 @@ put_receiver-requires-clause-at c =
 pub counted-queues-requires : goal.counted-queues-requires
 counted-queues-requires c =
     let m = c.index-message.result.now in
-    let y : Marked = record { to = m.to; mark = c.args.mark } in
+    let y : MarkedMessage = record { to = m.to; mark = c.args.mark } in
     fits_count is_undelivered c.args.marks.now.items c.args.place m _ y c.requires.0 c.index-message.ensures
     c.put_receiver.new.queues.undelivered _ (c.put_receiver.ensures.same.1 ∙ c.requires.1.undelivered)
     (c.len.ensures ∙ c.args.marks.now.ok.0) _ _
@@ -53,7 +53,7 @@ returns-clause-queued c =
     let ms = c.args.marks.now.items in
     let p = c.args.place in
     let m = c.index-message.result.now in
-    let y : Marked = record { to = m.to; mark = c.args.mark } in
+    let y : MarkedMessage = record { to = m.to; mark = c.args.mark } in
     let s = c.told-receiver.result in
     let link = linked_at ms c.args.queues.now p _ _ c.requires.0 c.index-message.ensures c.index.ensures
     c.requires.1 in

@@ -1,7 +1,7 @@
 use Rattle.std.proofs.Common.{rules, not}
 use Rattle.std.proofs.lemmas.Fn.{filter_same}
-use Rattle.tree_model.specs.Names.{same_ticket}
-use Rattle.tree_model.specs.CoordinatorRows.{other_tickets}
+use Rattle.protocol.specs.Names.{same_ticket}
+use Rattle.protocol.specs.CoordinatorRows.{other_tickets}
 use Rattle.coord_case.proofs.lists.strike.Goals as goal
 
 pub returns : goal.returns

@@ -1,7 +1,7 @@
 use Rattle.std.proofs.Common.{◌≡◌, map, take}
-use Rattle.tree_model.specs.declared.messages.Message.TheVariants.{Prepare}
-use Rattle.tree_model.specs.Names.{child_case}
-use Rattle.tree_model.specs.CoordinatorRows.{post}
+use Rattle.protocol.specs.declared.messages.Message.TheVariants.{Prepare}
+use Rattle.protocol.specs.Names.{child_case}
+use Rattle.protocol.specs.CoordinatorRows.{post}
 use Rattle.coord_case.proofs.live.prepare_each.Given as goal
 
 abbrev pub invariant-loop-child : goal.invariant-loop-child

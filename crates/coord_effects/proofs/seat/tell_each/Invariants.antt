@@ -1,6 +1,6 @@
 use Rattle.std.proofs.Common.{◌≡◌, ◌++◌, map, take}
-use Rattle.tree_model.specs.CoordinatorRows.{tells_outcome, to_child}
-use Rattle.coord_effects.specs.Rows.{seat as seat_meant}
+use Rattle.protocol.specs.CoordinatorRows.{tells_outcome, to_child}
+use Rattle.coord_effects.specs.Rows.{seat_meant}
 use Rattle.coord_effects.proofs.seat.tell_each.Given as goal
 
 abbrev pub invariant-loop-ticket : goal.invariant-loop-ticket

@@ -1,6 +1,6 @@
 use Rattle.std.proofs.Common.{rules, ◌≡◌, ◌++◌, ◌∷◌, [], true}
-use Rattle.tree_model.specs.Memory.{is_counted}
-use Rattle.tree_model.specs.SameViews.{SameView}
+use Rattle.protocol.specs.Memory.{is_counted}
+use Rattle.protocol.specs.SameViews.{SameView}
 use Rattle.coord_rows.proofs.Counting.{does_vote, takes_back, unwritten_vote}
 use Rattle.coord_rows.proofs.collecting.collecting_vote.Goals as goal
 

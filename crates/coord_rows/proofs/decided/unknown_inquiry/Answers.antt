@@ -1,10 +1,10 @@
 use Rattle.std.proofs.Common.{IfOk, subst}
-use Rattle.tree_model.specs.Standings.{CoordinatorView}
-use Rattle.tree_model.specs.CoordinatorRows.{decided_inquiry}
-use Rattle.coord_effects.specs.Rows.{Does, seat}
+use Rattle.protocol.specs.Standings.{CoordinatorView}
+use Rattle.protocol.specs.CoordinatorRows.{decided_inquiry}
+use Rattle.coord_effects.specs.Rows.{DoesRow, seat_meant}
 use Rattle.coord_rows.proofs.decided.unknown_inquiry.Goals as goal
 
 pub returns : goal.returns
 returns c =
-    subst (λ o. IfOk c.tell_one.result (λ effect. (view : CoordinatorView) → Does c.args.seat (decided_inquiry
-    (seat c.args.seat) o c.args.ticket view) effect view)) c.presumed.ensures c.tell_one.ensures
+    subst (λ o. IfOk c.tell_one.result (λ effect. (view : CoordinatorView) → DoesRow c.args.seat (decided_inquiry
+    (seat_meant c.args.seat) o c.args.ticket view) effect view)) c.presumed.ensures c.tell_one.ensures

@@ -1,5 +1,5 @@
 use Rattle.std.proofs.Common.{◌≡◌, ◌++◌, map, take}
-use Rattle.tree_model.specs.declared.messages.Finding.TheVariants.{Mixed, Unreported}
+use Rattle.protocol.specs.declared.messages.Finding.TheVariants.{Mixed, Unreported}
 use Rattle.coord_rows.proofs.found.in_order.Given as goal
 
 abbrev pub invariant-loop-ticket : goal.invariant-loop-ticket

@@ -1,7 +1,7 @@
 use Rattle.std.proofs.Common.{rules, ◌≡◌, IfOk, List, subst}
 use Rattle.std.proofs.lemmas.Iterator.{YieldsList-from_slice, items_from_collect}
 use Rattle.std.proofs.lemmas.Iterator.Consumers.{YieldsList-from_filter_map}
-use Rattle.tree_model.specs.declared.names.Ticket.{Ticket}
+use Rattle.protocol.specs.declared.names.Ticket.{Ticket}
 use Rattle.coord_rows.specs.Findings.{unreported_ticket}
 use Rattle.coord_rows.proofs.Findings.{unreported_are}
 use Rattle.coord_rows.proofs.found.unreported_of.Goals as goal

@@ -1,20 +1,20 @@
 use Rattle.std.proofs.Common.{rules, ◌≡◌, ap, subst, sym}
-use Rattle.tree_model.specs.declared.standings.Standing.TheVariants.{Aborting, Unknown}
-use Rattle.tree_model.specs.CoordinatorRows.{on_abort}
-use Rattle.core_model.specs.Turns.{this_version}
-use Rattle.coord_effects.specs.Rows.{Does, seat}
+use Rattle.protocol.specs.declared.standings.Standing.TheVariants.{Aborting, Unknown}
+use Rattle.protocol.specs.CoordinatorRows.{on_abort}
+use Rattle.process_state.specs.Turns.{this_version}
+use Rattle.coord_effects.specs.Rows.{DoesRow, seat_meant}
 use Rattle.coord_rows.proofs.outcomes.on_abort.Goals as goal
 
 pub returns-in-Aborting-clause-ok : goal.returns-in-Aborting-clause-ok
 returns-in-Aborting-clause-ok c =
     let stands : c.args.live.now.standing ≡ Aborting = search rules in
-    subst (λ row. Does c.args.seat row c.aborting_abort.result c.args.live.now)
-    (sym (ap (on_abort this_version (seat c.args.seat) c.args.live.now) stands))
+    subst (λ row. DoesRow c.args.seat row c.aborting_abort.result c.args.live.now)
+    (sym (ap (on_abort this_version (seat_meant c.args.seat) c.args.live.now) stands))
     (c.aborting_abort.ensures c.args.seat c.args.live.now)
 
 pub returns-in_ok-unknown_abort-in-Unknown-clause-ok : goal.returns-in_ok-unknown_abort-in-Unknown-clause-ok
 returns-in_ok-unknown_abort-in-Unknown-clause-ok c =
     let stands : c.args.live.now.standing ≡ Unknown = search rules in
-    subst (λ row. Does c.args.seat row c.in_ok-unknown_abort-in-Unknown.field-0 c.args.live.now)
-    (sym (ap (on_abort this_version (seat c.args.seat) c.args.live.now) stands))
+    subst (λ row. DoesRow c.args.seat row c.in_ok-unknown_abort-in-Unknown.field-0 c.args.live.now)
+    (sym (ap (on_abort this_version (seat_meant c.args.seat) c.args.live.now) stands))
     (c.in_ok-unknown_abort-in-Unknown.ensures c.args.live.now)

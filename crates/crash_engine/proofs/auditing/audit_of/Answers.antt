@@ -1,7 +1,7 @@
 use Rattle.std.proofs.Common.{◌≡◌, None, subst}
-use Rattle.logs_script.specs.Faults.{first_damage}
+use Rattle.log_script.specs.Faults.{first_damage}
 use Rattle.tree_world.specs.Worlds.{state}
-use Rattle.tree_audit.specs.Reports.{IsNoReport}
+use Rattle.audit_tree.specs.Reports.{IsNoReport}
 use Rattle.crash_engine.proofs.auditing.audit_of.Goals as goal
 
 pub returns-clause-never : goal.returns-clause-never

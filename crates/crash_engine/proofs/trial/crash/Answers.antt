@@ -1,8 +1,8 @@
 use Rattle.std.proofs.Common.{◌≡◌, ◌∙◌, ◌++◌, None, [], arith, subst, sym}
 use Rattle.std.proofs.lemmas.Result.{IfOk-weaker}
-use Rattle.tree_model.specs.Trees.{IsTree}
+use Rattle.protocol.specs.Trees.{IsTree}
 use Rattle.tree_world.specs.Worlds.{state}
-use Rattle.tree_engine.specs.Trees.{IsNumbered}
+use Rattle.tree_engine.specs.Trees.{IsNumberedRefusal}
 use Rattle.crash_engine.specs.Audits.{Audits, IsDamagedThen}
 use Rattle.crash_engine.specs.Trials.{known_by}
 use Rattle.crash_engine.proofs.Trying.{begun, no_run, still_tree, stopped_damaged, stopped_early, tried_so}
@@ -37,7 +37,7 @@ overflow_add-result c =
     let first = c.args.run.now in
     let made = c.in_ok-make_all.ensures.goes_on (state first.world) [] (begun c.requires.0 first c.requires.1) in
     let crashed = c.in_ok-make_all-2.ensures.goes_on (state first.world) c.args.events.now made in
-    let few = subst IsNumbered (sym c.refusal.ensures ∙ c.in-Some.is) crashed.numbered in
+    let few = subst IsNumberedRefusal (sym c.refusal.ensures ∙ c.in-Some.is) crashed.numbered in
     omega (arith, few)
 
 pub returns-in-Err-clause-tries : goal.returns-in-Err-clause-tries

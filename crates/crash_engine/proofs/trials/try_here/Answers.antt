@@ -1,6 +1,6 @@
 use Rattle.std.proofs.Common.{◌≡◌, ◌∙◌, ap, is_some, false, true, rules, subst, sym, inl, inr}
 use Rattle.tree_world.specs.Worlds.{state}
-use Rattle.core_law.specs.worlds.Refusals.{Refusal}
+use Rattle.proof_runs.specs.worlds.Refusals.{Refusal}
 use Rattle.report_io.specs.declared.streams.Failure.TheVariants.{Exhausted}
 use Rattle.crash_engine.specs.Failures.{PointBreaksOff}
 use Rattle.crash_engine.specs.Points.{AreTooLong, points_in}

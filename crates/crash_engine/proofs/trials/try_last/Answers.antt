@@ -1,7 +1,7 @@
 use Rattle.std.proofs.Common.{◌≡◌, ◌∙◌, ◌+◌, [], suc, inr, is_some, true, false, ap, arith, drop, length, rules, subst, sym, take}
 use Rattle.tree_world.specs.Worlds.{state}
 use Rattle.tree_engine.specs.Runs.{HasCome}
-use Rattle.core_law.specs.worlds.Refusals.{Refusal}
+use Rattle.proof_runs.specs.worlds.Refusals.{Refusal}
 use Rattle.crash_engine.specs.Settles.{deliveries_in}
 use Rattle.crash_engine.specs.Trials.{GoesOn, after_event, known_by}
 use Rattle.crash_engine.proofs.Failing.{handed_on}

@@ -1,7 +1,7 @@
 use Rattle.std.proofs.Common.{refl}
 use Rattle.node_engine.specs.declared.failure.NodeFailure.TheVariants.{Memory}
 use Rattle.node_engine.specs.Answers.{state_of}
-use Rattle.desk_engine.specs.Turns.{LeavesLine, line_taken, line_untold, told_of as told_by}
+use Rattle.desk_engine.specs.Turns.{LeavesLine, line_taken, line_untold, told_by}
 use Rattle.desk_engine.proofs.Weaving.{passed_on}
 use Rattle.desk_engine.proofs.line.tell_line.Goals as goal
 

@@ -2,8 +2,8 @@ use Rattle.std.proofs.Common.{◌∙◌, ℕ, List, None, get_or, take, ap, refl
 use Rattle.std.specs.Io.KnownBytes.{Appends}
 use Rattle.std.proofs.lemmas.List.{take_more}
 use Rattle.report_io.specs.Streams.{WritesFront}
-use Rattle.tree_model.specs.declared.names.Case.{Case}
-use Rattle.tree_model.specs.declared.names.Presumption.TheVariants.{PresumeAbort}
+use Rattle.protocol.specs.declared.names.Case.{Case}
+use Rattle.protocol.specs.declared.names.Presumption.TheVariants.{PresumeAbort}
 use Rattle.node_desk.specs.Words.{messages_in}
 use Rattle.node_engine.specs.Answers.{state_of}
 use Rattle.desk_engine.specs.Turns.{AskedAbout}

@@ -1,6 +1,6 @@
 use Rattle.std.proofs.Common.{◌≡◌, ◌∙◌, IfErr, IfOk, OnOk, ◌∷◌, ◌+◌, ap, drop, length, refl, subst, sym}
 use Rattle.std.proofs.lemmas.List.{at_drop_more}
-use Rattle.core_law.specs.worlds.Worlds.{Applies, Stops}
+use Rattle.tree_state.specs.Worlds.{Applies, Stops}
 use Rattle.tree_engine.specs.Runs.{IsOwn}
 use Rattle.tree_world.specs.Worlds.{state}
 use Rattle.event_trace.specs.Numbered.{sent_after}

@@ -1,6 +1,6 @@
 use Rattle.std.proofs.Common.{◌≡◌, ℕ, ◌+◌, ◌-◌, ◌<◌, List, Some, arith, drop, length, refl, subst, sym, take, true}
 use Rattle.std.proofs.lemmas.List.{length-drop, take_all}
-use Rattle.judge_rules.specs.declared.calls.Event.{Event}
+use Rattle.judge_rules.specs.declared.calls.HistoryEvent.{HistoryEvent}
 use Rattle.std.specs.Prelude.{slice_get}
 use Rattle.std.proofs.lemmas.Option.{slice_get_read}
 use Rattle.judge_state.specs.Sights.{Sight}
@@ -12,7 +12,7 @@ use Rattle.judge_engine.proofs.Faults.{not_hung, resumed_some}
 use Rattle.judge_engine.proofs.judging.next_walk.Goals as goal
 
 -- a slice of the rest is the rest
-rest : (es : List Event) (n : ℕ) → take (length es - n) (drop n es) ≡ drop n es
+rest : (es : List HistoryEvent) (n : ℕ) → take (length es - n) (drop n es) ≡ drop n es
 rest es n = take_all (length es - n) (drop n es) (omega (arith, length-drop n es))
 
 pub follow_all-requires : goal.follow_all-requires
@@ -34,7 +34,7 @@ returns-in_err-follow_all-clause-too_many c =
       is,
       answered,
       subst (λ (l : List Sight). IsTooMuch c.args.rules l (drop (c.args.index + 1) es)) c.in_ok-starts.ensures
-          (subst (λ (l : List Event). IsTooMuch c.args.rules c.in_ok-starts.starts.items l) (rest es (c.args.index + 1))
+          (subst (λ (l : List HistoryEvent). IsTooMuch c.args.rules c.in_ok-starts.starts.items l) (rest es (c.args.index + 1))
           (c.in_err-follow_all.ensures.too_many many)),
     ))
 
@@ -51,7 +51,7 @@ returns-clause-next c =
       answered,
       subst (λ (l : List Sight). Walks c.args.rules l (drop (c.args.index + 1) es) c.in_ok-follow_all.field-0)
           c.in_ok-starts.ensures
-          (subst (λ (l : List Event). Walks c.args.rules c.in_ok-starts.starts.items l c.in_ok-follow_all.field-0)
+          (subst (λ (l : List HistoryEvent). Walks c.args.rules c.in_ok-starts.starts.items l c.in_ok-follow_all.field-0)
           (rest es (c.args.index + 1))
           (record {
             fault = c.in_ok-follow_all.ensures.fault;

@@ -1,7 +1,7 @@
 use Rattle.std.proofs.Common.{◌≡◌, ◌∙◌, ◌<◌, ℕ, List, ap, length, rules, subst}
 use Rattle.std.specs.Str.Lines.{lines}
 use Rattle.script_words.proofs.Texts.{texts}
-use Rattle.judge_engine.specs.declared.judging.Fault.{Fault}
+use Rattle.judge_engine.specs.declared.judging.JudgeFault.{JudgeFault}
 use Rattle.judge_engine.specs.declared.run.Refusal.TheVariants as why
 use Rattle.judge_engine.specs.Reports.{IsFaultsText}
 use Rattle.judge_engine.proofs.Texts.{first_found, none_found, refusal_reports}
@@ -47,7 +47,7 @@ returns c =
           fault = first.2;
           told = c.in-Ok.ensures.told;
           few = c.in-Ok.ensures.few;
-          report = subst (λ (fs : List Fault). IsFaultsText c.args.extent (lines c.args.text.now) t fs c.in_ok-out-in-Ok.out.items)
+          report = subst (λ (fs : List JudgeFault). IsFaultsText c.args.extent (lines c.args.text.now) t fs c.in_ok-out-in-Ok.out.items)
               c.deref-else-is_empty.ensures.value
               (subst (λ (ls : List (List ℕ)). IsFaultsText c.args.extent ls t c.deref-else-is_empty.result.now
               c.in_ok-out-in-Ok.out.items) (ap texts c.deref.ensures.value ∙ c.in_ok-lines.ensures)

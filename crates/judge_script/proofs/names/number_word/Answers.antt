@@ -1,6 +1,6 @@
 use Rattle.std.proofs.Common.{◌≡◌, ℕ, Bor, List, subst, sym, [], ◌∷◌, ◌++◌}
 use Rattle.script_words.proofs.Texts.{texts}
-use Rattle.judge_script.specs.Numbers.{AreApart, IsPlace}
+use Rattle.judge_script.specs.Numbers.{AreApartNames, IsPlace}
 use Rattle.judge_script.proofs.Places.{apart_push}
 use Rattle.judge_script.proofs.Spellings.{texts_push}
 use Rattle.judge_script.proofs.names.number_word.Goals as goal
@@ -19,4 +19,4 @@ returns-in_ok-push-in-None-clause-apart c h =
     let none : (k : ℕ) → IsPlace (texts old) k c.args.word.now → ⊥ =
     subst (λ (q : List (Bor (List ℕ))). (k : ℕ) → IsPlace (texts q) k c.args.word.now → ⊥)
     c.deref.ensures.value c.in-None.ensures.none in
-    subst (λ (q : List (List ℕ)). AreApart q) (sym new) (apart_push (texts old) c.args.word.now none h)
+    subst (λ (q : List (List ℕ)). AreApartNames q) (sym new) (apart_push (texts old) c.args.word.now none h)

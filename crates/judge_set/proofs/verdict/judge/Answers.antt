@@ -1,8 +1,8 @@
 use Rattle.std.proofs.Common.{◌≡◌, List, subst}
 use Rattle.std.specs.Prelude.{IfErr, IfOk}
 use Rattle.judge_state.specs.Sights.{Sight}
-use Rattle.judge_rules.specs.declared.errors.StepError.TheVariants.{TooMany}
-use Rattle.judge_set.specs.Sets.{AreLeft, IsTooMuch, IsWalk, followed}
+use Rattle.judge_rules.specs.declared.errors.JudgeError.TheVariants.{TooMany}
+use Rattle.judge_set.specs.Sets.{AreStatesLeft, IsTooMuch, IsWalk, followed}
 use Rattle.judge_set.proofs.Members.{verdicts}
 use Rattle.judge_set.proofs.verdict.judge.Goals as goal
 
@@ -15,7 +15,7 @@ returns c =
       verdict = verdicts r es c.follow_all.result
           (subst (λ (l : List Sight). IfOk c.follow_all.result (λ walk. IsWalk r l es walk.fault)) first
           c.follow_all.ensures.fault);
-      states = subst (λ (l : List Sight). IfOk c.follow_all.result (λ walk. AreLeft r l (followed es walk.fault)
+      states = subst (λ (l : List Sight). IfOk c.follow_all.result (λ walk. AreStatesLeft r l (followed es walk.fault)
           walk.states.items)) first c.follow_all.ensures.states;
       few = subst (λ (l : List Sight). IfOk c.follow_all.result (λ walk. IsTooMuch r l es → ⊥)) first
           c.follow_all.ensures.few;

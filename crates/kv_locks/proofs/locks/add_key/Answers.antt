@@ -1,7 +1,7 @@
 use Rattle.std.proofs.Common.{rules, ◌≡◌, ap, sym, ◌∙◌, ◌++◌, ◌∷◌, [], unwrap_or}
 use Rattle.std.proofs.lemmas.List.{append-nil}
 use Rattle.std.specs.Map.{lookup}
-use Rattle.key_tables.specs.Holders.{same}
+use Rattle.key_lists.specs.Holders.{same}
 use Rattle.kv_locks.specs.Locks.{keys_of}
 use Rattle.kv_locks.proofs.Tables.{keeps_keys, key_listed, keys_or_none}
 use Rattle.kv_locks.proofs.locks.add_key.Goals as goal

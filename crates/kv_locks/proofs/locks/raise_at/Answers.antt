@@ -1,6 +1,6 @@
 use Rattle.std.proofs.Common.{rules, ◌≡◌, Some, ap, sym, ◌∙◌, slice_get}
 use Rattle.std.specs.Map.{values_of}
-use Rattle.key_tables.specs.Holders.{holds}
+use Rattle.key_lists.specs.Holders.{holds}
 use Rattle.kv_locks.proofs.Places.{held_here, takes_here}
 use Rattle.kv_locks.proofs.locks.raise_at.Goals as goal
 

@@ -1,6 +1,6 @@
 use Rattle.std.proofs.Common.{rules, subst}
-use Rattle.key_tables.specs.Tables.{table_of}
-use Rattle.key_tables.proofs.Lists.{first_and_rest, none_left}
+use Rattle.key_lists.specs.Tables.{table_of}
+use Rattle.key_lists.proofs.Lists.{first_and_rest, none_left}
 use Rattle.kv_locks.proofs.Tables.{IsReleasing, releasing_ends, releasing_goes_on}
 use Rattle.kv_locks.proofs.locks.release_each.Goals as goal
 

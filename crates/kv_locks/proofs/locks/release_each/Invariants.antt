@@ -1,5 +1,5 @@
 use Rattle.std.proofs.Common.{length}
-use Rattle.key_tables.specs.Tables.{table_of}
+use Rattle.key_lists.specs.Tables.{table_of}
 use Rattle.kv_locks.proofs.Tables.{IsReleasing}
 use Rattle.kv_locks.proofs.locks.release_each.Given as goal
 

@@ -1,9 +1,9 @@
 use Rattle.std.proofs.Common.{rules, arith, ◌≡◌, Some, None, [], refl, position}
 use Rattle.std.proofs.lemmas.Grind.{common_steps}
 use Rattle.indexmap.specs.IndexMap.{keys}
-use Rattle.key_tables.specs.Holders.{without}
-use Rattle.key_tables.proofs.Lists.{none_left}
-use Rattle.key_tables.proofs.Tables.{becomes_idle, found, key_test}
+use Rattle.key_lists.specs.Holders.{without}
+use Rattle.key_lists.proofs.Lists.{none_left}
+use Rattle.key_lists.proofs.Tables.{becomes_idle, found, key_test}
 use Rattle.kv_locks.proofs.Places.{lets_go, lets_key_go}
 use Rattle.kv_locks.proofs.locks.release_key.Goals as goal
 

@@ -1,5 +1,5 @@
 use Rattle.std.proofs.Common.{rules, Some, refl}
-use Rattle.key_tables.proofs.Tables.{becomes}
+use Rattle.key_lists.proofs.Tables.{becomes}
 use Rattle.kv_locks.proofs.locks.set.Goals as goal
 
 pub returns-clause-ok : goal.returns-clause-ok

@@ -1,6 +1,6 @@
 use Rattle.std.proofs.Common.{subst, sym}
-use Rattle.rec_log.specs.Sights.{left_by}
-use Rattle.kv_manager.specs.Restarts.{NotRebuilt}
+use Rattle.log_records.specs.Sights.{left_by}
+use Rattle.kv_manager.specs.Restarts.{KvNotRebuilt}
 use Rattle.kv_manager.proofs.Restoring.{not_rebuilt}
 use Rattle.kv_manager.proofs.restart.made_ready.Goals as goal
 

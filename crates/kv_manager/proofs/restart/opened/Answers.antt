@@ -1,8 +1,8 @@
 use Rattle.std.proofs.Common.{◌≡◌, refl, sym, subst}
-use Rattle.tree_model.specs.declared.names.Kind.TheVariants.{Manager}
+use Rattle.protocol.specs.declared.names.Kind.TheVariants.{Manager}
 use Rattle.log_text.specs.Made.{frame_record}
-use Rattle.rec_log.proofs.SoundRecords.{sound_is_record}
-use Rattle.rec_log.specs.Sights.{IsRecord}
+use Rattle.log_records.proofs.SoundRecords.{sound_is_record}
+use Rattle.log_records.specs.Sights.{IsRecord}
 use Rattle.kv_manager.specs.Restarts.{opened}
 use Rattle.kv_manager.proofs.Keeping.{map_ok}
 use Rattle.kv_manager.proofs.restart.opened.Goals as goal

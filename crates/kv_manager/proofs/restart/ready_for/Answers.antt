@@ -1,7 +1,7 @@
 use Rattle.std.proofs.Common.{List}
-use Rattle.tree_model.specs.declared.records.LogRecord.{LogRecord}
-use Rattle.kv_core.specs.Remembered.{LeavesNow}
-use Rattle.kv_manager.specs.Restarts.{LeavesStore, NotRebuilt}
+use Rattle.protocol.specs.declared.records.LogRecord.{LogRecord}
+use Rattle.kv_state.specs.Remembered.{LeavesNow}
+use Rattle.kv_manager.specs.Restarts.{LeavesStore, KvNotRebuilt}
 use Rattle.kv_manager.proofs.Restoring.{boot_fits}
 use Rattle.kv_manager.proofs.restart.ready_for.Goals as goal
 

@@ -1,6 +1,6 @@
 use Rattle.std.proofs.Common.{◌∙◌, ap, inr, refl, subst, sym}
-use Rattle.kv_core.specs.declared.replayed.Replayed.{Replayed}
-use Rattle.kv_core.specs.Remembered.{LeavesNow}
+use Rattle.kv_state.specs.declared.replayed.Replayed.{Replayed}
+use Rattle.kv_state.specs.Remembered.{LeavesNow}
 use Rattle.xa_assoc.specs.Restored.{Restored}
 use Rattle.kv_manager.specs.Restarts.{next_boot}
 use Rattle.kv_manager.proofs.Restoring.{left_store, not_stored, tidy_restored}

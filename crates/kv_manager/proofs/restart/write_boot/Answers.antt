@@ -1,6 +1,6 @@
 use Rattle.std.proofs.Common.{◌≤◌, ◌∙◌, ap, sym, subst}
 use Rattle.log_text.specs.Made.{frame_record}
-use Rattle.rec_log.specs.Sights.{IsRecord, LogSight}
+use Rattle.log_records.specs.Sights.{IsRecord, LogSight}
 use Rattle.kv_manager.specs.declared.restart.RecordsError.TheVariants.{Memory}
 use Rattle.kv_manager.specs.Restarts.{NotBegun, opened}
 use Rattle.kv_manager.proofs.Keeping.{made_error}

@@ -1,5 +1,5 @@
 use Rattle.std.proofs.Common.{rules, ◌≡◌, Some, ap, sym, refl, ◌∙◌}
-use Rattle.key_tables.proofs.Tables.{becomes, becomes_idle, found, items_in, list_at_key}
+use Rattle.key_lists.proofs.Tables.{becomes, becomes_idle, found, items_in, list_at_key}
 use Rattle.kv_store.specs.Versions.{up_to}
 use Rattle.kv_store.proofs.versions.keep_key_up_to.Goals as goal
 

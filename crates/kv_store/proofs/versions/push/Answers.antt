@@ -1,6 +1,6 @@
 use Rattle.std.proofs.Common.{rules, ◌≡◌, Some, None, [], ◌∷◌, ◌++◌, ap, sym, ◌∙◌}
-use Rattle.key_tables.specs.Tables.{Becomes, list_at, table_of}
-use Rattle.key_tables.proofs.Tables.{becomes, found, items_in, list_at_key}
+use Rattle.key_lists.specs.Tables.{Becomes, list_at, table_of}
+use Rattle.key_lists.proofs.Tables.{becomes, found, items_in, list_at_key}
 use Rattle.kv_store.proofs.Stages.{same_lists}
 use Rattle.kv_store.proofs.versions.push.Goals as goal
 

@@ -1,6 +1,6 @@
 use Rattle.std.proofs.Common.{rules, subst}
-use Rattle.key_tables.specs.Tables.{table_of}
-use Rattle.key_tables.proofs.Lists.{first_and_rest}
+use Rattle.key_lists.specs.Tables.{table_of}
+use Rattle.key_lists.proofs.Lists.{first_and_rest}
 use Rattle.kv_store.proofs.Stages.{IsTakingBack, taking_goes_on}
 use Rattle.kv_store.proofs.versions.take_back.Goals as goal
 

@@ -1,6 +1,6 @@
 use Rattle.std.proofs.Common.{rules, ◌≡◌, ◌∙◌, ◌++◌, map, List, [], ◌∷◌, subst, sym}
 use Rattle.std.proofs.lemmas.List.{nil_from_length}
-use Rattle.tree_model.specs.declared.records.LogRecord.{LogRecord}
+use Rattle.protocol.specs.declared.records.LogRecord.{LogRecord}
 use Rattle.left_data.specs.Texts.{data_lines}
 use Rattle.left_data.proofs.Passing.{IsSoFar, ends, ends_early, goes_on}
 use Rattle.left_data.proofs.left.push_all.Goals as goal

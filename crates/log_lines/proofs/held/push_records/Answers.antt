@@ -1,9 +1,9 @@
 use Rattle.std.proofs.Common.{◌≡◌, ◌∙◌, ◌++◌, ◌+◌, ◌-◌, suc, ap, sym, arith, length}
 use Rattle.log_text.specs.Forms.{size_bytes}
-use Rattle.logs_script.specs.Places.{placed_in}
+use Rattle.log_script.specs.Places.{placed_in}
 use Rattle.log_lines.specs.Held.{records_text}
 use Rattle.log_lines.proofs.Texts.{text_ends, text_goes_on}
-use Rattle.logs_script.proofs.PlaceLaws.{frame_size, goes_on, no_frame, stops}
+use Rattle.log_script.proofs.PlaceLaws.{frame_size, goes_on, no_frame, stops}
 use Rattle.log_lines.proofs.held.push_records.Goals as goal
 
 pub returns-in-Err-Malformed : goal.returns-in-Err-Malformed

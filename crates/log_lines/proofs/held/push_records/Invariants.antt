@@ -1,5 +1,5 @@
 use Rattle.std.proofs.Common.{◌≡◌, ◌≤◌, ◌+◌, ◌-◌, ◌++◌, length}
-use Rattle.logs_script.specs.Places.{placed_in}
+use Rattle.log_script.specs.Places.{placed_in}
 use Rattle.log_lines.specs.Held.{records_text}
 use Rattle.log_lines.proofs.held.push_records.Given as goal
 

@@ -1,8 +1,8 @@
 use Rattle.std.proofs.Common.{◌≡◌, ◌∙◌, ℕ, List, refl, subst, sym}
 use Rattle.log_rules.specs.sound.Written.{AreBytes}
 use Rattle.log_rules.proofs.sound.Cuts.{bytes_behind}
-use Rattle.logs_script.specs.Lines.{process_log}
-use Rattle.rec_log.specs.Openings.{is_old}
+use Rattle.log_script.specs.Lines.{process_log}
+use Rattle.log_records.specs.Openings.{is_old}
 use Rattle.migrate_engine.specs.Migrations.{MigratesTo, NotMigrated}
 use Rattle.migrate_engine.proofs.Migrated.{migrates, not_migrated}
 use Rattle.migrate_engine.proofs.engine.migrate.Goals as goal

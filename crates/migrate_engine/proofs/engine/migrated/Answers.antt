@@ -1,8 +1,8 @@
 use Rattle.std.proofs.Common.{◌∷◌, ◌∙◌, ◌+◌, ap, sym, arith, drop}
 use Rattle.std.proofs.lemmas.List.{at_drop_more, drop_all}
 use Rattle.log_rules.specs.order.Logs.{read_as}
-use Rattle.logs_script.specs.Faults.{damage_text, first_damage}
-use Rattle.logs_script.specs.Trees.{logs_text}
+use Rattle.log_script.specs.Faults.{damage_text, first_damage}
+use Rattle.log_script.specs.Trees.{logs_text}
 use Rattle.migrate_engine.specs.Migrations.{migrated_log}
 use Rattle.migrate_engine.proofs.Migrated.{all_migrated, damaged_here, is_damage, logs_more, none_damaged, sound_more}
 use Rattle.migrate_engine.proofs.engine.migrated.Goals as goal

@@ -1,5 +1,5 @@
 use Rattle.std.proofs.Common.{◌≡◌, ◌++◌, drop}
-use Rattle.logs_script.specs.Faults.{first_damage}
+use Rattle.log_script.specs.Faults.{first_damage}
 use Rattle.migrate_engine.specs.Migrations.{migrated_logs}
 use Rattle.migrate_engine.proofs.engine.migrated.Given as goal
 

@@ -1,5 +1,5 @@
-use Rattle.tree_model.specs.LogNames.{own_records}
-use Rattle.inquire_core.specs.Readings.{place_below}
+use Rattle.protocol.specs.LogNames.{own_records}
+use Rattle.coord_records.specs.Readings.{place_below}
 use Rattle.node_engine.proofs.Owed.{read_exactly}
 use Rattle.node_engine.proofs.again.owed_again.Goals as goal
 

@@ -1,6 +1,6 @@
 use Rattle.std.proofs.Common.{◌∙◌, ap, filter, rules}
 use Rattle.std.proofs.lemmas.Fn.{filter_same}
-use Rattle.tree_model.specs.Records.{in_list}
+use Rattle.protocol.specs.Records.{in_list}
 use Rattle.node_engine.proofs.again.still_owing.Goals as goal
 
 pub returns : goal.returns

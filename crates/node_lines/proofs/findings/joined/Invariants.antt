@@ -1,5 +1,5 @@
 use Rattle.std.proofs.Common.{◌≡◌, ◌++◌, drop, map}
-use Rattle.tree_model.specs.declared.messages.Finding.TheVariants.{Mixed, Unreported}
+use Rattle.protocol.specs.declared.messages.Finding.TheVariants.{Mixed, Unreported}
 use Rattle.node_lines.proofs.findings.joined.Given as goal
 
 abbrev pub invariant-loop-ticket : goal.invariant-loop-ticket

@@ -1,7 +1,7 @@
 use Rattle.std.proofs.Common.{sym, ap, ◌∙◌, arith}
 use Rattle.script_words.specs.Lines.{is_skipped}
 use Rattle.script_words.proofs.Texts.{texts, text_at, long}
-use Rattle.logs_script.specs.Lines.{log_at}
+use Rattle.log_script.specs.Lines.{log_at}
 use Rattle.reopen_script.proofs.LogLines.{ends, goes_on, skips, stops}
 use Rattle.reopen_script.proofs.ahead.logs_in.Goals as goal
 

@@ -1,5 +1,5 @@
 use Rattle.std.proofs.Common.{◌≡◌, List, refl, sym, subst}
-use Rattle.tree_model.specs.declared.trees.TreeEntry.{TreeEntry}
+use Rattle.protocol.specs.declared.trees.TreeProcess.{TreeProcess}
 use Rattle.resolve_engine.specs.declared.asked.Trust.{Trust}
 use Rattle.resolve_engine.specs.Answers.{answer_of}
 use Rattle.resolve_engine.specs.Reports.{naming_answer}
@@ -16,7 +16,7 @@ returns c = λ kept finds.
         named = c.in_ok-naming.ensures.naming;
         answered = subst (λ (t : Trust). a ≡ naming_answer (answer_of t c.args.tree.now logs kept) of)
             c.requires.looks.trusts
-            (subst (λ (tree : List TreeEntry).
+            (subst (λ (tree : List TreeProcess).
             a ≡ naming_answer (answer_of c.args.finder.now.trust tree logs kept) of)
             c.requires.looks.tree_is (c.in_ok-answer.ensures kept finds));
         told = c.in_ok-push_told.ensures.1;

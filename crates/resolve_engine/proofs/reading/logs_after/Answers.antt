@@ -1,9 +1,9 @@
 use Rattle.std.proofs.Common.{sym, ap, ◌∙◌, arith}
 use Rattle.script_words.specs.Lines.{is_skipped}
 use Rattle.script_words.proofs.Texts.{texts, text_at, long}
-use Rattle.logs_script.specs.Lines.{log_at}
-use Rattle.logs_script.specs.Logs.{may_follow}
-use Rattle.logs_script.proofs.LogLaws.{ends, goes_on, skips, stops_second, stops_strange}
+use Rattle.log_script.specs.Lines.{log_at}
+use Rattle.log_script.specs.Logs.{may_follow}
+use Rattle.log_script.proofs.LogLaws.{ends, goes_on, skips, stops_second, stops_strange}
 use Rattle.resolve_engine.proofs.reading.logs_after.Goals as goal
 
 pub loop-i-preserved-then-says_nothing : goal.loop-i-preserved-then-says_nothing

@@ -1,5 +1,5 @@
 use Rattle.std.proofs.Common.{◌≡◌, ◌+◌, [], drop, map}
-use Rattle.logs_script.specs.Logs.{logs_behind}
+use Rattle.log_script.specs.Logs.{logs_behind}
 use Rattle.resolve_engine.proofs.reading.logs_after.Given as goal
 
 abbrev pub invariant-loop-i : goal.invariant-loop-i

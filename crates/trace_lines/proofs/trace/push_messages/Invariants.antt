@@ -1,5 +1,5 @@
 use Rattle.std.proofs.Common.{◌≡◌, ◌+◌, ◌++◌, drop}
-use Rattle.tree_model.specs.Texts.{envelope_lines}
+use Rattle.protocol.specs.Texts.{envelope_lines}
 use Rattle.trace_lines.specs.Trace.{lines_text}
 use Rattle.trace_lines.proofs.trace.push_messages.Given as goal
 

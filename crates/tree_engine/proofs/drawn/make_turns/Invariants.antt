@@ -1,6 +1,6 @@
 use Rattle.std.proofs.Common.{◌≤◌, List, ◌++◌, length, take}
-use Rattle.tree_model.specs.declared.events.Event.{Event}
-use Rattle.core_law.specs.worlds.Worlds.{WorldState}
+use Rattle.protocol.specs.declared.events.Event.{Event}
+use Rattle.tree_state.specs.Worlds.{WorldState}
 use Rattle.tree_engine.specs.Runs.{HasCome}
 use Rattle.tree_engine.proofs.drawn.make_turns.Given as goal
 

@@ -1,14 +1,14 @@
 use Rattle.std.proofs.Common.{◌∙◌, ap, subst, sym}
 use Rattle.tree_world.specs.Worlds.{state}
 use Rattle.tree_engine.specs.Reopened.{PlaysBy}
-use Rattle.tree_engine.specs.Trees.{IsNumbered, output_of}
+use Rattle.tree_engine.specs.Trees.{IsNumberedRefusal, output_of}
 use Rattle.tree_engine.proofs.TreeReports.{reported}
 use Rattle.tree_engine.proofs.tree.line_report.Goals as goal
 
 pub told-told-requires : goal.told-told-requires
 told-told-requires c =
     let s = rw c.in-Ok.is at c.in_ok-run.ensures.run in
-    subst IsNumbered (sym c.refusal.ensures) s.numbered
+    subst IsNumberedRefusal (sym c.refusal.ensures) s.numbered
 
 pub returns-in-Ok-clause-report : goal.returns-in-Ok-clause-report
 returns-in-Ok-clause-report c =

@@ -1,10 +1,10 @@
 use Rattle.std.proofs.Common.{◌≡◌, ◌∙◌, ◌⊎◌, ◌+◌, ◌<◌, ◌^◌, ℕ, List, [], ◌∷◌, ◌++◌, inr, length, length-append, arith, refl, rules, subst}
-use Rattle.tree_model.specs.declared.events.Event.{Event}
-use Rattle.link_script.specs.Inputs.{AsksFirst, IsLineError, asked_by}
+use Rattle.protocol.specs.declared.events.Event.{Event}
+use Rattle.tree_script.specs.Inputs.{AsksFirst, IsLineError, asked_by}
 use Rattle.report_io.specs.declared.streams.Failure.TheVariants.{Memory}
 use Rattle.tree_world.specs.Worlds.{state}
-use Rattle.link_script.proofs.Fronts.{asks_no_more, asks_none, asks_one_more}
-use Rattle.link_script.proofs.Reading.{reads_all, reads_event, reads_fault, reads_nothing}
+use Rattle.tree_script.proofs.Fronts.{asks_no_more, asks_none, asks_one_more}
+use Rattle.tree_script.proofs.Reading.{reads_all, reads_event, reads_fault, reads_nothing}
 use Rattle.tree_engine.specs.Failures.{BreaksOff}
 use Rattle.tree_world.proofs.Handling.{passed_on}
 use Rattle.tree_engine.proofs.Going.{breaks_off}

@@ -1,7 +1,7 @@
 use Rattle.std.proofs.Common.{◌≡◌, ◌≤◌, List, length}
-use Rattle.tree_model.specs.declared.events.Event.{Event}
-use Rattle.link_script.specs.Inputs.{AsksFirst}
-use Rattle.link_script.proofs.Reading.{HasRead}
+use Rattle.protocol.specs.declared.events.Event.{Event}
+use Rattle.tree_script.specs.Inputs.{AsksFirst}
+use Rattle.tree_script.proofs.Reading.{HasRead}
 use Rattle.tree_world.specs.Worlds.{state}
 use Rattle.tree_engine.specs.Runs.{HasCome}
 use Rattle.tree_engine.proofs.tree.make_lines.Given as goal

@@ -1,7 +1,7 @@
 use Rattle.std.proofs.Common.{◌≡◌, ◌∙◌, ◌+◌, ◌-◌, suc, ap, sym, arith, length}
 use Rattle.log_text.specs.Forms.{size_bytes}
-use Rattle.logs_script.specs.Places.{placed_in}
-use Rattle.logs_script.proofs.PlaceLaws.{frame_size, goes_on, no_frame, stops}
+use Rattle.log_script.specs.Places.{placed_in}
+use Rattle.log_script.proofs.PlaceLaws.{frame_size, goes_on, no_frame, stops}
 use Rattle.tree_world.specs.OwnNames.{first_stranger, is_at_home}
 use Rattle.tree_world.proofs.Strangers.{home_goes_on, none_strange, stranger_there}
 use Rattle.tree_world.proofs.own_names.stranger_in.Goals as goal

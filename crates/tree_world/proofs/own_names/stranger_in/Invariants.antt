@@ -1,5 +1,5 @@
 use Rattle.std.proofs.Common.{◌≡◌, ◌≤◌, ◌+◌, ◌-◌, length}
-use Rattle.logs_script.specs.Places.{placed_in}
+use Rattle.log_script.specs.Places.{placed_in}
 use Rattle.tree_world.specs.OwnNames.{first_stranger, is_at_home}
 use Rattle.tree_world.proofs.own_names.stranger_in.Given as goal
 

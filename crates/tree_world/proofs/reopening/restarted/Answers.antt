@@ -1,5 +1,5 @@
 use Rattle.std.proofs.Common.{◌∙◌}
-use Rattle.tree_node.specs.Nodes.{core_of, data_of}
+use Rattle.tree_process.specs.Nodes.{core_of, data_of}
 use Rattle.tree_world.proofs.FromRestarted.{given_back, not_restarted_by, ready_stands, restarts_in}
 use Rattle.tree_world.proofs.reopening.restarted.Goals as goal
 

@@ -1,6 +1,6 @@
 use Rattle.std.proofs.Common.{◌≡◌, ◌∙◌, ℕ, List, ap, subst}
 use Rattle.script_words.proofs.Texts.{texts}
-use Rattle.xa_engine.specs.declared.script.reading.ScriptError.TheVariants.{Line}
+use Rattle.xa_engine.specs.declared.script.reading.XaScriptError.TheVariants.{Line}
 use Rattle.xa_engine.specs.script.Scripts.{IsFirstBadLine}
 use Rattle.xa_engine.proofs.script.Lines.{bad_of, lines_of}
 use Rattle.xa_engine.proofs.xa.report.Goals as goal

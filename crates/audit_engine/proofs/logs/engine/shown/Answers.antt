@@ -4,7 +4,7 @@ use Rattle.log_text.specs.Forms.{form_in}
 use Rattle.log_rules.specs.order.Logs.{read_as, read_log}
 use Rattle.log_lines.specs.Held.{held_text}
 use Rattle.audit_engine.specs.logs.Reports.{shown_text}
-use Rattle.logs_script.specs.Faults.{damage_text, first_damage}
+use Rattle.log_script.specs.Faults.{damage_text, first_damage}
 use Rattle.audit_engine.proofs.logs.Shown.{damaged_here, no_log, none_damaged, shown_none, sound_found, sound_more, text_more}
 use Rattle.audit_engine.proofs.logs.engine.shown.Goals as goal
 

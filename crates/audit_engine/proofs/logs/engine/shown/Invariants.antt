@@ -1,6 +1,6 @@
 use Rattle.std.proofs.Common.{◌≡◌, ◌++◌, drop}
 use Rattle.audit_engine.specs.logs.Reports.{shown_text}
-use Rattle.logs_script.specs.Faults.{first_damage}
+use Rattle.log_script.specs.Faults.{first_damage}
 use Rattle.audit_engine.proofs.logs.engine.shown.Given as goal
 
 abbrev pub invariant-loop-entry : goal.invariant-loop-entry

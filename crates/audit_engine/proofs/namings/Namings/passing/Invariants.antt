@@ -1,6 +1,6 @@
 use Rattle.std.proofs.Common.{◌≡◌, fold}
 use Rattle.audit_cases.specs.Firsts.{with_entry}
-use Rattle.audit_engine.specs.declared.steps.Found.TheVariants.{Kept}
+use Rattle.audit_engine.specs.declared.steps.StepFound.TheVariants.{Kept}
 use Rattle.audit_engine.specs.Namings.{namings_of, stands_in}
 use Rattle.audit_engine.proofs.namings.Namings.passing.Given as goal
 

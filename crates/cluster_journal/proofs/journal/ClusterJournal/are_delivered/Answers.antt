@@ -1,6 +1,6 @@
 use Rattle.std.proofs.Common.{◌≡◌, ◌∙◌, ◌++◌, [], append-nil, ap, length, subst, sym}
-use Rattle.tree_cut.specs.Cuts.{net_of}
-use Rattle.journal_turns.specs.Turns.{all_of}
+use Rattle.tree_state.specs.Cuts.{net_of}
+use Rattle.cluster_turns.specs.Turns.{all_of}
 use Rattle.cluster_journal.specs.Journals.{AllDelivered, entries_of}
 use Rattle.cluster_journal.proofs.Delivering.{all_in}
 use Rattle.cluster_journal.proofs.Finding.{all_found, empty, spots_sent}

@@ -1,6 +1,6 @@
 use Rattle.std.proofs.Common.{◌≡◌, ◌∙◌, ◌++◌, ap, append_assoc, arith, length, length-append, subst, sym}
-use Rattle.journal_turns.specs.Turns.{all_of}
-use Rattle.journal_turns.proofs.Gathered.{linked_all}
+use Rattle.cluster_turns.specs.Turns.{all_of}
+use Rattle.cluster_turns.proofs.Gathered.{linked_all}
 use Rattle.cluster_journal.specs.Journals.{AreDelivered, marked_by_all}
 use Rattle.cluster_journal.specs.Spots.{AreFound}
 use Rattle.cluster_journal.proofs.Delivering.{as_many_all, entered_all}

@@ -1,8 +1,8 @@
 use Rattle.std.proofs.Common.{◌≡◌, ◌∙◌, ◌-◌, ◌++◌, None, Some, append-nil, ap, sym}
 use Rattle.std.specs.Prelude.{slice_get}
-use Rattle.tree_model.specs.Plays.{sent_as}
-use Rattle.tree_cut.specs.Cuts.{net_of}
-use Rattle.journal_turns.specs.Turns.{all_of}
+use Rattle.protocol.specs.Plays.{sent_as}
+use Rattle.tree_state.specs.Cuts.{net_of}
+use Rattle.cluster_turns.specs.Turns.{all_of}
 use Rattle.cluster_journal.specs.Journals.{entries_of}
 use Rattle.cluster_journal.specs.Spots.{message_in}
 use Rattle.cluster_journal.proofs.Finding.{all_found, empty, found, message_by, positive}

@@ -1,5 +1,5 @@
 use Rattle.std.proofs.Common.{◌≡◌, ◌∙◌, ◌++◌, ◌∷◌, [], ap, drop, length, rules, subst, sym}
-use Rattle.journal_turns.specs.Turns.{all_of}
+use Rattle.cluster_turns.specs.Turns.{all_of}
 use Rattle.cluster_journal.specs.Journals.{AreDelivered}
 use Rattle.cluster_journal.specs.Spots.{AreFound, spots_in}
 use Rattle.cluster_journal.proofs.Finding.{all_moved, next_turn, same_first}

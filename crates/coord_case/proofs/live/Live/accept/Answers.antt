@@ -2,7 +2,7 @@ use Rattle.coord_case.proofs.Children.{distinct-push}
 use Rattle.coord_case.proofs.Counts.{counted-push, few_missing}
 use Rattle.coord_case.proofs.Held.{accepts}
 use Rattle.std.proofs.Common.{rules, ◌≡◌, ℕ, [], ◌∷◌, ◌++◌, None, ap, sym, ◌∙◌, ◌+◌, arith}
-use Rattle.tree_model.specs.declared.standings.Vote.TheVariants.{Yes}
+use Rattle.protocol.specs.declared.standings.Vote.TheVariants.{Yes}
 use Rattle.coord_case.specs.Lives.{are_distinct, is_missing, is_vote, missing_in, yes_in}
 use Rattle.coord_case.proofs.live.Live.accept.Goals as goal
 

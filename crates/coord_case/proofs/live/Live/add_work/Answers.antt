@@ -2,9 +2,9 @@ use Rattle.coord_case.proofs.Children.{distinct-changing}
 use Rattle.coord_case.proofs.Counts.{counted-sending}
 use Rattle.coord_case.proofs.Held.{sends-work}
 use Rattle.std.proofs.Common.{◌≡◌, ◌+◌, true, refl, ap, sym, ◌∙◌}
-use Rattle.tree_model.specs.declared.standings.Vote.TheVariants.{Yes}
-use Rattle.tree_model.specs.Records.{in_list}
-use Rattle.tree_model.specs.Memory.{works_of}
+use Rattle.protocol.specs.declared.standings.Vote.TheVariants.{Yes}
+use Rattle.protocol.specs.Records.{in_list}
+use Rattle.protocol.specs.Memory.{works_of}
 use Rattle.coord_case.specs.Lives.{accepted_in, are_distinct, is_missing, is_vote, missing_in, sending, works_in, yes_in}
 use Rattle.coord_case.proofs.live.Live.add_work.Goals as goal
 

@@ -1,7 +1,7 @@
 use Rattle.coord_case.proofs.Children.{find_accepted}
 use Rattle.std.proofs.Common.{ap, sym, ◌∙◌, find, option_map}
-use Rattle.tree_model.specs.Names.{same_process}
-use Rattle.tree_model.specs.Memory.{ticket_of_child}
+use Rattle.protocol.specs.Names.{same_process}
+use Rattle.protocol.specs.Memory.{ticket_of_child}
 use Rattle.coord_case.proofs.live.Live.child_ticket.Goals as goal
 
 pub returns : goal.returns

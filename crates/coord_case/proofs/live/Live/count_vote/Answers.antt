@@ -2,7 +2,7 @@ use Rattle.coord_case.proofs.Children.{counted_is, distinct-changing}
 use Rattle.coord_case.proofs.Counts.{few_yes, vote_counts}
 use Rattle.coord_case.proofs.Held.{counts-vote}
 use Rattle.std.proofs.Common.{◌≡◌, true, Some, refl, ap, ◌∙◌, arith}
-use Rattle.tree_model.specs.Memory.{is_counted}
+use Rattle.protocol.specs.Memory.{is_counted}
 use Rattle.coord_case.specs.Lives.{accepted_in, are_distinct, missing_in, votes_in, voting, yes_in}
 use Rattle.coord_case.proofs.live.Live.count_vote.Goals as goal
 

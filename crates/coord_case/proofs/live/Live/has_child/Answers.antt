@@ -1,7 +1,7 @@
 use Rattle.coord_case.proofs.Children.{has_child_any}
 use Rattle.std.proofs.Common.{ap, sym, ◌∙◌}
 use Rattle.std.specs.List.{list_any}
-use Rattle.tree_model.specs.Names.{same_process}
+use Rattle.protocol.specs.Names.{same_process}
 use Rattle.coord_case.proofs.live.Live.has_child.Goals as goal
 
 pub returns : goal.returns

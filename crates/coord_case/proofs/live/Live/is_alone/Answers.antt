@@ -1,5 +1,5 @@
 use Rattle.std.proofs.Common.{ap, ◌∙◌}
-use Rattle.tree_model.specs.Records.{none_of}
+use Rattle.protocol.specs.Records.{none_of}
 use Rattle.coord_case.specs.Lives.{accepted_in}
 use Rattle.coord_case.proofs.live.Live.is_alone.Goals as goal
 

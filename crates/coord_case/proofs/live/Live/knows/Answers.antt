@@ -1,8 +1,8 @@
 use Rattle.coord_case.proofs.Children.{any_accepted}
 use Rattle.std.proofs.Common.{rules, ◌≡◌, ◌||◌, ap, sym, ◌∙◌}
 use Rattle.std.specs.List.{list_any}
-use Rattle.tree_model.specs.Names.{same_ticket}
-use Rattle.tree_model.specs.Records.{in_list}
+use Rattle.protocol.specs.Names.{same_ticket}
+use Rattle.protocol.specs.Records.{in_list}
 use Rattle.coord_case.proofs.live.Live.knows.Goals as goal
 
 pub returns : goal.returns

@@ -1,7 +1,7 @@
 use Rattle.coord_case.proofs.Children.{yes_of-cast}
 use Rattle.coord_case.proofs.Counts.{none_yes}
 use Rattle.std.proofs.Common.{◌==◌, ap, sym, ◌∙◌}
-use Rattle.tree_model.specs.Records.{none_of}
+use Rattle.protocol.specs.Records.{none_of}
 use Rattle.coord_case.proofs.live.Live.none_voted_yes.Goals as goal
 
 pub returns : goal.returns

@@ -1,7 +1,7 @@
 use Rattle.coord_case.proofs.Owing.{none_of_others}
 use Rattle.std.proofs.Common.{rules, ap, sym, ◌∙◌}
 use Rattle.std.specs.List.{list_all}
-use Rattle.tree_model.specs.Names.{same_ticket}
+use Rattle.protocol.specs.Names.{same_ticket}
 use Rattle.coord_case.proofs.live.Live.owes_no_other.Goals as goal
 
 pub returns : goal.returns

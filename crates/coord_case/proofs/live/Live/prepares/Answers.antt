@@ -1,7 +1,7 @@
 use Rattle.std.proofs.Common.{◌≡◌, IfOk, None, map, subst, sym, ap, ◌∙◌}
-use Rattle.tree_model.specs.declared.messages.Message.TheVariants.{Prepare}
-use Rattle.tree_model.specs.Names.{child_case, root_case}
-use Rattle.tree_model.specs.CoordinatorRows.{Seat, post, prepares as prepares_to}
+use Rattle.protocol.specs.declared.messages.Message.TheVariants.{Prepare}
+use Rattle.protocol.specs.Names.{child_case, root_case}
+use Rattle.protocol.specs.CoordinatorRows.{Seat, post, prepares as prepares_to}
 use Rattle.coord_case.proofs.Held.{prepares-each}
 use Rattle.coord_case.proofs.live.Live.prepares.Goals as goal
 

@@ -2,9 +2,9 @@ use Rattle.coord_case.proofs.Children.{distinct-changing}
 use Rattle.coord_case.proofs.Counts.{few_missing, unvoting-none, vote_uncounts}
 use Rattle.coord_case.proofs.Held.{uncounts-vote}
 use Rattle.std.proofs.Common.{◌≡◌, List, Option, None, find, refl, ap, subst, sym, ◌∙◌, arith}
-use Rattle.tree_model.specs.declared.names.Ticket.{Ticket}
-use Rattle.tree_model.specs.declared.standings.Vote.{Vote}
-use Rattle.tree_model.specs.Names.{same_ticket}
+use Rattle.protocol.specs.declared.names.Ticket.{Ticket}
+use Rattle.protocol.specs.declared.standings.Vote.{Vote}
+use Rattle.protocol.specs.Names.{same_ticket}
 use Rattle.coord_case.specs.declared.child.Child.{Child}
 use Rattle.coord_case.specs.Lives.{Uncounts, are_distinct, meant, missing_in, vote_found, voting, yes_in}
 use Rattle.coord_case.proofs.live.Live.uncount_vote.Goals as goal

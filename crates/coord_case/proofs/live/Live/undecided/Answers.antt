@@ -1,6 +1,6 @@
 use Rattle.coord_case.proofs.Children.{undecided_of-cast}
 use Rattle.std.proofs.Common.{◌≡◌, IfOk, filter, subst, ap, sym, ◌∙◌}
-use Rattle.tree_model.specs.Memory.{undecided_of}
+use Rattle.protocol.specs.Memory.{undecided_of}
 use Rattle.coord_case.specs.Lives.{accepted_in, is_undecided, votes_in}
 use Rattle.coord_case.proofs.live.Live.undecided.Goals as goal
 

@@ -1,6 +1,6 @@
 use Rattle.coord_case.proofs.Works.{works-found}
 use Rattle.std.proofs.Common.{ap, sym, ◌∙◌, find}
-use Rattle.tree_model.specs.Names.{same_ticket}
+use Rattle.protocol.specs.Names.{same_ticket}
 use Rattle.coord_case.specs.Lives.{works_found}
 use Rattle.coord_case.proofs.live.Live.works_sent.Goals as goal
 

@@ -1,7 +1,7 @@
 use Rattle.coord_case.proofs.Children.{yes_of-cast}
 use Rattle.std.proofs.Common.{◌≡◌, IfOk, filter, subst, ap, sym, ◌∙◌}
-use Rattle.tree_model.specs.Memory.{yes_of}
-use Rattle.tree_model.specs.declared.standings.Vote.TheVariants.{Yes}
+use Rattle.protocol.specs.Memory.{yes_of}
+use Rattle.protocol.specs.declared.standings.Vote.TheVariants.{Yes}
 use Rattle.coord_case.specs.Lives.{accepted_in, is_vote, votes_in}
 use Rattle.coord_case.proofs.live.Live.yes.Goals as goal
 

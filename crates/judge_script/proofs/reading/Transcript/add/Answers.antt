@@ -1,9 +1,9 @@
 use Rattle.std.proofs.Common.{◌≡◌, ◌∙◌, ℕ, List, Option, ap, refl, subst, sym}
 use Rattle.std.specs.Prelude.{IfSome}
 use Rattle.script_words.proofs.Texts.{texts}
-use Rattle.judge_rules.specs.declared.calls.Event.{Event}
+use Rattle.judge_rules.specs.declared.calls.HistoryEvent.{HistoryEvent}
 use Rattle.judge_script.specs.Headers.{ruled}
-use Rattle.judge_script.specs.Numbers.{IsEvent, SpellsNoEvent, table_of}
+use Rattle.judge_script.specs.Numbers.{IsLineEvent, SpellsNoEvent, table_of}
 use Rattle.judge_script.specs.Words.{words_in}
 use Rattle.judge_script.proofs.Growing.{event_added, rules_more}
 use Rattle.judge_script.proofs.Nothing.{of_none}
@@ -22,8 +22,8 @@ returns-clause-added c t ls kept is h =
     ap texts c.deref-2.ensures.value ∙ c.in_ok-words.ensures in
     let names = c.event_of.new.names in
     let e = c.in-Some-2.event in
-    let read : IsEvent (table_of names) (texts c.deref-2.result.now) e =
-    subst (λ (o : Option Event). IfSome o (λ ev. IsEvent (table_of names) (texts c.deref-2.result.now) ev))
+    let read : IsLineEvent (table_of names) (texts c.deref-2.result.now) e =
+    subst (λ (o : Option HistoryEvent). IfSome o (λ ev. IsLineEvent (table_of names) (texts c.deref-2.result.now) ev))
     c.in-Some-2.is c.in_ok-event_of.ensures.event in
     event_added ls c.args.line.now c.args.self.now
     (record {
@@ -33,7 +33,7 @@ returns-clause-added c t ls kept is h =
       names = names;
     }) e c.args.number kept is refl c.in_ok-push-in-Some-2-2.ensures.items c.in_ok-push-in-Some-2.ensures.items
     c.in_ok-event_of.ensures.grows
-    (subst (λ (ws : List (List ℕ)). IsEvent (table_of names) ws e) words read) h
+    (subst (λ (ws : List (List ℕ)). IsLineEvent (table_of names) ws e) words read) h
 
 pub returns-in-None-clause-bad : goal.returns-in-None-clause-bad
 returns-in-None-clause-bad c f =

@@ -1,8 +1,8 @@
 use Rattle.std.proofs.Common.{rules, ◌≡◌, ap, ◌∙◌}
-use Rattle.key_tables.specs.Tables.{table_of}
-use Rattle.key_tables.specs.Holders.{keeps_rule}
+use Rattle.key_lists.specs.Tables.{table_of}
+use Rattle.key_lists.specs.Holders.{keeps_rule}
 use Rattle.kv_locks.specs.Locks.{holders_of}
-use Rattle.key_tables.proofs.Tables.{list_at_key}
+use Rattle.key_lists.proofs.Tables.{list_at_key}
 use Rattle.kv_locks.proofs.locks.Locks.holders.Goals as goal
 
 pub returns-in-Some-clause-rule : goal.returns-in-Some-clause-rule

@@ -3,10 +3,10 @@ use Rattle.std.specs.Global.{Vec}
 use Rattle.std.specs.Map.{keys_of as map_keys}
 use Rattle.xa_xid.specs.declared.xid.Xid.{Xid}
 use Rattle.few_keys.proofs.Places.{entry_at, taken_at}
-use Rattle.key_tables.specs.Holders.{same}
-use Rattle.key_tables.specs.Tables.{table_of}
-use Rattle.key_tables.proofs.Holding.{same_is}
-use Rattle.kv_locks.specs.Locks.{HoldsAtMost, Releases, keys_of}
+use Rattle.key_lists.specs.Holders.{same}
+use Rattle.key_lists.specs.Tables.{table_of}
+use Rattle.key_lists.proofs.Holding.{same_is}
+use Rattle.kv_locks.specs.Locks.{HoldsAtMost, ReleasesLocks, keys_of}
 use Rattle.kv_locks.proofs.Tables.{keys_at, kept_released, no_keys, other_keys, released_nothing}
 use Rattle.kv_locks.proofs.locks.Locks.release.Goals as goal
 
@@ -35,7 +35,7 @@ returns-in_default c =
     let at : position (same c.args.xid.now) (map_keys c.self.inside.keys.entries) ≡ None = search rules in
     let none : keys_of c.self.inside.keys.entries c.args.xid.now ≡ [] =
     no_keys c.self.inside.keys.entries c.args.xid.now at in
-    subst (λ t. Releases t t c.args.xid.now) c.self.view_is
+    subst (λ t. ReleasesLocks t t c.args.xid.now) c.self.view_is
     (released_nothing (table_of c.self.inside.holders.entries) c.self.inside.keys.entries
     c.args.xid.now c.self.invariant none)
 

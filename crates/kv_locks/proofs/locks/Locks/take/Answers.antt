@@ -1,6 +1,6 @@
 use Rattle.std.proofs.Common.{rules, ◌≡◌, true, None}
-use Rattle.key_tables.specs.Tables.{Becomes, table_of}
-use Rattle.key_tables.specs.Holders.{blocked_by, given, holds}
+use Rattle.key_lists.specs.Tables.{Becomes, table_of}
+use Rattle.key_lists.specs.Holders.{blocked_by, given, holds}
 use Rattle.kv_locks.specs.Locks.{holders_of}
 use Rattle.kv_locks.proofs.Tables.{kept_given}
 use Rattle.kv_locks.proofs.locks.Locks.take.Goals as goal

@@ -1,20 +1,20 @@
 use Rattle.std.proofs.Common.{◌≡◌, ◌<◌, ◌^◌, ◌∙◌, ◌∷◌, ℕ, List, false, map, refl, sym, ap, subst}
-use Rattle.tree_model.specs.declared.records.LogRecord.{LogRecord}
-use Rattle.tree_model.specs.declared.records.Record.TheVariants.{Base}
-use Rattle.tree_model.specs.LogNames.{unnamed}
-use Rattle.tree_model.specs.Store.{base_records, data_of, pair_record}
+use Rattle.protocol.specs.declared.records.LogRecord.{LogRecord}
+use Rattle.protocol.specs.declared.records.Record.TheVariants.{Base}
+use Rattle.protocol.specs.LogNames.{unnamed}
+use Rattle.protocol.specs.Store.{base_records, data_of, pair_record}
 use Rattle.log_text.specs.Made.{frame_record}
-use Rattle.rec_log.specs.Sights.{records_of}
+use Rattle.log_records.specs.Sights.{records_of}
 use Rattle.kv_store.specs.Pairs.{ArePairsOf}
-use Rattle.kv_core.specs.Stores.{KeySight}
-use Rattle.kv_core.proofs.Counting.{counted_whole}
-use Rattle.kv_manager.specs.Sights.{IsKept, IsLogged, KvSight, logged}
+use Rattle.kv_state.specs.Stores.{KeySight}
+use Rattle.kv_state.proofs.Counting.{counted_whole}
+use Rattle.kv_manager.specs.Sights.{IsKvManager, IsLogged, KvSight, logged}
 use Rattle.kv_manager.proofs.Keeping.{map_ok}
 use Rattle.kv_manager.proofs.SoundData.{AreSoundPairs, pairs_sound}
 use Rattle.kv_manager.proofs.Trimmed.{of_data, pairs_are_data}
 use Rattle.kv_manager.proofs.manager.KvManager.data_frames.Goals as goal
 
-module _ (s : KvSight) (ps : List (List ℕ × List ℕ)) (kept : IsKept s) (works : s.log.sight.failed ≡ false)
+module _ (s : KvSight) (ps : List (List ℕ × List ℕ)) (kept : IsKvManager s) (works : s.log.sight.failed ≡ false)
     (pairs : ArePairsOf s.store.versions ps) where
   pairs_are : ps ≡ (logged s).pairs
   pairs_are = pairs_are_data s.store.versions (logged s) ps (kept.stands works).are_data (kept.stands works).rise pairs
@@ -22,7 +22,7 @@ module _ (s : KvSight) (ps : List (List ℕ × List ℕ)) (kept : IsKept s) (wor
 pub base_frames-requires-clause-base : goal.base_frames-requires-clause-base
 base_frames-requires-clause-base g c =
     let s : KvSight = c.args.self.now in
-    let kept : IsKept s = subst IsKept c.self.view_is c.self.invariant in
+    let kept : IsKvManager s = subst IsKvManager c.self.view_is c.self.invariant in
     let counted : c.count.result ≡ (logged s).count =
     c.count.ensures ∙ ap (λ (v : KvSight). v.store.versions.count) c.self.view_is
     ∙ (kept.stands c.requires).are_data.count in
@@ -31,7 +31,7 @@ base_frames-requires-clause-base g c =
 pub base_frames-requires-clause-pairs : goal.base_frames-requires-clause-pairs
 base_frames-requires-clause-pairs g c =
     let s : KvSight = c.args.self.now in
-    let kept : IsKept s = subst IsKept c.self.view_is c.self.invariant in
+    let kept : IsKvManager s = subst IsKvManager c.self.view_is c.self.invariant in
     let store : c.self.inside.store ≡ s.store = ap (λ (v : KvSight). v.store) c.self.view_is in
     let pairs : ArePairsOf s.store.versions c.deref.result.now =
     subst (ArePairsOf s.store.versions) (sym c.deref.ensures.value)
@@ -43,7 +43,7 @@ pub returns-clause-frames : goal.returns-clause-frames
 returns-clause-frames g c =
     let s : KvSight = c.args.self.now in
     let ls : List LogRecord = records_of s.log.sight.kept in
-    let kept : IsKept s = subst IsKept c.self.view_is c.self.invariant in
+    let kept : IsKvManager s = subst IsKvManager c.self.view_is c.self.invariant in
     let stands : IsLogged s = kept.stands c.requires in
     let store : c.self.inside.store ≡ s.store = ap (λ (v : KvSight). v.store) c.self.view_is in
     let pairs : ArePairsOf s.store.versions c.deref.result.now =

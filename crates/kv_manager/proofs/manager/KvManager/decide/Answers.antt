@@ -2,13 +2,13 @@ use Rattle.std.proofs.Common.{rules, ◌≡◌, ◌≤◌, ◌∙◌, false, IfE
 use Rattle.xa_tables.specs.declared.call.Call.TheVariants.{Commit}
 use Rattle.xa_tables.specs.declared.states.BranchState.TheVariants.{S3}
 use Rattle.xa_assoc.specs.Answers.{state_at}
-use Rattle.manager_model.specs.Deciding.{Decides, NotDecided}
+use Rattle.resource_manager.specs.Deciding.{ManagerDecides, ManagerNotDecided}
 use Rattle.xa_codes.specs.Codes.{is_own}
-use Rattle.kv_core.specs.Stores.{state_of}
-use Rattle.kv_core.specs.Ends.{Reserves}
+use Rattle.kv_state.specs.Stores.{state_of}
+use Rattle.kv_state.specs.Ends.{Reserves}
 use Rattle.kv_manager.specs.Resources.{IsRefusal, sight_of}
 use Rattle.kv_manager.specs.Sights.{KvSight}
-use Rattle.kv_manager.specs.Turns.{IsDueTurn, Takes}
+use Rattle.kv_manager.specs.Turns.{IsDueTurn, KvTakes}
 use Rattle.kv_manager.proofs.Deciding.{can_decide, map_err, map_on, was_decided, was_not}
 use Rattle.kv_manager.proofs.manager.KvManager.decide.Goals as goal
 
@@ -56,17 +56,17 @@ returns-clause-ok g c =
     let works : c.args.self.now.log.sight.failed ≡ false = search rules in
     let here : state_of c.args.self.now.store c.args.xid.now ≡ S3 = search rules in
     let stays : Reserves s.store mid.store = search rules in
-    let taken : Takes mid c.take.new.self c.args.xid.now c.decide.result
+    let taken : KvTakes mid c.take.new.self c.args.xid.now c.decide.result
     c.in_ok-answer.answer = search rules in
     subst (λ (v : KvSight). OnOk c.decided.result
-    (Decides (sight_of v) (sight_of c.take.new.self) c.args.xid.now c.args.outcome)) c.self.view_is
+    (ManagerDecides (sight_of v) (sight_of c.take.new.self) c.args.xid.now c.args.outcome)) c.self.view_is
     (map_on (is_own c.in_ok-answer.answer ≡ false)
-    (Decides (sight_of s) (sight_of c.take.new.self) c.args.xid.now c.args.outcome) c.decided.result
+    (ManagerDecides (sight_of s) (sight_of c.take.new.self) c.args.xid.now c.args.outcome) c.decided.result
     (was_decided s mid c.take.new.self c.args.xid.now c.args.outcome
     (ap (λ (v : KvSight). v.log.sight.failed) c.self.view_is ∙ works)
     (ap (λ (v : KvSight). state_of v.store c.args.xid.now) c.self.view_is ∙ here) stays
     refl refl c.in_ok-answer.answer
-    (subst (λ t. Takes mid c.take.new.self c.args.xid.now t c.in_ok-answer.answer) c.decide.ensures taken))
+    (subst (λ t. KvTakes mid c.take.new.self c.args.xid.now t c.in_ok-answer.answer) c.decide.ensures taken))
     c.decided.ensures.ok)
 
 pub returns-clause-err : goal.returns-clause-err
@@ -84,15 +84,15 @@ returns-clause-err g c =
     let works : c.args.self.now.log.sight.failed ≡ false = search rules in
     let here : state_of c.args.self.now.store c.args.xid.now ≡ S3 = search rules in
     let stays : Reserves s.store mid.store = search rules in
-    let taken : Takes mid c.take.new.self c.args.xid.now c.decide.result
+    let taken : KvTakes mid c.take.new.self c.args.xid.now c.decide.result
     c.in_ok-answer.answer = search rules in
     subst (λ (v : KvSight). IfErr c.decided.result
-    (NotDecided (sight_of v) (sight_of c.take.new.self) c.args.xid.now c.args.outcome)) c.self.view_is
+    (ManagerNotDecided (sight_of v) (sight_of c.take.new.self) c.args.xid.now c.args.outcome)) c.self.view_is
     (map_err (IsRefusal c.in_ok-answer.answer)
-    (NotDecided (sight_of s) (sight_of c.take.new.self) c.args.xid.now c.args.outcome) c.decided.result
+    (ManagerNotDecided (sight_of s) (sight_of c.take.new.self) c.args.xid.now c.args.outcome) c.decided.result
     (was_not s mid c.take.new.self c.args.xid.now c.args.outcome
     (ap (λ (v : KvSight). v.log.sight.failed) c.self.view_is ∙ works)
     (ap (λ (v : KvSight). state_of v.store c.args.xid.now) c.self.view_is ∙ here) stays
     refl refl c.in_ok-answer.answer
-    (subst (λ t. Takes mid c.take.new.self c.args.xid.now t c.in_ok-answer.answer) c.decide.ensures taken))
+    (subst (λ t. KvTakes mid c.take.new.self c.args.xid.now t c.in_ok-answer.answer) c.decide.ensures taken))
     c.decided.ensures.err)

@@ -1,7 +1,7 @@
 use Rattle.std.proofs.Common.{rules, ◌≡◌, false, subst}
-use Rattle.kv_core.specs.Ends.{IsDue, IsOff}
+use Rattle.kv_state.specs.Ends.{IsDue, IsOff}
 use Rattle.kv_manager.specs.Sights.{KvSight}
-use Rattle.kv_manager.specs.Turns.{Finishes, Refused, Taken, Takes}
+use Rattle.kv_manager.specs.Turns.{KvFinishes, Refused, Taken, KvTakes}
 use Rattle.kv_manager.proofs.Keeping.{map_ok}
 use Rattle.kv_manager.proofs.Turns.{due_turn, same_self}
 use Rattle.kv_manager.proofs.manager.KvManager.finish.Goals as goal
@@ -30,8 +30,8 @@ returns-in-Ok-clause-answer g c =
     let due : IsDue c.args.self.now.store c.args.verb c.args.xid.now c.args.flags.0 (given.0, c.in-Ok.turn) =
     subst (λ (v : KvSight). IsDue v.store c.args.verb c.args.xid.now c.args.flags.0 (given.0, c.in-Ok.turn))
     c.self.view_is given.1 in
-    map_ok (λ answer. Takes c.args.self.now c.take.new.self c.args.xid.now c.in-Ok.turn answer)
-    (λ answer. Finishes c.args.self.now c.take.new.self c.args.verb c.args.xid.now c.args.flags.0 answer)
+    map_ok (λ answer. KvTakes c.args.self.now c.take.new.self c.args.xid.now c.in-Ok.turn answer)
+    (λ answer. KvFinishes c.args.self.now c.take.new.self c.args.verb c.args.xid.now c.args.flags.0 answer)
     c.take.result c.take.ensures.answer
     (λ answer taken. Taken works (given.0, c.in-Ok.turn) due taken)
 

@@ -1,9 +1,9 @@
 use Rattle.std.proofs.Common.{rules}
-use Rattle.tree_model.specs.declared.names.Kind.TheVariants.{Manager}
+use Rattle.protocol.specs.declared.names.Kind.TheVariants.{Manager}
 use Rattle.log_text.specs.Made.{frame_record}
 use Rattle.log_rules.specs.sound.Sound.{IsSound}
-use Rattle.rec_log.proofs.SoundRecords.{sound_is_record}
-use Rattle.rec_log.specs.Sights.{IsRecord}
+use Rattle.log_records.proofs.SoundRecords.{sound_is_record}
+use Rattle.log_records.specs.Sights.{IsRecord}
 use Rattle.kv_manager.proofs.manager.KvManager.frame.Goals as goal
 
 pub returns-clause-sound : goal.returns-clause-sound

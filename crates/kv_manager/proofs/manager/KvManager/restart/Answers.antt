@@ -1,6 +1,6 @@
 use Rattle.std.proofs.Common.{subst, sym}
-use Rattle.rec_log.specs.Sights.{left_by}
-use Rattle.kv_core.specs.Remembered.{Remembers}
+use Rattle.log_records.specs.Sights.{left_by}
+use Rattle.kv_state.specs.Remembered.{RemembersData}
 use Rattle.kv_manager.specs.Restarts.{IsReady}
 use Rattle.kv_manager.specs.Sights.{KvSight}
 use Rattle.kv_manager.proofs.manager.KvManager.restart.Goals as goal
@@ -12,5 +12,5 @@ reopen-reopened-requires-clause-ready g c =
 
 pub reopen-reopened-requires-clause-says : goal.reopen-reopened-requires-clause-says
 reopen-reopened-requires-clause-says g c =
-    subst (λ (v : KvSight). Remembers (left_by v.log.sight c.args.keep) c.in_ok-ready.remembered)
+    subst (λ (v : KvSight). RemembersData (left_by v.log.sight c.args.keep) c.in_ok-ready.remembered)
     (sym c.ready.ensures.stays) c.in_ok-ready.ensures.remembered

@@ -1,5 +1,5 @@
 use Rattle.std.proofs.Common.{rules, sym, ap, ◌∙◌}
-use Rattle.rec_log.specs.Sights.{LogState, log_state}
+use Rattle.log_records.specs.Sights.{LogState, log_state}
 use Rattle.kv_manager.proofs.manager.KvManager.restore.Goals as goal
 
 pub returns-in-Err-over-clause-err : goal.returns-in-Err-over-clause-err

@@ -1,5 +1,5 @@
 use Rattle.std.proofs.Common.{rules, ◌≡◌, None, sym, subst}
-use Rattle.kv_core.specs.Ends.{TakesTurn}
+use Rattle.kv_state.specs.Ends.{TakesTurn}
 use Rattle.kv_manager.specs.Sights.{KvSight}
 use Rattle.kv_manager.specs.Turns.{IsDueTurn}
 use Rattle.kv_manager.proofs.From.{silent_doubt}

@@ -1,10 +1,10 @@
 use Rattle.std.proofs.Common.{rules, ◌∷◌, ◌∙◌, ◌<◌, ◌+◌, ◌^◌, [], refl, sym, subst}
-use Rattle.rec_log.specs.Sights.{Breaks}
-use Rattle.kv_turns.specs.Turns.{entry_record}
+use Rattle.log_records.specs.Sights.{Breaks}
+use Rattle.kv_calls.specs.Turns.{entry_record}
 use Rattle.kv_store.specs.writes.Writes.{writes_of}
-use Rattle.core_log.specs.Writes.{Writes}
-use Rattle.kv_core.specs.Ends.{PublishesWrites, SameButData, StagesWrites, TakesTurn}
-use Rattle.kv_core.specs.Stores.{KeySight}
+use Rattle.log_writing.specs.Writes.{WritesRecord}
+use Rattle.kv_state.specs.Ends.{PublishesWrites, SameButData, StagesWrites, TakesTurn}
+use Rattle.kv_state.specs.Stores.{KeySight}
 use Rattle.kv_manager.specs.Sights.{KvSight}
 use Rattle.kv_manager.specs.Turns.{Broke, Made, OnlyRoom}
 use Rattle.kv_manager.proofs.Keeping.{data_only, kept_by}
@@ -55,7 +55,7 @@ invariant_of-self-in-Ok g c =
     let staged : StagesWrites s.store c.stage.new.self c.args.xid.now = search rules in
     let published : PublishesWrites c.stage.new.self c.publish.new.self = search rules in
     let takes : TakesTurn c.publish.new.self c.finish.new.self c.args.xid.now c.args.turn = search rules in
-    let made : Writes s.log c.write.new.self (entry_record c.args.entry c.args.xid.now
+    let made : WritesRecord s.log c.write.new.self (entry_record c.args.entry c.args.xid.now
     (writes_of s.store.writes c.args.xid.now)) c.args.turn.is_forced = search rules in
     let fits : s.store.versions.count + 1 < 2 ^ 63 =
     subst (λ (k : KeySight). k.versions.count + 1 < 2 ^ 63) (sym room.store) c.requires.fits in
@@ -81,7 +81,7 @@ returns-in-Ok-clause-answer g c =
     let staged : StagesWrites s.store c.stage.new.self c.args.xid.now = search rules in
     let published : PublishesWrites c.stage.new.self c.publish.new.self = search rules in
     let takes : TakesTurn c.publish.new.self c.finish.new.self c.args.xid.now c.args.turn = search rules in
-    let made : Writes s.log c.write.new.self (entry_record c.args.entry c.args.xid.now
+    let made : WritesRecord s.log c.write.new.self (entry_record c.args.entry c.args.xid.now
     (writes_of s.store.writes c.args.xid.now)) c.args.turn.is_forced = search rules in
     Made refl (made_committed c.args.self.now s _ c.args.xid.now c.args.turn c.args.entry room
     c.requires.entry c.requires.data

@@ -1,9 +1,9 @@
 use Rattle.std.proofs.Common.{rules, ◌≡◌, ◌∷◌, ◌∙◌, [], true, false, refl, sym, subst}
-use Rattle.rec_log.specs.Sights.{Breaks}
-use Rattle.kv_turns.specs.Turns.{entry_record}
+use Rattle.log_records.specs.Sights.{Breaks}
+use Rattle.kv_calls.specs.Turns.{entry_record}
 use Rattle.kv_store.specs.writes.Writes.{writes_of}
-use Rattle.core_log.specs.Writes.{Writes}
-use Rattle.kv_core.specs.Ends.{TakesTurn}
+use Rattle.log_writing.specs.Writes.{WritesRecord}
+use Rattle.kv_state.specs.Ends.{TakesTurn}
 use Rattle.kv_manager.specs.Sights.{KvSight}
 use Rattle.kv_manager.specs.Turns.{Broke, OnlyRoom}
 use Rattle.kv_manager.proofs.Ordered.{record_follows}
@@ -37,7 +37,7 @@ invariant_of-self g c =
     let room : OnlyRoom c.args.self.now s = subst (OnlyRoom c.args.self.now)
     (sym c.self.view_is) c.frame.ensures.stays in
     let takes : TakesTurn s.store c.finish.new.self c.args.xid.now c.args.turn = search rules in
-    let made : Writes s.log c.write.new.self (entry_record c.args.entry c.args.xid.now
+    let made : WritesRecord s.log c.write.new.self (entry_record c.args.entry c.args.xid.now
     (writes_of s.store.writes c.args.xid.now)) c.args.turn.is_forced = search rules in
     kept_noted s _ c.args.xid.now c.requires.due.0 c.args.turn c.args.entry c.self.invariant
     (record_follows s c.args.xid.now c.requires.due.0 c.args.turn c.args.entry c.self.invariant

@@ -1,7 +1,7 @@
 use Rattle.std.proofs.Common.{ap, subst, sym}
-use Rattle.rec_log.specs.Sights.{LogSight}
-use Rattle.kv_core.specs.Stores.{RebasesStore}
-use Rattle.manager_model.specs.Trimming.{Trims}
+use Rattle.log_records.specs.Sights.{LogSight}
+use Rattle.kv_state.specs.Stores.{RebasesStore}
+use Rattle.resource_manager.specs.Trimming.{ManagerTrims}
 use Rattle.kv_manager.specs.Resources.{sight_of}
 use Rattle.kv_manager.proofs.Forgetting.{sight_stays}
 use Rattle.kv_manager.proofs.manager.KvManager.trim.Goals as goal
@@ -11,7 +11,7 @@ rebase-requires g c = ap (λ (l : LogSight). l.failed) c.in_ok-count.ensures.ok.
 
 pub returns-clause-ok : goal.returns-clause-ok
 returns-clause-ok g c =
-    subst (λ t. Trims (sight_of c.args.self.now) t c.in_ok-count.count)
+    subst (λ t. ManagerTrims (sight_of c.args.self.now) t c.in_ok-count.count)
     (sym (sight_stays c.trim_log.new.self c.rebase.new.self c.rebase.ensures.store c.rebase.ensures.log
     c.rebase.ensures.boot)) c.in_ok-count.ensures.ok
 

@@ -1,12 +1,12 @@
 use Rattle.std.proofs.Common.{◌≡◌, ◌∙◌, rules, false, map, sym, ap, subst}
 use Rattle.std.specs.List.{AllByRecursion}
-use Rattle.tree_model.specs.declared.names.Kind.TheVariants.{Manager}
-use Rattle.tree_model.specs.Store.{base_records}
+use Rattle.protocol.specs.declared.names.Kind.TheVariants.{Manager}
+use Rattle.protocol.specs.Store.{base_records}
 use Rattle.log_text.specs.Made.{frame_record}
 use Rattle.log_rules.specs.sound.Sound.{IsSound}
-use Rattle.rec_log.specs.Sights.{NotRewritten, records_of}
-use Rattle.rec_log.specs.Trimming.{Trimmed, trim_of}
-use Rattle.tree_model.specs.LogNames.{unnamed}
+use Rattle.log_records.specs.Sights.{NotRewritten, records_of}
+use Rattle.log_records.specs.Trimming.{LogTrimmed, trim_of}
+use Rattle.protocol.specs.LogNames.{unnamed}
 use Rattle.kv_manager.specs.Sights.{KvSight, logged}
 use Rattle.kv_manager.proofs.Trimmed.{AreOfData, kept_again, kept_trimmed, kept_untrimmed, own_is_data}
 use Rattle.kv_manager.proofs.manager.KvManager.trim_log.Goals as goal
@@ -42,7 +42,7 @@ invariant_of-self-in-Ok-trim g c =
       boot = c.self.inside.boot;
     } in
     let works : s.log.sight.failed ≡ false = search rules in
-    let made : Trimmed s.log c.trim.new.self (map frame_record c.deref.result.now)
+    let made : LogTrimmed s.log c.trim.new.self (map frame_record c.deref.result.now)
     c.in-Ok-trim.count = search rules in
     let sound : AllByRecursion (IsSound Manager) (records_of s.log.sight.kept) =
     subst (λ (v : KvSight). AllByRecursion (IsSound Manager) (records_of v.log.sight.kept))

@@ -2,12 +2,12 @@ use Rattle.std.proofs.Common.{rules, ◌≡◌, refl, true, false, sym, ◌∙�
 use Rattle.xa_codes.specs.declared.code.Code.TheVariants as code
 use Rattle.xa_tables.specs.declared.states.BranchState.TheVariants.{S0}
 use Rattle.xa_tables.specs.Calls.{legal}
-use Rattle.xa_assoc.specs.Answers.{Answers, Wanted}
+use Rattle.xa_assoc.specs.Answers.{AnswersCall, Wanted}
 use Rattle.xa_assoc.specs.Ready.{leaves}
-use Rattle.kv_core.specs.Stores.{MovesTables, SameStore, is_decided}
-use Rattle.kv_core.proofs.Moves.{works_keep}
+use Rattle.kv_state.specs.Stores.{MovesTables, SameKeyStore, is_decided}
+use Rattle.kv_state.proofs.Moves.{works_keep}
 use Rattle.kv_manager.specs.Sights.{KvSight}
-use Rattle.kv_manager.specs.Turns.{Calls}
+use Rattle.kv_manager.specs.Turns.{KvCalls}
 use Rattle.kv_manager.proofs.Keeping.{KeepsPromises, either_way, is_prepared, kept_by, map_ok, moved_promises, same_promises}
 use Rattle.kv_manager.proofs.Staying.{works_doubts}
 use Rattle.kv_manager.proofs.manager.KvManager.work_call.Goals as goal
@@ -21,9 +21,9 @@ invariant_of-self g c =
     } in
     kept_by s c.work_call.new.self c.self.invariant
     (either_way (λ answer. (wanted : Wanted) → MovesTables c.self.inside.store c.work_call.new.self
-    (λ old new. Answers wanted old new c.args.verb c.args.thread c.args.xid.now c.args.flags.0 answer))
+    (λ old new. AnswersCall wanted old new c.args.verb c.args.thread c.args.xid.now c.args.flags.0 answer))
     (λ e. (leaves (legal c.args.verb c.args.flags.0) ≡ false)
-    × SameStore c.self.inside.store c.work_call.new.self)
+    × SameKeyStore c.self.inside.store c.work_call.new.self)
     (KeepsPromises c.self.inside.store c.work_call.new.self) c.work_call.result
     c.work_call.ensures.answer c.work_call.ensures.err
     (λ answer made. moved_promises c.self.inside.store c.work_call.new.self
@@ -52,14 +52,14 @@ returns-clause-answer g c =
       boot = c.self.inside.boot;
     } in
     let works : s.log.sight.failed ≡ false = search rules in
-    subst (λ v. IfOk c.work_call.result (λ answer. (wanted : Wanted) → Calls v after (answer ≡ code.RmFail)
-    (λ before behind. MovesTables before behind (λ old new. Answers wanted old new c.args.verb c.args.thread
+    subst (λ v. IfOk c.work_call.result (λ answer. (wanted : Wanted) → KvCalls v after (answer ≡ code.RmFail)
+    (λ before behind. MovesTables before behind (λ old new. AnswersCall wanted old new c.args.verb c.args.thread
     c.args.xid.now c.args.flags.0 answer)))) c.self.view_is
     (map_ok (λ answer. (wanted : Wanted) → MovesTables s.store after.store
-    (λ old new. Answers wanted old new c.args.verb c.args.thread c.args.xid.now c.args.flags.0 answer))
-    (λ answer. (wanted : Wanted) → Calls s after
+    (λ old new. AnswersCall wanted old new c.args.verb c.args.thread c.args.xid.now c.args.flags.0 answer))
+    (λ answer. (wanted : Wanted) → KvCalls s after
     (answer ≡ code.RmFail) (λ before behind. MovesTables before behind
-    (λ old new. Answers wanted old new c.args.verb c.args.thread c.args.xid.now c.args.flags.0 answer)))
+    (λ old new. AnswersCall wanted old new c.args.verb c.args.thread c.args.xid.now c.args.flags.0 answer)))
     c.work_call.result c.work_call.ensures.answer
     (λ answer made wanted. record {
       failed = λ no_more. absurd (let never : true ≡ false = sym no_more ∙ works in cc);

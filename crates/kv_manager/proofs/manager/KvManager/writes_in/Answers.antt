@@ -1,6 +1,6 @@
 use Rattle.std.proofs.Common.{rules, ◌≡◌, [], false, ap, sym, subst}
 use Rattle.kv_store.specs.writes.Writes.{writes_of}
-use Rattle.kv_turns.specs.Turns.{entry_record, has_writes}
+use Rattle.kv_calls.specs.Turns.{entry_record, has_writes}
 use Rattle.kv_manager.specs.Turns.{HasWrites}
 use Rattle.kv_manager.proofs.Turns.{is_entry, without_writes}
 use Rattle.kv_manager.proofs.manager.KvManager.writes_in.Goals as goal

@@ -1,6 +1,6 @@
 use Rattle.std.proofs.Common.{subst, sym}
 use Rattle.log_text.specs.Made.{frame_record}
-use Rattle.rec_log.specs.Sights.{IsRecord, LogState}
+use Rattle.log_records.specs.Sights.{IsRecord, LogState}
 use Rattle.kv_manager.proofs.Remembering.{front_written}
 use Rattle.kv_manager.proofs.remembered.FrontedLog.write.Goals as goal
 

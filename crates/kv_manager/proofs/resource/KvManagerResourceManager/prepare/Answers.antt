@@ -1,8 +1,8 @@
 use Rattle.std.proofs.Common.{refl}
 use Rattle.xa_tables.specs.declared.call.Verb.TheVariants.{Prepare}
-use Rattle.manager_model.specs.Ends.{Finishes}
+use Rattle.resource_manager.specs.Ends.{ManagerFinishes}
 use Rattle.kv_manager.specs.Resources.{sight_of}
-use Rattle.kv_manager.specs.Turns.{Finishes as KvFinishes}
+use Rattle.kv_manager.specs.Turns.{KvFinishes}
 use Rattle.kv_manager.proofs.Keeping.{map_ok}
 use Rattle.kv_manager.proofs.Resources.{finished}
 use Rattle.kv_manager.proofs.resource.KvManagerResourceManager.prepare.Goals as goal
@@ -10,7 +10,7 @@ use Rattle.kv_manager.proofs.resource.KvManagerResourceManager.prepare.Goals as 
 pub returns-clause-answer : goal.returns-clause-answer
 returns-clause-answer g c =
     map_ok (KvFinishes c.args.self.now c.prepare.new.self Prepare c.args.xid.now c.args.flags.0)
-    (Finishes (sight_of c.args.self.now) (sight_of c.prepare.new.self) Prepare c.args.xid.now c.args.flags.0)
+    (ManagerFinishes (sight_of c.args.self.now) (sight_of c.prepare.new.self) Prepare c.args.xid.now c.args.flags.0)
     c.prepare.result c.prepare.ensures.answer
     (λ answer made. finished c.args.self.now c.prepare.new.self Prepare c.args.xid.now
     c.args.flags.0 answer refl made)

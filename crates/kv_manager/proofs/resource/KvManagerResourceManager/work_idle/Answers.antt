@@ -1,9 +1,9 @@
-use Rattle.kv_core.specs.Works.{WorksIdle as Does}
-use Rattle.manager_model.specs.Idle.{Idles, WorksIdle}
-use Rattle.manager_model.proofs.Idle.{still_idle}
+use Rattle.kv_state.specs.Works.{KeyStoreWorksIdle}
+use Rattle.resource_manager.specs.Idle.{Idles, WorksIdle}
+use Rattle.resource_manager.proofs.Idle.{still_idle}
 use Rattle.kv_manager.specs.Resources.{sight_of}
-use Rattle.kv_manager.specs.Sights.{SameManager}
-use Rattle.kv_manager.specs.Turns.{Calls}
+use Rattle.kv_manager.specs.Sights.{SameKv}
+use Rattle.kv_manager.specs.Turns.{KvCalls}
 use Rattle.kv_manager.proofs.Deciding.{map_err}
 use Rattle.kv_manager.proofs.Keeping.{map_ok}
 use Rattle.kv_manager.proofs.Resources.{same_sight, works_idle}
@@ -11,8 +11,8 @@ use Rattle.kv_manager.proofs.resource.KvManagerResourceManager.work_idle.Goals a
 
 pub returns-clause-ok : goal.returns-clause-ok
 returns-clause-ok g c =
-    map_ok (λ done. Calls c.args.self.now c.work_idle.new.self ⊥
-    (λ before behind. Does before behind c.args.xid.now c.args.op.now done))
+    map_ok (λ done. KvCalls c.args.self.now c.work_idle.new.self ⊥
+    (λ before behind. KeyStoreWorksIdle before behind c.args.xid.now c.args.op.now done))
     (WorksIdle (sight_of c.args.self.now) (sight_of c.work_idle.new.self) c.args.xid.now c.args.op.now)
     c.work_idle.result c.work_idle.ensures.ok
     (λ done made. works_idle c.args.self.now c.work_idle.new.self c.args.xid.now c.args.op.now done
@@ -20,7 +20,7 @@ returns-clause-ok g c =
 
 pub returns-clause-err : goal.returns-clause-err
 returns-clause-err g c =
-    map_err (λ e. SameManager c.args.self.now c.work_idle.new.self)
+    map_err (λ e. SameKv c.args.self.now c.work_idle.new.self)
     (λ e. Idles (sight_of c.args.self.now) (sight_of c.work_idle.new.self) c.args.xid.now)
     c.work_idle.result
     (λ e stays. still_idle (sight_of c.args.self.now) (sight_of c.work_idle.new.self) c.args.xid.now

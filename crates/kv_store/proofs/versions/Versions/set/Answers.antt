@@ -1,31 +1,31 @@
 use Rattle.std.proofs.Common.{rules, ◌≡◌, ◌∷◌, [], false, subst, sym}
-use Rattle.key_tables.specs.Tables.{SameLists, table_of}
-use Rattle.kv_store.specs.Versions.{Adds, AddsVersion, IsKept, SameData, VersionTable}
+use Rattle.key_lists.specs.Tables.{SameLists, table_of}
+use Rattle.kv_store.specs.Versions.{Adds, AddsVersion, IsVersions, SameData, VersionTable}
 use Rattle.kv_store.proofs.Stages.{adds_one, kept_same, kept_set, same_data, sets}
 use Rattle.kv_store.proofs.versions.Versions.set.Goals as goal
 
 pub invariant_of-self : goal.invariant_of-self
 invariant_of-self c =
     let unstaged : c.self.inside.is_staged ≡ false = search rules in
-    let kept : IsKept c.self.inside.base c.self.inside.count false (table_of c.self.inside.keys.entries) =
-    subst (λ b. IsKept c.self.inside.base c.self.inside.count b (table_of c.self.inside.keys.entries))
+    let kept : IsVersions c.self.inside.base c.self.inside.count false (table_of c.self.inside.keys.entries) =
+    subst (λ b. IsVersions c.self.inside.base c.self.inside.count b (table_of c.self.inside.keys.entries))
     unstaged c.self.invariant in
     let stays : SameLists (table_of c.self.inside.keys.entries)
     (table_of c.push_write.new.keys.entries) = search rules in
-    subst (λ b. IsKept c.self.inside.base c.self.inside.count b
+    subst (λ b. IsVersions c.self.inside.base c.self.inside.count b
     (table_of c.push_write.new.keys.entries)) (sym unstaged)
     (kept_same _ _ _ _ kept stays)
 
 pub invariant_of-self-2 : goal.invariant_of-self-2
 invariant_of-self-2 c =
     let unstaged : c.self.inside.is_staged ≡ false = search rules in
-    let kept : IsKept c.self.inside.base c.self.inside.count false (table_of c.self.inside.keys.entries) =
-    subst (λ b. IsKept c.self.inside.base c.self.inside.count b (table_of c.self.inside.keys.entries))
+    let kept : IsVersions c.self.inside.base c.self.inside.count false (table_of c.self.inside.keys.entries) =
+    subst (λ b. IsVersions c.self.inside.base c.self.inside.count b (table_of c.self.inside.keys.entries))
     unstaged c.self.invariant in
     let one : AddsVersion (table_of c.self.inside.keys.entries)
     (table_of c.push_write.new.keys.entries) c.args.write.now.key
     (record { count = c.self.inside.count; value = c.args.write.now.value }) = search rules in
-    subst (λ b. IsKept c.self.inside.base c.self.inside.count b
+    subst (λ b. IsVersions c.self.inside.base c.self.inside.count b
     (table_of c.push_write.new.keys.entries)) (sym unstaged)
     (kept_set _ _ _ _ (c.args.write.now ∷ []) kept (adds_one _ _ _ c.args.write.now one))
 
@@ -36,8 +36,8 @@ returns-clause-ok c =
     (table_of c.push_write.new.keys.entries) c.args.write.now.key
     (record { count = c.self.inside.count; value = c.args.write.now.value }) = search rules in
     sets c.args.self.now _ c.args.write.now
-    (subst (λ s. IsKept s.base s.count false s.versions) c.self.view_is
-    (subst (λ b. IsKept c.self.inside.base c.self.inside.count b
+    (subst (λ s. IsVersions s.base s.count false s.versions) c.self.view_is
+    (subst (λ b. IsVersions c.self.inside.base c.self.inside.count b
     (table_of c.self.inside.keys.entries)) unstaged c.self.invariant))
     (search rules) (search rules) (search rules)
     (subst (λ s. Adds s.versions (table_of c.push_write.new.keys.entries) s.count (c.args.write.now ∷ []))

@@ -1,6 +1,6 @@
 use Rattle.std.proofs.Common.{rules, ◌≡◌, ap, ◌∙◌}
-use Rattle.key_tables.specs.Tables.{list_at, table_of}
-use Rattle.key_tables.proofs.Tables.{list_at_key}
+use Rattle.key_lists.specs.Tables.{list_at, table_of}
+use Rattle.key_lists.proofs.Tables.{list_at_key}
 use Rattle.kv_store.specs.Versions.{rises_from}
 use Rattle.kv_store.proofs.versions.Versions.versions.Goals as goal
 

@@ -1,5 +1,5 @@
 use Rattle.std.proofs.Common.{rules, subst}
-use Rattle.key_tables.proofs.Lists.{first_and_rest, none_left}
+use Rattle.key_lists.proofs.Lists.{first_and_rest, none_left}
 use Rattle.log_rules.proofs.order.Holders.{IsListing, listing_ends, listing_goes_on, listing_stops}
 use Rattle.log_rules.proofs.order.seen.list_keys.Goals as goal
 

@@ -28,8 +28,8 @@ use denote.Triple.Walked.{says, Stays, stay_dropped, walk_of, ends_at, walk_Meet
 use Rattle.log_text.proofs.Walks.{none, none_made}
 use Rattle.log_text.specs.contracts.ghosts.GhostRecord as GhostRecord
 use Rattle.std.specs.contracts.option.Option.{the_row as OptionOf}
-use Rattle.tree_model.specs.contracts.names.ProcessId as ProcessId
-use Rattle.tree_model.specs.contracts.records.Record as Record
+use Rattle.protocol.specs.contracts.names.ProcessId as ProcessId
+use Rattle.protocol.specs.contracts.records.Record as Record
 use Rattle.log_text.specs.contracts.ghosts.GhostRecord.of as F
 use Rattle.log_text.specs.contracts.ghosts.GhostRecord.of.Key.{name as #self}
 use Rattle.log_text.proofs.ghosts.GhostRecord.of.Statement as stated

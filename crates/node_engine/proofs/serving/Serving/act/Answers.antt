@@ -1,9 +1,9 @@
 use Rattle.std.proofs.Common.{◌∙◌, ap, true, false, refl}
-use Rattle.tree_model.specs.declared.names.ProcessId.{ProcessId}
-use Rattle.tree_model.specs.declared.events.Input.TheVariants.{Act as ActInput}
-use Rattle.tree_model.specs.Names.{same_process}
-use Rattle.tree_model.specs.Plays.{process_of_act}
-use Rattle.tree_model.specs.Trees.{root_of}
+use Rattle.protocol.specs.declared.names.ProcessId.{ProcessId}
+use Rattle.protocol.specs.declared.events.Input.TheVariants.{Act as ActInput}
+use Rattle.protocol.specs.Names.{same_process}
+use Rattle.protocol.specs.Plays.{process_of_act}
+use Rattle.protocol.specs.Trees.{root_of}
 use Rattle.node_engine.specs.Answers.{state_of}
 use Rattle.node_engine.proofs.Answering.{mine_err, mine_ok, others_err, others_ok, process_tested}
 use Rattle.node_engine.proofs.serving.Serving.act.Goals as goal

@@ -1,5 +1,5 @@
 use Rattle.std.proofs.Common.{inr, refl}
-use Rattle.node_lines.specs.declared.asked.Asked.TheVariants as asked
+use Rattle.node_lines.specs.declared.asked.NodeLine.TheVariants as asked
 use Rattle.node_engine.specs.declared.failure.NodeFailure.TheVariants.{Memory}
 use Rattle.node_engine.specs.Answers.{TakesLine, state_of}
 use Rattle.node_engine.proofs.Answering.{passed_on}

@@ -1,6 +1,6 @@
 use Rattle.std.proofs.Common.{◌∙◌, ap, inl, refl}
-use Rattle.tree_model.specs.declared.names.ProcessId.{ProcessId}
-use Rattle.tree_model.specs.Trees.{root_of}
+use Rattle.protocol.specs.declared.names.ProcessId.{ProcessId}
+use Rattle.protocol.specs.Trees.{root_of}
 use Rattle.node_lines.specs.Asked.{asked_at}
 use Rattle.node_engine.specs.declared.failure.NodeFailure.TheVariants.{Memory}
 use Rattle.node_engine.specs.Answers.{TakesLine, state_of}

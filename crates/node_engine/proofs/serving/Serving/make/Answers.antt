@@ -1,5 +1,5 @@
-use Rattle.tree_node.specs.Nodes.{core_of, data_of}
-use Rattle.core_model.specs.Inputs.{input_of}
+use Rattle.tree_process.specs.Nodes.{core_of, data_of}
+use Rattle.process_state.specs.Inputs.{input_of}
 use Rattle.node_engine.specs.Answers.{state_of}
 use Rattle.node_engine.proofs.Answering.{refused_err, refused_ok, shown_err, shown_ok}
 use Rattle.node_engine.proofs.serving.Serving.make.Goals as goal

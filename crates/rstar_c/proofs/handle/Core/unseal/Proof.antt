@@ -24,7 +24,7 @@ use Rattle.std.proofs.raw_atomic.Walks.{proved_at, leaves}
 use Rattle.std.specs.contracts.alloc.Global as global
 use Rattle.std.proofs.alloc.Global.TheLaws as global_laws
 use Rattle.std.specs.contracts.impls.GlobalAllocator.TheImpl.{ghosts}
-use Rattle.held.proofs.Laid.{Row, laid, heap as heap_al, laid_fits, put_together}
+use Rattle.held.proofs.Laid.{HeldRow, laid, heap as heap_al, laid_fits, put_together}
 use Rattle.rstar_c.specs.Handles.{handle_owns}
 use Rattle.std.specs.Option.{IsSome}
 use Rattle.held.specs.Boxes.{heap}

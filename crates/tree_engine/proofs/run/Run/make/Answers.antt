@@ -1,6 +1,6 @@
 use Rattle.std.proofs.Common.{◌≡◌, List, [], ◌∷◌, ◌++◌, is_some, true, false, arith, rules, subst, sym}
-use Rattle.tree_model.specs.declared.events.Event.{Event}
-use Rattle.core_law.specs.worlds.Worlds.{Stops, WorldState}
+use Rattle.protocol.specs.declared.events.Event.{Event}
+use Rattle.tree_state.specs.Worlds.{Stops, WorldState}
 use Rattle.tree_world.specs.Worlds.{state}
 use Rattle.tree_engine.specs.Failures.{CannotMake}
 use Rattle.tree_engine.specs.Runs.{HasCome}

@@ -1,7 +1,7 @@
 use Rattle.std.proofs.Common.{◌≡◌, ◌∙◌, ◌⊎◌, inr, ap, sym, subst, List, [], ◌∷◌, ◌++◌, drop, take, ◌+◌}
 use Rattle.std.proofs.lemmas.List.{at_drop_more}
-use Rattle.tree_model.specs.declared.events.Event.{Event}
-use Rattle.core_law.specs.worlds.Worlds.{WorldState}
+use Rattle.protocol.specs.declared.events.Event.{Event}
+use Rattle.tree_state.specs.Worlds.{WorldState}
 use Rattle.report_io.specs.declared.streams.Failure.TheVariants.{Memory}
 use Rattle.tree_engine.specs.Failures.{CannotMake}
 use Rattle.tree_engine.specs.Runs.{HasCome}

@@ -1,5 +1,5 @@
-use Rattle.core_model.specs.Inputs.{input_of}
-use Rattle.tree_node.specs.Nodes.{core_of, data_of}
+use Rattle.process_state.specs.Inputs.{input_of}
+use Rattle.tree_process.specs.Nodes.{core_of, data_of}
 use Rattle.tree_world.proofs.Counts.{handled_count}
 use Rattle.tree_world.proofs.counted.CountedNode.handle.Goals as goal
 

@@ -1,4 +1,4 @@
-use Rattle.tree_node.specs.Nodes.{core_of, data_of}
+use Rattle.tree_process.specs.Nodes.{core_of, data_of}
 use Rattle.tree_world.proofs.Counts.{restarted_so}
 use Rattle.tree_world.proofs.counted.CountedNode.restart.Goals as goal
 

@@ -1,5 +1,5 @@
 use Rattle.std.proofs.Common.{rules}
-use Rattle.core_model.specs.Inputs.{input_of}
+use Rattle.process_state.specs.Inputs.{input_of}
 use Rattle.tree_world.proofs.Processes.{process_equality}
 use Rattle.tree_world.proofs.Steps.{broken_under, stepped, stopped, unmoved}
 use Rattle.tree_world.proofs.nodes.Nodes.step.Goals as goal

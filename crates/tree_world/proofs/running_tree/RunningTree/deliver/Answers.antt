@@ -1,6 +1,6 @@
 use Rattle.std.proofs.Common.{IfErr, OnOk, subst}
-use Rattle.tree_model.specs.declared.events.Event.TheVariants.{Deliver}
-use Rattle.core_law.specs.worlds.Worlds.{Applies, Stops}
+use Rattle.protocol.specs.declared.events.Event.TheVariants.{Deliver}
+use Rattle.tree_state.specs.Worlds.{Applies, Stops}
 use Rattle.tree_world.specs.Worlds.{running_state}
 use Rattle.tree_world.proofs.Handling.{stays}
 use Rattle.tree_world.proofs.running_tree.RunningTree.deliver.Goals as goal

@@ -1,7 +1,7 @@
-use Rattle.tree_model.specs.declared.events.StepError.TheVariants.{Memory}
+use Rattle.protocol.specs.declared.events.StepError.TheVariants.{Memory}
 use Rattle.std.proofs.Common.{[], subst, sym}
-use Rattle.core_law.specs.worlds.Worlds.{Stops}
-use Rattle.fault_journal.specs.Traces.{AddsUntil}
+use Rattle.tree_state.specs.Worlds.{Stops}
+use Rattle.tree_faults.specs.Traces.{AddsUntil}
 use Rattle.tree_world.specs.Worlds.{running_state}
 use Rattle.tree_world.proofs.Handling.{passed_on}
 use Rattle.tree_world.proofs.Making.{next_adds, next_err, next_ok, next_places, next_until, nothing_adds, nothing_moves}

@@ -1,6 +1,6 @@
 use Rattle.std.proofs.Common.{[], length, refl}
 use Rattle.std.proofs.lemmas.Option.{slice_get_read}
-use Rattle.fault_journal.proofs.Adding.{adds_nothing, adds_then, until_after}
+use Rattle.tree_faults.proofs.Adding.{adds_nothing, adds_then, until_after}
 use Rattle.tree_world.specs.Worlds.{running_state}
 use Rattle.tree_world.proofs.Running.{run_goes_on, run_ends}
 use Rattle.tree_world.proofs.running_tree.RunningTree.make_all.Goals as goal

@@ -1,5 +1,5 @@
-use Rattle.tree_model.specs.declared.events.StepError.TheVariants.{Memory}
-use Rattle.core_law.specs.worlds.Worlds.{Stops}
+use Rattle.protocol.specs.declared.events.StepError.TheVariants.{Memory}
+use Rattle.tree_state.specs.Worlds.{Stops}
 use Rattle.tree_world.specs.Worlds.{running_state}
 use Rattle.tree_world.proofs.Handling.{passed_on}
 use Rattle.tree_world.proofs.Settling.{not_begun}

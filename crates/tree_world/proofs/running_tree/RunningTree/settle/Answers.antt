@@ -1,9 +1,9 @@
 use Rattle.std.proofs.Common.{◌≡◌, ◌∙◌, ap, None, Some, arith, rules}
-use Rattle.tree_model.specs.declared.events.Event.TheVariants.{Settle}
-use Rattle.tree_model.specs.declared.events.StepError.TheVariants.{Memory}
-use Rattle.core_law.specs.worlds.Worlds.{Stops, least_open}
-use Rattle.fault_journal.specs.Faults.{FaultsSight}
-use Rattle.fault_journal.specs.Traces.{NotedUntil}
+use Rattle.protocol.specs.declared.events.Event.TheVariants.{Settle}
+use Rattle.protocol.specs.declared.events.StepError.TheVariants.{Memory}
+use Rattle.tree_state.specs.Worlds.{Stops, least_open}
+use Rattle.tree_faults.specs.Faults.{FaultsSight}
+use Rattle.tree_faults.specs.Traces.{NotedUntil}
 use Rattle.tree_world.specs.Nodes.{kept_at}
 use Rattle.tree_world.specs.Worlds.{running_state}
 use Rattle.tree_world.proofs.Handling.{no_success, passed_on, stays, world}

@@ -1,5 +1,5 @@
 use Rattle.std.proofs.Common.{◌≡◌}
-use Rattle.core_law.specs.worlds.Worlds.{Settles}
+use Rattle.tree_state.specs.Worlds.{Settles}
 use Rattle.tree_world.specs.Worlds.{running_state}
 use Rattle.tree_world.proofs.running_tree.RunningTree.settle.Given as goal
 

@@ -1,5 +1,5 @@
-use Rattle.fault_journal.specs.Traces.{trace_by}
-use Rattle.fault_journal.proofs.Traced.{applied_traced, stays_traced}
+use Rattle.tree_faults.specs.Traces.{trace_by}
+use Rattle.tree_faults.proofs.Traced.{applied_traced, stays_traced}
 use Rattle.tree_world.specs.Worlds.{running_state}
 use Rattle.tree_world.proofs.Modelled.{applied_from, applied_since, applied_tree, is_tree_of, kept_headline, stays_kept}
 use Rattle.tree_world.proofs.world.World.apply.Goals as goal

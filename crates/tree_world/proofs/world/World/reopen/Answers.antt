@@ -1,6 +1,6 @@
 use Rattle.std.proofs.Common.{arith}
 use Rattle.tree_world.specs.Nodes.{kept_at}
-use Rattle.reopened_trees.proofs.Openings.{reopened_on}
+use Rattle.proof_reopened.proofs.Openings.{reopened_on}
 use Rattle.tree_world.proofs.FromReady.{all_returned}
 use Rattle.tree_world.proofs.ReopenedTrees.{given_first, never_faulty, not_readied_first, not_restarted_first, ready_first, reopened_first, returned_first}
 use Rattle.tree_world.proofs.world.World.reopen.Goals as goal

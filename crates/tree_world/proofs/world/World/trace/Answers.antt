@@ -1,4 +1,4 @@
-use Rattle.fault_journal.proofs.Traced.{trace_run}
+use Rattle.tree_faults.proofs.Traced.{trace_run}
 use Rattle.tree_world.proofs.world.World.trace.Goals as goal
 
 pub trace-requires : goal.trace-requires

@@ -1,5 +1,5 @@
 use Rattle.std.proofs.Common.{arith}
-use Rattle.fault_journal.proofs.Traced.{kept_opened, no_trace}
+use Rattle.tree_faults.proofs.Traced.{kept_opened, no_trace}
 use Rattle.tree_world.specs.Nodes.{kept_at}
 use Rattle.tree_world.proofs.FromPlaces.{all_opened}
 use Rattle.tree_world.proofs.HandedBack.{handed_back_all}

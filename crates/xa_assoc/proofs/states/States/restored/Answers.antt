@@ -1,7 +1,7 @@
 use Rattle.std.proofs.Common.{◌≡◌, ◌≢◌, ◌∙◌, ◌+◌, ◌++◌, ◌∷◌, [], take, ap, sym, subst, arith, rules}
 use Rattle.std.proofs.lemmas.List.{take_more}
 use Rattle.xa_codes.specs.declared.code.Code.TheVariants as code
-use Rattle.xa_branch.specs.Branches.{Begins}
+use Rattle.xa_branch.specs.Branches.{BeginsState}
 use Rattle.xa_assoc.proofs.Restoring.{is_refused, is_taken}
 use Rattle.xa_assoc.proofs.states.States.restored.Goals as goal
 
@@ -18,7 +18,7 @@ returns-then-ne c =
       short = omega arith;
       front = c.loop-xid.invariant.0;
       next = next;
-      begins = subst (λ s. Begins c.loop-xid.branches c.restore.new.self e.0 s c.in_ok-code.code)
+      begins = subst (λ s. BeginsState c.loop-xid.branches c.restore.new.self e.0 s c.in_ok-code.code)
           c.state_left.ensures c.in_ok-code.ensures.restored;
     }) bad
 
@@ -35,6 +35,6 @@ loop-xid-preserved c =
       short = omega arith;
       front = c.loop-xid.invariant.0;
       next = next;
-      begins = subst (λ s. Begins c.loop-xid.branches c.restore.new.self e.0 s c.in_ok-code.code)
+      begins = subst (λ s. BeginsState c.loop-xid.branches c.restore.new.self e.0 s c.in_ok-code.code)
           c.state_left.ensures c.in_ok-code.ensures.restored;
     }) good c.loop-xid.invariant.2 c.loop-xid.invariant.1

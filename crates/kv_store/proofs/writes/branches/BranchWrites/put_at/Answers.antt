@@ -2,8 +2,8 @@ use Rattle.std.proofs.Common.{◌≡◌, Some, sym, subst, position}
 use Rattle.std.specs.Map.{keys_of}
 use Rattle.xa_xid.specs.declared.xid.Xid.{Xid}
 use Rattle.indexmap.specs.IndexMap.{set_value_at}
-use Rattle.tree_model.specs.Plays.{with_write}
-use Rattle.kv_store.specs.writes.Writes.{HasRoomFor, Leaves, same, table_of, writes_of}
+use Rattle.protocol.specs.Plays.{with_write}
+use Rattle.kv_store.specs.writes.Writes.{HasRoomFor, LeavesWrites, same, table_of, writes_of}
 use Rattle.kv_store.proofs.writes.Lists.{with_write_kept}
 use Rattle.kv_store.proofs.writes.Places.{room_at, wrote_at}
 use Rattle.kv_store.proofs.writes.Tables.{kept_left}
@@ -29,7 +29,7 @@ invariant_of-self c =
     c.requires.sound)
 
 pub returns : goal.returns
-returns c = subst (λ t. (x : Xid) → position (same x) (keys_of t) ≡ Some c.args.place → Leaves t
+returns c = subst (λ t. (x : Xid) → position (same x) (keys_of t) ≡ Some c.args.place → LeavesWrites t
     (table_of (set_value_at c.self.inside.lists.entries c.args.place c.put.new.list)) x
     (with_write (writes_of t x) c.args.write.key c.args.write.value)) c.self.view_is
     (λ x stands. wrote_at c.self.inside.lists.entries x c.args.place c.index_mut.result.now c.put.new.list

@@ -1,5 +1,0 @@
-use Rattle.closed_logs.proofs.Audits.{closed_truly as lemma}
-use Rattle.closed_logs.proofs.law.closed_clusters_are_audited_truly.Goals as goal
-
-pub returns : goal.returns
-returns c = lemma

@@ -1,8 +1,0 @@
-use Rattle.cluster_rows.proofs.callers.ok_is_in_the_journal.Given as goal
-
-abbrev pub ghosts-begin_at_once : goal.ghosts-begin_at_once
-ghosts-begin_at_once g a = record {
-  table = a.opened.ties.shared.table_id;
-  tree = a.tree;
-  callers = 4;
-}

@@ -1,8 +1,0 @@
-use Rattle.cluster_rows.proofs.floods.journal_is_full.Given as goal
-
-abbrev pub ghosts-fill : goal.ghosts-fill
-ghosts-fill g a = record {
-  table = a.opened.ties.shared.table_id;
-  tree = a.tree;
-  callers = 1;
-}

@@ -1,0 +1,35 @@
+use Rattle.std.proofs.Common.{◌∙◌, ap, refl, subst, sym}
+use Rattle.atomic_table.specs.Table.{keeps}
+use Rattle.atomic_table.proofs.Lists.{set_again}
+use Rattle.cluster_ties.specs.Rule.{IsTied}
+use Rattle.cluster_ties.proofs.Parting as parting
+use Rattle.cluster_ties.proofs.ties.meet.Goals as goal
+
+pub load-requires : goal.load-requires
+load-requires c =
+    let e = c.lend_pass.ensures.journal in
+    let v = c.lend_pass.new.journal.me.0 in
+    let kept = ap (λ m. m.0.journal.keeps) e.1 ∙ ap (λ m. m.0.journal.keeps) c.requires.journal in
+    let holds = ap (λ m. m.0.pass.holds) e.1 ∙ ap (λ m. m.0.pass.holds) c.requires.pass in
+    let key = c.args.ties.now.shared.key.items in (
+      e.0 ∙ c.requires.here.0,
+      c.requires.here.2,
+      λ s h long at fits. (
+        v,
+        keeps,
+        tt,
+        subst (IsTied key) (sym (set_again s.views _ v at)) h,
+        (refl, parting.met _ s.views _ v h at kept holds),
+      ),
+    )
+
+pub split_seat-requires : goal.split_seat-requires
+split_seat-requires c =
+    let e = c.lend_pass.ensures.journal in
+    let l = c.load.ensures in
+    let holds = ap (λ m. m.0.pass.holds) l.2.0 ∙ ap (λ m. m.0.pass.holds) e.1
+    ∙ ap (λ m. m.0.pass.holds) c.requires.pass in (
+      l.0 ∙ e.0 ∙ c.requires.here.0,
+      c.requires.here.2,
+      λ s h at. parting.parts_pass _ s.views _ _ h at holds,
+    )

@@ -1,6 +1,0 @@
-use Rattle.coord_table.proofs.Restores.{IsRestoring}
-use Rattle.coord_table.proofs.restoring.restores.Given as goal
-
-abbrev pub invariant-loop-case : goal.invariant-loop-case
-invariant-loop-case l = IsRestoring l.fn.me l.fn.parent l.fn.reading.table
-    l.case-iterator l.cases l.messages

@@ -1,5 +1,0 @@
-use Rattle.core_law.proofs.Faults.{breaks_so}
-use Rattle.core_law.proofs.law.breaks_as_the_model.Goals as goal
-
-pub returns : goal.returns
-returns c = λ n old new a i stands fit broken. breaks_so n old new a i stands broken fit

@@ -1,7 +1,0 @@
-use Rattle.core_law.proofs.CascadeSteps.{cascade_makes}
-use Rattle.core_law.proofs.law.cascades_make_as_the_model.Goals as goal
-
-pub returns : goal.returns
-returns c = λ n old new p a i reaction role stands fits late made. cascade_makes n old
-    new p a i reaction role stands
-    made fits late

@@ -1,5 +1,0 @@
-use Rattle.core_law.proofs.Steps.{faults_so}
-use Rattle.core_law.proofs.law.faults_are_moves.Goals as goal
-
-pub returns : goal.returns
-returns c = λ n old new a i stands fits same broken. faults_so n old new a i stands fits same broken

@@ -1,5 +1,0 @@
-use Rattle.core_law.proofs.Steps.{steps_so}
-use Rattle.core_law.proofs.law.inputs_are_moves.Goals as goal
-
-pub returns : goal.returns
-returns c = λ n old new a i reaction stands fits made. steps_so n old new a i stands fits reaction made

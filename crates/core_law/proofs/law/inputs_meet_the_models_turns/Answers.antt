@@ -1,5 +1,0 @@
-use Rattle.core_law.proofs.Turns.{meets_as}
-use Rattle.core_law.proofs.law.inputs_meet_the_models_turns.Goals as goal
-
-pub returns : goal.returns
-returns c = λ n s a found i stands fit finds. meets_as n s a found i fit finds stands

@@ -1,5 +1,0 @@
-use Rattle.core_law.proofs.ManagerSteps.{managers_make}
-use Rattle.core_law.proofs.law.managers_make_as_the_model.Goals as goal
-
-pub returns : goal.returns
-returns c = managers_make

@@ -1,5 +1,0 @@
-use Rattle.core_law.proofs.Opened.{opened_stands}
-use Rattle.core_law.proofs.law.opened_stands.Goals as goal
-
-pub returns : goal.returns
-returns c = opened_stands

@@ -1,5 +1,0 @@
-use Rattle.core_law.proofs.Steps.{refusals_so}
-use Rattle.core_law.proofs.law.refusals_are_moves.Goals as goal
-
-pub returns : goal.returns
-returns c = λ n old new a i e stands fits refused. refusals_so n old new a i stands fits e refused

@@ -1,6 +1,0 @@
-use Rattle.core_law.proofs.RootSteps.{root_makes}
-use Rattle.core_law.proofs.law.roots_make_as_the_model.Goals as goal
-
-pub returns : goal.returns
-returns c = λ n old new a i reaction role stands fits made. root_makes n old new a i
-    reaction role stands made fits

@@ -1,5 +1,0 @@
-use Rattle.core_law.proofs.worlds.Whole.{run_of}
-use Rattle.core_law.proofs.worlds.law.every_run_is_a_run_of_the_model.Goals as goal
-
-pub returns : goal.returns
-returns c = run_of

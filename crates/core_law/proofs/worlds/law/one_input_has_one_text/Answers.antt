@@ -1,5 +1,0 @@
-use Rattle.core_law.proofs.worlds.OneText.{one_text}
-use Rattle.core_law.proofs.worlds.law.one_input_has_one_text.Goals as goal
-
-pub returns : goal.returns
-returns c = one_text

@@ -1,5 +1,0 @@
-use Rattle.core_law.proofs.worlds.Openings.{opened_follows}
-use Rattle.core_law.proofs.worlds.law.opened_trees_stand_for_the_first_run.Goals as goal
-
-pub returns : goal.returns
-returns c = opened_follows

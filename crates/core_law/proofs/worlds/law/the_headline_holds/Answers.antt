@@ -1,5 +1,0 @@
-use Rattle.core_law.proofs.worlds.Whole.{modelled}
-use Rattle.core_law.proofs.worlds.law.the_headline_holds.Goals as goal
-
-pub returns : goal.returns
-returns c = λ s es w is_tree f. modelled s es w is_tree f

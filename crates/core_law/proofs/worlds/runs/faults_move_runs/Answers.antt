@@ -1,7 +1,0 @@
-use Rattle.core_law.proofs.worlds.Moves.{faults_move}
-use Rattle.core_law.proofs.worlds.runs.faults_move_runs.Goals as goal
-
-pub returns : goal.returns
-returns c = λ tree es w run q listed old new a i at stands same broken. faults_move
-    tree es w run q old new a i at
-    stands listed same broken

@@ -1,7 +1,0 @@
-use Rattle.core_law.proofs.worlds.Moves.{inputs_move}
-use Rattle.core_law.proofs.worlds.runs.inputs_move_runs.Goals as goal
-
-pub returns : goal.returns
-returns c = λ tree es w run q listed old new a i reaction at stands made. inputs_move
-    tree es w run q old new a i at
-    stands listed reaction made

@@ -1,8 +1,0 @@
-use Rattle.std.proofs.Common.{◌≡◌, ◌++◌, drop, length}
-use Rattle.fault_journal.specs.Faults.{AreInOrder, woven}
-use Rattle.fault_journal.proofs.faults.Faults.trace.Given as goal
-
-abbrev pub invariant-loop-failed : goal.invariant-loop-failed
-invariant-loop-failed l = AreInOrder l.made (drop l.failed-index l.failed-items) (length l.journal.entries)
-    × (l.trace.items ++ woven l.made (drop l.made l.journal.entries) (drop l.failed-index l.failed-items)
-    ≡ woven 0 l.journal.entries l.failed-items)

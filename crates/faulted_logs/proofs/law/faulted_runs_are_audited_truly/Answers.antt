@@ -1,5 +1,0 @@
-use Rattle.faulted_logs.proofs.Faulted.{faulted_truly as lemma}
-use Rattle.faulted_logs.proofs.law.faulted_runs_are_audited_truly.Goals as goal
-
-pub returns : goal.returns
-returns c = lemma

@@ -1,5 +1,0 @@
-use Rattle.file_store.proofs.Disks.{files_keep}
-use Rattle.file_store.proofs.law.files_keep_what_was_forced.Goals as goal
-
-pub returns : goal.returns
-returns g c = files_keep c.args.store.now

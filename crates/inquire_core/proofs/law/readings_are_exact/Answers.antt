@@ -1,8 +1,0 @@
-use Rattle.inquire_core.proofs.Readings.{standing_is, view_is}
-use Rattle.inquire_core.proofs.law.readings_are_exact.Goals as goal
-
-pub returns : goal.returns
-returns c = record {
-  standing = λ rs c. standing_is rs c;
-  view = λ rs c. view_is rs c;
-}

@@ -1,5 +1,0 @@
-use Rattle.judged_deeds.proofs.Conforming.{deeds_legal}
-use Rattle.judged_deeds.proofs.law.deeds_conform.Goals as goal
-
-pub returns : goal.returns
-returns c = deeds_legal

@@ -1,5 +1,0 @@
-use Rattle.judged_runs.proofs.Histories.{report_legal}
-use Rattle.judged_runs.proofs.law.reports_conform.Goals as goal
-
-pub returns : goal.returns
-returns c = report_legal

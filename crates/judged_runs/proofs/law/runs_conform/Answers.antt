@@ -1,5 +1,0 @@
-use Rattle.judged_runs.proofs.Histories.{runs_legal}
-use Rattle.judged_runs.proofs.law.runs_conform.Goals as goal
-
-pub returns : goal.returns
-returns c = runs_legal

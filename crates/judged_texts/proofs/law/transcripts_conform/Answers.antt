@@ -1,5 +1,0 @@
-use Rattle.judged_texts.proofs.Conforming.{run_conforms}
-use Rattle.judged_texts.proofs.law.transcripts_conform.Goals as goal
-
-pub returns : goal.returns
-returns c = run_conforms

@@ -1,8 +1,0 @@
-use Rattle.kv_core.proofs.Lawful.{IsLawful, lawful_of}
-use Rattle.tree_model.specs.Store.{data_of}
-use Rattle.kv_core.proofs.law.records_are_lawful.Goals as goal
-
-pub returns : goal.returns
-returns c = λ ls s h.
-    let lawful : IsLawful s (data_of ls) = lawful_of ls s h in
-    (lawful.orderly, lawful.tied)

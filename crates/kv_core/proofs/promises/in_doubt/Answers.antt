@@ -1,8 +1,0 @@
-use Rattle.kv_core.specs.declared.fault.ReplayError.TheVariants.{Memory}
-use Rattle.kv_core.specs.Replays.{RestoreFails}
-use Rattle.kv_core.proofs.Passes.{passed_on}
-use Rattle.kv_core.proofs.promises.in_doubt.Goals as goal
-
-pub returns-in_err-left-clause-err : goal.returns-in_err-left-clause-err
-returns-in_err-left-clause-err c =
-    passed_on c.from_residual.result Memory (RestoreFails c.args.seen.now) c.from_residual.ensures.1 tt

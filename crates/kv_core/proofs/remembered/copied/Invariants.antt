@@ -1,7 +1,0 @@
-use Rattle.std.proofs.Common.{drop}
-use Rattle.xa_heur.specs.Cases.{open_cases}
-use Rattle.kv_core.proofs.Remembering.{IsCopying}
-use Rattle.kv_core.proofs.remembered.copied.Given as goal
-
-abbrev pub invariant-loop-xid : goal.invariant-loop-xid
-invariant-loop-xid l = IsCopying l.fn.decisions (drop l.xid-index (open_cases l.fn.decisions)) l.copy

@@ -1,0 +1,9 @@
+use Rattle.std.proofs.Common.{rules, option_map}
+use Rattle.key_lists.specs.declared.holders.Mode.TheVariants.{Exclusive}
+use Rattle.kv_state.proofs.Working.{refused_at}
+use Rattle.kv_state.proofs.store.KeyStore.write_for.Goals as goal
+
+pub returns-in-Err-clause-err : goal.returns-in-Err-clause-err
+returns-in-Err-clause-err c = refused_at c.args.self.now c.try_write.new.self c.args.xid.now c.args.key.now
+    (option_map (λ v. v.now) c.args.value) Exclusive c.in-Err.refusal c.unless_locked.result
+    (search rules) (search rules) (search rules) c.unless_locked.ensures

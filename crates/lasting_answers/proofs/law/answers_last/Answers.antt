@@ -1,5 +1,0 @@
-use Rattle.lasting_answers.proofs.Lasting.{answers_last as lemma}
-use Rattle.lasting_answers.proofs.law.answers_last.Goals as goal
-
-pub returns : goal.returns
-returns c = lemma

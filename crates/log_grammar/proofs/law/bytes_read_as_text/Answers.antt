@@ -1,5 +1,0 @@
-use Rattle.log_grammar.proofs.Framed.{bytes_read_as_text}
-use Rattle.log_grammar.proofs.law.bytes_read_as_text.Goals as goal
-
-pub returns : goal.returns
-returns c = bytes_read_as_text

@@ -1,8 +1,0 @@
-use Rattle.std.proofs.Common.{rules, not}
-use Rattle.std.proofs.lemmas.Fn.{filter_same}
-use Rattle.tree_model.specs.Names.{same_case}
-use Rattle.log_news.proofs.doubts.strike.Goals as goal
-
-pub returns : goal.returns
-returns c = filter_same _ (λ d. not (same_case c.args.case d)) _ (λ x b f h. search rules)
-    _ _ c.retain.ensures.filtered

@@ -1,0 +1,61 @@
+use Rattle.std.proofs.Common.{sym, ap, ◌∙◌, arith}
+use Rattle.script_words.specs.Lines.{is_skipped}
+use Rattle.script_words.proofs.Texts.{texts, text_at, long}
+use Rattle.log_script.specs.Lines.{log_at}
+use Rattle.log_script.specs.Logs.{each_has_log, may_follow}
+use Rattle.log_script.proofs.LogLaws.{all_read, ends, goes_on, one_missing, skips, stops_second, stops_strange, wrong_line}
+use Rattle.log_script.proofs.reading.logs_behind.Goals as goal
+
+pub loop-i-preserved-then-says_nothing : goal.loop-i-preserved-then-says_nothing
+loop-i-preserved-then-says_nothing c =
+    skips c.args.tree.now c.loop-i.logs (texts c.args.lines.now) _ _ c.loop-i.i _
+    (omega (arith, long c.args.lines.now))
+    (ap is_skipped (text_at c.args.lines.now c.loop-i.i) ∙ sym c.if-says_nothing.ensures)
+    (omega arith) c.loop-i.invariant
+
+pub loop-i-preserved : goal.loop-i-preserved
+loop-i-preserved c =
+    rw c.in_ok-push.ensures.ok
+    (goes_on c.args.tree.now c.loop-i.logs (texts c.args.lines.now) _ _ c.loop-i.i c.in-Some.log _
+    (omega (arith, long c.args.lines.now))
+    (ap is_skipped (text_at c.args.lines.now c.loop-i.i) ∙ sym c.if-says_nothing.ensures)
+    (ap log_at (text_at c.args.lines.now c.loop-i.i) ∙ sym c.in_ok-log.ensures ∙ c.in-Some.is)
+    (ap (λ ls. may_follow c.args.tree.now ls c.in-Some.log) (sym c.as_slice.ensures)
+    ∙ sym c.if-not-may_follow.ensures) (omega arith) c.loop-i.invariant)
+
+pub returns-in_default-clause-err : goal.returns-in_default-clause-err
+returns-in_default-clause-err c =
+    wrong_line c.args.tree.now c.args.rule _ (texts c.args.lines.now)
+    (stops_strange c.args.tree.now c.loop-i.logs (texts c.args.lines.now) _ c.loop-i.i _
+    (omega (arith, long c.args.lines.now))
+    (ap is_skipped (text_at c.args.lines.now c.loop-i.i) ∙ sym c.if-says_nothing.ensures)
+    (ap log_at (text_at c.args.lines.now c.loop-i.i) ∙ sym c.in_ok-log.ensures ∙ c.in_default.is)
+    c.loop-i.invariant)
+
+pub returns-then-not-may_follow-clause-err : goal.returns-then-not-may_follow-clause-err
+returns-then-not-may_follow-clause-err c =
+    wrong_line c.args.tree.now c.args.rule _ (texts c.args.lines.now)
+    (stops_second c.args.tree.now c.loop-i.logs (texts c.args.lines.now) _ c.loop-i.i c.in-Some.log _
+    (omega (arith, long c.args.lines.now))
+    (ap is_skipped (text_at c.args.lines.now c.loop-i.i) ∙ sym c.if-says_nothing.ensures)
+    (ap log_at (text_at c.args.lines.now c.loop-i.i) ∙ sym c.in_ok-log.ensures ∙ c.in-Some.is)
+    (ap (λ ls. may_follow c.args.tree.now ls c.in-Some.log) (sym c.as_slice.ensures)
+    ∙ sym c.if-not-may_follow.ensures) c.loop-i.invariant)
+
+pub returns-then-not-each_has_log-clause-err : goal.returns-then-not-each_has_log-clause-err
+returns-then-not-each_has_log-clause-err c =
+    one_missing c.args.tree.now c.args.rule _ c.loop-i.logs (texts c.args.lines.now)
+    (ends c.args.tree.now c.loop-i.logs (texts c.args.lines.now) _ c.loop-i.i _
+    (omega (arith, long c.args.lines.now, c.loop-i-test.false)) c.loop-i.invariant)
+    (ap (λ es. each_has_log es c.loop-i.logs) (sym c.entries.ensures)
+    ∙ ap (λ ls. each_has_log c.entries.result.now ls) (sym c.as_slice-2.ensures)
+    ∙ sym c.if-not-each_has_log.ensures) (omega (arith, long c.args.lines.now))
+
+pub returns-clause-ok : goal.returns-clause-ok
+returns-clause-ok c =
+    all_read c.args.tree.now c.args.rule c.loop-i.logs (texts c.args.lines.now)
+    (ends c.args.tree.now c.loop-i.logs (texts c.args.lines.now) _ c.loop-i.i _
+    (omega (arith, long c.args.lines.now, c.loop-i-test.false)) c.loop-i.invariant)
+    (ap (λ es. each_has_log es c.loop-i.logs) (sym c.entries.ensures)
+    ∙ ap (λ ls. each_has_log c.entries.result.now ls) (sym c.as_slice-2.ensures)
+    ∙ sym c.if-not-each_has_log.ensures)

@@ -1,5 +1,0 @@
-use Rattle.logs_script.proofs.PlaceLaws.{places_tell}
-use Rattle.logs_script.proofs.places.records_are_those_read.Goals as goal
-
-pub returns : goal.returns
-returns c = places_tell

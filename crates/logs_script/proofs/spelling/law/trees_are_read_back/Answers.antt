@@ -1,5 +1,0 @@
-use Rattle.logs_script.proofs.spelling.TreeText.{tree_text_reads}
-use Rattle.logs_script.proofs.spelling.law.trees_are_read_back.Goals as goal
-
-pub returns : goal.returns
-returns c = tree_text_reads

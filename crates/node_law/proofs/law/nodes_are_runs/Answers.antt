@@ -1,8 +1,0 @@
-use Rattle.node_law.proofs.Steps.{nodes_so, steps_so}
-use Rattle.node_law.proofs.law.nodes_are_runs.Goals as goal
-
-pub returns-clause-step : goal.returns-clause-step
-returns-clause-step c = steps_so
-
-pub returns-clause-nodes : goal.returns-clause-nodes
-returns-clause-nodes c = nodes_so

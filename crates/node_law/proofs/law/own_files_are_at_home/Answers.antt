@@ -1,5 +1,0 @@
-use Rattle.node_law.proofs.AtHome.{own_files_are_at_home as lemma}
-use Rattle.node_law.proofs.law.own_files_are_at_home.Goals as goal
-
-pub returns : goal.returns
-returns c = lemma

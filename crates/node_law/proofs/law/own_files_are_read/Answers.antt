@@ -1,5 +1,0 @@
-use Rattle.node_law.proofs.Files.{own_files_are_read as lemma}
-use Rattle.node_law.proofs.law.own_files_are_read.Goals as goal
-
-pub returns : goal.returns
-returns g c = lemma g.L.LogStore.bytes g.L.LogStore.forced g.L.LogStore.failures

@@ -1,5 +1,0 @@
-use Rattle.node_law.proofs.Finding.{stores_leave as lemma}
-use Rattle.node_law.proofs.law.stores_leave_files.Goals as goal
-
-pub returns : goal.returns
-returns g c = lemma c.args.store.now

@@ -1,5 +1,0 @@
-use Rattle.node_lives.proofs.Outcomes.{roots_tell_so}
-use Rattle.node_lives.proofs.law.roots_tell_so.Goals as goal
-
-pub returns : goal.returns
-returns c = roots_tell_so

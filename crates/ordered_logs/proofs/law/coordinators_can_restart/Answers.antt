@@ -1,5 +1,0 @@
-use Rattle.ordered_logs.proofs.Reopens.{can_restart}
-use Rattle.ordered_logs.proofs.law.coordinators_can_restart.Goals as goal
-
-pub returns : goal.returns
-returns c = λ tree es w run q i sound k next. can_restart tree es w run q i sound k next

@@ -1,0 +1,2 @@
+pub mod Fails
+pub mod Traces

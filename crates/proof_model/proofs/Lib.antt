@@ -1,0 +1,10 @@
+pub mod RootViewLaws
+pub mod ManagerViewLaws
+pub mod FoundLaws
+pub mod AckLaws
+pub mod TicketLaws
+pub mod PhaseLaws
+pub mod BeginLaws
+pub mod RootRowLaws
+pub mod StandingLaws
+pub mod CostLaws

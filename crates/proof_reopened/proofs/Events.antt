@@ -1,0 +1,232 @@
+-- What a tree comes to by events stands for a run that goes on since it was opened.
+use Rattle.std.proofs.Common.{◌≡◌, ◌∙◌, sym, subst, refl, ℕ, zero, suc, Option, Some, None, List, [], ◌∷◌, ◌++◌, append_assoc, take}
+use Rattle.protocol.specs.declared.names.ProcessId.{ProcessId}
+use Rattle.protocol.specs.declared.messages.Envelope.{Envelope}
+use Rattle.protocol.specs.declared.events.Act.{Act}
+use Rattle.protocol.specs.declared.events.Event.{Event}
+use Rattle.protocol.specs.declared.events.Event.TheVariants.{Act as ActOf, Deliver, Settle, Restart, Trim}
+use Rattle.protocol.specs.declared.events.Input.TheVariants.{Act as ActInput, Message as MessageInput}
+use Rattle.protocol.specs.declared.events.StepError.{StepError}
+use Rattle.protocol.specs.declared.events.StepError.TheVariants as step_error
+use Rattle.protocol.specs.declared.trees.TreeProcess.{TreeProcess}
+use Rattle.protocol.specs.Plays.{process_of_act, sent_as}
+use Rattle.protocol.specs.Trees.{IsTree, root_of}
+use Rattle.protocol.specs.World.{Continues, Made, World, goes_on, stays}
+use Rattle.tree_state.specs.Worlds.{Applies, Delivers, DeviceFailsUnder, NoneDelivered, NotActed, NotDelivered, NotRestartedAt, NotTrimmedAt, SameTree, Settles, SettleStops, Stops, WorldState, least_open, marks, settles_by}
+use Rattle.tree_state.specs.Runs.{EventsLead, LeadsUntil}
+use Rattle.proof_runs.proofs.worlds.Steps.{sent_stands}
+use Rattle.proof_reopened.specs.Earlier.{Earlier}
+use Rattle.proof_reopened.specs.Since.{FollowsSince, GoesOnSince}
+use Rattle.proof_reopened.proofs.Faults.{input_fails_since, restart_fails_since, trim_fails_since}
+use Rattle.proof_reopened.proofs.Steps.{input_since, restart_since, same_since, trim_since, waits_since}
+
+-- Later moves after later moves.
+
+continues_on : (tree : List TreeProcess) (w0 w1 : World) (first : List Made) → Continues tree w0 first w1
+    → (second : List Made) (w2 : World) → Continues tree w1 second w2 → Continues tree w0 (second ++ first) w2
+continues_on tree w0 w1 first before _ _ stays = before
+continues_on tree w0 w1 first before _ _ (goes_on es w m e w' later stands step) =
+    goes_on (es ++ first) w m e w' (continues_on tree w0 w1 first before es w later) stands step
+
+-- a state that goes on, of the same tree
+pub record GoesIn (o : Earlier) (tree : List TreeProcess) (es : List Made) (w : World) (s : WorldState) : Type 0 where
+  pub goes_on_so : GoesOnSince o es w s
+  pub tree_stays : s.tree ≡ tree
+
+module _ (o : Earlier) where
+  pub waits : (tree : List TreeProcess) (es : List Made) (w : World) (s : WorldState) → FollowsSince o es w s
+      → s.tree ≡ tree → GoesIn o tree es w s
+  waits tree es w s f is = record { goes_on_so = waits_since o es w s f; tree_stays = is }
+
+  pub then_on : (tree : List TreeProcess) (es : List Made) (w : World) (s t : WorldState) → GoesIn o tree es w s
+      → ((es' : List Made) (w' : World) → FollowsSince o es' w' s → GoesIn o tree es' w' t) → GoesIn o tree es w t
+  then_on tree es w s t first next =
+      let one = first.goes_on_so in
+      let two = next (one.later ++ es) one.world one.follows in
+      let last = two.goes_on_so in
+      record {
+        goes_on_so = record {
+          later = last.later ++ one.later;
+          world = last.world;
+          leads = continues_on t.tree w one.world one.later (subst (λ z. Continues z w one.later one.world)
+              (first.tree_stays ∙ sym two.tree_stays) one.leads)
+              last.later last.world last.leads;
+          follows = subst (λ xs. FollowsSince o xs last.world t)
+              (sym (append_assoc last.later one.later es)) last.follows;
+        };
+        tree_stays = two.tree_stays;
+      }
+
+module _ (past : Earlier) (tree : List TreeProcess) (is_tree : IsTree tree) where
+  -- one delivery
+  delivered_on : (s t : WorldState) (k : ℕ) (es : List Made) (w : World) → s.tree ≡ tree
+      → FollowsSince past es w s → Delivers s t k → GoesIn past tree es w t
+  delivered_on s t k es w is f made =
+      let envelope = made.envelope in
+      record {
+        goes_on_so = input_since past es w s t (subst IsTree (sym is) is_tree) f envelope.to
+            (MessageInput k envelope.message) (marks s.delivered k) (sent_stands s.net k envelope made.sent)
+            made.steps;
+        tree_stays = made.steps.moves.tree ∙ is;
+      }
+
+  settle_step : (n : ℕ) (s t : WorldState) (o : Option ℕ) (es : List Made) (w : World)
+      → ((mid : WorldState) (es' : List Made) (w' : World) → mid.tree ≡ tree → FollowsSince past es' w' mid
+      → Settles n mid t → GoesIn past tree es' w' t)
+      → s.tree ≡ tree → FollowsSince past es w s → settles_by s t (λ mid. Settles n mid t) o
+      → GoesIn past tree es w t
+  settle_step n s t None es w again is f made =
+      subst (λ z. GoesIn past tree es w z) (sym made) (waits past tree es w s f is)
+  settle_step n s t (Some k) es w again is f made =
+      then_on past tree es w made.0 t (delivered_on s made.0 k es w is f made.1)
+      (λ es' w' g. again made.0 es' w' (made.1.steps.moves.tree ∙ is) g made.2)
+
+  pub settles_on : (n : ℕ) (s t : WorldState) (es : List Made) (w : World) → s.tree ≡ tree
+      → FollowsSince past es w s → Settles n s t → GoesIn past tree es w t
+  settles_on zero s t es w is f made = subst (λ z. GoesIn past tree es w z) (sym made)
+      (waits past tree es w s f is)
+  settles_on (suc n) s t es w is f made =
+      settle_step n s t (least_open 1 s.delivered) es w
+      (λ mid es' w' still g. settles_on n mid t es' w' still g) is f made
+
+  -- an event that was made
+  pub applied_on : (s t : WorldState) (event : Event) (es : List Made) (w : World) → s.tree ≡ tree
+      → FollowsSince past es w s → Applies s event t → GoesIn past tree es w t
+  applied_on s t (ActOf a) es w is f made = record {
+    goes_on_so = input_since past es w s t (subst IsTree (sym is) is_tree) f (process_of_act (root_of s.tree) a)
+        (ActInput a) s.delivered tt made;
+    tree_stays = made.moves.tree ∙ is;
+  }
+  applied_on s t (Deliver k) es w is f made = delivered_on s t k es w is f made
+  applied_on s t Settle es w is f made = settles_on 10000 s t es w is f made
+  applied_on s t (Restart q bytes) es w is f made = record {
+    goes_on_so = restart_since past es w s t (subst IsTree (sym is) is_tree) f q bytes made;
+    tree_stays = made.moves.tree ∙ is;
+  }
+  applied_on s t (Trim q) es w is f made = record {
+    goes_on_so = trim_since past es w s t (subst IsTree (sym is) is_tree) f q made;
+    tree_stays = made.moves.tree ∙ is;
+  }
+
+  -- one that was not made
+
+  same_on : (s t : WorldState) (es : List Made) (w : World) → s.tree ≡ tree → FollowsSince past es w s
+      → SameTree s t → GoesIn past tree es w t
+  same_on s t es w is f same = waits past tree es w t (same_since past es w s t f same) (same.tree ∙ is)
+
+  undelivered_on : (s t : WorldState) (k : ℕ) (e : StepError) (es : List Made) (w : World)
+      → s.tree ≡ tree → FollowsSince past es w s
+      → NotDelivered s t k e → GoesIn past tree es w t
+  undelivered_on s t k step_error.Memory es w is f h = same_on s t es w is f h
+  undelivered_on s t k step_error.Device es w is f h =
+      by_message (sent_as s.net k) refl h
+    where
+      by_message : (o : Option Envelope) → sent_as s.net k ≡ o → DeviceFailsUnder s t k o
+          → GoesIn past tree es w t
+      by_message None sent failed = absurd failed
+      by_message (Some l) sent failed = record {
+        goes_on_so = input_fails_since past es w s t f l.to (MessageInput k l.message) (sent_stands s.net k l sent) failed;
+        tree_stays = failed.moves.tree ∙ is;
+      }
+  undelivered_on s t k step_error.UnknownTxn es w is f h = same_on s t es w is f h.0
+  undelivered_on s t k step_error.NotAChild es w is f h = same_on s t es w is f h.0
+  undelivered_on s t k step_error.Closed es w is f h = same_on s t es w is f h.0
+  undelivered_on s t k step_error.NotInDoubt es w is f h = same_on s t es w is f h.0
+  undelivered_on s t k step_error.NothingToForget es w is f h = same_on s t es w is f h.0
+  undelivered_on s t k step_error.Failed es w is f h = same_on s t es w is f h.0
+  undelivered_on s t k step_error.NoSuch es w is f h = same_on s t es w is f h.0
+  undelivered_on s t k step_error.Exhausted es w is f h = same_on s t es w is f h.0
+
+  unacted_on : (s t : WorldState) (q : ProcessId) (a : Act) (e : StepError) (es : List Made) (w : World)
+      → s.tree ≡ tree → FollowsSince past es w s
+      → NotActed s t q a e → GoesIn past tree es w t
+  unacted_on s t q a step_error.Memory es w is f h = same_on s t es w is f h
+  unacted_on s t q a step_error.Device es w is f h = record {
+    goes_on_so = input_fails_since past es w s t f q (ActInput a) tt h;
+    tree_stays = h.moves.tree ∙ is;
+  }
+  unacted_on s t q a step_error.UnknownTxn es w is f h = same_on s t es w is f h.0
+  unacted_on s t q a step_error.NotAChild es w is f h = same_on s t es w is f h.0
+  unacted_on s t q a step_error.Closed es w is f h = same_on s t es w is f h.0
+  unacted_on s t q a step_error.NotInDoubt es w is f h = same_on s t es w is f h.0
+  unacted_on s t q a step_error.NothingToForget es w is f h = same_on s t es w is f h.0
+  unacted_on s t q a step_error.Failed es w is f h = same_on s t es w is f h.0
+  unacted_on s t q a step_error.NoSuch es w is f h = same_on s t es w is f h.0
+  unacted_on s t q a step_error.Exhausted es w is f h = same_on s t es w is f h.0
+
+  unrestarted_on : (s t : WorldState) (q : ProcessId) (bytes : Option ℕ) (e : StepError) (es : List Made)
+      (w : World) → s.tree ≡ tree → FollowsSince past es w s → NotRestartedAt s t q bytes e → GoesIn past tree es w t
+  unrestarted_on s t q bytes step_error.Memory es w is f h = same_on s t es w is f h
+  unrestarted_on s t q bytes step_error.Device es w is f h = record {
+    goes_on_so = restart_fails_since past es w s t f q (subst IsTree (sym is) is_tree) bytes h;
+    tree_stays = h.moves.tree ∙ is;
+  }
+  unrestarted_on s t q bytes step_error.UnknownTxn es w is f h = absurd h
+  unrestarted_on s t q bytes step_error.NotAChild es w is f h = absurd h
+  unrestarted_on s t q bytes step_error.Closed es w is f h = absurd h
+  unrestarted_on s t q bytes step_error.NotInDoubt es w is f h = absurd h
+  unrestarted_on s t q bytes step_error.NothingToForget es w is f h = absurd h
+  unrestarted_on s t q bytes step_error.Failed es w is f h = absurd h
+  unrestarted_on s t q bytes step_error.NoSuch es w is f h = same_on s t es w is f h.0
+  unrestarted_on s t q bytes step_error.Exhausted es w is f h = same_on s t es w is f h.0
+
+  untrimmed_on : (s t : WorldState) (q : ProcessId) (e : StepError) (es : List Made) (w : World)
+      → s.tree ≡ tree → FollowsSince past es w s
+      → NotTrimmedAt s t q e → GoesIn past tree es w t
+  untrimmed_on s t q step_error.Memory es w is f h = same_on s t es w is f h
+  untrimmed_on s t q step_error.Device es w is f h = record {
+    goes_on_so = trim_fails_since past es w s t f q (subst IsTree (sym is) is_tree) h;
+    tree_stays = h.moves.tree ∙ is;
+  }
+  untrimmed_on s t q step_error.UnknownTxn es w is f h = absurd h
+  untrimmed_on s t q step_error.NotAChild es w is f h = absurd h
+  untrimmed_on s t q step_error.Closed es w is f h = absurd h
+  untrimmed_on s t q step_error.NotInDoubt es w is f h = absurd h
+  untrimmed_on s t q step_error.NothingToForget es w is f h = absurd h
+  untrimmed_on s t q step_error.Failed es w is f h = same_on s t es w is f h.0
+  untrimmed_on s t q step_error.NoSuch es w is f h = same_on s t es w is f h.0
+  untrimmed_on s t q step_error.Exhausted es w is f h = absurd h
+
+  none_on : (s t : WorldState) (e : StepError) (o : Option ℕ) (es : List Made) (w : World)
+      → s.tree ≡ tree → FollowsSince past es w s
+      → NoneDelivered s t e o → GoesIn past tree es w t
+  none_on s t e None es w is f h = same_on s t es w is f h.1
+  none_on s t e (Some k) es w is f h = undelivered_on s t k e es w is f h
+
+  settle_stops_on : (limit : ℕ) (s t : WorldState) (e : StepError) (es : List Made) (w : World)
+      → s.tree ≡ tree → FollowsSince past es w s
+      → SettleStops limit s t e → GoesIn past tree es w t
+  settle_stops_on limit s t e es w is f h =
+      let first = settles_on h.count s h.before es w is f h.settles in
+      then_on past tree es w h.before t first
+      (λ es' w' g. none_on h.before t e (least_open 1 h.before.delivered) es' w'
+      first.tree_stays g h.stops)
+
+  pub stopped_on : (s t : WorldState) (event : Event) (e : StepError) (es : List Made) (w : World)
+      → s.tree ≡ tree → FollowsSince past es w s
+      → Stops s event e t → GoesIn past tree es w t
+  stopped_on s t (ActOf a) e es w is f h =
+      unacted_on s t (process_of_act (root_of s.tree) a) a e es w is f h
+  stopped_on s t (Deliver k) e es w is f h = undelivered_on s t k e es w is f h
+  stopped_on s t Settle e es w is f h = settle_stops_on 10000 s t e es w is f h
+  stopped_on s t (Restart q bytes) e es w is f h = unrestarted_on s t q bytes e es w is f h
+  stopped_on s t (Trim q) e es w is f h = untrimmed_on s t q e es w is f h
+
+  -- Lists of events.
+
+  pub leads_on : (s t : WorldState) (events : List Event) (es : List Made) (w : World) → s.tree ≡ tree
+      → FollowsSince past es w s → EventsLead s events t → GoesIn past tree es w t
+  leads_on s t [] es w is f made = subst (λ z. GoesIn past tree es w z) (sym made)
+      (waits past tree es w s f is)
+  leads_on s t (e ∷ events) es w is f made =
+      let first = applied_on s made.0 e es w is f made.1 in
+      then_on past tree es w made.0 t first
+      (λ es' w' g. leads_on made.0 t events es' w' first.tree_stays g made.2)
+
+  pub leads_until_on : (s t : WorldState) (events : List Event) (n : ℕ) (e : StepError) (es : List Made)
+      (w : World) → s.tree ≡ tree
+      → FollowsSince past es w s → LeadsUntil s events n e t → GoesIn past tree es w t
+  leads_until_on s t events n e es w is f made =
+      let first = leads_on s made.before (take n events) es w is f made.leads in
+      then_on past tree es w made.before t first
+      (λ es' w' g. stopped_on made.before t made.event e es' w' first.tree_stays g made.stops)

@@ -1,0 +1,5 @@
+pub mod Laws
+pub mod Follows
+pub mod Modelled
+pub mod Refusals
+pub mod Determined

@@ -1,0 +1,5 @@
+pub mod RunLaws
+pub mod ListLaws
+pub mod LogNameLaws
+pub mod NameTests
+pub mod Equality

@@ -1,5 +1,0 @@
-use Rattle.rec_log.proofs.Written.{whole_text, written}
-use Rattle.rec_log.proofs.law.written_is_read.Goals as goal
-
-pub returns : goal.returns
-returns c = λ p ls are. (written p ls are, whole_text p ls are)

@@ -1,9 +1,0 @@
-use Rattle.std.proofs.Common.{◌∙◌}
-use Rattle.std.proofs.lemmas.Result.{IfOk-weaker}
-use Rattle.rec_log.proofs.Rewriting.{copied}
-use Rattle.rec_log.proofs.log.RecLog.text.Goals as goal
-
-pub returns : goal.returns
-returns g c =
-    IfOk-weaker c.from_slice.result _ _ (λ v e. copied _ _ _ _ _ _ _ _ c.self.view_is c.self.invariant.0
-    (e ∙ c.bytes.ensures)) c.from_slice.ensures.items

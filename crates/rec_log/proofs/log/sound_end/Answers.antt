@@ -1,9 +1,0 @@
-use Rattle.std.proofs.Common.{refl, subst}
-use Rattle.rec_log.specs.Sights.{Sounds}
-use Rattle.rec_log.proofs.Known.{sound_behind}
-use Rattle.rec_log.proofs.log.sound_end.Goals as goal
-
-pub returns : goal.returns
-returns c =
-    sound_behind c.args.form c.args.left.now c.args.known c.in_ok-size.size _ c.requires
-    (subst (λ t. Sounds c.args.form t c.in_ok-size.size) c.split_at.ensures.back c.in_ok-size.ensures) refl

@@ -1,8 +1,0 @@
-use Rattle.std.proofs.Common.{◌≡◌, ◌++◌, take}
-use Rattle.run_picture.specs.Lines.{steps_lines}
-use Rattle.run_picture.specs.Pictures.{titles_of}
-use Rattle.run_picture.proofs.drawing.Drawing.draw_steps.Given as goal
-
-abbrev pub invariant-loop-place : goal.invariant-loop-place
-invariant-loop-place l =
-    titles_of l.lines.items ≡ titles_of l.initial.lines.items ++ steps_lines (take l.place l.entries)

@@ -1,4 +1,0 @@
-pub mod Spans
-pub mod Steps
-pub mod Kept
-pub mod Shown

@@ -1,0 +1,4 @@
+pub mod Stages
+pub mod Tables
+pub mod Rebuilt
+pub mod Remembered

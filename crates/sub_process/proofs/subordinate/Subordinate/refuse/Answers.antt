@@ -1,0 +1,111 @@
+use Rattle.std.proofs.Common.{◌∙◌, sym, ap, subst}
+use Rattle.xa_tables.specs.declared.call.Call.TheVariants as call
+use Rattle.protocol.specs.declared.messages.Message.TheVariants.{Prepare}
+use Rattle.sub_work.specs.Deeds.{can_roll_back}
+use Rattle.resource_manager.specs.Sights.{ManagerSight}
+use Rattle.sub_branches.specs.declared.branch.LiveBranch.{LiveBranch}
+use Rattle.sub_process.specs.Subordinates.{Hears, IsAt, NotHeard, SubState, active, seen}
+use Rattle.sub_process.proofs.Ties.{behind}
+use Rattle.sub_process.proofs.Outcomes.{ended, ended_tied, not_ended, refuse_row, rollable}
+use Rattle.sub_process.proofs.Ends.{not_tied}
+use Rattle.sub_process.proofs.subordinate.Subordinate.refuse.Goals as goal
+
+pub rollback-requires-clause-named : goal.rollback-requires-clause-named
+rollback-requires-clause-named g c =
+    let b : LiveBranch = active c.args.xid.now c.requires.at.0 c.requires.at.1 c.requires.at.2 in
+    let at : IsAt c.self.inside.branches c.args.key c.args.case b =
+    subst (λ v. IsAt v.table c.args.key c.args.case b) (sym c.self.view_is) c.requires.at.3 in
+    (c.self.invariant.named c.args.case b at.live).real
+
+pub rollback-requires-clause-state : goal.rollback-requires-clause-state
+rollback-requires-clause-state g c =
+    let s : SubState = record {
+      me = c.self.inside.me;
+      parent = c.self.inside.parent;
+      tree = c.self.inside.tree;
+      given = c.self.inside.given;
+      table = c.self.inside.branches;
+      manager = g.M.ResourceManager.sight c.self.inside.manager;
+    } in
+    let b : LiveBranch = active c.args.xid.now c.requires.at.0 c.requires.at.1 c.requires.at.2 in
+    let at : IsAt c.self.inside.branches c.args.key c.args.case b =
+    subst (λ v. IsAt v.table c.args.key c.args.case b) (sym c.self.view_is) c.requires.at.3 in
+    ap can_roll_back (c.self.invariant.stands c.args.case b at.live)
+    ∙ rollable c.requires.at.0 c.requires.at.1 c.requires.at.2
+
+pub invariant_of-self : goal.invariant_of-self
+invariant_of-self g c =
+    let s : SubState = record {
+      me = c.self.inside.me;
+      parent = c.self.inside.parent;
+      tree = c.self.inside.tree;
+      given = c.self.inside.given;
+      table = c.self.inside.branches;
+      manager = g.M.ResourceManager.sight c.self.inside.manager;
+    } in
+    let b : LiveBranch = active c.args.xid.now c.requires.at.0 c.requires.at.1 c.requires.at.2 in
+    let at : IsAt c.self.inside.branches c.args.key c.args.case b =
+    subst (λ v. IsAt v.table c.args.key c.args.case b) (sym c.self.view_is) c.requires.at.3 in
+    let m : ManagerSight = g.M.ResourceManager.sight c.rollback.new.manager in
+    ended_tied s c.args.key c.args.case b call.Rollback c.remove.new.self m c.self.invariant at
+    c.remove.ensures c.in-Ok.ensures.ok
+
+pub invariant_of-self-in-Err-1 : goal.invariant_of-self-in-Err-1
+invariant_of-self-in-Err-1 g c =
+    let s : SubState = record {
+      me = c.self.inside.me;
+      parent = c.self.inside.parent;
+      tree = c.self.inside.tree;
+      given = c.self.inside.given;
+      table = c.self.inside.branches;
+      manager = g.M.ResourceManager.sight c.self.inside.manager;
+    } in
+    let b : LiveBranch = active c.args.xid.now c.requires.at.0 c.requires.at.1 c.requires.at.2 in
+    let at : IsAt c.self.inside.branches c.args.key c.args.case b =
+    subst (λ v. IsAt v.table c.args.key c.args.case b) (sym c.self.view_is) c.requires.at.3 in
+    not_tied s (g.M.ResourceManager.sight c.rollback.new.manager) c.args.case b call.Rollback c.in-Err.error
+    c.self.invariant at.live c.in-Err.ensures.err
+
+pub returns-in-Ok-clause-ok : goal.returns-in-Ok-clause-ok
+returns-in-Ok-clause-ok g c =
+    let s : SubState = record {
+      me = c.self.inside.me;
+      parent = c.self.inside.parent;
+      tree = c.self.inside.tree;
+      given = c.self.inside.given;
+      table = c.self.inside.branches;
+      manager = g.M.ResourceManager.sight c.self.inside.manager;
+    } in
+    let b : LiveBranch = active c.args.xid.now c.requires.at.0 c.requires.at.1 c.requires.at.2 in
+    let at : IsAt c.self.inside.branches c.args.key c.args.case b =
+    subst (λ v. IsAt v.table c.args.key c.args.case b) (sym c.self.view_is) c.requires.at.3 in
+    let m : ManagerSight = g.M.ResourceManager.sight c.rollback.new.manager in
+    let ends = refuse_row s c.args.key c.args.case c.requires.at.0 c.requires.at.1 c.args.works
+    c.requires.at.2 c.args.xid.now at c.requires.at.4 in
+    subst (λ v. Hears (seen g.M.ResourceManager.sight v) (behind s c.remove.new.self m)
+    (Prepare c.args.case c.args.works) c.in_ok-reaction.reaction) c.self.view_is
+    (subst (λ r. Hears s (behind s c.remove.new.self m) (Prepare c.args.case c.args.works) r)
+    (sym c.in_ok-reaction.ensures)
+    (ended s c.args.key c.args.case b (Prepare c.args.case c.args.works) call.Rollback _ c.self.invariant at
+    ends c.remove.new.self m c.remove.ensures c.in-Ok.ensures.ok))
+
+pub returns-in-Err-clause-err : goal.returns-in-Err-clause-err
+returns-in-Err-clause-err g c =
+    let s : SubState = record {
+      me = c.self.inside.me;
+      parent = c.self.inside.parent;
+      tree = c.self.inside.tree;
+      given = c.self.inside.given;
+      table = c.self.inside.branches;
+      manager = g.M.ResourceManager.sight c.self.inside.manager;
+    } in
+    let b : LiveBranch = active c.args.xid.now c.requires.at.0 c.requires.at.1 c.requires.at.2 in
+    let at : IsAt c.self.inside.branches c.args.key c.args.case b =
+    subst (λ v. IsAt v.table c.args.key c.args.case b) (sym c.self.view_is) c.requires.at.3 in
+    let m : ManagerSight = g.M.ResourceManager.sight c.rollback.new.manager in
+    let ends = refuse_row s c.args.key c.args.case c.requires.at.0 c.requires.at.1 c.args.works
+    c.requires.at.2 c.args.xid.now at c.requires.at.4 in
+    subst (λ v. NotHeard (seen g.M.ResourceManager.sight v) (behind s s.table m)
+    (Prepare c.args.case c.args.works) c.in-Err.error) c.self.view_is
+    (not_ended s c.args.key c.args.case b (Prepare c.args.case c.args.works) call.Rollback _ c.self.invariant
+    at ends m c.in-Err.error c.in-Err.ensures.err)

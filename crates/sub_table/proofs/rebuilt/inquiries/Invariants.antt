@@ -1,7 +1,0 @@
-use Rattle.std.proofs.Common.{◌≡◌, take}
-use Rattle.std.specs.List.{flat_map}
-use Rattle.sub_table.specs.Rebuilt.{asks}
-use Rattle.sub_table.proofs.rebuilt.inquiries.Given as goal
-
-abbrev pub invariant-loop-case : goal.invariant-loop-case
-invariant-loop-case l = l.messages ≡ flat_map (asks l.me l.parent l.branches) (take l.case-index l.cases)

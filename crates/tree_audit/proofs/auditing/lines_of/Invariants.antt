@@ -1,8 +1,0 @@
-use Rattle.std.proofs.Common.{◌≡◌, ◌++◌, drop}
-use Rattle.tree_audit.specs.Tables.{all_lines}
-use Rattle.tree_audit.proofs.auditing.lines_of.Given as goal
-
-abbrev pub invariant-loop-entry : goal.invariant-loop-entry
-invariant-loop-entry l =
-    l.lines.items ++ all_lines l.notes.entries l.said.entries (drop l.entry-index l.entries)
-    ≡ all_lines l.notes.entries l.said.entries l.entries

@@ -1,4 +1,0 @@
-use Rattle.tree_audit.proofs.parents.+say.Given as goal
-
-abbrev pub decreases-say : goal.decreases-say
-decreases-say l = l.steps

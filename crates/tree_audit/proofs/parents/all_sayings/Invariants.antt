@@ -1,6 +1,0 @@
-use Rattle.std.proofs.Common.{take}
-use Rattle.tree_audit.specs.Tables.{SaidFor}
-use Rattle.tree_audit.proofs.parents.all_sayings.Given as goal
-
-abbrev pub invariant-loop-entry : goal.invariant-loop-entry
-invariant-loop-entry l = SaidFor l.tree l.notes.entries (take l.entry-index l.entries) l.said.entries

@@ -1,7 +1,0 @@
-use Rattle.tree_cluster.specs.Passes.{IsLonger}
-use Rattle.tree_cluster.proofs.cluster.Cluster.serve.Given as goal
-
-abbrev pub invariant-loop : goal.invariant-loop
-invariant-loop g l =
-    (goal.iterator-loop g).can_next l.iterator' × (goal.iterator-loop g).is_finite l.iterator'
-    × IsLonger l.fn.pass l.pass

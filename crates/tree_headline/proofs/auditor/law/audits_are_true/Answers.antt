@@ -1,5 +1,0 @@
-use Rattle.tree_headline.proofs.auditor.Audit as audit
-use Rattle.tree_headline.proofs.auditor.law.audits_are_true.Goals as goal
-
-pub returns : goal.returns
-returns c = audit.audits_are_true

@@ -1,5 +1,0 @@
-use Rattle.tree_headline.proofs.Clauses as world
-use Rattle.tree_headline.proofs.law.agreement.Goals as goal
-
-pub returns : goal.returns
-returns c = λ tree w is_tree h. world.agreement tree is_tree w h

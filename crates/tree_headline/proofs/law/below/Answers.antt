@@ -1,5 +1,0 @@
-use Rattle.tree_headline.proofs.Pairs as world
-use Rattle.tree_headline.proofs.law.below.Goals as goal
-
-pub returns : goal.returns
-returns c = world.below

@@ -1,5 +1,0 @@
-use Rattle.tree_headline.proofs.Clauses as world
-use Rattle.tree_headline.proofs.law.commit_rule.Goals as goal
-
-pub returns : goal.returns
-returns c = world.commit_rule

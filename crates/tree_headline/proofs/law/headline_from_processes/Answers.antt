@@ -1,5 +1,0 @@
-use Rattle.tree_headline.proofs.Headline as world
-use Rattle.tree_headline.proofs.law.headline_from_processes.Goals as goal
-
-pub returns : goal.returns
-returns c = world.headline

@@ -1,5 +1,0 @@
-use Rattle.tree_headline.proofs.Coordinators as coordinators
-use Rattle.tree_headline.proofs.law.headline_from_root_and_cascaded.Goals as goal
-
-pub returns : goal.returns
-returns c = coordinators.headline_of_runs

@@ -1,5 +1,0 @@
-use Rattle.tree_headline.proofs.Opened as world
-use Rattle.tree_headline.proofs.law.opened_world_holds.Goals as goal
-
-pub returns : goal.returns
-returns c = world.opened_world_holds

@@ -1,5 +1,0 @@
-use Rattle.tree_headline.proofs.Doubts as world
-use Rattle.tree_headline.proofs.law.true_answers.Goals as goal
-
-pub returns : goal.returns
-returns c = world.true_answers

@@ -1,5 +1,0 @@
-use Rattle.tree_headline.proofs.runs.Headline as runs
-use Rattle.tree_headline.proofs.runs.law.the_world_holds.Goals as goal
-
-pub returns : goal.returns
-returns c = λ tree es w is_tree run. runs.the_world_holds tree is_tree es w run

@@ -1,4 +1,0 @@
-use Rattle.tree_model.proofs.trees.+level.Given as goal
-
-abbrev pub decreases-level : goal.decreases-level
-decreases-level l = l.steps

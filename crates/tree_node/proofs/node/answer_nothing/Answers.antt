@@ -1,6 +1,0 @@
-use Rattle.core_model.specs.Inputs.{input_of}
-use Rattle.tree_node.proofs.Holdings.{coordinator_answers}
-use Rattle.tree_node.proofs.node.answer_nothing.Goals as goal
-
-pub returns : goal.returns
-returns g c = coordinator_answers c.args.coordinator.now (input_of c.args.input)

@@ -1,5 +1,0 @@
-use Rattle.tree_pairs.proofs.Later as later_proof
-use Rattle.tree_pairs.proofs.law.later_worlds.Goals as goal
-
-pub returns : goal.returns
-returns c = record { later = later_proof.lateness }

@@ -1,5 +1,0 @@
-use Rattle.tree_pairs.proofs.readings.RestartStep as steps
-use Rattle.tree_pairs.proofs.readings.law.manager_restarts.Goals as goal
-
-pub returns : goal.returns
-returns c = record { moves = steps.manager_restarts }

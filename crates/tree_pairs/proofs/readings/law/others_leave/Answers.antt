@@ -1,5 +1,0 @@
-use Rattle.tree_pairs.proofs.readings.OtherSteps as steps
-use Rattle.tree_pairs.proofs.readings.law.others_leave.Goals as goal
-
-pub returns : goal.returns
-returns c = record { moves = steps.others_leave }

@@ -1,5 +1,0 @@
-use Rattle.tree_pairs.proofs.readings.RootStep as steps
-use Rattle.tree_pairs.proofs.readings.law.root_decides.Goals as goal
-
-pub returns : goal.returns
-returns c = record { moves = steps.root_decides }

@@ -1,5 +1,0 @@
-use Rattle.tree_steps.proofs.cascades.ChildSteps as steps
-use Rattle.tree_steps.proofs.cascades.law.cascaded_child_steps.Goals as goal
-
-pub returns : goal.returns
-returns c = steps.cascaded_child_steps

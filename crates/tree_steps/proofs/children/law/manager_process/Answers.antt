@@ -1,5 +1,0 @@
-use Rattle.tree_steps.proofs.children.ManagerProcess as steps
-use Rattle.tree_steps.proofs.children.law.manager_process.Goals as goal
-
-pub returns : goal.returns
-returns c = steps.manager_process

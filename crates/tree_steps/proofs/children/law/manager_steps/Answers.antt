@@ -1,5 +1,0 @@
-use Rattle.tree_steps.proofs.children.ManagerSteps as steps
-use Rattle.tree_steps.proofs.children.law.manager_steps.Goals as goal
-
-pub returns : goal.returns
-returns c = steps.manager_steps

@@ -1,5 +1,0 @@
-use Rattle.tree_steps.proofs.crashes.CoordinatorCrashes as steps
-use Rattle.tree_steps.proofs.crashes.law.coordinator_crashes.Goals as goal
-
-pub returns : goal.returns
-returns c = steps.coordinator_crashes

@@ -1,5 +1,0 @@
-use Rattle.tree_steps.proofs.parents.FaultLaws as steps
-use Rattle.tree_steps.proofs.parents.law.coordinator_inputs.Goals as goal
-
-pub returns : goal.returns
-returns c = steps.coordinator_inputs

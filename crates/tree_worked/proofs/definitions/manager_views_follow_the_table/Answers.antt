@@ -1,5 +1,0 @@
-use Rattle.tree_model.proofs.ManagerViewLaws.{manager_views}
-use Rattle.tree_worked.proofs.definitions.manager_views_follow_the_table.Goals as goal
-
-pub returns : goal.returns
-returns c = λ ver me p tree n d. manager_views ver me p tree n d

@@ -1,9 +1,0 @@
-use Rattle.tree_model.proofs.RootViewLaws.{root_views}
-use Rattle.tree_model.proofs.BeginLaws.{root_begins}
-use Rattle.tree_worked.proofs.definitions.root_views_follow_the_table.Goals as goal
-
-pub returns : goal.returns
-returns c = record {
-  rows = λ ver me tree n x. root_views ver me tree n x;
-  begins = λ ver me tree n p a. root_begins ver me tree n p a;
-}

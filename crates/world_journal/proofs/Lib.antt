@@ -1,2 +1,0 @@
-pub mod Journals
-pub mod OpenPlaces

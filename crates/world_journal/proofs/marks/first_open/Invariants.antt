@@ -1,5 +1,0 @@
-use Rattle.std.proofs.Common.{◌≡◌, true, take, replicate}
-use Rattle.world_journal.proofs.marks.first_open.Given as goal
-
-abbrev pub invariant-loop-place : goal.invariant-loop-place
-invariant-loop-place l = take l.place l.marks ≡ replicate l.place true

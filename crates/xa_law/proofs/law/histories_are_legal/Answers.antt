@@ -1,5 +1,0 @@
-use Rattle.xa_law.proofs.Histories.{legal_history}
-use Rattle.xa_law.proofs.law.histories_are_legal.Goals as goal
-
-pub returns : goal.returns
-returns c = λ m n moves new leads. legal_history m n moves new leads

@@ -1,5 +1,0 @@
-use Rattle.xa_law.proofs.TurnRows.{fits}
-use Rattle.xa_law.proofs.rows.turns_are_rows.Goals as goal
-
-pub returns : goal.returns
-returns c = λ s wrote b d. fits s wrote b d
