@@ -7,7 +7,7 @@ use Rattle.protocol.specs.declared.names.Case.{Case}
 use Rattle.protocol.specs.declared.names.Kind.{Kind}
 use Rattle.protocol.specs.declared.names.Kind.TheVariants.{Coordinator, Manager}
 use Rattle.protocol.specs.declared.names.Ticket.{Ticket}
-use Rattle.protocol.specs.declared.records.BranchName.TheVariants.{Case as CaseBranch}
+use Rattle.protocol_words.specs.Variants.{CaseBranch}
 use Rattle.protocol.specs.declared.records.Record.{Record}
 use Rattle.protocol.specs.declared.records.Record.TheVariants.{Collecting, Prepare, Commit, Abort, End, Prepared, Cleared}
 use Rattle.protocol.specs.declared.records.Reports.{Reports}

@@ -20,7 +20,7 @@ pub struct Firsts<V: Drop> {
 
 impl<V: Drop> Model for Firsts<V> {
     ghost use Rattle.std.specs.Prelude.{List};
-    ghost use Rattle.protocol.specs.declared.names.Case.{Case as AnyCase};
+    ghost use Rattle.protocol_words.specs.Types.{AnyCase};
 
     ghost Value = { List (AnyCase × V) };
 

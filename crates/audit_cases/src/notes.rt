@@ -7,7 +7,7 @@ ghost use Rattle.protocol.specs.LogNames.{own_by};
 ghost use Rattle.protocol.specs.Nodes.{role_by};
 ghost use Rattle.protocol.specs.Records.{record_case};
 ghost use Rattle.coord_records.specs.Readings.{same};
-ghost use Rattle.audit_cases.specs.Notes.{IsRecordAt, last_places as last_places_of, listed_in, no_note, no_notes, note_after, noted, noted_of, place_at, promised_in, reports_behind, tickets_in};
+ghost use Rattle.audit_cases.specs.Notes.{IsRecordAt, last_places, listed_in, no_note, no_notes, note_after, noted, noted_of, place_at, promised_in, reports_behind, tickets_in};
 
 use crate::kinds::Kinds;
 use coord_records::is_own;
@@ -163,7 +163,7 @@ fn note_promise(promised: &mut Vec<Case>, record: &Record) -> Result<(), AllocEr
 
 /// These cases, each once, at its last place. It goes through them once.
 fn last_places(alloc: Global, cases: &[Case]) -> Result<Vec<Case>, AllocError>
-    ensures { IfOk result (λ listed. listed.items ≡ last_places_of cases.now) }
+    ensures { IfOk result (λ listed. listed.items ≡ last_places cases.now) }
 {
     let mut seen = IndexSet::new(alloc);
     let mut listed = Vec::new(alloc);

@@ -5,7 +5,7 @@ ghost use Rattle.protocol.specs.Audits.{KeptLogs};
 ghost use Rattle.protocol.specs.Trees.{IsTree};
 ghost use Rattle.std.specs.Map.{lookup};
 ghost use Rattle.audit_tree.specs.Tables.{AreNotes, same_id};
-ghost use Rattle.audit_engine.specs.Chains.{Adds, AreNamings, found_by_table, asks as deed_asking, asks_on, chain_of, deed_behind, steps_within};
+ghost use Rattle.audit_engine.specs.Chains.{Adds, AreNamings, found_by_table, asks, asks_on, chain_of, deed_behind, steps_within};
 
 use crate::namings::{Namings, TreeNamings};
 use crate::steps::{AuditStep, Stands, StepDeed, StepFound};
@@ -120,7 +120,7 @@ pub fn steps_of(
 
 /// To ask for the outcome of a case in doubt.
 fn asking(case: &Case) -> StepDeed
-    ensures { result ≡ deed_asking case.now case.now.ticket }
+    ensures { result ≡ asks case.now case.now.ticket }
 {
     match case.ticket {
         None => StepDeed::Restart(case.process()),

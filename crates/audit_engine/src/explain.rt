@@ -5,7 +5,7 @@ ghost use Rattle.std.specs.List.{flat_map};
 ghost use Rattle.protocol.specs.Audits.{KeptLogs};
 ghost use Rattle.protocol.specs.Trees.{IsTree};
 ghost use Rattle.audit_engine.specs.Chains.{AreNamings};
-ghost use Rattle.audit_engine.specs.Explanations.{asker_text, deed_text, do_text, explained_line, explanation_text, found_text, is_explained as is_explained_line, kept_text, mend_text, mixed_text, place_text, reported_text, reporter_text, reports_text, stands_word as word_of_stands, step_text, steps_of as steps_by_decision, steps_text, told_part, told_text, unreported_text, way_text, why_text};
+ghost use Rattle.audit_engine.specs.Explanations.{asker_text, deed_text, do_text, explained_line, explanation_text, found_text, is_explained, kept_text, mend_text, mixed_text, place_text, reported_text, reporter_text, reports_text, stands_word, step_text, steps_of, steps_text, told_part, told_text, unreported_text, way_text, why_text};
 
 use crate::chains::{deed_of, steps_of};
 use crate::lines::push_line;
@@ -19,7 +19,7 @@ use trace_lines::{outcome_word, push, push_case, push_number, push_ticket};
 
 /// The word of what stands of a case.
 fn stands_word(stands: Stands) -> &'static str
-    ensures { result.now ≡ word_of_stands stands }
+    ensures { result.now ≡ stands_word stands }
 {
     match stands {
         Stands::Commit => "Commit",
@@ -157,7 +157,7 @@ fn steps_for(
 ) -> Result<Vec<AuditStep>, AllocError>
     requires { IsTree tree.now }
     ensures { IfOk result (λ steps. (logs : KeptLogs) → AreNamings tree.now logs namings.now.entries
-        → steps.items ≡ steps_by_decision tree.now logs line.now.case line.now.decision) }
+        → steps.items ≡ steps_of tree.now logs line.now.case line.now.decision) }
 {
     match line.decision {
         Some(_) => Ok(Vec::new(alloc)),
@@ -358,7 +358,7 @@ fn push_reports(
 
 /// Whether a line is explained: it shows a mismatch, or its case is in doubt.
 fn is_explained(line: &ReportLine) -> bool
-    ensures { result ≡ is_explained_line line.now }
+    ensures { result ≡ is_explained line.now }
 {
     line.mismatch || line.own == Own::InDoubt
 }

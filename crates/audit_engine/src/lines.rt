@@ -9,7 +9,7 @@ ghost use Rattle.audit_tree.specs.Tables.{AreNotes};
 ghost use Rattle.audit_engine.specs.Chains.{AreNamings};
 ghost use Rattle.audit_engine.specs.Audits.{detailed_text, explained_text};
 ghost use Rattle.audit_engine.specs.Explanations.{explained_line};
-ghost use Rattle.audit_engine.specs.Lines.{count_text, line_text, lines_text, mismatch_part, own_word as word_of_own, reports_part};
+ghost use Rattle.audit_engine.specs.Lines.{count_text, line_text, lines_text, mismatch_part, own_word, reports_part};
 
 use crate::chains::all_namings;
 use crate::detail::Detail;
@@ -23,7 +23,7 @@ use trace_lines::{outcome_word, push, push_case, push_number};
 
 /// The word of how a case stands by its own records.
 fn own_word(own: Own) -> &'static str
-    ensures { result.now ≡ word_of_own own }
+    ensures { result.now ≡ own_word own }
 {
     match own {
         Own::Commit => "commit",

@@ -2,7 +2,7 @@
 use Rattle.std.proofs.Common.{◌≡◌, ◌+◌, ◌==◌, ◌||◌, ℕ, zero, suc, Bool, true, false, if◌then◌else◌, Option, Some, None, option_map, List, [], ◌∷◌, length, map, refl, subst, sym}
 use Rattle.protocol.specs.declared.names.Kind.{Kind}
 use Rattle.protocol.specs.declared.names.Kind.TheVariants.{Coordinator, Manager}
-use Rattle.protocol.specs.declared.names.Outcome.TheVariants.{Committed as CommittedOutcome, Aborted as AbortedOutcome}
+use Rattle.protocol_words.specs.Variants.{AbortedOutcome, CommittedOutcome}
 use Rattle.protocol.specs.declared.records.BranchName.{BranchName}
 use Rattle.protocol.specs.declared.records.LogRecord.{LogRecord}
 use Rattle.protocol.specs.declared.records.Record.{Record}

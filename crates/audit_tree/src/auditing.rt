@@ -3,7 +3,7 @@
 ghost use Rattle.std.specs.Prelude.{◌≡◌, ◌++◌, IfOk, IfErr, OnOk};
 ghost use Rattle.std.specs.Option.{option_copied};
 ghost use Rattle.protocol.specs.Trees.{IsTree};
-ghost use Rattle.audit_tree.specs.Reports.{IsNoReport, IsReportOfLogs, lines_of as lines_in_logs, mismatches_in, other as other_of};
+ghost use Rattle.audit_tree.specs.Reports.{IsNoReport, IsReportOfLogs, lines_of, mismatches_in, other};
 ghost use Rattle.audit_tree.specs.Truths.{AreTrueOfRuns};
 ghost use Rattle.protocol.specs.Audits.{KeptLogs};
 ghost use Rattle.audit_tree.specs.Tables.{AreNotes, all_lines, entry_lines, line_by, line_if, lines_in, reports_by};
@@ -19,7 +19,7 @@ use std::alloc::{AllocError, Global};
 
 /// The other outcome.
 fn other(outcome: Outcome) -> Outcome
-    ensures { result ≡ other_of outcome }
+    ensures { result ≡ other outcome }
 {
     match outcome {
         Outcome::Committed => Outcome::Aborted,
@@ -143,7 +143,7 @@ fn count_mismatches(lines: &[ReportLine]) -> usize
 pub fn audit_notes(alloc: Global, tree: &Tree, notes: &TreeNotes) -> Result<Report, AllocError>
     requires { IsTree tree.now }
     ensures lines { IfOk result (λ r. (logs : KeptLogs) → AreNotes tree.now logs notes.now.entries
-        → r.lines.items ≡ lines_in_logs tree.now logs) }
+        → r.lines.items ≡ lines_of tree.now logs) }
     ensures mismatches { IfOk result (λ r. r.mismatches ≡ mismatches_in r.lines.items) }
 {
     let said = all_sayings(alloc, tree, notes)?;

@@ -2,8 +2,8 @@
 
 ghost use Rattle.std.specs.Prelude.{◌≡◌, IfOk, option_map, pos};
 ghost use Rattle.std.specs.Ordering.{int_eq};
-ghost use Rattle.protocol.specs.Trees.{root_of as root_in};
-ghost use Rattle.branch_names.specs.Cases.{IsInBytes, IsInWords, IsNaming, IsPlaced, OfXid, case_below, has_place as has_place_in, has_seat as has_seat_in, named_case_at, naming_alone, of_named, of_tree, placed as placed_in, words_at};
+ghost use Rattle.protocol.specs.Trees.{root_of};
+ghost use Rattle.branch_names.specs.Cases.{IsInBytes, IsInWords, IsNaming, IsPlaced, OfXid, case_below, has_place, has_seat, named_case_at, naming_alone, of_named, of_tree, placed, words_at};
 
 use crate::forms::xid_in;
 use log_text::xids::read_branch;
@@ -30,7 +30,7 @@ pub enum Naming {
 
 /// Whether there is no ticket, or it is of a process below the root.
 fn has_seat(tree: &Tree, ticket: Option<Ticket>) -> bool
-    ensures { result ≡ has_seat_in tree.now ticket }
+    ensures { result ≡ has_seat tree.now ticket }
 {
     match ticket {
         None => true,
@@ -42,14 +42,14 @@ fn has_seat(tree: &Tree, ticket: Option<Ticket>) -> bool
 /// below the root, or it has none.
 #[tactic(auto, unfolding(protocol::specs::Names::same_process))]
 fn has_place(tree: &Tree, case: &Case) -> bool
-    ensures { result ≡ has_place_in tree.now case.now }
+    ensures { result ≡ has_place tree.now case.now }
 {
     tree.is_listed(case.process()) && case.txn.root == tree.root() && has_seat(tree, case.ticket)
 }
 
 /// A case, if it has its place in the tree.
 fn placed(tree: &Tree, case: Option<Case>) -> Naming
-    ensures naming { result ≡ placed_in tree.now case }
+    ensures naming { result ≡ placed tree.now case }
     ensures placed { IsPlaced tree.now result }
 {
     match case {
@@ -60,7 +60,7 @@ fn placed(tree: &Tree, case: Option<Case>) -> Naming
 
 /// What a case of a tree of that name is of, where this tree has this name, if it has one.
 fn of_name(tree: &Tree, name: Option<&str>, of: &str, case: Case) -> Naming
-    ensures naming { result ≡ of_tree (option_map (λ s. s.now) name.entry) of.now (placed_in tree.now (Some case)) }
+    ensures naming { result ≡ of_tree (option_map (λ s. s.now) name.entry) of.now (placed tree.now (Some case)) }
     ensures placed { IsPlaced tree.now result }
 {
     match name {
@@ -86,7 +86,7 @@ fn words_of<'a>(root: ProcessId, gtrid: &'a str, bqual: &str) -> Option<(&'a str
 /// The case of a transaction and a ticket in words, of the tree of this name.
 fn named_in_words(tree: &Tree, name: Option<&str>, gtrid: &str, bqual: &str) -> Naming
     ensures naming { result ≡ of_named tree.now (option_map (λ s. s.now) name.entry)
-        (words_at (root_in tree.now) gtrid.now bqual.now) }
+        (words_at (root_of tree.now) gtrid.now bqual.now) }
     ensures placed { IsPlaced tree.now result }
 {
     match words_of(tree.root(), gtrid, bqual) {

@@ -37,7 +37,7 @@ pub struct LiveTable<V: Drop> {
 
 impl<V: Drop> Model for LiveTable<V> {
     ghost use Rattle.std.specs.Prelude.{List, Option};
-    ghost use Rattle.protocol.specs.declared.names.Case.{Case as AnyCase};
+    ghost use Rattle.protocol_words.specs.Types.{AnyCase};
 
     ghost Value = { List (Option (AnyCase × V)) };
 

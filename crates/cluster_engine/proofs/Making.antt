@@ -3,7 +3,8 @@ use Rattle.std.proofs.Common.{◌≡◌, ◌∙◌, ◌+◌, ◌<◌, ◌≤◌,
 use Rattle.std.proofs.lemmas.List.{take_all, take_more}
 use Rattle.protocol.specs.declared.trees.TreeProcess.{TreeProcess}
 use Rattle.protocol.specs.declared.events.Event.{Event}
-use Rattle.protocol.specs.declared.events.Event.TheVariants.{Act as ActOf, Deliver, Settle, Restart, Trim}
+use Rattle.protocol.specs.declared.events.Event.TheVariants.{Deliver, Settle, Restart, Trim}
+use Rattle.protocol_words.specs.Variants.{ActOf}
 use Rattle.cluster_process.specs.Passes.{PassState}
 use Rattle.cluster_process.specs.declared.errors.PostError.{PostError}
 use Rattle.cluster_tree.specs.Passes.{IsLonger, new_pass, new_passes}

@@ -2,7 +2,7 @@
 use Rattle.std.specs.Prelude.{◌≡◌, ◌+◌, ◌≤◌, ◌^◌, ◌⊎◌, ℕ, All, Option, Some, None, List, [], ◌∷◌, ◌++◌, codes}
 use Rattle.protocol.specs.declared.events.JournalEntry.{JournalEntry}
 use Rattle.protocol.specs.declared.events.Event.{Event}
-use Rattle.protocol.specs.declared.events.StepError.TheVariants as steps
+use Rattle.protocol_words.specs.step_error
 use Rattle.protocol.specs.declared.records.LogRecord.{LogRecord}
 use Rattle.protocol.specs.declared.trees.TreeProcess.{TreeProcess}
 use Rattle.protocol.specs.Errors.{step_error_number}
@@ -78,9 +78,9 @@ pub record RunsTree (output : ClusterOutput) (tree : List TreeProcess) (events :
 abbrev pub refusal_number : PostError → Option ℕ
 refusal_number Stranger = Some 9
 refusal_number JournalFull = Some 10
-refusal_number (Step steps.Memory) = None
-refusal_number (Step steps.Device) = None
-refusal_number (Step steps.Exhausted) = None
+refusal_number (Step step_error.Memory) = None
+refusal_number (Step step_error.Device) = None
+refusal_number (Step step_error.Exhausted) = None
 refusal_number (Step e) = Some (step_error_number e)
 refusal_number Memory = None
 

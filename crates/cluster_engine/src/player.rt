@@ -1,7 +1,7 @@
 //! The events of a script, made by one caller; the others deliver.
 
 ghost use Rattle.std.specs.Prelude.{◌≡◌, ◌<◌, ℕ, IfErr, IfSome, OnOk, length, slice_index_or};
-ghost use Rattle.cluster_process.specs.Passes.{PassState as AnyPass};
+ghost use Rattle.cluster_process.specs.Passes.{PassState};
 ghost use Rattle.cluster_tree.specs.Passes.{IsLonger};
 ghost use Rattle.cluster_tree.specs.Refusals.{IsRefusedPost};
 ghost use Rattle.cluster_engine.specs.Made.{AreLonger, AreMade, FirstMade, FirstStops, IsMade, IsPosted, NotMade, StopsAt};
@@ -105,7 +105,7 @@ fn serve_each<N: Seats + Send + Sync, R: Threads + Wait + Sync, G: Gate + Sync>(
     passes: &mut [Pass<N>],
 )
     requires { 0 < length passes.old }
-    ensures longer { (i : ℕ) (d : AnyPass) → i < length passes.old
+    ensures longer { (i : ℕ) (d : PassState) → i < length passes.old
         → IsLonger (slice_index_or passes.old i d) (slice_index_or passes.new i d) }
     ensures long { length passes.new ≡ length passes.old }
 {

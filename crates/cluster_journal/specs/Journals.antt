@@ -2,8 +2,7 @@
 use Rattle.std.specs.Prelude.{◌≡◌, ◌<◌, ℕ, suc, Some, List, [], ◌∷◌, length, map, slice_get}
 use Rattle.protocol.specs.declared.events.JournalEntry.{JournalEntry}
 use Rattle.protocol.specs.declared.events.Happening.{Happening}
-use Rattle.protocol.specs.declared.events.Happening.TheVariants.{Input as Handles}
-use Rattle.protocol.specs.declared.events.Input.TheVariants.{Message as MessageInput}
+use Rattle.protocol_words.specs.Variants.{Handles, MessageInput}
 use Rattle.cluster_journal.specs.declared.marks.MarkedMessage.{MarkedMessage}
 use Rattle.cluster_journal.specs.declared.marks.Delivery.TheVariants.{Delivered}
 use Rattle.protocol.specs.declared.messages.Message.{Message}

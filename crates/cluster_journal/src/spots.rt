@@ -2,7 +2,7 @@
 
 ghost use Rattle.std.specs.Prelude.{◌≡◌, ◌+◌, ◌≤◌, ◌++◌, OnErr, OnOk, drop, length, map, slice_get};
 ghost use Rattle.std.specs.Vec.{vec_capacity, vec_len};
-ghost use Rattle.protocol.specs.declared.events.JournalEntry.{JournalEntry as AnyEntry};
+ghost use Rattle.protocol_words.specs.Types.{AnyEntry};
 ghost use Rattle.cluster_journal.specs.Journals.{KeepsDelivered};
 ghost use Rattle.cluster_journal.specs.Marks.{sent_to};
 ghost use Rattle.cluster_journal.specs.Spots.{spots_at, spots_in};

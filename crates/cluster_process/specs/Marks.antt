@@ -3,10 +3,9 @@ use Rattle.std.specs.Prelude.{◌≡◌, ◌≢◌, ◌≤◌, ⊤, ℕ, Option,
 use Rattle.protocol.specs.declared.names.ProcessId.{ProcessId}
 use Rattle.protocol.specs.declared.messages.Envelope.{Envelope}
 use Rattle.protocol.specs.declared.events.Event.{Event}
-use Rattle.protocol.specs.declared.events.Event.TheVariants.{Act as ActOf, Deliver, Settle, Restart, Trim}
+use Rattle.protocol.specs.declared.events.Event.TheVariants.{Deliver, Settle, Restart, Trim}
+use Rattle.protocol_words.specs.Variants.{ActInput, ActOf, Handles, MessageInput, Trimming}
 use Rattle.protocol.specs.declared.events.Happening.{Happening}
-use Rattle.protocol.specs.declared.events.Happening.TheVariants.{Input as Handles, Trim as Trims}
-use Rattle.protocol.specs.declared.events.Input.TheVariants.{Act as ActInput, Message as MessageInput}
 use Rattle.protocol.specs.Plays.{process_of_act, sent_as}
 use Rattle.process_state.specs.States.{CoreState}
 use Rattle.tree_state.specs.Steps.{restart_of}
@@ -30,7 +29,7 @@ Happens net me s (ActOf a) h keep = h ≡ Handles (ActInput a)
 Happens net me s (Deliver k) h keep = Delivers net me k h
 Happens net me s Settle h keep = ⊥
 Happens net me s (Restart p bytes) h keep = (p ≡ me) × KeepsBytes s bytes keep × (h ≡ restart_of s keep)
-Happens net me s (Trim p) h keep = (p ≡ me) × (h ≡ Trims)
+Happens net me s (Trim p) h keep = (p ≡ me) × (h ≡ Trimming)
 
 -- an act is one of this process's, in a tree with this root
 abbrev pub ActsHere : ProcessId → ProcessId → Event → Type 0

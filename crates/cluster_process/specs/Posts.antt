@@ -7,7 +7,7 @@ use Rattle.protocol.specs.declared.events.Event.{Event}
 use Rattle.protocol.specs.declared.events.Event.TheVariants.{Deliver, Restart}
 use Rattle.protocol.specs.declared.events.Happening.{Happening}
 use Rattle.protocol.specs.declared.events.StepError.{StepError}
-use Rattle.protocol.specs.declared.events.StepError.TheVariants as steps
+use Rattle.protocol_words.specs.step_error
 use Rattle.protocol.specs.declared.messages.Envelope.{Envelope}
 use Rattle.protocol.specs.declared.trees.TreeProcess.{TreeProcess}
 use Rattle.protocol.specs.World.{entries_of}
@@ -29,7 +29,7 @@ use Rattle.cluster_process.specs.Turns.{IsDeliveryAt}
 
 -- how a step's refusal is answered
 abbrev pub post_error : StepError → PostError
-post_error steps.Memory = Memory
+post_error step_error.Memory = Memory
 post_error e = Step e
 
 -- the number that is printed

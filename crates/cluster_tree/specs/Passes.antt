@@ -1,8 +1,7 @@
 -- What callers' passes show.
 use Rattle.std.specs.Prelude.{◌≡◌, ℕ, zero, suc, All, List, [], ◌∷◌, ◌++◌}
 use Rattle.protocol.specs.declared.events.JournalEntry.{JournalEntry}
-use Rattle.protocol.specs.declared.events.Happening.TheVariants.{Input as Handles}
-use Rattle.protocol.specs.declared.events.Input.TheVariants.{Message as MessageInput}
+use Rattle.protocol_words.specs.Variants.{Handles, MessageInput}
 use Rattle.protocol.specs.declared.messages.Message.{Message}
 use Rattle.cluster_process.specs.Passes.{PassState}
 

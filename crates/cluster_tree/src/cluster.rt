@@ -4,7 +4,7 @@ ghost use Rattle.std.specs.Prelude.{◌≡◌, ◌⊎◌, ◌+◌, ◌<◌, ◌�
 ghost use Rattle.protocol.specs.declared.messages.Envelope.{Envelope as AnyEnvelope};
 ghost use Rattle.protocol.specs.Nodes.{is_listed};
 ghost use Rattle.protocol.specs.Plays.{process_of_act, sent_as};
-ghost use Rattle.protocol.specs.Trees.{IsTree, root_of as root_in};
+ghost use Rattle.protocol.specs.Trees.{IsTree, root_of};
 ghost use Rattle.tree_state.specs.Cuts.{net_of};
 ghost use Rattle.cluster_ties.specs.Views.{AreBelow, entries_in};
 ghost use Rattle.cluster_process.specs.Marks.{ActsHere};
@@ -125,7 +125,7 @@ impl<N: Seats> Cluster<N> {
         event: &Event,
         pass: &mut Pass<N>,
     ) -> Result<ProcessId, PostError>
-        ensures ok { IfOk result (λ q. IsOf (root_in N.tree) q event.now) }
+        ensures ok { IfOk result (λ q. IsOf (root_of N.tree) q event.now) }
         ensures addressed { IfOk result (λ q. IsAddressed N.tree pass.old q event.now) }
         ensures err { IfErr result (IsRefusedPost N.tree event.now pass.old) }
         ensures same { pass.new ≡ pass.old }
@@ -167,7 +167,7 @@ impl<N: Seats> Cluster<N> {
         pass: &mut Pass<N>,
         gate: &G,
     ) -> Result<Posted, PostError>
-        requires { ActsHere (root_in N.tree) process event }
+        requires { ActsHere (root_of N.tree) process event }
         ensures ok { IfOk result (λ r. PostsOne N.tree process event pass.old pass.new r.place r.begun) }
         ensures err { OnErr result (pass.new ≡ pass.old) }
         ensures refused { IfErr result (NotAt N.tree process event pass.old) }
@@ -193,7 +193,7 @@ impl<N: Seats> Cluster<N> {
         pass: &mut Pass<N>,
         gate: &G,
     ) -> Result<Posted, PostError>
-        requires { ActsHere (root_in N.tree) process event }
+        requires { ActsHere (root_of N.tree) process event }
         ensures ok { IfOk result (λ r. PostsOne N.tree process event pass.old pass.new r.place r.begun) }
         ensures err { OnErr result (pass.new ≡ pass.old) }
         ensures refused { IfErr result (NotPosted N.tree process event pass.old) }

@@ -1,7 +1,7 @@
 //! Workers: they deliver the messages of the journal.
 
 ghost use Rattle.std.specs.Prelude.{◌≡◌, ◌<◌, ◌≤◌, ℕ, IfErr, IfOk, IsTrue, OnOk, length, slice_index_or};
-ghost use Rattle.cluster_process.specs.Passes.{PassState as AnyPass};
+ghost use Rattle.cluster_process.specs.Passes.{PassState};
 ghost use Rattle.cluster_tree.specs.Passes.{IsLonger};
 ghost use Rattle.cluster_tree.specs.Refusals.{NotSettled};
 ghost use Rattle.cluster_tree.specs.Settling.{IsSettledPass};
@@ -258,9 +258,9 @@ impl<N: Seats> Cluster<N> {
     where
         N: Send + Sync,
         requires { (0 < length passes.old) × (length passes.old ≤ 16) }
-        ensures longer { (i : ℕ) (d : AnyPass) → i < length passes.old
+        ensures longer { (i : ℕ) (d : PassState) → i < length passes.old
             → IsLonger (slice_index_or passes.old i d) (slice_index_or passes.new i d) }
-        ensures settled { OnOk result ((d : AnyPass) → IsSettledPass N.tree (slice_index_or passes.new 0 d)) }
+        ensures settled { OnOk result ((d : PassState) → IsSettledPass N.tree (slice_index_or passes.new 0 d)) }
         ensures refused { IfErr result (NotSettled N.tree) }
     {
         let rounds = Rounds::new();
@@ -280,7 +280,7 @@ impl<N: Seats> Cluster<N> {
     where
         N: Send + Sync,
         requires { (0 < length passes.old) × (length passes.old ≤ 16) }
-        ensures longer { (i : ℕ) (d : AnyPass) → i < length passes.old
+        ensures longer { (i : ℕ) (d : PassState) → i < length passes.old
             → IsLonger (slice_index_or passes.old i d) (slice_index_or passes.new i d) }
         ensures long { length passes.new ≡ length passes.old }
     {

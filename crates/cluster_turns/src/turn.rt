@@ -75,7 +75,7 @@ pub struct Turn {
 
 impl Model for Turn {
     ghost use Rattle.std.specs.Prelude.{ℕ, List};
-    ghost use Rattle.protocol.specs.declared.events.JournalEntry.{JournalEntry as AnyEntry};
+    ghost use Rattle.protocol_words.specs.Types.{AnyEntry};
 
     ghost Value = { List (ℕ × AnyEntry) };
 

@@ -3,9 +3,9 @@
 ghost use Rattle.std.specs.Prelude.{◌≡◌, ◌||◌, Some, not, filter, find, option_map, position, IfOk, option_copied};
 ghost use Rattle.std.specs.List.{list_all, list_any};
 ghost use Rattle.protocol.specs.Names.{same_process, same_ticket};
-ghost use Rattle.protocol.specs.Records.{in_list as is_in, none_of as is_none_of};
-ghost use Rattle.protocol.specs.CoordinatorRows.{other_tickets as others_in};
-ghost use Rattle.coord_case.specs.Lives.{accepted_in, awaits_vote, changing, is_undecided as is_undecided_vote, is_vote, sending, vote_found, voting, works_found, yes_by};
+ghost use Rattle.protocol.specs.Records.{in_list, none_of};
+ghost use Rattle.protocol.specs.CoordinatorRows.{other_tickets};
+ghost use Rattle.coord_case.specs.Lives.{accepted_in, awaits_vote, changing, is_undecided, is_vote, sending, vote_found, voting, works_found, yes_by};
 
 use crate::child::Child;
 use protocol::{ProcessId, Ticket, Vote};
@@ -18,7 +18,7 @@ pub(crate) type Children = SmallVec<Child, 2>;
 /// Whether there is no ticket.
 #[tactic(auto, unfolding(protocol::specs::Records::none_of))]
 pub fn none_of(tickets: &[Ticket]) -> bool
-    ensures { result ≡ is_none_of tickets.now }
+    ensures { result ≡ none_of tickets.now }
 {
     match tickets {
         [] => true,
@@ -29,14 +29,14 @@ pub fn none_of(tickets: &[Ticket]) -> bool
 /// Whether the ticket is among these.
 #[tactic(auto, unfolding(protocol::specs::Records::in_list))]
 pub(crate) fn in_list(tickets: &[Ticket], ticket: &Ticket) -> bool
-    ensures { result ≡ is_in tickets.now ticket.now }
+    ensures { result ≡ in_list tickets.now ticket.now }
 {
     tickets.iter().any(|other| other.is(ticket))
 }
 
 /// The ticket leaves the list.
 pub(crate) fn strike(tickets: &mut Vec<Ticket>, ticket: Ticket)
-    ensures { tickets.new.items ≡ others_in ticket tickets.old.items }
+    ensures { tickets.new.items ≡ other_tickets ticket tickets.old.items }
 {
     tickets.retain(
         |other: &Ticket| -> bool
@@ -74,7 +74,7 @@ pub(crate) fn ticket_of(children: &[Child], child: ProcessId) -> Option<Ticket>
 /// Whether there is no child.
 #[tactic(auto, unfolding(protocol::specs::Records::none_of))]
 pub(crate) fn is_alone(children: &[Child]) -> bool
-    ensures { result ≡ is_none_of (accepted_in children.now) }
+    ensures { result ≡ none_of (accepted_in children.now) }
 {
     match children {
         [] => true,
@@ -99,7 +99,7 @@ fn has_ticket(children: &[Child], ticket: &Ticket) -> bool
 /// Whether the ticket is a child's, or is among these tickets.
 pub(crate) fn is_known(children: &[Child], named: &[Ticket], ticket: &Ticket) -> bool
     ensures { result ≡ (list_any (λ c. same_ticket c.ticket ticket.now) children.now
-        || is_in named.now ticket.now) }
+        || in_list named.now ticket.now) }
 {
     has_ticket(children, ticket) || in_list(named, ticket)
 }
@@ -162,7 +162,7 @@ pub(crate) fn yes_of(alloc: Global, children: &[Child]) -> Result<Vec<Ticket>, A
 }
 
 fn is_undecided(child: &Child) -> bool
-    ensures { result ≡ is_undecided_vote child.now.vote }
+    ensures { result ≡ is_undecided child.now.vote }
 {
     match child.vote {
         Some(Vote::No) | Some(Vote::Read) => false,
@@ -172,7 +172,7 @@ fn is_undecided(child: &Child) -> bool
 
 /// The tickets of the children that voted neither NO nor READ.
 pub(crate) fn undecided_of(alloc: Global, children: &[Child]) -> Result<Vec<Ticket>, AllocError>
-    ensures { IfOk result (λ v. v.items ≡ accepted_in (filter (λ c. is_undecided_vote c.vote) children.now)) }
+    ensures { IfOk result (λ v. v.items ≡ accepted_in (filter (λ c. is_undecided c.vote) children.now)) }
 {
     children
         .iter()

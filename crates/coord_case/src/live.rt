@@ -1,20 +1,12 @@
 //! A live case of a coordinator.
 
 ghost use Rattle.std.specs.Prelude.{◌≡◌, ◌+◌, ◌<◌, ◌^◌, ◌++◌, ◌∷◌, ◌||◌, [], false, true, None, Some, IfOk, IfSome, IsTrue, OnOk, OnErr, map};
-ghost use Rattle.protocol.specs.Memory.{
-  all_voted as all_have_voted,
-  has_child as has_child_in,
-  is_counted as counts_in,
-  ticket_of_child as ticket_in,
-  undecided_of as undecided_in,
-  works_of as works_in_list,
-  yes_of as yes_in,
-};
-ghost use Rattle.protocol.specs.Records.{in_list as is_in, none_of as is_none_of};
-ghost use Rattle.protocol.specs.CoordinatorRows.{awaits as awaits_view, other_tickets as others_in, post, prepares as prepares_to};
+ghost use Rattle.protocol.specs.Memory.{all_voted, has_child, is_counted, ticket_of_child, undecided_of, works_of, yes_of};
+ghost use Rattle.protocol.specs.Records.{in_list, none_of};
+ghost use Rattle.protocol.specs.CoordinatorRows.{awaits, other_tickets, post, prepares};
 ghost use Rattle.protocol.specs.Standings.{unknown_view};
 ghost use Rattle.coord_case.specs.Lives.{Uncounts, meant};
-ghost use Rattle.protocol.specs.Names.{child_case as case_of, root_case};
+ghost use Rattle.protocol.specs.Names.{child_case, root_case};
 ghost use Rattle.protocol.specs.SameViews.{SameView, open_view};
 
 use crate::child::Child;
@@ -61,7 +53,7 @@ impl Model for Live {
 /// PREPARE to the child, with the number of its works.
 fn prepare_message(me: ProcessId, txn: Txn, child: &Child) -> Envelope
     ensures { result ≡ post me child.now.ticket.child
-        (Message.Prepare (case_of txn child.now.ticket) child.now.works) }
+        (Message.Prepare (child_case txn child.now.ticket) child.now.works) }
 {
     let case = Case {
         txn,
@@ -82,7 +74,7 @@ fn prepare_each(
     children: &[Child],
 ) -> Result<Envelopes, AllocError>
     ensures { IfOk result (λ messages. messages
-        ≡ map (λ c. post me c.ticket.child (Message.Prepare (case_of txn c.ticket) c.works)) children.now) }
+        ≡ map (λ c. post me c.ticket.child (Message.Prepare (child_case txn c.ticket) c.works)) children.now) }
 {
     let mut messages = Vec::new(alloc);
     for child in children {
@@ -153,28 +145,28 @@ impl Live {
 
     /// Whether it has accepted the ticket, or a record of it names the ticket.
     pub fn knows(&self, ticket: &Ticket) -> bool
-        ensures { result ≡ (is_in self.now.accepted ticket.now || is_in self.now.named ticket.now) }
+        ensures { result ≡ (in_list self.now.accepted ticket.now || in_list self.now.named ticket.now) }
     {
         is_known(self.children.as_slice(), &self.named, ticket)
     }
 
     /// Whether a child of the process is accepted.
     pub fn has_child(&self, child: ProcessId) -> bool
-        ensures { result ≡ has_child_in self.now.accepted child }
+        ensures { result ≡ has_child self.now.accepted child }
     {
         has_child(self.children.as_slice(), child)
     }
 
     /// The ticket of an accepted child of the process.
     pub fn child_ticket(&self, child: ProcessId) -> Option<Ticket>
-        ensures { result ≡ ticket_in self.now.accepted child }
+        ensures { result ≡ ticket_of_child self.now.accepted child }
     {
         ticket_of(self.children.as_slice(), child)
     }
 
     /// Whether nobody is accepted.
     pub fn is_alone(&self) -> bool
-        ensures { result ≡ is_none_of self.now.accepted }
+        ensures { result ≡ none_of self.now.accepted }
     {
         is_alone(self.children.as_slice())
     }
@@ -188,7 +180,7 @@ impl Live {
 
     /// A child is accepted. Memory: nothing changed.
     pub fn accept(&mut self, ticket: Ticket) -> Result<(), AllocError>
-        requires { has_child_in self.old.accepted ticket.child ≡ false }
+        requires { has_child self.old.accepted ticket.child ≡ false }
         ensures ok { OnOk result
             (self.new ≡ record self.old { accepted = self.old.accepted ++ ticket ∷ [] }) }
         ensures err { OnErr result (self.new ≡ self.old) }
@@ -207,15 +199,15 @@ impl Live {
 
     /// How many works were sent to the ticket.
     pub fn works_sent(&self, ticket: &Ticket) -> u64
-        ensures { result ≡ works_in_list self.now.works ticket.now }
+        ensures { result ≡ works_of self.now.works ticket.now }
     {
         works_sent(self.children.as_slice(), ticket)
     }
 
     /// One work more is sent to the accepted ticket; N were sent to it before.
     pub fn add_work(&mut self, ticket: &Ticket, sent: u64)
-        requires accepted { is_in self.old.accepted ticket.now ≡ true }
-        requires sent { sent ≡ works_in_list self.old.works ticket.now }
+        requires accepted { in_list self.old.accepted ticket.now ≡ true }
+        requires sent { sent ≡ works_of self.old.works ticket.now }
         requires below { sent + 1 < 2 ^ 64 }
         ensures { SameView self.new (record self.old { works = self.old.works ++ ticket.now ∷ [] }) }
     {
@@ -225,7 +217,7 @@ impl Live {
     /// PREPARE from this process to the child of each accepted ticket, with the number of works sent to it.
     pub fn prepares(&self, alloc: Global, me: ProcessId, txn: Txn) -> Result<Envelopes, AllocError>
         ensures { IfOk result (λ messages. messages
-            ≡ prepares_to (record { me = me; parent = None; own = root_case txn }) self.now) }
+            ≡ prepares (record { me = me; parent = None; own = root_case txn }) self.now) }
     {
         prepare_each(alloc, me, txn, self.children.as_slice())
     }
@@ -252,14 +244,14 @@ impl Live {
 
     /// Whether a vote of the ticket counts: it is accepted, and has not voted.
     pub fn is_counted(&self, ticket: &Ticket) -> bool
-        ensures { result ≡ counts_in self.now.accepted self.now.votes ticket.now }
+        ensures { result ≡ is_counted self.now.accepted self.now.votes ticket.now }
     {
         is_awaited(self.children.as_slice(), ticket)
     }
 
     /// The first vote of a ticket.
     pub fn count_vote(&mut self, ticket: &Ticket, vote: Vote)
-        requires { counts_in self.old.accepted self.old.votes ticket.now ≡ true }
+        requires { is_counted self.old.accepted self.old.votes ticket.now ≡ true }
         ensures { SameView self.new (record self.old { votes = self.old.votes ++ (ticket.now, vote) ∷ [] }) }
     {
         set_vote(&mut self.children, ticket, Some(vote));
@@ -285,28 +277,28 @@ impl Live {
 
     /// Whether each child has voted.
     pub fn all_voted(&self) -> bool
-        ensures { result ≡ all_have_voted self.now.accepted self.now.votes }
+        ensures { result ≡ all_voted self.now.accepted self.now.votes }
     {
         self.missing == 0
     }
 
     /// Whether nobody voted YES.
     pub fn none_voted_yes(&self) -> bool
-        ensures { result ≡ is_none_of (yes_in self.now.accepted self.now.votes) }
+        ensures { result ≡ none_of (yes_of self.now.accepted self.now.votes) }
     {
         self.yes == 0
     }
 
     /// The tickets that voted YES, in order of acceptance.
     pub fn yes(&self, alloc: Global) -> Result<Vec<Ticket>, AllocError>
-        ensures { IfOk result (λ v. v.items ≡ yes_in self.now.accepted self.now.votes) }
+        ensures { IfOk result (λ v. v.items ≡ yes_of self.now.accepted self.now.votes) }
     {
         yes_of(alloc, self.children.as_slice())
     }
 
     /// The tickets that voted neither NO nor READ, in order of acceptance.
     pub fn undecided(&self, alloc: Global) -> Result<Vec<Ticket>, AllocError>
-        ensures { IfOk result (λ v. v.items ≡ undecided_in self.now.accepted self.now.votes) }
+        ensures { IfOk result (λ v. v.items ≡ undecided_of self.now.accepted self.now.votes) }
     {
         undecided_of(alloc, self.children.as_slice())
     }
@@ -344,14 +336,14 @@ impl Live {
 
     /// Whether the ticket owes an acknowledgement.
     pub fn owes(&self, ticket: &Ticket) -> bool
-        ensures { result ≡ is_in self.now.owed ticket.now }
+        ensures { result ≡ in_list self.now.owed ticket.now }
     {
         in_list(&self.owed, ticket)
     }
 
     /// Whether no other ticket owes an acknowledgement.
     pub fn owes_no_other(&self, ticket: &Ticket) -> bool
-        ensures { result ≡ is_none_of (others_in ticket.now self.now.owed) }
+        ensures { result ≡ none_of (other_tickets ticket.now self.now.owed) }
     {
         all_are(&self.owed, ticket)
     }
@@ -359,7 +351,7 @@ impl Live {
     /// The ticket has acknowledged, with these findings. Memory: nothing changed.
     pub fn acknowledge(&mut self, ticket: &Ticket, findings: &[Finding]) -> Result<(), AllocError>
         ensures ok { OnOk result (self.new ≡ record self.old {
-          owed = others_in ticket.now self.old.owed;
+          owed = other_tickets ticket.now self.old.owed;
           found = self.old.found ++ findings.now;
         }) }
         ensures err { OnErr result (self.new ≡ self.old) }
@@ -385,7 +377,7 @@ impl Live {
     /// The decided case waits for these acknowledgements; if there are none it is forgotten. Memory:
     /// nothing changed.
     pub fn awaits(&mut self, standing: Standing, tickets: Vec<Ticket>) -> Result<(), AllocError>
-        ensures ok { OnOk result (self.new ≡ awaits_view standing tickets.items self.old) }
+        ensures ok { OnOk result (self.new ≡ awaits standing tickets.items self.old) }
         ensures err { OnErr result (self.new ≡ self.old) }
     {
         if none_of(&tickets) {

@@ -6,7 +6,7 @@ use Rattle.protocol.specs.declared.names.ProcessId.{ProcessId}
 use Rattle.protocol.specs.declared.records.LogRecord.{LogRecord}
 use Rattle.protocol.specs.declared.records.Record.{Record}
 use Rattle.protocol.specs.declared.events.StepError.{StepError}
-use Rattle.protocol.specs.declared.events.StepError.TheVariants as steps
+use Rattle.protocol_words.specs.step_error
 use Rattle.protocol.specs.LogNames.{in_log}
 use Rattle.log_records.specs.Sights.{AreRecords, IsRecord}
 use Rattle.log_writing.specs.Writes.{AreHeld, NotFramed}
@@ -28,8 +28,8 @@ are_more p (k ∷ ls) l all is = (all.0, are_more p ls l all.1 is)
 -- where one of the records that are left has no frame, the records have none
 pub beyond_all : (p : Option ProcessId) (all rest : List Record) (r : Record) (e : StepError)
     → (AreHeld p all → AreHeld p (r ∷ rest)) → NotFramed p (r ∷ []) e → NotFramed p all e
-beyond_all p all rest r steps.Memory from h = tt
-beyond_all p all rest r steps.Exhausted from h = λ held. h ((from held).0, tt)
+beyond_all p all rest r step_error.Memory from h = tt
+beyond_all p all rest r step_error.Exhausted from h = λ held. h ((from held).0, tt)
 beyond_all p all rest r e from h = absurd h
 
 -- an error that was passed on

@@ -12,7 +12,7 @@ use Rattle.protocol.specs.declared.records.ShownRecord.{ShownRecord}
 use Rattle.protocol.specs.declared.records.Record.{Record}
 use Rattle.protocol.specs.declared.trees.TreeProcess.{TreeProcess}
 use Rattle.protocol.specs.declared.events.StepError.{StepError}
-use Rattle.protocol.specs.declared.events.StepError.TheVariants as steps
+use Rattle.protocol_words.specs.step_error
 use Rattle.protocol.specs.LogNames.{in_log, own_records}
 use Rattle.protocol.specs.Nodes.{Place, logged_of}
 use Rattle.protocol.specs.Records.{boot_of, cases_in}
@@ -138,16 +138,16 @@ module _ (me : ProcessId) (parent : Option ProcessId) (tree : List TreeProcess) 
 pub not_planned : (me : ProcessId) (parent : Option ProcessId) (tree : List TreeProcess) (ls : List LogRecord)
     (e : StepError) → NotPlanned (boot_of (own_records (place_below me parent tree) ls)) e
     → CasesNotRebuilt (place_below me parent tree) ls e
-not_planned me parent tree ls steps.Memory h = tt
-not_planned me None tree ls steps.Exhausted h = λ held. absurd (omega (arith, h, held.0.1))
-not_planned me (Some p) tree ls steps.Exhausted h = λ held. absurd (omega (arith, h, held.0.1))
+not_planned me parent tree ls step_error.Memory h = tt
+not_planned me None tree ls step_error.Exhausted h = λ held. absurd (omega (arith, h, held.0.1))
+not_planned me (Some p) tree ls step_error.Exhausted h = λ held. absurd (omega (arith, h, held.0.1))
 not_planned me parent tree ls e h = absurd h
 
 -- what it appends has no frames
 pub not_framed : (me : ProcessId) (parent : Option ProcessId) (tree : List TreeProcess) (ls : List LogRecord)
     (rs : List Record) (e : StepError) → rs ≡ coordinator_reopens (own_records (place_below me parent tree) ls)
     → NotFramed parent rs e → CasesNotRebuilt (place_below me parent tree) ls e
-not_framed me parent tree ls rs steps.Memory is h = tt
-not_framed me None tree ls rs steps.Exhausted is h = λ held. h (subst (AreHeld None) (sym is) held)
-not_framed me (Some p) tree ls rs steps.Exhausted is h = λ held. h (subst (AreHeld (Some p)) (sym is) held)
+not_framed me parent tree ls rs step_error.Memory is h = tt
+not_framed me None tree ls rs step_error.Exhausted is h = λ held. h (subst (AreHeld None) (sym is) held)
+not_framed me (Some p) tree ls rs step_error.Exhausted is h = λ held. h (subst (AreHeld (Some p)) (sym is) held)
 not_framed me parent tree ls rs e is h = absurd h

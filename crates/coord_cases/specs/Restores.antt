@@ -10,7 +10,7 @@ use Rattle.protocol.specs.declared.records.LogRecord.{LogRecord}
 use Rattle.protocol.specs.declared.records.Record.{Record}
 use Rattle.protocol.specs.declared.events.StepError.{StepError}
 use Rattle.protocol.specs.declared.events.StepError.TheVariants.{Exhausted, Memory}
-use Rattle.protocol.specs.CoordinatorRows.{Seat as CaseSeat}
+use Rattle.protocol.specs.CoordinatorRows.{Seat}
 use Rattle.protocol.specs.LogNames.{in_log, own_records, parent_of}
 use Rattle.protocol.specs.Names.{same_case}
 use Rattle.protocol.specs.Nodes.{Place, reaction_of}
@@ -34,7 +34,7 @@ use Rattle.coord_cases.specs.declared.rebuilding.RebuiltCases.{RebuiltCases}
 -- Cases.
 
 -- what a case sends again, of which the records say this
-abbrev pub resumed_by : CaseSeat → Summary → List Envelope
+abbrev pub resumed_by : Seat → Summary → List Envelope
 resumed_by s summary = resumes_by s (view_of summary) (view_of summary).standing
 
 -- what an entry's case sends again

@@ -1,7 +1,7 @@
 //! The frames of the records that a restart appends, and how they are shown.
 
 ghost use Rattle.std.specs.Prelude.{◌≡◌, ◌++◌, ◌∷◌, [], true, IfErr, IfOk, OnOk, map};
-ghost use Rattle.protocol.specs.declared.names.Kind.TheVariants as kind;
+ghost use Rattle.protocol_words.specs.kind;
 ghost use Rattle.protocol.specs.LogNames.{in_log};
 ghost use Rattle.protocol.specs.Nodes.{logged_of};
 ghost use Rattle.protocol.specs.Restarts.{forced_all};

@@ -1,14 +1,8 @@
 //! The row that an input meets where a case stands (R*).
 
 ghost use Rattle.std.specs.Prelude.{◌≡◌, ◌++◌, true, IfErr, IfOk, OnErr};
-ghost use Rattle.protocol.specs.Records.{in_list as is_in};
-ghost use Rattle.protocol.specs.CoordinatorRows.{
-  on_ack as ack_row,
-  on_inquiry as inquiry_row,
-  on_joined as joined_row,
-  on_prepare as prepare_row,
-  on_vote as vote_row,
-};
+ghost use Rattle.protocol.specs.Records.{in_list};
+ghost use Rattle.protocol.specs.CoordinatorRows.{on_ack, on_inquiry, on_joined, on_prepare, on_vote};
 ghost use Rattle.protocol.specs.Standings.{unknown_view};
 ghost use Rattle.protocol.specs.SameViews.{SameView};
 ghost use Rattle.process_state.specs.Turns.{this_version};
@@ -35,7 +29,7 @@ fn on_joined(
     live: &mut Live,
 ) -> Result<RowEffect, AllocError>
     ensures ok { IfOk result (λ effect. DoesRow seat
-        (joined_row ticket live.old live.old.standing) effect live.new) }
+        (on_joined ticket live.old live.old.standing) effect live.new) }
     ensures err { OnErr result (live.new ≡ live.old) }
 {
     match live.standing() {
@@ -53,10 +47,10 @@ fn on_vote(
     live: &mut Live,
 ) -> Result<RowEffect, StepError>
     ensures ok { IfOk result (λ effect. DoesRow seat
-        (vote_row (seat_meant seat) ticket vote live.old live.old.standing) effect live.new) }
+        (on_vote (seat_meant seat) ticket vote live.old live.old.standing) effect live.new) }
     ensures err { OnErr result (SameView live.new live.old) }
     ensures unwritten { IfErr result (NotWritten seat.parent
-        (vote_row (seat_meant seat) ticket vote live.old live.old.standing).written) }
+        (on_vote (seat_meant seat) ticket vote live.old live.old.standing).written) }
 {
     match live.standing() {
         Standing::Collecting => collecting_vote(alloc, seat, ticket, vote, live),
@@ -74,11 +68,11 @@ fn on_ack(
     live: &mut Live,
 ) -> Result<RowEffect, StepError>
     ensures ok { IfOk result (λ effect. DoesRow seat
-        (ack_row this_version (seat_meant seat) ticket outcome (live.old.found ++ findings.now)
+        (on_ack this_version (seat_meant seat) ticket outcome (live.old.found ++ findings.now)
         live.old live.old.standing) effect live.new) }
     ensures err { OnErr result (live.new ≡ live.old) }
     ensures unwritten { IfErr result (NotWritten seat.parent
-        (ack_row this_version (seat_meant seat) ticket outcome (live.old.found ++ findings.now)
+        (on_ack this_version (seat_meant seat) ticket outcome (live.old.found ++ findings.now)
         live.old live.old.standing).written) }
 {
     match (outcome, live.standing()) {
@@ -97,7 +91,7 @@ fn on_inquiry(
     live: &Live,
 ) -> Result<RowEffect, AllocError>
     ensures { IfOk result (λ effect. DoesRow seat
-        (inquiry_row (seat_meant seat) ticket live.now live.now.standing) effect live.now) }
+        (on_inquiry (seat_meant seat) ticket live.now live.now.standing) effect live.now) }
 {
     match coord_records::answer(live.standing(), seat.case.txn.presumption) {
         Some(outcome) => decided_inquiry(alloc, seat, outcome, ticket),
@@ -108,10 +102,10 @@ fn on_inquiry(
 /// PREPARE of the parent.
 fn on_prepare(alloc: Global, seat: OwnCase, live: &mut Live) -> Result<RowEffect, StepError>
     ensures ok { IfOk result (λ effect. DoesRow seat
-        (prepare_row (seat_meant seat) live.old live.old.standing) effect live.new) }
+        (on_prepare (seat_meant seat) live.old live.old.standing) effect live.new) }
     ensures err { OnErr result (live.new ≡ live.old) }
     ensures unwritten { IfErr result (NotWritten seat.parent
-        (prepare_row (seat_meant seat) live.old live.old.standing).written) }
+        (on_prepare (seat_meant seat) live.old live.old.standing).written) }
 {
     match live.standing() {
         Standing::Active => active_commit(alloc, seat, live),

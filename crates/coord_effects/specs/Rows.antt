@@ -11,14 +11,14 @@ use Rattle.protocol.specs.declared.events.Reaction.{Reaction}
 use Rattle.protocol.specs.declared.events.StepError.{StepError}
 use Rattle.protocol.specs.declared.events.Told.{Told}
 use Rattle.protocol.specs.declared.records.Record.{Record}
-use Rattle.protocol.specs.declared.records.Record.TheVariants.{Commit as CommitRecord, Abort as AbortRecord, End as EndRecord}
+use Rattle.protocol_words.specs.Variants.{AbortRecord, CommitRecord, EndRecord}
 use Rattle.protocol.specs.declared.records.Reports.{Reports}
 use Rattle.protocol.specs.declared.standings.Standing.{Standing}
 use Rattle.protocol.specs.declared.standings.Standing.TheVariants.{Committing, Aborting}
 use Rattle.protocol.specs.LogNames.{in_log}
-use Rattle.protocol.specs.Nodes.{Written as WrittenRecord, entries_written, logged_of, reaction_of}
+use Rattle.protocol.specs.Nodes.{Written, entries_written, logged_of, reaction_of}
 use Rattle.protocol.specs.Standings.{CoordinatorView}
-use Rattle.protocol.specs.CoordinatorRows.{Row, Seat as CaseSeat, Reason as AnyReason, ByVote, ByAct, ByAbort}
+use Rattle.protocol.specs.CoordinatorRows.{Row, Seat, Reason as AnyReason, ByVote, ByAct, ByAbort}
 use Rattle.protocol.specs.Reactions.{row_effect}
 use Rattle.protocol.specs.SameViews.{SameView}
 use Rattle.log_text.specs.Made.{frame_record}
@@ -33,7 +33,7 @@ use Rattle.coord_effects.specs.declared.effect.RowRecord.{RowRecord}
 use Rattle.coord_effects.specs.declared.effect.RowEffect.{RowEffect}
 
 -- the coordinator in one of its cases
-abbrev pub seat_meant : OwnCase → CaseSeat
+abbrev pub seat_meant : OwnCase → Seat
 seat_meant s = record { me = s.me; parent = s.parent; own = s.case }
 
 -- why a case that collects votes aborts
@@ -63,15 +63,15 @@ abbrev pub end_written : Case → Option Reports → RowRecord
 end_written c reports = record { entry = EndRecord c reports; forced = is_some reports }
 
 -- a record with its force
-abbrev pub meant : RowRecord → WrittenRecord
+abbrev pub meant : RowRecord → Written
 meant w = record { entry = w.entry; is_forced = w.forced }
 
 -- the record of a frame, with its force
-abbrev pub written_by : RowFrame → WrittenRecord
+abbrev pub written_by : RowFrame → Written
 written_by w = record { entry = (frame_record w.frame).entry; is_forced = w.forced }
 
 -- the record of an effect, if there is one
-abbrev pub written_of : Option RowFrame → List WrittenRecord
+abbrev pub written_of : Option RowFrame → List Written
 written_of None = []
 written_of (Some w) = written_by w ∷ []
 
@@ -91,7 +91,7 @@ pub record Frames (parent : Option ProcessId) (framed : RowFrame) (w : RowRecord
   pub framed_so : IsFramed parent framed
 
 -- why these records are not written at a coordinator below this parent
-abbrev pub NotWritten : Option ProcessId → List WrittenRecord → StepError → Type 0
+abbrev pub NotWritten : Option ProcessId → List Written → StepError → Type 0
 NotWritten parent ws e = NotFramed parent (entries_written ws) e
 
 -- the reaction that shows an effect

@@ -1,9 +1,9 @@
 //! A record that a row writes, and where the case is left after it.
 
 ghost use Rattle.std.specs.Prelude.{◌≡◌, ◌∷◌, [], true, IfErr, IfOk, OnErr, OnOk};
-ghost use Rattle.protocol.specs.CoordinatorRows.{awaits as awaits_view};
+ghost use Rattle.protocol.specs.CoordinatorRows.{awaits};
 ghost use Rattle.protocol.specs.Standings.{unknown_view};
-ghost use Rattle.coord_effects.specs.Rows.{NotWritten, ShowsRecord, decision as decision_of, decision_names, meant, waits as waits_for};
+ghost use Rattle.coord_effects.specs.Rows.{NotWritten, ShowsRecord, decision, decision_names, meant, waits};
 
 use crate::effect::{RowEffect, RowRecord};
 use crate::seat::OwnCase;
@@ -27,7 +27,7 @@ fn abort_record(case: Case, named: Sequence<Ticket>) -> Record
 
 /// The record of a decision that names these.
 fn decision(case: Case, outcome: Outcome, named: Sequence<Ticket>) -> Record
-    ensures { result ≡ decision_of case outcome named }
+    ensures { result ≡ decision case outcome named }
 {
     match outcome {
         Outcome::Committed => commit_record(case, named),
@@ -47,7 +47,7 @@ fn names(alloc: Global, entry: Record) -> Vec<Ticket>
 
 /// Where a decided case stands that waits for acknowledgements.
 fn waits(outcome: Outcome) -> Standing
-    ensures { result ≡ waits_for outcome }
+    ensures { result ≡ waits outcome }
 {
     match outcome {
         Outcome::Committed => Standing::Committing,
@@ -69,11 +69,11 @@ pub fn decides_owed(
     live: &mut Live,
 ) -> Result<RowEffect, StepError>
     ensures shows { IfOk result (λ effect. ShowsRecord seat.parent effect
-        (record { entry = decision_of seat.case outcome owed.items; forced = true }) told messages) }
-    ensures waiting { OnOk result (live.new ≡ awaits_view (waits_for outcome) owed.items live.old) }
+        (record { entry = decision seat.case outcome owed.items; forced = true }) told messages) }
+    ensures waiting { OnOk result (live.new ≡ awaits (waits outcome) owed.items live.old) }
     ensures err { OnErr result (live.new ≡ live.old) }
     ensures unwritten { IfErr result (NotWritten seat.parent
-        (record { entry = decision_of seat.case outcome owed.items; is_forced = true } ∷ [])) }
+        (record { entry = decision seat.case outcome owed.items; is_forced = true } ∷ [])) }
 {
     let written = RowRecord::forced(decision(seat.case, outcome, Sequence::from_vec(owed)));
     let effect = RowEffect::writes(alloc, &seat, &written, told, messages)?;

@@ -1,12 +1,7 @@
 //! Rows of the reaction table for a case that promised, below the root (R*).
 
 ghost use Rattle.std.specs.Prelude.{◌≡◌, IfErr, IfOk, OnErr};
-ghost use Rattle.protocol.specs.CoordinatorRows.{
-  prepared_abort as abort_row,
-  prepared_ask as ask_row,
-  prepared_commit as commit_row,
-  prepared_prepare as prepare_row,
-};
+ghost use Rattle.protocol.specs.CoordinatorRows.{prepared_abort, prepared_ask, prepared_commit, prepared_prepare};
 ghost use Rattle.protocol.specs.SameViews.{SameView};
 ghost use Rattle.process_state.specs.Turns.{this_version};
 ghost use Rattle.coord_effects.specs.Rows.{DoesRow, NotWritten, seat_meant};
@@ -27,10 +22,10 @@ pub fn prepared_commit(
     live: &mut Live,
 ) -> Result<RowEffect, StepError>
     ensures ok { IfOk result (λ effect. DoesRow seat
-        (commit_row this_version (seat_meant seat) live.old) effect live.new) }
+        (prepared_commit this_version (seat_meant seat) live.old) effect live.new) }
     ensures err { OnErr result (live.new ≡ live.old) }
     ensures unwritten { IfErr result (NotWritten seat.parent
-        (commit_row this_version (seat_meant seat) live.old).written) }
+        (prepared_commit this_version (seat_meant seat) live.old).written) }
 {
     let promised = Vec::from_slice(alloc, live.promised())?;
     let mut messages = Sequence::new(alloc);
@@ -59,10 +54,10 @@ pub fn prepared_commit(
 /// nothing changed.
 pub fn prepared_abort(alloc: Global, seat: OwnCase, live: &mut Live) -> Result<RowEffect, StepError>
     ensures ok { IfOk result (λ effect. DoesRow seat
-        (abort_row this_version (seat_meant seat) live.old) effect live.new) }
+        (prepared_abort this_version (seat_meant seat) live.old) effect live.new) }
     ensures err { OnErr result (live.new ≡ live.old) }
     ensures unwritten { IfErr result (NotWritten seat.parent
-        (abort_row this_version (seat_meant seat) live.old).written) }
+        (prepared_abort this_version (seat_meant seat) live.old).written) }
 {
     let promised = Vec::from_slice(alloc, live.promised())?;
     let mut messages = Sequence::new(alloc);
@@ -88,7 +83,7 @@ pub fn prepared_abort(alloc: Global, seat: OwnCase, live: &mut Live) -> Result<R
 
 /// Prepared, PREPARE again: YES again.
 pub fn prepared_prepare(alloc: Global, seat: OwnCase, live: &Live) -> Result<RowEffect, AllocError>
-    ensures { IfOk result (λ effect. DoesRow seat (prepare_row (seat_meant seat) live.now) effect live.now) }
+    ensures { IfOk result (λ effect. DoesRow seat (prepared_prepare (seat_meant seat) live.now) effect live.now) }
 {
     let messages = up(alloc, seat, Message::Yes(seat.case))?;
     Ok(RowEffect::sends(alloc, messages))
@@ -96,7 +91,7 @@ pub fn prepared_prepare(alloc: Global, seat: OwnCase, live: &Live) -> Result<Row
 
 /// Prepared, the ask act: the case asks its parent.
 pub fn prepared_ask(alloc: Global, seat: OwnCase, live: &Live) -> Result<RowEffect, AllocError>
-    ensures { IfOk result (λ effect. DoesRow seat (ask_row (seat_meant seat) live.now) effect live.now) }
+    ensures { IfOk result (λ effect. DoesRow seat (prepared_ask (seat_meant seat) live.now) effect live.now) }
 {
     let messages = up(alloc, seat, Message::Inquire(seat.case))?;
     Ok(RowEffect::sends(alloc, messages))

@@ -1,7 +1,7 @@
 //! What a case sends as its coordinator restarts.
 
 ghost use Rattle.std.specs.Prelude.{◌≡◌, ◌++◌, OnOk};
-ghost use Rattle.protocol.specs.CoordinatorRows.{up as up_of};
+ghost use Rattle.protocol.specs.CoordinatorRows.{up};
 ghost use Rattle.protocol.specs.Restarts.{resumes_by};
 ghost use Rattle.coord_effects.specs.Rows.{seat_meant};
 
@@ -13,7 +13,7 @@ use std::alloc::AllocError;
 /// After these messages an inquiry to the parent, if there is one.
 fn inquire(messages: &mut Envelopes, seat: OwnCase) -> Result<(), AllocError>
     ensures { OnOk result (messages.new ≡ messages.old
-        ++ up_of (seat_meant seat) (Message.Inquire seat.case)) }
+        ++ up (seat_meant seat) (Message.Inquire seat.case)) }
 {
     match seat.parent {
         None => Ok(()),

@@ -1,9 +1,9 @@
 //! A coordinator in one of its cases, and the messages that it sends from there.
 
 ghost use Rattle.std.specs.Prelude.{◌≡◌, ◌++◌, IfOk, OnOk};
-ghost use Rattle.protocol.specs.CoordinatorRows.{abort_heard_above, acknowledges_abort, each, tells, tells_outcome, to_child, unknown_abort, unknown_commit, up as up_of};
+ghost use Rattle.protocol.specs.CoordinatorRows.{abort_heard_above, acknowledges_abort, each, tells, tells_outcome, to_child, unknown_abort, unknown_commit, up};
 ghost use Rattle.protocol.specs.Reactions.{told_of};
-ghost use Rattle.protocol.specs.Standings.{CoordinatorView, unknown_findings as findings_unknown};
+ghost use Rattle.protocol.specs.Standings.{CoordinatorView, unknown_findings};
 ghost use Rattle.process_state.specs.Turns.{this_version};
 ghost use Rattle.coord_effects.specs.Rows.{reason_meant, seat_meant};
 
@@ -58,7 +58,7 @@ impl OwnCase {
 
 /// The message to the parent, if there is one.
 pub fn up(alloc: Global, seat: OwnCase, message: Message) -> Result<Envelopes, AllocError>
-    ensures { IfOk result (λ messages. messages ≡ up_of (seat_meant seat) message) }
+    ensures { IfOk result (λ messages. messages ≡ up (seat_meant seat) message) }
 {
     match seat.parent {
         None => Ok(Sequence::new(alloc)),
@@ -89,8 +89,8 @@ fn acknowledge_unknown(
     seat: OwnCase,
     outcome: Outcome,
 ) -> Result<Envelopes, AllocError>
-    ensures { IfOk result (λ messages. messages ≡ up_of (seat_meant seat)
-        (Message.Ack seat.case outcome (findings_unknown this_version seat.case))) }
+    ensures { IfOk result (λ messages. messages ≡ up (seat_meant seat)
+        (Message.Ack seat.case outcome (unknown_findings this_version seat.case))) }
 {
     let findings = unknown_findings(alloc, seat.case)?;
     up(alloc, seat, Message::Ack(seat.case, outcome, findings))

@@ -4,7 +4,7 @@ use Rattle.protocol.specs.declared.names.Presumption.{Presumption}
 use Rattle.protocol.specs.declared.names.ProcessId.{ProcessId}
 use Rattle.protocol.specs.declared.names.Txn.{Txn}
 use Rattle.protocol.specs.declared.events.Act.TheVariants.{Begin}
-use Rattle.protocol.specs.declared.events.Input.TheVariants.{Act as ActInput}
+use Rattle.protocol_words.specs.Variants.{ActInput}
 use Rattle.protocol.specs.declared.events.Reaction.{Reaction}
 use Rattle.protocol.specs.declared.events.StepError.TheVariants.{Failed, NoSuch}
 use Rattle.protocol.specs.Nodes.{Role, AtRoot, Below, AtLeaf, Effect, reaction_of}

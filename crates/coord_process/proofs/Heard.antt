@@ -11,10 +11,10 @@ use Rattle.protocol.specs.declared.messages.Message.TheVariants.{Joined, Prepare
 use Rattle.protocol.specs.declared.standings.Vote.{Vote}
 use Rattle.protocol.specs.declared.events.Act.{Act}
 use Rattle.protocol.specs.declared.events.Input.{Input}
-use Rattle.protocol.specs.declared.events.Input.TheVariants.{Act as ActInput, Message as MessageInput}
+use Rattle.protocol_words.specs.Variants.{ActInput, MessageInput, WorkAct}
 use Rattle.protocol.specs.declared.events.StepError.TheVariants.{Failed, NoSuch, NotAChild, UnknownTxn}
 use Rattle.std.specs.Borrow.{Bor}
-use Rattle.protocol.specs.declared.events.Act.TheVariants.{Work as WorkAct, Forget as ForgetAct}
+use Rattle.protocol.specs.declared.events.Act.TheVariants.{Forget as ForgetAct}
 use Rattle.protocol.specs.declared.messages.Op.{Op}
 use Rattle.protocol.specs.declared.standings.Standing.TheVariants.{Active, Unknown}
 use Rattle.protocol.specs.Names.{child_case, same_case, same_process, same_ticket, same_txn}
@@ -29,7 +29,7 @@ use Rattle.protocol.specs.Restarts.{is_known}
 use Rattle.protocol.proofs.NameTests.{case_tells, ticket_tells}
 use Rattle.case_table.specs.Tables.{entry_at, live_value}
 use Rattle.case_table.proofs.Writes.{live_found}
-use Rattle.process_state.specs.Turns.{Turn as CoreTurn, Refuses as RefusesTurn, Takes as TakesTurn, FindsChildCase, ack_turn, act_turn, asked_by, asked_of, cascaded_turn, child_says, child_turn, clear_turn, coordinator_act, inquiry_turn, is_case_of, kept_records, message_turn, seat_in, turn_of, vote_turn, work_for_turn, work_turn, no_answer}
+use Rattle.process_state.specs.Turns.{Turn, Refuses as RefusesTurn, Takes as TakesTurn, FindsChildCase, ack_turn, act_turn, asked_by, asked_of, cascaded_turn, child_says, child_turn, clear_turn, coordinator_act, inquiry_turn, is_case_of, kept_records, message_turn, seat_in, turn_of, vote_turn, work_for_turn, work_turn, no_answer}
 use Rattle.coord_cases.specs.declared.held.Held.{Held}
 use Rattle.coord_cases.specs.Cases.{Slots, has_child, held_view, view_in}
 use Rattle.coord_cases.specs.declared.asked.CaseInput.{CaseInput}
@@ -130,7 +130,7 @@ hears_some v x t asked otherwise key c finds is up =
 -- Messages.
 
 -- what is said of the message's case
-of_case : (v : CoordinatorValue) (i : Input) (says : Option Case → CoreTurn) (asked : CaseInput) (c : Case)
+of_case : (v : CoordinatorValue) (i : Input) (says : Option Case → Turn) (asked : CaseInput) (c : Case)
     (turn : Met) → FindsChildCase (state v) (asked_by i) None
     → says None ≡ TakesTurn c (met v c asked) → RetiresAs i asked c
     → meant v turn ≡ TakesTurn c (met v c asked)
@@ -165,7 +165,7 @@ module _ (v : CoordinatorValue) (n : ℕ) (p : ProcessId) (c : Case) (turn : Met
       (λ found. cascaded_turn (state v) p found (Abort c)) Aborts c turn refl refl (λ d u. refl) is may
 
 -- a message of a child is one that asks as its case's ticket, and ends nobody's time
-pub heard_from : (v : CoordinatorValue) (i : Input) (d : Case) (says : Option Case → CoreTurn) (turn : Met)
+pub heard_from : (v : CoordinatorValue) (i : Input) (d : Case) (says : Option Case → Turn) (turn : Met)
     → asked_by i ≡ asked_of d → RetiresNone i → HearsFrom v d says turn → Hears v i says turn
 heard_from v i d says turn by retires hears =
     record {
@@ -177,14 +177,14 @@ heard_from v i d says turn by retires hears =
 
 module _ (v : CoordinatorValue) (d : Case) where
   -- a case without a ticket is no child's
-  pub no_ticket : (says : Ticket → Option Case → CoreTurn) → d.ticket ≡ None
+  pub no_ticket : (says : Ticket → Option Case → Turn) → d.ticket ≡ None
       → HearsFrom v d (λ found. child_turn d (λ t. says t found)) Nothing
   no_ticket says none =
       record { found = None; finds = rw none refl; is = rw none refl; may = λ i retires. tt }
 
   -- what a ticket asks of the case that was found for it
   pub by_ticket : (turn : Met) (t : Ticket) (asked : CaseInput) (otherwise : Met)
-      (says : Ticket → Option Case → CoreTurn)
+      (says : Ticket → Option Case → Turn)
       → d.ticket ≡ Some t → ((found : Option Case) → says t found ≡ met_by_child v asked otherwise found)
       → HearsOf v d.txn t asked otherwise turn → HearsFrom v d (λ found. child_turn d (λ t. says t found)) turn
   by_ticket turn t asked otherwise says is same hears =
@@ -292,7 +292,7 @@ acts_so v a None = refl
 acts_so v a (Some p) = refl
 
 -- an input at a coordinator that is up
-by_tests : (listed failed : Bool) (up : CoreTurn) → listed ≡ true → failed ≡ false
+by_tests : (listed failed : Bool) (up : Turn) → listed ≡ true → failed ≡ false
     → (if listed then (if failed then RefusesTurn Failed else up) else RefusesTurn NoSuch) ≡ up
 by_tests true false up is not = refl
 by_tests true true up is not = absurd (cc)

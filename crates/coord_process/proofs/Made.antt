@@ -19,14 +19,14 @@ use Rattle.protocol.specs.Nodes.{Written, entries_written, reaction_of}
 use Rattle.protocol.specs.Standings.{CoordinatorView, unknown_view}
 use Rattle.protocol.specs.declared.messages.Message.TheVariants.{Joined as JoinedMessage}
 use Rattle.protocol.specs.Records.{is_reported}
-use Rattle.protocol.specs.CoordinatorRows.{Row, Seat as SeatRow, post, unknown_commit_by, unknown_abort_by, unknown_forget}
+use Rattle.protocol.specs.CoordinatorRows.{Row, Seat, post, unknown_commit_by, unknown_abort_by, unknown_forget}
 use Rattle.protocol.specs.Reactions.{row_effect, sends_only}
 use Rattle.protocol.specs.Views.{begin_effect}
 use Rattle.protocol.specs.SameViews.{SameView, open_view}
 use Rattle.case_table.specs.Tables.{AreApart, live_value}
 use Rattle.log_records.specs.Sights.{Breaks, LogSight, LogState}
 use Rattle.process_state.specs.States.{CoreState, SameCore, kind_of_role, logged, wrote}
-use Rattle.process_state.specs.Turns.{Says as SaysTurn, Takes as TakesTurn, clear_turn, is_refusal, kept_records, reacted, seat_in, no_answer, this_version}
+use Rattle.process_state.specs.Turns.{Says, Takes, clear_turn, is_refusal, kept_records, reacted, seat_in, no_answer, this_version}
 use Rattle.process_state.specs.Bounds.{FitsBounds}
 use Rattle.process_state.specs.Makes.{ProcessMakes, NotMade, OpensCase, Unbounded, retired_by}
 use Rattle.process_state.proofs.Alike.{same_view}
@@ -244,7 +244,7 @@ for_any Q (Err e) all i = all
 -- these messages go out, and nothing moves
 pub said_turn : (v : CoordinatorValue) (ls : List Envelope) (reaction : Reaction)
     → reaction ≡ reaction_of (sends_only ls) → (i : Input)
-    → Turned (state v) (state v) i (SaysTurn ls) reaction
+    → Turned (state v) (state v) i (Says ls) reaction
 said_turn v ls reaction shown i = record {
   moves = same_core (state v);
   effect = sends_only ls;
@@ -387,7 +387,7 @@ module _ (v : CoordinatorValue) (log : LogState) (slots : Slots) (c : Case) (ask
   -- the row was taken and its record stands
   pub row_turn : WritesDown mid log effect.written → (i : Input) → RetiresAs i asked c
       → Turned (state v) (state (record v { log = log; slots = slots })) i
-      (TakesTurn c (met v c asked)) (reaction_by effect)
+      (Takes c (met v c asked)) (reaction_by effect)
   row_turn writes i as' =
       record {
         moves = record {
@@ -412,7 +412,7 @@ module _ (v : CoordinatorValue) (log : LogState) (slots : Slots) (c : Case) (ask
 
   -- the device failed under the record
   pub row_breaks : is_some effect.written ≡ true → Breaks mid log (framed_of effect.written)
-      → BreaksUnder (state v) (state (record v { log = log; slots = slots })) (TakesTurn c (met v c asked))
+      → BreaksUnder (state v) (state (record v { log = log; slots = slots })) (Takes c (met v c asked))
   row_breaks some breaks =
       let records = logged_is v effect.written (met v c asked).written takes.does.framed does_met.written in
       let at : Breaks (record mid { sight = v.log.sight }) log
@@ -453,7 +453,7 @@ module _ (v : CoordinatorValue) (log : LogState) (c : Case) (effect : RowEffect)
   does_clear = subst (λ s. DoesRow (seat_for v c) (unknown_forget s (view_in v.slots c)) effect (view_in v.slots c))
       (seat_is v c) (does (view_in v.slots c))
 
-  is_clearing : TakesTurn c cleared ≡ meant v (Clears c)
+  is_clearing : Takes c cleared ≡ meant v (Clears c)
   is_clearing = ap (λ b. clear_turn (seat_in (state v) c) b (view_in v.slots c) Unknown) (sym reported)
 
   clear_records : framed_of effect.written ≡ logged (state v) (entries_written cleared.written)
@@ -556,7 +556,7 @@ coordinator_bounds (Some q) ws ls fits = fits
 -- the row was not taken: so its turn was stopped
 pub row_untaken : (v : CoordinatorValue) (new : CoreState) (c : Case) (asked : CaseInput) (e : StepError)
     → SameCore (state v) new → RowNotTaken (seat_for v c) (asked_row (seat_meant (seat_for v c)) asked (view_in v.slots c)) e
-    → Stopped (state v) new (TakesTurn c (met v c asked)) e
+    → Stopped (state v) new (Takes c (met v c asked)) e
 row_untaken v new c asked Memory same h = same
 row_untaken v new c asked Exhausted same h = (
   same,
@@ -591,7 +591,7 @@ clear_untaken v new c e same reported h = absurd (h (view_in v.slots c))
 
 -- A case that is not live.
 
-unwritten : (s : SeatRow) (asked : CaseInput) → is_for_any asked ≡ true
+unwritten : (s : Seat) (asked : CaseInput) → is_for_any asked ≡ true
     → ((asked_row s asked unknown_view).written ≡ []) × ((asked_row s asked unknown_view).view ≡ unknown_view)
 unwritten s (Joined t) any = (refl, refl)
 unwritten s Prepare any = (refl, refl)
@@ -626,7 +626,7 @@ pub answered_turn : (v : CoordinatorValue) (c : Case) (asked : CaseInput) (effec
     → is_for_any asked ≡ true → live_value v.slots c ≡ None → AreApart v.slots → FitsGiven v.slots
     → DoesRow (seat_for v c) (asked_row (seat_meant (seat_for v c)) asked unknown_view) effect unknown_view
     → (i : Input) → RetiresAs i asked c
-    → Turned (state v) (state v) i (TakesTurn c (met v c asked)) (reaction_by effect)
+    → Turned (state v) (state v) i (Takes c (met v c asked)) (reaction_by effect)
 answered_turn v c asked effect any gone apart fits does i as' =
     let unknown : view_in v.slots c ≡ unknown_view = ap held_view gone in
     let row : asked_row (seat_meant (seat_for v c)) asked unknown_view ≡ met v c asked =

@@ -6,7 +6,7 @@ use Rattle.protocol.specs.declared.names.ProcessId.{ProcessId}
 use Rattle.protocol.specs.declared.trees.TreeProcess.{TreeProcess}
 use Rattle.protocol.specs.declared.records.Record.TheVariants.{Opened}
 use Rattle.protocol.specs.declared.events.StepError.{StepError}
-use Rattle.protocol.specs.declared.events.StepError.TheVariants as steps
+use Rattle.protocol_words.specs.step_error
 use Rattle.protocol.specs.Nodes.{Place}
 use Rattle.protocol.specs.Standings.{CoordinatorView, unknown_view}
 use Rattle.protocol.specs.SameViews.{SameView}
@@ -75,6 +75,6 @@ opened me parent tree old new slots form empty works writes bare =
 -- the first record has a frame
 pub first_unframed : (old new : LogState) (e : StepError) → new.sight ≡ old.sight
     → NotFramed None (Opened 1 ∷ []) e → CoordinatorNotOpened old new e
-first_unframed old new steps.Memory same h = same
-first_unframed old new steps.Exhausted same h = absurd (h ((refl, omega arith), tt))
+first_unframed old new step_error.Memory same h = same
+first_unframed old new step_error.Exhausted same h = absurd (h ((refl, omega arith), tt))
 first_unframed old new e same h = absurd h

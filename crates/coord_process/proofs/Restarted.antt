@@ -27,7 +27,7 @@ use Rattle.coord_cases.specs.Restores.{CasesNotRebuilt, RebuildsCases, appended_
 use Rattle.coord_cases.specs.declared.rebuilding.RebuiltCases.{RebuiltCases}
 use Rattle.coord_process.proofs.Made.{never_decided}
 use Rattle.protocol.specs.declared.events.StepError.{StepError}
-use Rattle.protocol.specs.declared.events.StepError.TheVariants as steps
+use Rattle.protocol_words.specs.step_error
 use Rattle.coord_process.specs.Reopened.{CoordinatorNotReopened, error_of_restart}
 use Rattle.coord_process.specs.States.{CoordinatorValue, IsCoordinator, error_of, own_ticket, place_of, state}
 
@@ -126,8 +126,8 @@ module _ (v : CoordinatorValue) (keep : ℕ) (ls : List LogRecord) (r : RebuiltC
 pub not_rebuilt : (v : CoordinatorValue) (keep : ℕ) (ls : List LogRecord) (e : StepError)
     → ls ≡ left_by v.log.sight keep → CasesNotRebuilt (place_of v) ls e
     → ProcessNotRestarted (state v) keep (state v) e
-not_rebuilt v keep ls steps.Memory left h = same_itself v
-not_rebuilt v keep ls steps.Exhausted left h = (
+not_rebuilt v keep ls step_error.Memory left h = same_itself v
+not_rebuilt v keep ls step_error.Exhausted left h = (
   same_itself v,
   λ held. h (subst (λ ks. AllByRecursion (IsSound Coordinator) (appended_to (place_of v) ks)) (sym left)
       (subst (λ k. AllByRecursion (IsSound k) (appended_to (place_of v) (left_by v.log.sight keep)))
@@ -156,8 +156,8 @@ pub not_reopened : (v w : CoordinatorValue) (keep : ℕ) (e : StepError) (left :
     → left_by v.log.sight keep ≡ records_of v.log.sight.kept → left ≡ w.log
     → ProcessNotRestarted (state v) keep (state w) e
     → CoordinatorNotReopened (place_of v) v.log.sight left.sight (error_of_restart e)
-not_reopened v w keep steps.Memory left all is same = ap (λ (l : LogState). l.sight) is ∙ same.log
-not_reopened v w keep steps.Device left all is broke =
+not_reopened v w keep step_error.Memory left all is same = ap (λ (l : LogState). l.sight) is ∙ same.log
+not_reopened v w keep step_error.Device left all is broke =
     record {
       before = state v;
       place_is = refl;
@@ -168,7 +168,7 @@ not_reopened v w keep steps.Device left all is broke =
       log_left = ap (λ (l : LogState). l.sight) (sym is);
       broke = broke;
     }
-not_reopened v w keep steps.Exhausted left all is refused = (
+not_reopened v w keep step_error.Exhausted left all is refused = (
   ap (λ (l : LogState). l.sight) is ∙ refused.0.log,
   record { before = state v; place_is = refl; log_is = refl; keep = keep; left = all; beyond = refused.1 },
 )

@@ -6,7 +6,7 @@ use Rattle.protocol.specs.declared.names.Txn.{Txn}
 use Rattle.protocol.specs.declared.messages.Message.TheVariants.{Joined}
 use Rattle.protocol.specs.declared.events.Act.{Act}
 use Rattle.protocol.specs.declared.events.Input.{Input}
-use Rattle.protocol.specs.declared.events.Input.TheVariants.{Act as ActInput}
+use Rattle.protocol_words.specs.Variants.{ActInput}
 use Rattle.protocol.specs.declared.events.StepError.{StepError}
 use Rattle.protocol.specs.declared.events.StepError.TheVariants.{Closed, UnknownTxn}
 use Rattle.protocol.specs.declared.standings.Standing.{Standing}
@@ -15,7 +15,7 @@ use Rattle.protocol.specs.Names.{child_case, presumed, same_case, same_txn}
 use Rattle.protocol.specs.Records.{is_reported}
 use Rattle.protocol.specs.CoordinatorRows.{Row, post, tells_outcome}
 use Rattle.case_table.specs.Tables.{AreApart, live_value}
-use Rattle.process_state.specs.Turns.{Turn as CoreTurn, Refuses as RefusesTurn, Begins as BeginsTurn, Issues as IssuesTurn, Takes as TakesTurn, Says as SaysTurn, FindsChildCase, asked_by, asked_of, clear_turn, coordinator_act, kept_records, next_begun, next_ticket, seat_in, turn_of, no_answer, is_refusal}
+use Rattle.process_state.specs.Turns.{Turn, Refuses as RefusesTurn, Begins as BeginsTurn, Issues as IssuesTurn, Takes as TakesTurn, Says, FindsChildCase, asked_by, asked_of, clear_turn, coordinator_act, kept_records, next_begun, next_ticket, seat_in, turn_of, no_answer, is_refusal}
 use Rattle.process_state.specs.Makes.{retires}
 use Rattle.coord_cases.specs.Cases.{FitsGiven, Slots, has_child, ticket_in, view_in}
 use Rattle.coord_cases.specs.declared.asked.CaseInput.{CaseInput}
@@ -31,7 +31,7 @@ abbrev pub met : CoordinatorValue → Case → CaseInput → Row
 met v c asked = asked_row (seat_in (state v) c) asked (view_in v.slots c)
 
 -- the turn of the model
-abbrev pub meant : CoordinatorValue → Met → CoreTurn
+abbrev pub meant : CoordinatorValue → Met → Turn
 meant v (Refuses e) = RefusesTurn e
 meant v (Begins p) = BeginsTurn (next_begun (state v) p)
 meant v (Issues p d) = IssuesTurn d (next_ticket (state v)) (post v.me p (Joined d (next_ticket (state v))))
@@ -39,10 +39,10 @@ meant v (Takes k c asked) = TakesTurn c (met v c asked)
 meant v (Clears c) =
     clear_turn (seat_in (state v) c) (is_reported (kept_records (state v)) c) (view_in v.slots c) Unknown
 meant v (Answers c asked) = TakesTurn c (met v c asked)
-meant v (Repeats p d t) = SaysTurn (post v.me p (Joined d t) ∷ [])
+meant v (Repeats p d t) = Says (post v.me p (Joined d t) ∷ [])
 meant v (Presumes x t) =
-    SaysTurn (post v.me t.child (tells_outcome (presumed x.presumption) (child_case x t)) ∷ [])
-meant v Nothing = SaysTurn []
+    Says (post v.me t.child (tells_outcome (presumed x.presumption) (child_case x t)) ∷ [])
+meant v Nothing = Says []
 
 -- the input ends the time of a ticket just where what is asked of the case does
 abbrev pub RetiresAs : Input → CaseInput → Case → Type 0
@@ -93,7 +93,7 @@ pub record MeetsAct (v : CoordinatorValue) (a : Act) (turn : Met) : Type 0 where
 
 -- the turn is the one that the message meets, which says this for the case that was found for the child that
 -- it is of
-pub record Hears (v : CoordinatorValue) (i : Input) (says : Option Case → CoreTurn)
+pub record Hears (v : CoordinatorValue) (i : Input) (says : Option Case → Turn)
     (turn : Met) : Type 0 where
   pub found : Option Case
   pub finds : FindsChildCase (state v) (asked_by i) found
@@ -108,7 +108,7 @@ is_of_child (Inquire t) = true
 is_of_child _ = false
 
 -- what is met by what a child asks of the case that was found for it; if there is none, the other turn
-abbrev pub met_by_child : CoordinatorValue → CaseInput → Met → Option Case → CoreTurn
+abbrev pub met_by_child : CoordinatorValue → CaseInput → Met → Option Case → Turn
 met_by_child v asked otherwise None = meant v otherwise
 met_by_child v asked otherwise (Some c) = TakesTurn c (met v c asked)
 
@@ -121,7 +121,7 @@ pub record HearsOf (v : CoordinatorValue) (x : Txn) (t : Ticket) (asked : CaseIn
   pub may : (i : Input) → RetiresNone i → May v i turn
 
 -- the turn is the one that is met by a message of a child, which says this for the case that was found for it
-pub record HearsFrom (v : CoordinatorValue) (d : Case) (says : Option Case → CoreTurn)
+pub record HearsFrom (v : CoordinatorValue) (d : Case) (says : Option Case → Turn)
     (turn : Met) : Type 0 where
   pub found : Option Case
   pub finds : FindsChildCase (state v) (asked_of d) found

@@ -1,7 +1,7 @@
 -- Why no coordinator goes on over a log that an earlier one left.
 use Rattle.std.specs.Prelude.{◌≡◌, ℕ}
 use Rattle.protocol.specs.declared.events.StepError.{StepError}
-use Rattle.protocol.specs.declared.events.StepError.TheVariants as steps
+use Rattle.protocol_words.specs.step_error
 use Rattle.protocol.specs.Nodes.{Place}
 use Rattle.log_records.specs.Sights.{LogSight, left_by, records_of}
 use Rattle.process_state.specs.States.{CoreState}
@@ -19,7 +19,7 @@ pub record BreaksOver (place : Place) (old new : LogSight) : Type 0 where
   pub left : left_by old keep ≡ records_of old.kept
   pub behind : CoreState
   pub log_left : behind.log ≡ new
-  pub broke : ProcessNotRestarted before keep behind steps.Device
+  pub broke : ProcessNotRestarted before keep behind step_error.Device
 
 -- a process that sits here over this log cannot append to it what its restart would, where all its records are kept
 pub record CannotReopenOver (place : Place) (log : LogSight) : Type 0 where
@@ -45,6 +45,6 @@ reopen_number Exhausted = 3
 
 -- the error of a process that goes on over a log, for that of its restart
 abbrev pub error_of_restart : StepError → CoordinatorReopenError
-error_of_restart steps.Memory = Memory
-error_of_restart steps.Exhausted = Exhausted
+error_of_restart step_error.Memory = Memory
+error_of_restart step_error.Exhausted = Exhausted
 error_of_restart e = Device

@@ -10,26 +10,26 @@ use Rattle.protocol.specs.Reactions.{Does}
 use Rattle.log_text.specs.Made.{frame_record}
 use Rattle.log_records.specs.Sights.{LogState}
 use Rattle.process_state.specs.States.{CoreState, SameCore, wrote}
-use Rattle.process_state.specs.Turns.{Turn as CoreTurn, Refuses, no_answer, reacted}
+use Rattle.process_state.specs.Turns.{Turn, Refuses, no_answer, reacted}
 use Rattle.process_state.specs.Makes.{BreaksIn, IsBroken, IsWithinBounds, ProcessMoves}
 use Rattle.coord_effects.specs.declared.effect.RowFrame.{RowFrame}
 use Rattle.coord_effects.specs.Rows.{written_of}
 
 -- the turn of the input was made, and this is the reaction to show
-pub record Turned (old new : CoreState) (i : Input) (turn : CoreTurn) (reaction : Reaction) : Type 0 where
+pub record Turned (old new : CoreState) (i : Input) (turn : Turn) (reaction : Reaction) : Type 0 where
   pub moves : ProcessMoves old new i turn
   pub effect : Effect
   pub does : reacted turn ≡ Does effect
   pub shown : reaction ≡ reaction_of effect
 
 -- what the turn does is beyond the bounds of numbers at this process
-pub record IsUnbounded (s : CoreState) (turn : CoreTurn) : Type 0 where
+pub record IsUnbounded (s : CoreState) (turn : Turn) : Type 0 where
   pub effect : Effect
   pub does : reacted turn ≡ Does effect
   pub beyond : IsWithinBounds s effect → ⊥
 
 -- the device failed in the turn, under a record
-pub record BreaksUnder (old new : CoreState) (turn : CoreTurn) : Type 0 where
+pub record BreaksUnder (old new : CoreState) (turn : Turn) : Type 0 where
   pub breaks : BreaksIn old new turn
   pub writes : breaks.0.written ≢ []
 
@@ -40,7 +40,7 @@ pub record IsBrokenUnder (old new : CoreState) (i : Input) : Type 0 where
 
 -- what stopped the turn: for want of memory nothing changed, nor where it does not fit the bounds of numbers; or the
 -- device failed; or the turn is this refusal, and nothing changed
-abbrev pub Stopped : CoreState → CoreState → CoreTurn → StepError → Type 0
+abbrev pub Stopped : CoreState → CoreState → Turn → StepError → Type 0
 Stopped old new turn Memory = SameCore old new
 Stopped old new turn Device = BreaksUnder old new turn
 Stopped old new turn Exhausted = SameCore old new × IsUnbounded old turn

@@ -1,7 +1,7 @@
 //! What an application asks of the root: `step` at its act.
 
 ghost use Rattle.std.specs.Prelude.{IfErr, IfOk};
-ghost use Rattle.protocol.specs.declared.events.Input.TheVariants as input;
+ghost use Rattle.protocol_words.specs.input;
 ghost use Rattle.protocol.specs.Nodes.{reaction_of};
 ghost use Rattle.protocol.specs.Views.{begin_effect};
 ghost use Rattle.process_state.specs.States.{HasNumbers};

@@ -1,7 +1,7 @@
 //! What an operator's forget makes of the root: a report is cleared.
 
 ghost use Rattle.std.specs.Prelude.{◌≡◌, false, None, IfErr, IfOk};
-ghost use Rattle.protocol.specs.declared.events.Input.{Input as AnyInput};
+ghost use Rattle.protocol_words.specs.Types.{AnyInput};
 ghost use Rattle.protocol.specs.Records.{is_reported};
 ghost use Rattle.process_state.specs.Turns.{kept_records};
 ghost use Rattle.coord_process.specs.Meets.{RetiresNone, meant};

@@ -7,7 +7,7 @@ ghost use Rattle.case_table.specs.Tables.{AreApart, live_count};
 ghost use Rattle.protocol.specs.Memory.{ticket_of_child};
 ghost use Rattle.coord_cases.specs.Cases.{FitsGiven, ticket_in, view_in};
 ghost use Rattle.coord_cases.specs.Takes.{IsLiveAt};
-ghost use Rattle.protocol.specs.declared.names.Kind.TheVariants as kind;
+ghost use Rattle.protocol_words.specs.kind;
 ghost use Rattle.std.specs.List.{AllByRecursion};
 ghost use Rattle.log_rules.specs.sound.Sound.{IsSound};
 ghost use Rattle.log_records.specs.Sights.{ReadsAs, left_by, log_state, records_of, whole_within};

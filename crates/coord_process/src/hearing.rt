@@ -1,8 +1,8 @@
 //! Which turn an input meets: the messages.
 
 ghost use Rattle.std.specs.Prelude.{◌≡◌, false, true};
-ghost use Rattle.protocol.specs.declared.events.Input.{Input as AnyInput};
-ghost use Rattle.protocol.specs.declared.events.Input.TheVariants as input;
+ghost use Rattle.protocol_words.specs.Types.{AnyInput};
+ghost use Rattle.protocol_words.specs.input;
 ghost use Rattle.process_state.specs.Turns.{Takes, ack_turn, cascaded_turn, child_says, child_turn, inquiry_turn, joined_turn, message_turn, no_answer, vote_turn};
 ghost use Rattle.coord_cases.specs.Cases.{ticket_in};
 ghost use Rattle.coord_cases.specs.Asks.{is_for_any};

@@ -2,7 +2,7 @@
 
 ghost use Rattle.std.specs.Prelude.{◌≡◌, ◌+◌, ◌<◌, ◌^◌, false, true, None, IfErr, IfOk};
 ghost use Rattle.case_table.specs.Tables.{AreApart, live_value};
-ghost use Rattle.protocol.specs.declared.events.Input.{Input as AnyInput};
+ghost use Rattle.protocol_words.specs.Types.{AnyInput};
 ghost use Rattle.process_state.specs.Inputs.{input_of};
 ghost use Rattle.process_state.specs.States.{HasNumbers};
 ghost use Rattle.process_state.specs.Turns.{Takes, no_answer};

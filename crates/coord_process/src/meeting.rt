@@ -2,7 +2,7 @@
 
 ghost use Rattle.std.specs.Prelude.{◌≡◌, false, true, IfErr, IfOk};
 ghost use Rattle.case_table.specs.Tables.{AreApart};
-ghost use Rattle.protocol.specs.declared.events.Input.{Input as AnyInput};
+ghost use Rattle.protocol_words.specs.Types.{AnyInput};
 ghost use Rattle.process_state.specs.Inputs.{input_of};
 ghost use Rattle.process_state.specs.Turns.{is_refusal, live_turn};
 ghost use Rattle.coord_cases.specs.Cases.{view_in};

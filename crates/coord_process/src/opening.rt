@@ -2,7 +2,7 @@
 
 ghost use Rattle.log_text.specs.Forms.{log_form};
 ghost use Rattle.std.specs.Prelude.{◌≡◌, [], false, IfErr, IfOk, OnOk};
-ghost use Rattle.protocol.specs.declared.names.Kind.TheVariants as kind;
+ghost use Rattle.protocol_words.specs.kind;
 ghost use Rattle.log_records.specs.Sights.{records_of};
 ghost use Rattle.process_state.specs.Opening.{IsOpenedProcess};
 ghost use Rattle.coord_process.specs.States.{CoordinatorNotOpened, WritesOpened, role_below, state};

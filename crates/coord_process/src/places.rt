@@ -1,13 +1,13 @@
 //! Where processes are in a tree.
 
 ghost use Rattle.std.specs.Prelude.{◌≡◌};
-ghost use Rattle.protocol.specs.Nodes.{is_child as is_child_in, is_leaf, is_parent as is_parent_of, role_by, role_of};
+ghost use Rattle.protocol.specs.Nodes.{is_child, is_leaf, is_parent, role_by, role_of};
 
 use protocol::{Kind, ProcessId, Tree};
 
 #[tactic(auto, unfolding(protocol::specs::Names::same_process))]
 fn is_parent(parent: ProcessId, of: Option<ProcessId>) -> bool
-    ensures { result ≡ is_parent_of parent of }
+    ensures { result ≡ is_parent parent of }
 {
     match of {
         None => false,
@@ -18,7 +18,7 @@ fn is_parent(parent: ProcessId, of: Option<ProcessId>) -> bool
 /// Whether the first process is a child of the second.
 #[tactic(auto, using(crate::proofs::Entries::child_of_entry))]
 pub(crate) fn is_child(tree: &Tree, child: ProcessId, parent: ProcessId) -> bool
-    ensures { result ≡ is_child_in tree.now child parent }
+    ensures { result ≡ is_child tree.now child parent }
 {
     match tree.entry(child) {
         None => false,

@@ -2,7 +2,7 @@
 
 ghost use Rattle.log_text.specs.Forms.{log_form};
 ghost use Rattle.std.specs.Prelude.{◌≡◌, ℕ, [], false, IfErr, IfOk, OnOk};
-ghost use Rattle.protocol.specs.declared.names.Kind.TheVariants as kind;
+ghost use Rattle.protocol_words.specs.kind;
 ghost use Rattle.log_records.specs.Sights.{NotRewritten, left_by, log_state, records_of};
 ghost use Rattle.log_records.specs.Trimming.{StaysTrimmed, LogTrimmed, trim_of};
 ghost use Rattle.process_state.specs.States.{CoreState};

@@ -1,8 +1,8 @@
 //! A row's record in the log.
 
 ghost use Rattle.std.specs.Prelude.{◌≡◌, false, true, IfErr, OnOk, Option, is_some};
-ghost use Rattle.protocol.specs.declared.names.Kind.TheVariants as kind;
-ghost use Rattle.protocol.specs.declared.names.ProcessId.{ProcessId as AnyProcess};
+ghost use Rattle.protocol_words.specs.kind;
+ghost use Rattle.protocol_words.specs.Types.{AnyProcess};
 ghost use Rattle.log_records.specs.Sights.{Breaks};
 ghost use Rattle.log_writing.specs.Writes.{HasRecordRoom};
 ghost use Rattle.coord_effects.specs.Rows.{AreFramed};

@@ -1,14 +1,14 @@
 //! What a child in doubt is told (R*).
 
 ghost use Rattle.std.specs.Prelude.{◌≡◌};
-ghost use Rattle.protocol.specs.Names.{presumed as presumed_of};
+ghost use Rattle.protocol.specs.Names.{presumed};
 ghost use Rattle.coord_records.specs.Answers.{answer_of};
 
 use protocol::{Outcome, Presumption, Standing};
 
 /// The outcome that an inquiry gets if nothing is known of its case.
 pub fn presumed(presumption: Presumption) -> Outcome
-    ensures { result ≡ presumed_of presumption }
+    ensures { result ≡ presumed presumption }
 {
     match presumption {
         Presumption::PresumeAbort => Outcome::Aborted,

@@ -1,7 +1,7 @@
 //! One pass over the records of a log.
 
 ghost use Rattle.std.specs.Prelude.{◌≡◌, ◌++◌, IfOk, OnOk, fold};
-ghost use Rattle.protocol.specs.LogNames.{is_own as is_own_of, own_by, own_records};
+ghost use Rattle.protocol.specs.LogNames.{is_own, own_by, own_records};
 ghost use Rattle.protocol.specs.Records.{record_case};
 ghost use Rattle.coord_records.specs.Readings.{nothing_read, noted, noted_of, place_below, reading_of, standing_in};
 
@@ -37,7 +37,7 @@ pub fn is_own(
     of: Option<ProcessId>,
     case: &Case,
 ) -> bool
-    ensures { result ≡ is_own_of (place_below me parent tree.now) of case.now }
+    ensures { result ≡ is_own (place_below me parent tree.now) of case.now }
 {
     case.txn.root == tree.root()
         && case.process() == me

@@ -1,7 +1,7 @@
 //! What the records of one case say of it.
 
 ghost use Rattle.std.specs.Prelude.{◌≡◌, ◌++◌, IfOk, OnOk};
-ghost use Rattle.protocol.specs.Records.{none_of as is_none_of};
+ghost use Rattle.protocol.specs.Records.{none_of};
 ghost use Rattle.protocol.specs.Standings.{unless_none};
 ghost use Rattle.coord_records.specs.Summaries.{decides, furthest, names, no_records, rank, standing_at, standing_of, summary_after};
 
@@ -98,7 +98,7 @@ fn unless_none(nobody: bool, standing: Standing) -> Standing
 /// Whether there is no ticket.
 #[tactic(auto, unfolding(protocol::specs::Records::none_of))]
 pub(crate) fn names_nobody(tickets: &[Ticket]) -> bool
-    ensures { result ≡ is_none_of tickets.now }
+    ensures { result ≡ none_of tickets.now }
 {
     match tickets {
         [] => true,

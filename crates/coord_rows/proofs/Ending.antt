@@ -6,10 +6,10 @@ use Rattle.protocol.specs.declared.names.Ticket.{Ticket}
 use Rattle.protocol.specs.declared.messages.Envelope.{Envelope}
 use Rattle.protocol.specs.declared.messages.Finding.{Finding}
 use Rattle.protocol.specs.declared.messages.Message.TheVariants.{Ack}
-use Rattle.protocol.specs.declared.records.Record.TheVariants.{End as EndRecord}
+use Rattle.protocol_words.specs.Variants.{EndRecord}
 use Rattle.protocol.specs.Records.{in_list, in_order, none_of}
 use Rattle.protocol.specs.Standings.{CoordinatorView, unknown_view}
-use Rattle.protocol.specs.CoordinatorRows.{Row, Seat as CaseSeat, decided_ack, decided_ack_by, end_reports, other_tickets, posted_up, quiet, up}
+use Rattle.protocol.specs.CoordinatorRows.{Row, Seat, decided_ack, decided_ack_by, end_reports, other_tickets, posted_up, quiet, up}
 use Rattle.process_state.specs.Turns.{this_version}
 use Rattle.process_state.proofs.Alike.{same_view}
 use Rattle.coord_effects.specs.declared.effect.RowEffect.{RowEffect}
@@ -67,14 +67,14 @@ ending_below s p o fs v below =
     ap (λ q. ending (end_written s.case (end_reports this_version q fs))
     (up (seat_meant s) (Ack s.case o (in_order fs)))) below
 
-no_others : (s : CaseSeat) (o : Outcome) (us : List Ticket) (fs : List Finding) (v : CoordinatorView)
+no_others : (s : Seat) (o : Outcome) (us : List Ticket) (fs : List Finding) (v : CoordinatorView)
     → none_of us ≡ true → decided_ack_by this_version s o us fs v ≡ decided_ack_by this_version s o [] fs v
 unfolding none_of
 no_others s o [] fs v none = refl
 no_others s o (u ∷ us) fs v none = absurd (cc)
 
 -- the last acknowledgement that is owed ends the case
-pub last_ack : (s : CaseSeat) (o : Outcome) (t : Ticket) (fs : List Finding) (v : CoordinatorView)
+pub last_ack : (s : Seat) (o : Outcome) (t : Ticket) (fs : List Finding) (v : CoordinatorView)
     → in_list v.owed t ≡ true → none_of (other_tickets t v.owed) ≡ true
     → decided_ack this_version s o t fs v ≡ decided_ack_by this_version s o [] fs v
 last_ack s o t fs v owed last =

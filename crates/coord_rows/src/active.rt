@@ -1,15 +1,8 @@
 //! Rows of the reaction table for a case that takes children and work (R*).
 
 ghost use Rattle.std.specs.Prelude.{◌≡◌, ◌≤◌, ◌+◌, ◌^◌, true, IfErr, IfOk, OnErr};
-ghost use Rattle.protocol.specs.Records.{in_list as is_in};
-ghost use Rattle.protocol.specs.CoordinatorRows.{
-  active_abort as abort_row,
-  active_commit as commit_row,
-  active_commit_with as commit_with_row,
-  active_join as join_row,
-  active_joined as joined_row,
-  active_work as work_row,
-};
+ghost use Rattle.protocol.specs.Records.{in_list};
+ghost use Rattle.protocol.specs.CoordinatorRows.{active_abort, active_commit, active_commit_with, active_join, active_joined, active_work};
 ghost use Rattle.protocol.specs.Memory.{works_of};
 ghost use Rattle.protocol.specs.SameViews.{SameView};
 ghost use Rattle.coord_effects.specs.Rows.{DoesRow, NotWritten, seat_meant};
@@ -30,7 +23,7 @@ pub fn active_join(
     child: ProcessId,
     live: &Live,
 ) -> Result<RowEffect, AllocError>
-    ensures { IfOk result (λ effect. DoesRow seat (join_row (seat_meant seat) child live.now) effect live.now) }
+    ensures { IfOk result (λ effect. DoesRow seat (active_join (seat_meant seat) child live.now) effect live.now) }
 {
     if live.has_child(child) {
         return Ok(RowEffect::quiet(alloc));
@@ -46,7 +39,7 @@ pub fn active_joined(
     ticket: Ticket,
     live: &mut Live,
 ) -> Result<RowEffect, AllocError>
-    ensures ok { IfOk result (λ effect. DoesRow seat (joined_row ticket live.old) effect live.new) }
+    ensures ok { IfOk result (λ effect. DoesRow seat (active_joined ticket live.old) effect live.new) }
     ensures err { OnErr result (live.new ≡ live.old) }
 {
     if !live.has_child(ticket.child) {
@@ -64,9 +57,9 @@ pub fn active_work(
     op: &Op,
     live: &mut Live,
 ) -> Result<RowEffect, StepError>
-    requires { is_in live.old.accepted ticket ≡ true }
+    requires { in_list live.old.accepted ticket ≡ true }
     ensures ok { IfOk result (λ effect. DoesRow seat
-        (work_row (seat_meant seat) ticket op.now live.old) effect live.new) }
+        (active_work (seat_meant seat) ticket op.now live.old) effect live.new) }
     ensures err { OnErr result (live.new ≡ live.old) }
     ensures unsent { IfErr result (NotSent (works_of live.old.works ticket + 1)) }
 {
@@ -83,9 +76,9 @@ pub fn active_work(
 /// Active, the commit act or PREPARE: where nobody takes part the case has read only, else each child is
 /// asked for its vote. Memory, Exhausted: nothing changed.
 pub fn active_commit(alloc: Global, seat: OwnCase, live: &mut Live) -> Result<RowEffect, StepError>
-    ensures ok { IfOk result (λ effect. DoesRow seat (commit_row (seat_meant seat) live.old) effect live.new) }
+    ensures ok { IfOk result (λ effect. DoesRow seat (active_commit (seat_meant seat) live.old) effect live.new) }
     ensures err { OnErr result (live.new ≡ live.old) }
-    ensures unwritten { IfErr result (NotWritten seat.parent (commit_row (seat_meant seat) live.old).written) }
+    ensures unwritten { IfErr result (NotWritten seat.parent (active_commit (seat_meant seat) live.old).written) }
 {
     if !live.is_alone() {
         return active_commit_with(alloc, seat, live);
@@ -98,10 +91,10 @@ pub fn active_commit(alloc: Global, seat: OwnCase, live: &mut Live) -> Result<Ro
 /// Under Presumed Commit the children are named in a forced record before they are asked.
 fn active_commit_with(alloc: Global, seat: OwnCase, live: &mut Live) -> Result<RowEffect, StepError>
     ensures ok { IfOk result (λ effect. DoesRow seat
-        (commit_with_row (seat_meant seat) live.old seat.case.txn.presumption) effect live.new) }
+        (active_commit_with (seat_meant seat) live.old seat.case.txn.presumption) effect live.new) }
     ensures err { OnErr result (live.new ≡ live.old) }
     ensures unwritten { IfErr result (NotWritten seat.parent
-        (commit_with_row (seat_meant seat) live.old seat.case.txn.presumption).written) }
+        (active_commit_with (seat_meant seat) live.old seat.case.txn.presumption).written) }
 {
     let messages = live.prepares(alloc, seat.me, seat.case.txn)?;
     match seat.case.txn.presumption {
@@ -123,7 +116,7 @@ fn active_commit_with(alloc: Global, seat: OwnCase, live: &mut Live) -> Result<R
 /// Active, the abort act or ABORT: the children are told, and nothing is written, since none can have
 /// promised. Memory: nothing changed.
 pub fn active_abort(alloc: Global, seat: OwnCase, live: &mut Live) -> Result<RowEffect, AllocError>
-    ensures ok { IfOk result (λ effect. DoesRow seat (abort_row (seat_meant seat) live.old) effect live.new) }
+    ensures ok { IfOk result (λ effect. DoesRow seat (active_abort (seat_meant seat) live.old) effect live.new) }
     ensures err { OnErr result (live.new ≡ live.old) }
 {
     let tickets = live.tickets(alloc)?;

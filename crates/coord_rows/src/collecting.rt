@@ -1,16 +1,7 @@
 //! Rows of the reaction table for a case that collects votes (R*).
 
 ghost use Rattle.std.specs.Prelude.{◌≡◌, IfErr, IfOk, OnErr};
-ghost use Rattle.protocol.specs.CoordinatorRows.{
-  cascaded_prepares as promises_row,
-  collecting_abort as abort_row,
-  collecting_abort_by as abort_by_row,
-  collecting_after as after_row,
-  collecting_full as full_row,
-  collecting_read_only as read_only_row,
-  collecting_vote as vote_row,
-  root_commits as commits_row,
-};
+ghost use Rattle.protocol.specs.CoordinatorRows.{cascaded_prepares, collecting_abort, collecting_abort_by, collecting_after, collecting_full, collecting_read_only, collecting_vote, root_commits};
 ghost use Rattle.protocol.specs.SameViews.{SameView};
 ghost use Rattle.coord_effects.specs.Rows.{DoesRow, NotWritten, reason_meant, seat_meant};
 
@@ -32,10 +23,10 @@ pub fn collecting_vote(
     live: &mut Live,
 ) -> Result<RowEffect, StepError>
     ensures ok { IfOk result (λ effect. DoesRow seat
-        (vote_row (seat_meant seat) ticket vote live.old) effect live.new) }
+        (collecting_vote (seat_meant seat) ticket vote live.old) effect live.new) }
     ensures err { OnErr result (SameView live.new live.old) }
     ensures unwritten { IfErr result (NotWritten seat.parent
-        (vote_row (seat_meant seat) ticket vote live.old).written) }
+        (collecting_vote (seat_meant seat) ticket vote live.old).written) }
 {
     if !live.is_counted(&ticket) {
         return Ok(RowEffect::quiet(alloc));
@@ -58,10 +49,10 @@ fn collecting_after(
     live: &mut Live,
 ) -> Result<RowEffect, StepError>
     ensures ok { IfOk result (λ effect. DoesRow seat
-        (after_row (seat_meant seat) live.old vote) effect live.new) }
+        (collecting_after (seat_meant seat) live.old vote) effect live.new) }
     ensures err { OnErr result (live.new ≡ live.old) }
     ensures unwritten { IfErr result (NotWritten seat.parent
-        (after_row (seat_meant seat) live.old vote).written) }
+        (collecting_after (seat_meant seat) live.old vote).written) }
 {
     match vote {
         Vote::No => collecting_abort(alloc, seat, Reason::Vote, live),
@@ -84,10 +75,10 @@ pub fn collecting_abort(
     live: &mut Live,
 ) -> Result<RowEffect, StepError>
     ensures ok { IfOk result (λ effect. DoesRow seat
-        (abort_row (seat_meant seat) (reason_meant reason) live.old) effect live.new) }
+        (collecting_abort (seat_meant seat) (reason_meant reason) live.old) effect live.new) }
     ensures err { OnErr result (live.new ≡ live.old) }
     ensures unwritten { IfErr result (NotWritten seat.parent
-        (abort_row (seat_meant seat) (reason_meant reason) live.old).written) }
+        (collecting_abort (seat_meant seat) (reason_meant reason) live.old).written) }
 {
     let undecided = live.undecided(alloc)?;
     abort_undecided(alloc, seat, reason, undecided, live)
@@ -100,11 +91,11 @@ fn abort_undecided(
     undecided: Vec<Ticket>,
     live: &mut Live,
 ) -> Result<RowEffect, StepError>
-    ensures ok { IfOk result (λ effect. DoesRow seat (abort_by_row (seat_meant seat) (reason_meant reason)
+    ensures ok { IfOk result (λ effect. DoesRow seat (collecting_abort_by (seat_meant seat) (reason_meant reason)
         live.old undecided.items seat.case.txn.presumption) effect live.new) }
     ensures err { OnErr result (live.new ≡ live.old) }
     ensures unwritten { IfErr result (NotWritten seat.parent
-        (abort_by_row (seat_meant seat) (reason_meant reason) live.old undecided.items seat.case.txn.presumption).written) }
+        (collecting_abort_by (seat_meant seat) (reason_meant reason) live.old undecided.items seat.case.txn.presumption).written) }
 {
     let mut messages = heard_above(alloc, seat, reason, &undecided)?;
     tell_each(&mut messages, seat, Outcome::Aborted, &undecided)?;
@@ -124,9 +115,9 @@ fn abort_undecided(
 /// The last vote, and none was NO: with nobody that promised the case has read only; else the root commits,
 /// and a coordinator below it promises.
 fn collecting_full(alloc: Global, seat: OwnCase, live: &mut Live) -> Result<RowEffect, StepError>
-    ensures ok { IfOk result (λ effect. DoesRow seat (full_row (seat_meant seat) live.old) effect live.new) }
+    ensures ok { IfOk result (λ effect. DoesRow seat (collecting_full (seat_meant seat) live.old) effect live.new) }
     ensures err { OnErr result (live.new ≡ live.old) }
-    ensures unwritten { IfErr result (NotWritten seat.parent (full_row (seat_meant seat) live.old).written) }
+    ensures unwritten { IfErr result (NotWritten seat.parent (collecting_full (seat_meant seat) live.old).written) }
 {
     if live.none_voted_yes() {
         return collecting_read_only(alloc, seat, live);
@@ -144,9 +135,9 @@ fn collecting_read_only(
     seat: OwnCase,
     live: &mut Live,
 ) -> Result<RowEffect, StepError>
-    ensures ok { IfOk result (λ effect. DoesRow seat (read_only_row (seat_meant seat)) effect live.new) }
+    ensures ok { IfOk result (λ effect. DoesRow seat (collecting_read_only (seat_meant seat)) effect live.new) }
     ensures err { OnErr result (live.new ≡ live.old) }
-    ensures unwritten { IfErr result (NotWritten seat.parent (read_only_row (seat_meant seat)).written) }
+    ensures unwritten { IfErr result (NotWritten seat.parent (collecting_read_only (seat_meant seat)).written) }
 {
     let messages = up(alloc, seat, Message::Read(seat.case))?;
     let told = seat.told(Conclusion::ReadOnly);
@@ -171,10 +162,10 @@ fn root_commits(
     live: &mut Live,
 ) -> Result<RowEffect, StepError>
     ensures ok { IfOk result (λ effect. DoesRow seat
-        (commits_row (seat_meant seat) live.old yes.items seat.case.txn.presumption) effect live.new) }
+        (root_commits (seat_meant seat) live.old yes.items seat.case.txn.presumption) effect live.new) }
     ensures err { OnErr result (live.new ≡ live.old) }
     ensures unwritten { IfErr result (NotWritten seat.parent
-        (commits_row (seat_meant seat) live.old yes.items seat.case.txn.presumption).written) }
+        (root_commits (seat_meant seat) live.old yes.items seat.case.txn.presumption).written) }
 {
     let mut messages = Sequence::new(alloc);
     tell_each(&mut messages, seat, Outcome::Committed, &yes)?;
@@ -201,10 +192,10 @@ fn cascaded_prepares(
     live: &mut Live,
 ) -> Result<RowEffect, StepError>
     ensures ok { IfOk result (λ effect. DoesRow seat
-        (promises_row (seat_meant seat) live.old yes.now) effect live.new) }
+        (cascaded_prepares (seat_meant seat) live.old yes.now) effect live.new) }
     ensures err { OnErr result (live.new ≡ live.old) }
     ensures unwritten { IfErr result (NotWritten seat.parent
-        (promises_row (seat_meant seat) live.old yes.now).written) }
+        (cascaded_prepares (seat_meant seat) live.old yes.now).written) }
 {
     let messages = up(alloc, seat, Message::Yes(seat.case))?;
     let named = Sequence::from_vec(Vec::from_slice(alloc, yes)?);

@@ -2,20 +2,7 @@
 
 ghost use Rattle.std.specs.Prelude.{◌≡◌, ◌++◌, [], IfErr, IfOk, None, OnErr};
 ghost use Rattle.protocol.specs.Standings.{CoordinatorView};
-ghost use Rattle.protocol.specs.CoordinatorRows.{
-  aborting_abort as abort_again_row,
-  aborting_prepare as late_prepare_row,
-  committing_commit as commit_again_row,
-  unknown_forget as clears_row,
-  decided_ack as ack_row,
-  decided_ack_by as ends_row,
-  decided_inquiry as inquiry_row,
-  end_reports,
-  unknown_abort as abort_row,
-  unknown_commit as commit_row,
-  unknown_inquiry as presumed_row,
-  unknown_prepare as prepare_row,
-};
+ghost use Rattle.protocol.specs.CoordinatorRows.{aborting_abort, aborting_prepare, committing_commit, unknown_forget, decided_ack, decided_ack_by, decided_inquiry, end_reports, unknown_abort, unknown_commit, unknown_inquiry, unknown_prepare};
 ghost use Rattle.protocol.specs.SameViews.{SameView};
 ghost use Rattle.process_state.specs.Turns.{this_version};
 ghost use Rattle.coord_effects.specs.declared.seat.OwnCase.{OwnCase as AnySeat};
@@ -51,10 +38,10 @@ fn ends(
     live: &mut Live,
 ) -> Result<RowEffect, StepError>
     ensures ok { IfOk result (λ effect. DoesRow seat
-        (ends_row this_version (seat_meant seat) outcome [] found.items live.old) effect live.new) }
+        (decided_ack_by this_version (seat_meant seat) outcome [] found.items live.old) effect live.new) }
     ensures err { OnErr result (live.new ≡ live.old) }
     ensures unwritten { IfErr result (NotWritten seat.parent
-        (ends_row this_version (seat_meant seat) outcome [] found.items live.old).written) }
+        (decided_ack_by this_version (seat_meant seat) outcome [] found.items live.old).written) }
 {
     match seat.parent {
         None => {
@@ -82,11 +69,11 @@ pub fn decided_ack(
     live: &mut Live,
 ) -> Result<RowEffect, StepError>
     ensures ok { IfOk result (λ effect. DoesRow seat
-        (ack_row this_version (seat_meant seat) outcome ticket (live.old.found ++ findings.now) live.old)
+        (decided_ack this_version (seat_meant seat) outcome ticket (live.old.found ++ findings.now) live.old)
         effect live.new) }
     ensures err { OnErr result (live.new ≡ live.old) }
     ensures unwritten { IfErr result (NotWritten seat.parent
-        (ack_row this_version (seat_meant seat) outcome ticket (live.old.found ++ findings.now) live.old).written) }
+        (decided_ack this_version (seat_meant seat) outcome ticket (live.old.found ++ findings.now) live.old).written) }
 {
     if !live.owes(&ticket) {
         return Ok(RowEffect::quiet(alloc));
@@ -107,7 +94,7 @@ fn tell_one(
     ticket: Ticket,
 ) -> Result<RowEffect, AllocError>
     ensures { IfOk result (λ effect. (view : CoordinatorView)
-        → DoesRow seat (inquiry_row (seat_meant seat) outcome ticket view) effect view) }
+        → DoesRow seat (decided_inquiry (seat_meant seat) outcome ticket view) effect view) }
 {
     let mut messages = Sequence::new(alloc);
     messages.push(outcome_message(seat, outcome, ticket))?;
@@ -122,7 +109,7 @@ pub fn decided_inquiry(
     ticket: Ticket,
 ) -> Result<RowEffect, AllocError>
     ensures { IfOk result (λ effect. (view : CoordinatorView)
-        → DoesRow seat (inquiry_row (seat_meant seat) outcome ticket view) effect view) }
+        → DoesRow seat (decided_inquiry (seat_meant seat) outcome ticket view) effect view) }
 {
     tell_one(alloc, seat, outcome, ticket)
 }
@@ -130,7 +117,7 @@ pub fn decided_inquiry(
 /// Committing, COMMIT again: nothing, until the last acknowledgement from below.
 pub fn committing_commit(alloc: Global) -> RowEffect
     ensures { (seat : AnySeat) (view : CoordinatorView)
-        → DoesRow seat (commit_again_row this_version (seat_meant seat) view) result view }
+        → DoesRow seat (committing_commit this_version (seat_meant seat) view) result view }
 {
     RowEffect::quiet(alloc)
 }
@@ -138,7 +125,7 @@ pub fn committing_commit(alloc: Global) -> RowEffect
 /// Aborting, ABORT again: likewise.
 pub fn aborting_abort(alloc: Global) -> RowEffect
     ensures { (seat : AnySeat) (view : CoordinatorView)
-        → DoesRow seat (abort_again_row this_version (seat_meant seat) view) result view }
+        → DoesRow seat (aborting_abort this_version (seat_meant seat) view) result view }
 {
     RowEffect::quiet(alloc)
 }
@@ -146,7 +133,7 @@ pub fn aborting_abort(alloc: Global) -> RowEffect
 /// Aborting, PREPARE: NO.
 pub fn aborting_prepare(alloc: Global, seat: OwnCase) -> Result<RowEffect, AllocError>
     ensures { IfOk result (λ effect. (view : CoordinatorView)
-        → DoesRow seat (late_prepare_row (seat_meant seat) view) effect view) }
+        → DoesRow seat (aborting_prepare (seat_meant seat) view) effect view) }
 {
     let messages = up(alloc, seat, Message::No(seat.case))?;
     Ok(RowEffect::sends(alloc, messages))
@@ -156,9 +143,9 @@ pub fn aborting_prepare(alloc: Global, seat: OwnCase) -> Result<RowEffect, Alloc
 /// log holds the record.
 pub fn clears(alloc: Global, seat: OwnCase) -> Result<RowEffect, StepError>
     ensures ok { IfOk result (λ effect. (view : CoordinatorView)
-        → DoesRow seat (clears_row (seat_meant seat) view) effect view) }
+        → DoesRow seat (unknown_forget (seat_meant seat) view) effect view) }
     ensures unwritten { IfErr result (λ e. (view : CoordinatorView)
-        → NotWritten seat.parent (clears_row (seat_meant seat) view).written e) }
+        → NotWritten seat.parent (unknown_forget (seat_meant seat) view).written e) }
 {
     let written = RowRecord::forced(Record::Cleared(seat.case));
     RowEffect::writes(alloc, &seat, &written, None, Sequence::new(alloc))
@@ -167,7 +154,7 @@ pub fn clears(alloc: Global, seat: OwnCase) -> Result<RowEffect, StepError>
 /// PREPARE of a case of which nothing is known: NO.
 pub fn unknown_prepare(alloc: Global, seat: OwnCase) -> Result<RowEffect, AllocError>
     ensures { IfOk result (λ effect. (view : CoordinatorView)
-        → DoesRow seat (prepare_row (seat_meant seat) view) effect view) }
+        → DoesRow seat (unknown_prepare (seat_meant seat) view) effect view) }
 {
     let messages = up(alloc, seat, Message::No(seat.case))?;
     Ok(RowEffect::sends(alloc, messages))
@@ -176,7 +163,7 @@ pub fn unknown_prepare(alloc: Global, seat: OwnCase) -> Result<RowEffect, AllocE
 /// COMMIT of a case of which nothing is known: acknowledged under Presumed Abort, else nothing.
 pub fn unknown_commit(alloc: Global, seat: OwnCase) -> Result<RowEffect, AllocError>
     ensures { IfOk result (λ effect. (view : CoordinatorView)
-        → DoesRow seat (commit_row this_version (seat_meant seat) view) effect view) }
+        → DoesRow seat (unknown_commit this_version (seat_meant seat) view) effect view) }
 {
     let messages = acknowledge_unknown_commit(alloc, seat)?;
     Ok(RowEffect::sends(alloc, messages))
@@ -185,7 +172,7 @@ pub fn unknown_commit(alloc: Global, seat: OwnCase) -> Result<RowEffect, AllocEr
 /// ABORT of a case of which nothing is known: acknowledged under Presumed Commit, else nothing.
 pub fn unknown_abort(alloc: Global, seat: OwnCase) -> Result<RowEffect, AllocError>
     ensures { IfOk result (λ effect. (view : CoordinatorView)
-        → DoesRow seat (abort_row this_version (seat_meant seat) view) effect view) }
+        → DoesRow seat (unknown_abort this_version (seat_meant seat) view) effect view) }
 {
     let messages = acknowledge_unknown_abort(alloc, seat)?;
     Ok(RowEffect::sends(alloc, messages))
@@ -198,7 +185,7 @@ pub fn unknown_inquiry(
     ticket: Ticket,
 ) -> Result<RowEffect, AllocError>
     ensures { IfOk result (λ effect. (view : CoordinatorView)
-        → DoesRow seat (presumed_row (seat_meant seat) ticket view) effect view) }
+        → DoesRow seat (unknown_inquiry (seat_meant seat) ticket view) effect view) }
 {
     tell_one(alloc, seat, presumed(seat.case.txn.presumption), ticket)
 }

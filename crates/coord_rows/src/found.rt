@@ -1,8 +1,8 @@
 //! What acknowledgements found, as a report and an acknowledgement have it.
 
 ghost use Rattle.std.specs.Prelude.{◌≡◌, IfOk};
-ghost use Rattle.protocol.specs.Records.{in_order as ordered_so, mixed_of as mixed_in, unreported_of as unreported_in};
-ghost use Rattle.protocol.specs.CoordinatorRows.{reports_of as reports_in};
+ghost use Rattle.protocol.specs.Records.{in_order, mixed_of, unreported_of};
+ghost use Rattle.protocol.specs.CoordinatorRows.{reports_of};
 ghost use Rattle.coord_rows.specs.Findings.{mixed_ticket, unreported_ticket};
 
 use protocol::{Finding, Findings, Reports, Sequence, Ticket};
@@ -31,7 +31,7 @@ fn unreported(finding: &Finding) -> Option<Ticket>
 /// The tickets that these findings report as mixed.
 #[tactic(auto, using(crate::proofs::Findings::mixed_are))]
 fn mixed_of(alloc: Global, findings: &[Finding]) -> Result<Vec<Ticket>, AllocError>
-    ensures { IfOk result (λ tickets. tickets.items ≡ mixed_in findings.now) }
+    ensures { IfOk result (λ tickets. tickets.items ≡ mixed_of findings.now) }
 {
     findings
         .iter()
@@ -46,7 +46,7 @@ fn mixed_of(alloc: Global, findings: &[Finding]) -> Result<Vec<Ticket>, AllocErr
 /// The tickets that they report as unreported.
 #[tactic(auto, using(crate::proofs::Findings::unreported_are))]
 fn unreported_of(alloc: Global, findings: &[Finding]) -> Result<Vec<Ticket>, AllocError>
-    ensures { IfOk result (λ tickets. tickets.items ≡ unreported_in findings.now) }
+    ensures { IfOk result (λ tickets. tickets.items ≡ unreported_of findings.now) }
 {
     findings
         .iter()
@@ -60,7 +60,7 @@ fn unreported_of(alloc: Global, findings: &[Finding]) -> Result<Vec<Ticket>, All
 
 /// What the root's End reports of these findings.
 pub(crate) fn reports_of(alloc: Global, findings: &[Finding]) -> Result<Reports, AllocError>
-    ensures { IfOk result (λ reports. reports ≡ reports_in findings.now) }
+    ensures { IfOk result (λ reports. reports ≡ reports_of findings.now) }
 {
     let mixed = mixed_of(alloc, findings)?;
     let unreported = unreported_of(alloc, findings)?;
@@ -73,7 +73,7 @@ pub(crate) fn reports_of(alloc: Global, findings: &[Finding]) -> Result<Reports,
 /// These findings in the order of an acknowledgement's text: the mixed tickets, and the unreported ones after
 /// them.
 pub(crate) fn in_order(alloc: Global, findings: &[Finding]) -> Result<Findings, AllocError>
-    ensures { IfOk result (λ ordered. ordered ≡ ordered_so findings.now) }
+    ensures { IfOk result (λ ordered. ordered ≡ in_order findings.now) }
 {
     let mixed = mixed_of(alloc, findings)?;
     let unreported = unreported_of(alloc, findings)?;

@@ -2,7 +2,7 @@
 //! contradicts stays as it is.
 
 ghost use Rattle.std.specs.Prelude.{◌≡◌, IfErr, IfOk, OnErr};
-ghost use Rattle.protocol.specs.CoordinatorRows.{on_abort as abort_row, on_commit as commit_row};
+ghost use Rattle.protocol.specs.CoordinatorRows.{on_abort, on_commit};
 ghost use Rattle.process_state.specs.Turns.{this_version};
 ghost use Rattle.coord_effects.specs.Rows.{DoesRow, NotWritten, seat_meant};
 
@@ -17,10 +17,10 @@ use std::alloc::Global;
 /// COMMIT of the parent. Memory, Exhausted: nothing changed.
 pub fn on_commit(alloc: Global, seat: OwnCase, live: &mut Live) -> Result<RowEffect, StepError>
     ensures ok { IfOk result (λ effect. DoesRow seat
-        (commit_row this_version (seat_meant seat) live.old live.old.standing) effect live.new) }
+        (on_commit this_version (seat_meant seat) live.old live.old.standing) effect live.new) }
     ensures err { OnErr result (live.new ≡ live.old) }
     ensures unwritten { IfErr result (NotWritten seat.parent
-        (commit_row this_version (seat_meant seat) live.old live.old.standing).written) }
+        (on_commit this_version (seat_meant seat) live.old live.old.standing).written) }
 {
     match live.standing() {
         Standing::Prepared => prepared_commit(alloc, seat, live),
@@ -33,10 +33,10 @@ pub fn on_commit(alloc: Global, seat: OwnCase, live: &mut Live) -> Result<RowEff
 /// ABORT of the parent. Memory, Exhausted: nothing changed.
 pub fn on_abort(alloc: Global, seat: OwnCase, live: &mut Live) -> Result<RowEffect, StepError>
     ensures ok { IfOk result (λ effect. DoesRow seat
-        (abort_row this_version (seat_meant seat) live.old live.old.standing) effect live.new) }
+        (on_abort this_version (seat_meant seat) live.old live.old.standing) effect live.new) }
     ensures err { OnErr result (live.new ≡ live.old) }
     ensures unwritten { IfErr result (NotWritten seat.parent
-        (abort_row this_version (seat_meant seat) live.old live.old.standing).written) }
+        (on_abort this_version (seat_meant seat) live.old live.old.standing).written) }
 {
     match live.standing() {
         Standing::Active => Ok(active_abort(alloc, seat, live)?),

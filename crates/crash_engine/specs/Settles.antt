@@ -5,15 +5,14 @@ use Rattle.protocol.specs.declared.events.JournalEntry.{JournalEntry}
 use Rattle.protocol.specs.declared.events.Event.{Event}
 use Rattle.protocol.specs.declared.events.Event.TheVariants.{Deliver, Settle}
 use Rattle.protocol.specs.declared.events.Happening.{Happening}
-use Rattle.protocol.specs.declared.events.Happening.TheVariants.{Input as InputOf}
-use Rattle.protocol.specs.declared.events.Input.TheVariants.{Message as MessageInput}
+use Rattle.protocol_words.specs.Variants.{Handles, MessageInput}
 use Rattle.tree_state.specs.Worlds.{WorldState}
 use Rattle.crash_engine.specs.Origins.{PlaysFrom}
 use Rattle.crash_engine.specs.declared.origin.Origin.{Origin}
 
 -- the delivery by which this happens, if it is one
 abbrev pub delivery_by : Happening → List Event
-delivery_by (InputOf (MessageInput number message)) = Deliver number ∷ []
+delivery_by (Handles (MessageInput number message)) = Deliver number ∷ []
 delivery_by happening = []
 
 -- the deliveries among these steps, in order

@@ -3,12 +3,12 @@
 ghost use Rattle.std.specs.Prelude.{◌≡◌, [], IfErr, IfOk, List, None};
 ghost use Rattle.std.specs.List.{list_any};
 ghost use Rattle.tree_engine.specs.Trees.{Plays};
-ghost use Rattle.protocol.specs.declared.events.Event.{Event as AnyEvent};
+ghost use Rattle.protocol_words.specs.Types.{AnyEvent};
 ghost use Rattle.protocol.specs.declared.trees.TreeProcess.{TreeProcess};
 ghost use Rattle.protocol.specs.Names.{same_case};
 ghost use Rattle.protocol.specs.Trees.{IsTree};
 ghost use Rattle.tree_world.specs.Worlds.{state};
-ghost use Rattle.crash_engine.specs.Audits.{Audits, IsDamagedThen, asks_by, asks_for as asks_of_cases, beyond, doubts_in, mismatched_in, stands_in_doubt};
+ghost use Rattle.crash_engine.specs.Audits.{Audits, IsDamagedThen, asks_by, asks_for, beyond, doubts_in, mismatched_in, stands_in_doubt};
 
 use audit_cases::Own;
 use audit_tree::{AuditError, Report, ReportLine, audit};
@@ -116,7 +116,7 @@ fn is_known(known: &[Case], case: &Case) -> bool
 
 /// The questions for these cases.
 fn asks_for(alloc: Global, cases: &[Case]) -> Result<Vec<Event>, AllocError>
-    ensures { IfOk result (λ asks. asks.items ≡ asks_of_cases cases.now) }
+    ensures { IfOk result (λ asks. asks.items ≡ asks_for cases.now) }
 {
     cases
         .iter()

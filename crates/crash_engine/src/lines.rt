@@ -2,25 +2,7 @@
 
 ghost use Rattle.std.specs.Prelude.{◌≡◌, ◌++◌, IfOk, OnOk};
 ghost use Rattle.tree_engine.specs.Trees.{IsNumberedRefusal};
-ghost use Rattle.crash_engine.specs.Texts.{
-  alone_text,
-  are_clean as all_clean,
-  cases_text,
-  crashes_text,
-  delivery_text,
-  doubt_count,
-  found_text,
-  has_doubt as doubt_in,
-  has_mismatch as mismatch_in,
-  is_clean as clean_by,
-  left_text,
-  mismatch_count,
-  place_text,
-  point_text,
-  refusal_text,
-  totals_text,
-  trial_text,
-};
+ghost use Rattle.crash_engine.specs.Texts.{alone_text, are_clean, cases_text, crashes_text, delivery_text, doubt_count, found_text, has_doubt, has_mismatch, is_clean, left_text, mismatch_count, place_text, point_text, refusal_text, totals_text, trial_text};
 ghost use Rattle.std.specs.List.{flat_map};
 ghost use Rattle.trace_lines.specs.Trace.{case_word, number_word};
 
@@ -91,7 +73,7 @@ fn push_found(out: &mut Vec<u8>, found: &CrashEnd) -> Result<(), AllocError>
 
 /// Whether nothing is left.
 pub(crate) fn is_clean(found: &CrashEnd) -> bool
-    ensures { result ≡ clean_by found.now }
+    ensures { result ≡ is_clean found.now }
 {
     match found {
         CrashEnd::Ended(left) => left.in_doubt.len() == 0 && left.mismatches.len() == 0,
@@ -101,7 +83,7 @@ pub(crate) fn is_clean(found: &CrashEnd) -> bool
 
 /// Whether a case is left in doubt.
 fn has_doubt(found: &CrashEnd) -> bool
-    ensures { result ≡ doubt_in found.now }
+    ensures { result ≡ has_doubt found.now }
 {
     match found {
         CrashEnd::Ended(left) => left.in_doubt.len() != 0,
@@ -111,7 +93,7 @@ fn has_doubt(found: &CrashEnd) -> bool
 
 /// Whether a mismatch is left.
 fn has_mismatch(found: &CrashEnd) -> bool
-    ensures { result ≡ mismatch_in found.now }
+    ensures { result ≡ has_mismatch found.now }
 {
     match found {
         CrashEnd::Ended(left) => left.mismatches.len() != 0,
@@ -206,7 +188,7 @@ fn push_totals(out: &mut Vec<u8>, trials: &[Trial]) -> Result<(), AllocError>
 
 /// Whether nothing is left of any of them.
 pub fn are_clean(trials: &[Trial]) -> bool
-    ensures { result ≡ all_clean trials.now }
+    ensures { result ≡ are_clean trials.now }
 {
     trials.iter().all(|trial| is_clean(&trial.found))
 }

@@ -1,8 +1,8 @@
 //! A crash, tried.
 
 ghost use Rattle.std.specs.Prelude.{◌≡◌, ◌⊎◌, IfErr, IfOk, List, take};
-ghost use Rattle.protocol.specs.declared.events.Event.{Event as AnyEvent};
-ghost use Rattle.proof_runs.specs.worlds.Refusals.{Refusal as AnyRefusal};
+ghost use Rattle.protocol_words.specs.Types.{AnyEvent};
+ghost use Rattle.proof_runs.specs.worlds.Refusals.{Refusal};
 ghost use Rattle.tree_state.specs.Worlds.{WorldState};
 ghost use Rattle.tree_engine.specs.Trees.{IsNumberedRefusal};
 ghost use Rattle.protocol.specs.Trees.{IsTree};
@@ -132,7 +132,7 @@ pub fn try_point(
 /// Device, Exhausted: it breaks off for that.
 fn made_of(alloc: Global, origin: &Origin, events: &[Event]) -> Result<usize, Failure>
     requires { IsTree origin.now.tree }
-    ensures made { IfOk result (λ made. (refusal : AnyRefusal) × (end : WorldState)
+    ensures made { IfOk result (λ made. (refusal : Refusal) × (end : WorldState)
         × PlaysFrom origin.now events.now refusal end × (made ≡ made_by events.now refusal)) }
     ensures err { IfErr result (λ why. (why ≡ Failure.Memory) ⊎ RunBreaksOff origin.now events.now why) }
     ensures why { IfErr result IsOfRun }

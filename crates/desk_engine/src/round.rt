@@ -2,7 +2,7 @@
 
 ghost use Rattle.std.specs.Prelude.{◌≡◌, ◌++◌, ℕ, List, IfErr, IfOk, OnOk, map};
 ghost use Rattle.node_engine.specs.Answers.{AnswersLine, TakesLine, state_of};
-ghost use Rattle.node_desk.specs.Words.{ask_line as ask_line_of, messages_in as messages_of, trim_line};
+ghost use Rattle.node_desk.specs.Words.{ask_line, messages_in, trim_line};
 ghost use Rattle.desk_engine.specs.Turns.{AskedAbout, LeavesOwn, RoundBreaks, cases_at};
 
 use crate::telling::tell;
@@ -42,8 +42,8 @@ fn ask<L: LogStore>(
     case: &Case,
 ) -> Result<Vec<u8>, NodeFailure>
     ensures ok { IfOk result (λ text.
-        AnswersLine (ask_line_of case.now) (state_of serving.old) (state_of serving.new) text.items) }
-    ensures err { IfErr result (LeavesOwn (ask_line_of case.now) (state_of serving.old) (state_of serving.new)) }
+        AnswersLine (ask_line case.now) (state_of serving.old) (state_of serving.new) text.items) }
+    ensures err { IfErr result (LeavesOwn (ask_line case.now) (state_of serving.old) (state_of serving.new)) }
 {
     let line = ask_line(alloc, case)?;
     serving.answer(&line)

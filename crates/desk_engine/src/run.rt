@@ -1,7 +1,7 @@
 //! A node whose lines come from a desk, turn after turn.
 
 ghost use Rattle.std.specs.Prelude.{◌≡◌, ◌⊎◌, true, length, IfErr, IfOk, OnOk};
-ghost use Rattle.protocol.specs.declared.events.Reaction.{Reaction as AnyReaction};
+ghost use Rattle.protocol_words.specs.Types.{AnyReaction};
 ghost use Rattle.node_engine.specs.Answers.{state_of};
 ghost use Rattle.node_engine.specs.Runs.{Known, Stand, stand};
 ghost use Rattle.node_desk.specs.declared.watch.Ways.{Ways as AnyWays};

@@ -1,7 +1,7 @@
 //! The number of cases in doubt.
 
 ghost use Rattle.std.specs.Prelude.{◌≡◌, IfNone, IfOk, IfSome};
-ghost use Rattle.doubt_count.specs.Doubts.{CountsDoubts, HasNoCount, doubts_of as doubts_in_lines, is_doubt as stands_in_doubt};
+ghost use Rattle.doubt_count.specs.Doubts.{CountsDoubts, HasNoCount, doubts_of, is_doubt};
 
 use audit_tree::{AuditError, Own, ReportLine, audit};
 use log_script::read_logs;
@@ -10,7 +10,7 @@ use tree_script::ScriptError;
 
 /// Whether a case is in doubt: its process promised, and knows no outcome.
 fn is_doubt(own: Own) -> bool
-    ensures { result ≡ stands_in_doubt own }
+    ensures { result ≡ is_doubt own }
 {
     match own {
         Own::InDoubt => true,
@@ -20,7 +20,7 @@ fn is_doubt(own: Own) -> bool
 
 /// How many of these lines are of a case in doubt.
 fn doubts_of(lines: &[ReportLine]) -> usize
-    ensures { result ≡ doubts_in_lines lines.now }
+    ensures { result ≡ doubts_of lines.now }
 {
     lines.iter().filter(|line| is_doubt(line.own)).count()
 }

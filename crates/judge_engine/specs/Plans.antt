@@ -5,11 +5,11 @@ use Rattle.std.specs.Int.{to_be_bytes, w16, w32}
 use Rattle.std.specs.List.{flat_map}
 use Rattle.hex.specs.Hex.{encode_lower}
 use Rattle.judge_rules.specs.declared.calls.BranchVerb.{BranchVerb}
-use Rattle.judge_rules.specs.declared.calls.BranchVerb.TheVariants as verb
+use Rattle.judge_words.specs.verb
 use Rattle.judge_rules.specs.declared.calls.JudgedCall.{JudgedCall}
-use Rattle.judge_rules.specs.declared.calls.JudgedCall.TheVariants as call
+use Rattle.judge_words.specs.call
 use Rattle.judge_rules.specs.declared.calls.Function.{Function}
-use Rattle.judge_rules.specs.declared.calls.Function.TheVariants as function
+use Rattle.judge_words.specs.function
 use Rattle.judge_rules.specs.declared.calls.On.{On}
 use Rattle.judge_rules.specs.declared.calls.XidName.{XidName}
 use Rattle.judge_rules.specs.declared.calls.XidSort.{XidSort}

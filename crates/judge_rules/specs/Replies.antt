@@ -1,7 +1,7 @@
 -- The codes of answers, and what refuses a call.
 use Rattle.std.specs.Prelude.{Bool, true, false, ◌||◌}
 use Rattle.xa_codes.specs.declared.code.Code.{Code}
-use Rattle.xa_codes.specs.declared.code.Code.TheVariants as code
+use Rattle.xa_words.specs.code
 use Rattle.judge_rules.specs.declared.replies.Reply.{Reply}
 use Rattle.judge_rules.specs.declared.replies.Reply.TheVariants as reply
 use Rattle.judge_rules.specs.declared.defects.Refusals.{Refusals}

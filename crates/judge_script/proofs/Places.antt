@@ -8,7 +8,7 @@ use Rattle.judge_rules.specs.declared.calls.JudgedAnswer.TheVariants as answer
 use Rattle.judge_rules.specs.declared.calls.JudgedCall.{JudgedCall}
 use Rattle.judge_rules.specs.declared.calls.JudgedCall.TheVariants as call
 use Rattle.judge_rules.specs.declared.calls.HistoryEvent.{HistoryEvent}
-use Rattle.judge_rules.specs.declared.calls.Function.TheVariants as function
+use Rattle.judge_words.specs.function
 use Rattle.judge_script.specs.declared.asking.TranscriptCall.{TranscriptCall}
 use Rattle.judge_script.specs.declared.asking.TranscriptCall.TheVariants as asked
 use Rattle.judge_script.specs.declared.answers.SaidAnswer.{SaidAnswer}

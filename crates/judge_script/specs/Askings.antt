@@ -3,7 +3,7 @@ use Rattle.std.specs.Prelude.{◌≡◌, ℕ, Bool, true, false, List, [], ◌�
 use Rattle.script_words.specs.Steps.{same}
 use Rattle.spellings.specs.Numerals.{number_at}
 use Rattle.xa_codes.specs.FlagNames.{IsFlagText}
-use Rattle.judge_rules.specs.declared.calls.BranchVerb.TheVariants as verb
+use Rattle.judge_words.specs.verb
 use Rattle.judge_script.specs.declared.asking.TranscriptCall.{TranscriptCall}
 use Rattle.judge_script.specs.declared.asking.TranscriptCall.TheVariants.{Open, Close, Branch, Recover, Get, Put, Decide, Restart, Disconnect, Trim}
 use Rattle.judge_script.specs.declared.asking.CallWord.{CallWord}

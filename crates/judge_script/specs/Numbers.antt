@@ -3,13 +3,13 @@ use Rattle.std.specs.Prelude.{◌≡◌, ◌≢◌, ℕ, ◌<◌, List, [], ◌�
 use Rattle.xa_xid.specs.Xids.{null_xid}
 use Rattle.xa_xid.specs.declared.xid.Xid.{Xid}
 use Rattle.judge_rules.specs.declared.calls.JudgedAnswer.{JudgedAnswer}
-use Rattle.judge_rules.specs.declared.calls.JudgedAnswer.TheVariants as answer
+use Rattle.judge_words.specs.answer
 use Rattle.judge_rules.specs.declared.calls.JudgedCall.{JudgedCall}
-use Rattle.judge_rules.specs.declared.calls.JudgedCall.TheVariants as call
+use Rattle.judge_words.specs.call
 use Rattle.judge_rules.specs.declared.calls.HistoryEvent.{HistoryEvent}
-use Rattle.judge_rules.specs.declared.calls.Function.TheVariants as function
+use Rattle.judge_words.specs.function
 use Rattle.judge_rules.specs.declared.calls.XidSort.{XidSort}
-use Rattle.judge_rules.specs.declared.calls.XidSort.TheVariants as sort
+use Rattle.judge_words.specs.sort
 use Rattle.judge_script.specs.declared.asking.TranscriptCall.{TranscriptCall}
 use Rattle.judge_script.specs.declared.asking.TranscriptCall.TheVariants as asked
 use Rattle.judge_script.specs.declared.names.Names.{Names}

@@ -10,20 +10,20 @@ use Rattle.judge_state.specs.Moves.{decided, gone, marked, unlinked}
 use Rattle.judge_state.specs.declared.parts.Stand.{Stand}
 use Rattle.judge_state.specs.declared.parts.Stand.TheVariants.{Heuristic}
 use Rattle.judge_rules.specs.declared.calls.JudgedAnswer.{JudgedAnswer}
-use Rattle.judge_rules.specs.declared.calls.JudgedAnswer.TheVariants as answer
+use Rattle.judge_words.specs.answer
 use Rattle.judge_rules.specs.declared.calls.BranchVerb.{BranchVerb}
-use Rattle.judge_rules.specs.declared.calls.BranchVerb.TheVariants as verb
+use Rattle.judge_words.specs.verb
 use Rattle.judge_rules.specs.declared.calls.JudgedCall.{JudgedCall}
-use Rattle.judge_rules.specs.declared.calls.JudgedCall.TheVariants as call
+use Rattle.judge_words.specs.call
 use Rattle.judge_rules.specs.declared.calls.HistoryEvent.{HistoryEvent}
 use Rattle.judge_rules.specs.declared.calls.Function.{Function}
-use Rattle.judge_rules.specs.declared.calls.Function.TheVariants as function
+use Rattle.judge_words.specs.function
 use Rattle.judge_rules.specs.declared.calls.On.{On}
 use Rattle.judge_rules.specs.declared.calls.XidSort.{XidSort}
-use Rattle.judge_rules.specs.declared.calls.XidSort.TheVariants as sort
+use Rattle.judge_words.specs.sort
 use Rattle.judge_rules.specs.declared.defects.Refusals.{Refusals}
 use Rattle.judge_rules.specs.declared.replies.Reply.{Reply}
-use Rattle.judge_rules.specs.declared.replies.Reply.TheVariants as reply
+use Rattle.judge_words.specs.reply
 use Rattle.judge_rules.specs.declared.words.Rules.{Rules}
 use Rattle.judge_rules.specs.Flags.{has}
 use Rattle.judge_rules.specs.Replies.{decision_in, is_among, is_defective, is_heuristic, reply_of}

@@ -6,17 +6,17 @@ use Rattle.judge_state.specs.Moves.{begun, committed, dissociated, gone, inactiv
 use Rattle.judge_state.specs.Questions.{branch_at}
 use Rattle.judge_state.specs.Sights.{Sight}
 use Rattle.judge_rules.specs.declared.calls.JudgedAnswer.{JudgedAnswer}
-use Rattle.judge_rules.specs.declared.calls.JudgedAnswer.TheVariants as answer
+use Rattle.judge_words.specs.answer
 use Rattle.judge_rules.specs.declared.calls.BranchVerb.{BranchVerb}
-use Rattle.judge_rules.specs.declared.calls.BranchVerb.TheVariants as verb
+use Rattle.judge_words.specs.verb
 use Rattle.judge_rules.specs.declared.calls.JudgedCall.{JudgedCall}
-use Rattle.judge_rules.specs.declared.calls.JudgedCall.TheVariants as call
+use Rattle.judge_words.specs.call
 use Rattle.judge_rules.specs.declared.calls.HistoryEvent.{HistoryEvent}
 use Rattle.judge_rules.specs.declared.calls.Function.{Function}
-use Rattle.judge_rules.specs.declared.calls.Function.TheVariants as function
+use Rattle.judge_words.specs.function
 use Rattle.judge_rules.specs.declared.calls.On.{On}
 use Rattle.judge_rules.specs.declared.replies.Reply.{Reply}
-use Rattle.judge_rules.specs.declared.replies.Reply.TheVariants as reply
+use Rattle.judge_words.specs.reply
 use Rattle.judge_rules.specs.Replies.{reply_of}
 
 -- a state in which a branch is known: begun by the thread, if it was not

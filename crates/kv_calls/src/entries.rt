@@ -1,7 +1,7 @@
 //! The records that a key store writes of a branch.
 
 ghost use Rattle.std.specs.Prelude.{◌≡◌, IfOk};
-ghost use Rattle.protocol.specs.declared.names.Kind.TheVariants as kind;
+ghost use Rattle.protocol_words.specs.kind;
 ghost use Rattle.protocol.specs.declared.records.BranchName.{BranchName as AnyBranch};
 ghost use Rattle.log_text.specs.Branches.{entry_under};
 ghost use Rattle.log_text.specs.Made.{frame_record};

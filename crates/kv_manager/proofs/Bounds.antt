@@ -5,7 +5,7 @@ use Rattle.std.specs.List.{AllByRecursion, IsDistinct, list_any}
 use Rattle.std.specs.Map.{keys_of, lookup, remove_entry}
 use Rattle.indexmap.specs.IndexMap.{insert_entry}
 use Rattle.xa_xid.specs.declared.xid.Xid.{Xid}
-use Rattle.xa_codes.specs.declared.code.Code.TheVariants as code
+use Rattle.xa_words.specs.code
 use Rattle.xa_assoc.specs.Restored.{has_twice, restore_refusal}
 use Rattle.protocol.specs.declared.names.Kind.TheVariants.{Manager}
 use Rattle.protocol.specs.declared.names.ProcessId.{ProcessId}

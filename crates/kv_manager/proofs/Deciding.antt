@@ -3,9 +3,9 @@ use Rattle.std.proofs.Common.{◌≡◌, ◌≤◌, ◌-◌, ◌^◌, ◌∙◌,
 use Rattle.std.specs.Prelude.{Contains, IfErr, MatchBool, OnOk, is_some, unwrap_or}
 use Rattle.std.specs.Map.{lookup}
 use Rattle.xa_codes.specs.declared.code.Code.{Code}
-use Rattle.xa_codes.specs.declared.code.Code.TheVariants as code
+use Rattle.xa_words.specs.code
 use Rattle.xa_tables.specs.Tables.{branch_rows}
-use Rattle.xa_tables.specs.declared.call.Call.TheVariants as call
+use Rattle.xa_words.specs.call
 use Rattle.xa_tables.specs.declared.states.BranchState.{BranchState}
 use Rattle.xa_tables.specs.declared.states.BranchState.TheVariants.{S0, S3, S5}
 use Rattle.xa_xid.specs.declared.xid.Xid.{Xid}
@@ -34,7 +34,7 @@ use Rattle.kv_state.specs.Ends.{OfOperator, Reserves, known_behind, known_of}
 use Rattle.kv_manager.specs.Resources.{IsRefusal, sight_of}
 use Rattle.xa_codes.specs.Codes.{is_own}
 use Rattle.kv_manager.specs.Sights.{KvSight, SameKv}
-use Rattle.kv_manager.specs.Turns as kv
+use Rattle.kv_manager.specs.Turns
 use Rattle.kv_manager.specs.Turns.{DecisionFails, KvFails, IsDueTurn, KvMakes, KvTakes, commits, with_record}
 use Rattle.kv_manager.proofs.Resources.{same_sight, same_tables}
 
@@ -69,7 +69,7 @@ module _ (old mid new : KvSight) (x : Xid) (o : Outcome) (works : old.log.sight.
   known_same : (y : Xid) → known_of mid.store y ≡ known_of old.store y
   known_same y = ap (λ (ds : List (Xid × Decision)). decision_or (lookup (same y) ds)) room.decisions
 
-  wrote_as : (o : Outcome) → kv.LogsTurn mid new x true (Some (heur_entry o))
+  wrote_as : (o : Outcome) → Turns.LogsTurn mid new x true (Some (heur_entry o))
       → new.log.sight ≡ wrote mid.log.sight (decision_writes x o) (logged_under x (decision_writes x o))
   wrote_as Committed is = is
   wrote_as Aborted is = is
@@ -162,32 +162,32 @@ module _ (old mid new : KvSight) (x : Xid) (o : Outcome) (works : old.log.sight.
   -- it was decided
   pub was_decided : (answer : Code) → KvTakes mid new x (decide_turn o) answer → is_own answer ≡ false
       → ManagerDecides (sight_of old) (sight_of new) x o
-  was_decided answer (kv.Made is made) h = decides made
-  was_decided answer (kv.Broke is failed) h = never (ap is_own (sym is) ∙ h)
-  was_decided answer (kv.Spent is commits few alike) h = never (ap is_own (sym is) ∙ h)
+  was_decided answer (Turns.Made is made) h = decides made
+  was_decided answer (Turns.Broke is failed) h = never (ap is_own (sym is) ∙ h)
+  was_decided answer (Turns.Spent is commits few alike) h = never (ap is_own (sym is) ∙ h)
 
   -- or it was not
   pub was_not : (answer : Code) → KvTakes mid new x (decide_turn o) answer
       → (e : DecideError) → IsRefusal answer e
       → ManagerNotDecided (sight_of old) (sight_of new) x o e
-  was_not answer (kv.Made is made) Device h = never (ap is_own (sym h ∙ is) ∙ no_refusal o)
-  was_not answer (kv.Made is made) Exhausted h = never (ap is_own (sym h ∙ is) ∙ no_refusal o)
-  was_not answer (kv.Made is made) Memory h = absurd h
-  was_not answer (kv.Made is made) Failed h = absurd h
-  was_not answer (kv.Made is made) NotInDoubt h = absurd h
-  was_not answer (kv.Broke is failed) Device h = fails failed
-  was_not answer (kv.Broke is failed) Exhausted h = absurd (other_codes (sym is ∙ h))
-  was_not answer (kv.Broke is failed) Memory h = absurd h
-  was_not answer (kv.Broke is failed) Failed h = absurd h
-  was_not answer (kv.Broke is failed) NotInDoubt h = absurd h
-  was_not answer (kv.Spent is commits few alike) Device h = absurd (other_codes (sym h ∙ is))
-  was_not answer (kv.Spent is commits few alike) Exhausted h = (
+  was_not answer (Turns.Made is made) Device h = never (ap is_own (sym h ∙ is) ∙ no_refusal o)
+  was_not answer (Turns.Made is made) Exhausted h = never (ap is_own (sym h ∙ is) ∙ no_refusal o)
+  was_not answer (Turns.Made is made) Memory h = absurd h
+  was_not answer (Turns.Made is made) Failed h = absurd h
+  was_not answer (Turns.Made is made) NotInDoubt h = absurd h
+  was_not answer (Turns.Broke is failed) Device h = fails failed
+  was_not answer (Turns.Broke is failed) Exhausted h = absurd (other_codes (sym is ∙ h))
+  was_not answer (Turns.Broke is failed) Memory h = absurd h
+  was_not answer (Turns.Broke is failed) Failed h = absurd h
+  was_not answer (Turns.Broke is failed) NotInDoubt h = absurd h
+  was_not answer (Turns.Spent is commits few alike) Device h = absurd (other_codes (sym h ∙ is))
+  was_not answer (Turns.Spent is commits few alike) Exhausted h = (
     ap (λ (v : VersionTable). not (nat_lt v.count (2 ^ 63 - 1))) (sym room.versions) ∙ ap not few,
     nothing_changed alike,
   )
-  was_not answer (kv.Spent is commits few alike) Memory h = absurd h
-  was_not answer (kv.Spent is commits few alike) Failed h = absurd h
-  was_not answer (kv.Spent is commits few alike) NotInDoubt h = absurd h
+  was_not answer (Turns.Spent is commits few alike) Memory h = absurd h
+  was_not answer (Turns.Spent is commits few alike) Failed h = absurd h
+  was_not answer (Turns.Spent is commits few alike) NotInDoubt h = absurd h
 
 -- The same of the key store itself.
 
@@ -266,27 +266,27 @@ module _ (old mid new : KvSight) (x : Xid) (o : Outcome) (room : Reserves old.st
 
   pub was_taken : (answer : Code) → KvTakes mid new x (decide_turn o) answer → is_own answer ≡ false
       → KvMakes old new x (decide_turn o)
-  was_taken answer (kv.Made is made) h = makes made
-  was_taken answer (kv.Broke is failed) h = clash (ap is_own (sym is) ∙ h)
-  was_taken answer (kv.Spent is commits few alike) h = clash (ap is_own (sym is) ∙ h)
+  was_taken answer (Turns.Made is made) h = makes made
+  was_taken answer (Turns.Broke is failed) h = clash (ap is_own (sym is) ∙ h)
+  was_taken answer (Turns.Spent is commits few alike) h = clash (ap is_own (sym is) ∙ h)
 
   pub was_not_taken : (answer : Code) → KvTakes mid new x (decide_turn o) answer
-      → (e : DecideError) → IsRefusal answer e → kv.DecisionNotTaken old new x o e
-  was_not_taken answer (kv.Made is made) Device h = clash (ap is_own (sym h ∙ is) ∙ no_code o)
-  was_not_taken answer (kv.Made is made) Exhausted h = clash (ap is_own (sym h ∙ is) ∙ no_code o)
-  was_not_taken answer (kv.Made is made) Memory h = absurd h
-  was_not_taken answer (kv.Made is made) Failed h = absurd h
-  was_not_taken answer (kv.Made is made) NotInDoubt h = absurd h
-  was_not_taken answer (kv.Broke is failed) Device h = breaks failed
-  was_not_taken answer (kv.Broke is failed) Exhausted h = absurd (apart_codes (sym is ∙ h))
-  was_not_taken answer (kv.Broke is failed) Memory h = absurd h
-  was_not_taken answer (kv.Broke is failed) Failed h = absurd h
-  was_not_taken answer (kv.Broke is failed) NotInDoubt h = absurd h
-  was_not_taken answer (kv.Spent is commits few alike) Device h = absurd (apart_codes (sym h ∙ is))
-  was_not_taken answer (kv.Spent is commits few alike) Exhausted h = stays alike
-  was_not_taken answer (kv.Spent is commits few alike) Memory h = absurd h
-  was_not_taken answer (kv.Spent is commits few alike) Failed h = absurd h
-  was_not_taken answer (kv.Spent is commits few alike) NotInDoubt h = absurd h
+      → (e : DecideError) → IsRefusal answer e → Turns.DecisionNotTaken old new x o e
+  was_not_taken answer (Turns.Made is made) Device h = clash (ap is_own (sym h ∙ is) ∙ no_code o)
+  was_not_taken answer (Turns.Made is made) Exhausted h = clash (ap is_own (sym h ∙ is) ∙ no_code o)
+  was_not_taken answer (Turns.Made is made) Memory h = absurd h
+  was_not_taken answer (Turns.Made is made) Failed h = absurd h
+  was_not_taken answer (Turns.Made is made) NotInDoubt h = absurd h
+  was_not_taken answer (Turns.Broke is failed) Device h = breaks failed
+  was_not_taken answer (Turns.Broke is failed) Exhausted h = absurd (apart_codes (sym is ∙ h))
+  was_not_taken answer (Turns.Broke is failed) Memory h = absurd h
+  was_not_taken answer (Turns.Broke is failed) Failed h = absurd h
+  was_not_taken answer (Turns.Broke is failed) NotInDoubt h = absurd h
+  was_not_taken answer (Turns.Spent is commits few alike) Device h = absurd (apart_codes (sym h ∙ is))
+  was_not_taken answer (Turns.Spent is commits few alike) Exhausted h = stays alike
+  was_not_taken answer (Turns.Spent is commits few alike) Memory h = absurd h
+  was_not_taken answer (Turns.Spent is commits few alike) Failed h = absurd h
+  was_not_taken answer (Turns.Spent is commits few alike) NotInDoubt h = absurd h
 
 -- that it went well, said in other words
 pub map_on : {A E : Type 0} (P Q : Type 0) (r : Result A E) → (P → Q) → OnOk r P → OnOk r Q

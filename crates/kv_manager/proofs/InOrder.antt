@@ -5,7 +5,8 @@ use Rattle.xa_tables.specs.declared.states.BranchState.TheVariants.{S0, S5}
 use Rattle.protocol.specs.declared.names.ProcessId.{ProcessId}
 use Rattle.protocol.specs.declared.records.LogRecord.{LogRecord}
 use Rattle.protocol.specs.declared.records.Record.{Record}
-use Rattle.protocol.specs.declared.records.Record.TheVariants.{Opened, Collecting, Prepare, Commit, Abort, End, Prepared, Committed, RolledBack, Direct, HeurCommit, HeurRollback, Told as ToldRecord, Forgot, Base, Pair, Cleared}
+use Rattle.protocol.specs.declared.records.Record.TheVariants.{Opened, Collecting, Prepare, Commit, Abort, End, Prepared, Committed, RolledBack, Direct, HeurCommit, HeurRollback, Forgot, Base, Pair, Cleared}
+use Rattle.protocol_words.specs.Variants.{ToldRecord}
 use Rattle.protocol.specs.LogNames.{name_xid}
 use Rattle.protocol.specs.Records.{boot_of, is_opened}
 use Rattle.protocol.specs.Standings.{mark_at}

@@ -8,14 +8,15 @@ use Rattle.xa_tables.specs.declared.states.BranchState.TheVariants.{S0, S3}
 use Rattle.xa_assoc.specs.Restored.{state_left}
 use Rattle.xa_xid.specs.declared.xid.Xid.{Xid}
 use Rattle.protocol.specs.declared.names.ProcessId.{ProcessId}
-use Rattle.protocol.specs.declared.records.BranchName.TheVariants.{Case as CaseBranch, Foreign}
+use Rattle.protocol.specs.declared.records.BranchName.TheVariants.{Foreign}
+use Rattle.protocol_words.specs.Variants.{BaseRecord, CaseBranch, PairRecord, ToldRecord}
 use Rattle.protocol.specs.declared.records.LogRecord.{LogRecord}
 use Rattle.protocol.specs.declared.records.Record.{Record}
-use Rattle.protocol.specs.declared.records.Record.TheVariants.{Opened, Collecting, Prepare, Commit, Abort, End, Prepared, Committed, RolledBack, Direct, HeurCommit, HeurRollback, Told as ToldRecord, Forgot, Base as BaseRecord, Pair as PairRecord, Cleared}
+use Rattle.protocol.specs.declared.records.Record.TheVariants.{Opened, Collecting, Prepare, Commit, Abort, End, Prepared, Committed, RolledBack, Direct, HeurCommit, HeurRollback, Forgot, Cleared}
 use Rattle.protocol.specs.LogNames.{name_xid, renamed_by, by_xid}
 use Rattle.protocol.specs.Records.{boot_after, boot_of, record_branch, same_branch, same_xid, is_opened}
 use Rattle.protocol.specs.Standings.{Mark, Unmarked, Promised, Decided as DecidedMark, ToldOf, Finished, mark_after, mark_of, mark_at}
-use Rattle.protocol.specs.Store.{Data, no_data, stored, stored_after, writes_of as promised_of, data_of}
+use Rattle.protocol.specs.Store.{Data, no_data, stored, stored_after, writes_of, data_of}
 use Rattle.log_text.proofs.NameReading.{same_xid_is, same_xid_refl}
 use Rattle.log_rules.specs.declared.order.seen.DoubtMark.TheVariants.{Open, Decided, Told}
 use Rattle.log_rules.specs.declared.order.seen.Promise.{Promise}
@@ -305,8 +306,8 @@ writes_as ls t x h =
     by_found (found t x) (mark_at ls x) ((agrees_of ls t h).states x) ((lawful_of ls t h).tied.tied x)
   where
     by_mark : (p : Promise) (b : Bool) (v : Mark) → state_left (not b) ≡ marked_state v
-        → (b ≡ true → promised_of (Foreign x) (data_of ls).promised ≡ cond b p.writes [])
-        → cond b p.writes [] ≡ marked_writes v (promised_of (Foreign x) (data_of ls).promised)
+        → (b ≡ true → writes_of (Foreign x) (data_of ls).promised ≡ cond b p.writes [])
+        → cond b p.writes [] ≡ marked_writes v (writes_of (Foreign x) (data_of ls).promised)
     by_mark p true Unmarked e tied = absurd (cc)
     by_mark p true Promised e tied = sym (tied refl)
     by_mark p true DecidedMark e tied = absurd (cc)
@@ -319,7 +320,7 @@ writes_as ls t x h =
     by_mark p false Finished e tied = refl
 
     none : (v : Mark) → S0 ≡ marked_state v → []
-        ≡ marked_writes v (promised_of (Foreign x) (data_of ls).promised)
+        ≡ marked_writes v (writes_of (Foreign x) (data_of ls).promised)
     none Unmarked e = refl
     none Promised e = absurd (cc)
     none DecidedMark e = refl
@@ -327,7 +328,7 @@ writes_as ls t x h =
     none Finished e = refl
 
     by_found : (o : Option Promise) (v : Mark) → state_by o ≡ marked_state v
-        → (is_open o ≡ true → promised_of (Foreign x) (data_of ls).promised ≡ promised_by o)
-        → promised_by o ≡ marked_writes v (promised_of (Foreign x) (data_of ls).promised)
+        → (is_open o ≡ true → writes_of (Foreign x) (data_of ls).promised ≡ promised_by o)
+        → promised_by o ≡ marked_writes v (writes_of (Foreign x) (data_of ls).promised)
     by_found None v e tied = none v e
     by_found (Some p) v e tied = by_mark p (opens p.mark) v e tied

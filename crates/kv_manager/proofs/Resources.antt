@@ -3,10 +3,10 @@ use Rattle.std.proofs.Common.{◌≡◌, ◌-◌, ◌^◌, ℕ, Bool, true, fals
 use Rattle.std.proofs.lemmas.List.{append-nil}
 use Rattle.std.specs.Prelude.{◌||◌, Contains, is_none, nat_lt}
 use Rattle.xa_codes.specs.declared.code.Code.{Code}
-use Rattle.xa_codes.specs.declared.code.Code.TheVariants as code
+use Rattle.xa_words.specs.code
 use Rattle.xa_tables.specs.Tables.{branch_rows, is_spoiled}
 use Rattle.xa_tables.specs.declared.call.Call.{Call}
-use Rattle.xa_tables.specs.declared.call.Call.TheVariants as call
+use Rattle.xa_words.specs.call
 use Rattle.xa_tables.specs.declared.call.Verb.{Verb}
 use Rattle.xa_tables.specs.declared.states.BranchState.{BranchState}
 use Rattle.xa_tables.specs.declared.states.BranchState.TheVariants.{S0, S1, S2, S3, S4, S5}
@@ -23,9 +23,9 @@ use Rattle.xa_branch.specs.declared.decision.Decision.{Decision}
 use Rattle.xa_branch.specs.Decisions.{first_told, told_behind}
 use Rattle.xa_branch.specs.Cases.{decision_in, decision_or}
 use Rattle.protocol.specs.declared.names.Outcome.{Outcome}
-use Rattle.protocol.specs.declared.names.Outcome.TheVariants.{Aborted as AbortedOutcome, Committed as CommittedOutcome}
+use Rattle.protocol_words.specs.Variants.{AbortedOutcome, CaseBranch, CommittedOutcome}
 use Rattle.protocol.specs.declared.records.BranchName.{BranchName}
-use Rattle.protocol.specs.declared.records.BranchName.TheVariants.{Case as CaseBranch, Foreign}
+use Rattle.protocol.specs.declared.records.BranchName.TheVariants.{Foreign}
 use Rattle.protocol.specs.declared.records.Write.{Write}
 use Rattle.protocol.specs.declared.messages.Op.{Op}
 use Rattle.protocol.specs.declared.messages.Op.TheVariants.{Put, Get, Delete}
@@ -37,12 +37,12 @@ use Rattle.process_state.specs.States.{wrote}
 use Rattle.xa_assoc.specs.declared.errors.WorkError.{WorkError}
 use Rattle.xa_assoc.specs.declared.errors.WorkError.TheVariants.{Locked, Memory, NotAssociated, RmFail, RollbackOnly, TooLong, TooManyWrites}
 use Rattle.resource_manager.specs.Sights.{ManagerCalls, SameManager, obstacle}
-use Rattle.resource_manager.specs.Data as model_data
+use Rattle.resource_manager.specs.Data
 use Rattle.resource_manager.specs.Data.{Locks, held_with, is_begun}
 use Rattle.resource_manager.specs.Idle.{BranchComes, HasBegun, IsIdle, IsQuiet, WorksIdle}
 use Rattle.resource_manager.proofs.Idle.{has_begun, stays_known}
 use Rattle.resource_manager.specs.Works.{WorkRefused, ThreadWorks, work_refusal}
-use Rattle.resource_manager.specs.Works as model
+use Rattle.resource_manager.specs.Works
 use Rattle.resource_manager.specs.Ends.{Broke, BranchFails, Failed, ManagerFinishes, Limited, Made, BranchMakes, Refused, Unlisted, decided_behind, left_with, logged_under, outcome_row, row_for, row_of, state_of as state_of_log, tells, written_by, written_for}
 use Rattle.key_lists.specs.declared.holders.Mode.{Mode}
 use Rattle.key_lists.specs.declared.holders.Mode.TheVariants.{Exclusive, Shared}
@@ -57,7 +57,7 @@ use Rattle.kv_state.specs.Ends.{IsRowListed, LetsBranchGo, Refused as OffRefused
 use Rattle.kv_state.specs.Works as core
 use Rattle.kv_state.specs.Works.{IsRefusedWork, ReadsKey, WritesKey, at_work, is_too_long, limit_refusal, refusal_by, unless_locked, worker_of, working}
 use Rattle.kv_manager.specs.Sights.{KvSight, SameKv}
-use Rattle.kv_manager.specs.Turns as kv
+use Rattle.kv_manager.specs.Turns
 use Rattle.kv_manager.specs.Turns.{KvCalls, KvFinishes, KvMakes, KvFails, KvTakes, LogsTurn, RefusesWork}
 use Rattle.kv_manager.specs.Resources.{sight_of}
 
@@ -133,7 +133,7 @@ obstacle_of s x (Put k v) = data_refusal s k (Some v) Exclusive x
 obstacle_of s x (Get k) = data_refusal s k None Shared x
 obstacle_of s x (Delete k) = data_refusal s k None Exclusive x
 
-one_lock : (o : Option Xid) (other : Option WorkError) → model_data.unless_locked o other ≡ unless_locked o other
+one_lock : (o : Option Xid) (other : Option WorkError) → Data.unless_locked o other ≡ unless_locked o other
 one_lock (Some y) other = refl
 one_lock None other = refl
 
@@ -147,7 +147,7 @@ obstacle_is s x (Delete k) = ap (λ o. if is_too_long k None then Some TooLong e
 
 refused_as : (s : KeySight) (k : List ℕ) (v : Option (List ℕ)) (m : Mode) (x : Xid)
     (st : BranchState) → state_of s x ≡ st
-    → model.state_refusal st (data_refusal s k v m x) ≡ refusal_by s k v m (working st x)
+    → Works.state_refusal st (data_refusal s k v m x) ≡ refusal_by s k v m (working st x)
 refused_as s k v m x S0 is = refl
 refused_as s k v m x S1 is =
     sym (ap (λ t. if is_spoiled t then Some RollbackOnly else data_refusal s k v m x) is)
@@ -164,36 +164,36 @@ op_refusal s t (Get k) = core.work_refusal s t k None Shared
 op_refusal s t (Delete k) = core.work_refusal s t k None Exclusive
 
 by_thread : (s : KvSight) (t : ℕ) (op : Op) (o : Option Xid) → active_of s.store.tables.associations t ≡ o
-    → model.refusal_by (sight_of s) op o ≡ op_refusal s.store t op
+    → Works.refusal_by (sight_of s) op o ≡ op_refusal s.store t op
 by_thread s t (Put k v) None is = ap (λ a. refusal_by s.store k (Some v) Exclusive
     (worker_of s.store a)) (sym is)
 by_thread s t (Get k) None is = ap (λ a. refusal_by s.store k None Shared (worker_of s.store a)) (sym is)
 by_thread s t (Delete k) None is = ap (λ a. refusal_by s.store k None Exclusive
     (worker_of s.store a)) (sym is)
 by_thread s t (Put k v) (Some x) is =
-    ap (model.state_refusal (state_of s.store x)) (obstacle_is s x (Put k v))
+    ap (Works.state_refusal (state_of s.store x)) (obstacle_is s x (Put k v))
     ∙ refused_as s.store k (Some v) Exclusive x (state_of s.store x) refl
     ∙ ap (λ a. refusal_by s.store k (Some v) Exclusive (worker_of s.store a)) (sym is)
 by_thread s t (Get k) (Some x) is =
-    ap (model.state_refusal (state_of s.store x)) (obstacle_is s x (Get k))
+    ap (Works.state_refusal (state_of s.store x)) (obstacle_is s x (Get k))
     ∙ refused_as s.store k None Shared x (state_of s.store x) refl
     ∙ ap (λ a. refusal_by s.store k None Shared (worker_of s.store a)) (sym is)
 by_thread s t (Delete k) (Some x) is =
-    ap (model.state_refusal (state_of s.store x)) (obstacle_is s x (Delete k))
+    ap (Works.state_refusal (state_of s.store x)) (obstacle_is s x (Delete k))
     ∙ refused_as s.store k None Exclusive x (state_of s.store x) refl
     ∙ ap (λ a. refusal_by s.store k None Exclusive (worker_of s.store a)) (sym is)
 
 refusal_as : (s : KvSight) (t : ℕ) (op : Op) → s.log.sight.failed ≡ false
     → work_refusal (sight_of s) t op ≡ op_refusal s.store t op
 refusal_as s t op works =
-    ap (λ b. if b then Some RmFail else model.refusal_by (sight_of s) op
+    ap (λ b. if b then Some RmFail else Works.refusal_by (sight_of s) op
     (active_of s.store.tables.associations t)) works
     ∙ by_thread s t op (active_of s.store.tables.associations t) refl
 
 refusal_failed : (s : KvSight) (t : ℕ) (op : Op) → s.log.sight.failed ≡ true
     → work_refusal (sight_of s) t op ≡ Some RmFail
 refusal_failed s t op failed =
-    ap (λ b. if b then Some RmFail else model.refusal_by (sight_of s) op
+    ap (λ b. if b then Some RmFail else Works.refusal_by (sight_of s) op
     (active_of s.store.tables.associations t)) failed
 
 stayed : (old new : KvSight) → SameKeyStore old.store new.store
@@ -650,10 +650,10 @@ spent_so b is = ap not is
 
 pub finished : (old new : KvSight) (v : Verb) (x : Xid) (flags : ℕ) (answer : Code) → is_work_verb v ≡ false
     → KvFinishes old new v x flags answer → ManagerFinishes (sight_of old) (sight_of new) v x flags answer
-finished old new v x flags answer n (kv.Failed failed is same) = Failed failed is (same_sight old new same)
-finished old new v x flags answer n (kv.Refused works (OffRefused checked) same) =
+finished old new v x flags answer n (Turns.Failed failed is same) = Failed failed is (same_sight old new same)
+finished old new v x flags answer n (Turns.Refused works (OffRefused checked) same) =
     Refused works checked (same_sight old new same)
-finished old new v x flags answer n (kv.Refused works (OffUnlisted c ready_is none off) same) =
+finished old new v x flags answer n (Turns.Refused works (OffUnlisted c ready_is none off) same) =
     Unlisted works c ready_is
     (λ listed. none (subst (Contains (branch_rows (state_of old.store x) c))
     (sym (row_as (state_of old.store x) c (writes_of old.store.writes x) _ _)) listed))
@@ -663,7 +663,7 @@ finished old new v x flags answer n (kv.Refused works (OffUnlisted c ready_is no
     off_is : (c : Call) → is_work c ≡ false → off_row c ≡ code.Proto
     off_is call.Start h = absurd (cc)
     off_is _ h = refl
-finished old new v x flags answer n (kv.Taken works due is_due taken) =
+finished old new v x flags answer n (Turns.Taken works due is_due taken) =
     let checked = passed old.store.tables v x flags due.0 is_due.checked in
     let w : is_work due.0 ≡ false = works_as v flags due.0 checked.by_flags ∙ n in
     let h : has_rows (branch_rows (state_of old.store x) due.0) ≡ true = free_rows _ _ checked.passes.free in
@@ -680,11 +680,11 @@ finished old new v x flags answer n (kv.Taken works due is_due taken) =
         → IsRowListed old.store x due.0 (turn_for old.store x due.0)
         → KvTakes old new x (turn_for old.store x due.0) answer
         → ManagerFinishes (sight_of old) (sight_of new) v x flags answer
-    by_taken w h listed (kv.Made is made) =
+    by_taken w h listed (Turns.Made is made) =
         Made works due.0 is_due.checked (is ∙ ap (λ (r : Code × BranchState). r.0)
         (row_as (state_of old.store x) due.0 (writes_of old.store.writes x) _ _))
         (made_row old new x due.0 w h listed made)
-    by_taken w h listed (kv.Broke is failed) =
+    by_taken w h listed (Turns.Broke is failed) =
         Broke works due.0 is_due.checked is (broke_under old new x due.0 w h listed failed)
-    by_taken w h listed (kv.Spent is commits few same) =
+    by_taken w h listed (Turns.Spent is commits few same) =
         Limited works (spent_so (has_numbers old.store) few) is (same_sight old new same)

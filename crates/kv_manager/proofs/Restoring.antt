@@ -35,7 +35,7 @@ use Rattle.protocol.specs.declared.names.Kind.TheVariants.{Manager}
 use Rattle.log_text.specs.Made.{frame_record}
 use Rattle.log_writing.specs.Writes.{WritesRecord}
 use Rattle.process_state.specs.States.{wrote}
-use Rattle.log_records.specs.Sights.{Breaks, LogSight, LogState, LogRestarts, left_by as left_by_crash, records_of}
+use Rattle.log_records.specs.Sights.{Breaks, LogSight, LogState, LogRestarts, left_by, records_of}
 use Rattle.kv_manager.specs.declared.restart.Ready.{Ready}
 use Rattle.resource_manager.specs.declared.errors.RestartError.{RestartError}
 use Rattle.resource_manager.specs.declared.errors.RestartError.TheVariants as restarts
@@ -262,13 +262,13 @@ kept_left s ls kind left forced unforced =
     }
 
 pub kept_restarted : (old log : LogState) (keep : ℕ) (r : Ready) → old.sight.form.kind ≡ Manager
-    → IsReady (left_by_crash old.sight keep) r
+    → IsReady (left_by old.sight keep) r
     → LogRestarts old log keep (frame_record r.opened ∷ [])
     → IsKvManager (record { store = r.store; log = log; boot = r.boot })
 kept_restarted old log keep r kind ready made =
-    kept_left (record { store = r.store; log = log; boot = r.boot }) (left_by_crash old.sight keep)
+    kept_left (record { store = r.store; log = log; boot = r.boot }) (left_by old.sight keep)
     (ap (λ f. f.kind) made.form ∙ kind) ready.left
-    (made.forced ∙ ap (λ l. left_by_crash old.sight keep ++ l ∷ []) ready.spells) made.unforced
+    (made.forced ∙ ap (λ l. left_by old.sight keep ++ l ∷ []) ready.spells) made.unforced
 
 -- a log that was opened, with the record of the boot after its own
 pub kept_over : (log new : LogState) (store : KeySight) (boot : ℕ) → log.sight.form.kind ≡ Manager → new.sight.form ≡ log.sight.form
@@ -362,26 +362,26 @@ kept_alike s log kept stays = record {
 
 -- a log that did not restart leaves a manager that stands, or that has failed
 pub kept_unstarted : (s : KvSight) (log : LogState) (keep : ℕ) (l : LogRecord) (e : RestartError)
-    → IsKvManager s → are_ordered (left_by_crash s.log.sight keep ++ l ∷ []) ≡ true
-    → AreCountedCommits (left_by_crash s.log.sight keep ++ l ∷ [])
+    → IsKvManager s → are_ordered (left_by s.log.sight keep ++ l ∷ []) ≡ true
+    → AreCountedCommits (left_by s.log.sight keep ++ l ∷ [])
     → FailsToRestart s.log log keep l e → IsKvManager (record s { log = log })
 kept_unstarted s log keep l restarts.Memory kept behind counts stays = kept_alike s log kept stays
 kept_unstarted s log keep l restarts.Device kept behind counts broke = record {
   kind = ap (λ f. f.kind) broke.form ∙ kept.kind;
   counted = subst AreCountedCommits (sym broke.stand)
-      (counted_front (left_by_crash s.log.sight keep ++ take broke.appended (l ∷ []))
+      (counted_front (left_by s.log.sight keep ++ take broke.appended (l ∷ []))
       (drop broke.appended (l ∷ [])) (subst AreCountedCommits (sym whole) counts));
   ordered = ap are_ordered broke.stand
-      ∙ ordered_front (left_by_crash s.log.sight keep ++ take broke.appended (l ∷ []))
+      ∙ ordered_front (left_by s.log.sight keep ++ take broke.appended (l ∷ []))
       (drop broke.appended (l ∷ [])) (ap are_ordered whole ∙ behind);
   stands = λ works. absurd (let never : true ≡ false = sym broke.failed ∙ works in cc);
 }
   where
-    whole : (left_by_crash s.log.sight keep ++ take broke.appended (l ∷ [])) ++ drop broke.appended (l ∷ [])
-        ≡ left_by_crash s.log.sight keep ++ l ∷ []
-    whole = append_assoc (left_by_crash s.log.sight keep) (take broke.appended (l ∷ []))
+    whole : (left_by s.log.sight keep ++ take broke.appended (l ∷ [])) ++ drop broke.appended (l ∷ [])
+        ≡ left_by s.log.sight keep ++ l ∷ []
+    whole = append_assoc (left_by s.log.sight keep) (take broke.appended (l ∷ []))
         (drop broke.appended (l ∷ []))
-        ∙ ap (λ ls. left_by_crash s.log.sight keep ++ ls) (take-append-drop broke.appended (l ∷ []))
+        ∙ ap (λ ls. left_by s.log.sight keep ++ ls) (take-append-drop broke.appended (l ∷ []))
 kept_unstarted s log keep l restarts.Exhausted kept behind counts never = absurd never
 
 -- what replays and what is rebuilt of it

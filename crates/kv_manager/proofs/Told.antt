@@ -7,10 +7,11 @@ use Rattle.xa_branch.specs.declared.decision.Decision.{Decision}
 use Rattle.xa_branch.specs.Decisions.{decided_as, decision_after, decision_of, decided_in}
 use Rattle.protocol.specs.declared.names.Outcome.TheVariants as outcome
 use Rattle.protocol.specs.declared.names.ProcessId.{ProcessId}
-use Rattle.protocol.specs.declared.records.BranchName.TheVariants.{Case as CaseBranch, Foreign}
+use Rattle.protocol.specs.declared.records.BranchName.TheVariants.{Foreign}
+use Rattle.protocol_words.specs.Variants.{BaseRecord, CaseBranch, PairRecord, ToldRecord}
 use Rattle.protocol.specs.declared.records.LogRecord.{LogRecord}
 use Rattle.protocol.specs.declared.records.Record.{Record}
-use Rattle.protocol.specs.declared.records.Record.TheVariants.{Opened, Collecting, Prepare, Commit, Abort, End, Prepared, Committed, RolledBack, Direct, HeurCommit, HeurRollback, Told as ToldRecord, Forgot, Base as BaseRecord, Pair as PairRecord, Cleared}
+use Rattle.protocol.specs.declared.records.Record.TheVariants.{Opened, Collecting, Prepare, Commit, Abort, End, Prepared, Committed, RolledBack, Direct, HeurCommit, HeurRollback, Forgot, Cleared}
 use Rattle.protocol.specs.LogNames.{by_xid, name_xid, renamed_by}
 use Rattle.protocol.specs.Records.{record_branch, same_branch}
 use Rattle.protocol.specs.Store.{Data, data_of, stored_after}

@@ -7,12 +7,13 @@ use Rattle.xa_xid.specs.declared.xid.Xid.{Xid}
 use Rattle.protocol.specs.declared.names.ProcessId.{ProcessId}
 use Rattle.protocol.specs.declared.records.LogRecord.{LogRecord}
 use Rattle.protocol.specs.declared.records.Record.{Record}
-use Rattle.protocol.specs.declared.records.Record.TheVariants.{Opened, Collecting, Prepare, Commit, Abort, End, Prepared, Committed, RolledBack, Direct, HeurCommit, HeurRollback, Told as ToldRecord, Forgot, Base as BaseRecord, Pair as PairRecord, Cleared}
+use Rattle.protocol.specs.declared.records.Record.TheVariants.{Opened, Collecting, Prepare, Commit, Abort, End, Prepared, Committed, RolledBack, Direct, HeurCommit, HeurRollback, Forgot, Cleared}
+use Rattle.protocol_words.specs.Variants.{BaseRecord, PairRecord, ToldRecord}
 use Rattle.protocol.specs.declared.records.Write.{Write}
 use Rattle.protocol.specs.LogNames.{by_xid, name_xid, unnamed}
 use Rattle.protocol.specs.Restarts.{is_open as is_open_mark}
 use Rattle.protocol.specs.Records.{is_opened}
-use Rattle.protocol.specs.Standings.{Mark as StandingMark, mark_at}
+use Rattle.protocol.specs.Standings.{Mark, mark_at}
 use Rattle.protocol.specs.Store.{Data, base_records, data_of, no_data, pair_record, stored, stored_after}
 use Rattle.log_rules.specs.declared.order.seen.DoubtMark.{DoubtMark}
 use Rattle.log_rules.specs.declared.order.seen.DoubtMark.TheVariants.{Open, Decided, Told}
@@ -130,12 +131,12 @@ never_live x all u m h off =
     none_state None e = refl
     none_state (Some p) e = absurd (cc)
 
-    by_mark : (k : StandingMark) → marked_state k ≡ S0 → is_open_mark k ≡ false
-    by_mark StandingMark.Unmarked e = refl
-    by_mark StandingMark.Promised e = absurd (cc)
-    by_mark StandingMark.Decided e = absurd (cc)
-    by_mark (StandingMark.ToldOf o) e = absurd (cc)
-    by_mark StandingMark.Finished e = refl
+    by_mark : (k : Mark) → marked_state k ≡ S0 → is_open_mark k ≡ false
+    by_mark Mark.Unmarked e = refl
+    by_mark Mark.Promised e = absurd (cc)
+    by_mark Mark.Decided e = absurd (cc)
+    by_mark (Mark.ToldOf o) e = absurd (cc)
+    by_mark Mark.Finished e = refl
 
 -- So no record stays that ends a branch.
 

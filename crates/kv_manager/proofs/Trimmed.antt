@@ -10,7 +10,7 @@ use Rattle.protocol.specs.declared.records.LogRecord.{LogRecord}
 use Rattle.protocol.specs.declared.records.Record.{Record}
 use Rattle.protocol.specs.declared.records.Record.TheVariants.{Opened, Collecting, Prepare, Commit, Abort, End, Prepared, Committed, RolledBack, Direct, HeurCommit, HeurRollback, Told, Forgot, Base, Pair, Cleared}
 use Rattle.protocol.specs.Restarts.{is_open}
-use Rattle.protocol.specs.Store.{Data, base_records, pair_record, writes_of as promised_of, data_of}
+use Rattle.protocol.specs.Store.{Data, base_records, pair_record, writes_of, data_of}
 use Rattle.log_rules.specs.sound.Sound.{IsSound, IsSoundEntry}
 use Rattle.log_records.specs.Sights.{Kept, LogSight, LogState, NotRewritten, Rewritten, records_of}
 use Rattle.log_records.proofs.Trims.{settled_trimmed, settled_untrimmed}
@@ -18,7 +18,7 @@ use Rattle.log_records.specs.declared.log.LogError.{LogError}
 use Rattle.log_records.specs.declared.log.LogError.TheVariants.{Device, Memory}
 use Rattle.kv_manager.proofs.Restoring.{kept_alike}
 use Rattle.log_records.specs.Trimming.{StaysTrimmed, LogTrimmed, data_by, own_data}
-use Rattle.log_records.specs.Trimming as rec_log
+use Rattle.log_records.specs.Trimming
 use Rattle.kv_store.specs.Pairs.{ArePairsOf, keys_rise}
 use Rattle.kv_store.proofs.Pairs.{same_pairs}
 use Rattle.kv_store.specs.Versions.{VersionTable}
@@ -102,7 +102,7 @@ records_behind : (s : KvSight) (log : LogState) (rs : List LogRecord) (n : ℕ)
 records_behind s log rs n of made =
     ap (λ us. log.sight.kept.forced ++ us) made.log.unforced
     ∙ append-nil log.sight.kept.forced ∙ made.log.forced
-    ∙ ap (rec_log.trim_of s.log) of
+    ∙ ap (Trimming.trim_of s.log) of
 
 -- a branch that an operator decided is open
 decided_open : (m : Mark) → says_decided m ≡ true → is_open m ≡ true
@@ -150,7 +150,7 @@ kept_trimmed s log rs n kept works sound of made = record {
         keeps.pairs stands.are_data);
     rise = ap (λ ks. keys_rise (data_of ks).pairs) is ∙ ap keys_rise keeps.pairs ∙ stands.rise;
     promises = λ x here. stands.promises x here ∙ sym (keeps.promises x (ap is_open (stands.marked x here)))
-        ∙ sym (ap (λ ks. promised_of (Foreign x) (data_of ks).promised) is);
+        ∙ sym (ap (λ ks. writes_of (Foreign x) (data_of ks).promised) is);
     marked = λ x here. ap (λ ks. mark_at ks x) is
         ∙ keeps.marks x (ap is_open (stands.marked x here)) ∙ stands.marked x here;
     decided = λ x here.
@@ -211,7 +211,7 @@ trimmed_counted s kept works sound =
 -- a log that was not trimmed leaves a manager that stands, or that has failed
 pub kept_untrimmed : (s : KvSight) (log : LogState) (rs : List LogRecord) (e : LogError) → IsKvManager s
     → s.log.sight.failed ≡ false → AllByRecursion (IsSound Manager) (records_of s.log.sight.kept)
-    → AreOfData s rs → NotRewritten s.log log (rec_log.trim_of s.log rs) e
+    → AreOfData s rs → NotRewritten s.log log (Trimming.trim_of s.log rs) e
     → IsKvManager (record s { log = log })
 kept_untrimmed s log rs Memory kept works sound of stays = kept_alike s log kept stays
 kept_untrimmed s log rs Device kept works sound of broke = record {
@@ -219,14 +219,14 @@ kept_untrimmed s log rs Device kept works sound of broke = record {
   ordered = elim broke.either [
     | inl same ↦ (ap (λ (k : Kept). are_ordered (records_of k)) same ∙ kept.ordered)
     | inr trimmed ↦ (ap (λ (k : Kept). are_ordered (records_of k)) trimmed
-        ∙ ap are_ordered (append-nil (rec_log.trim_of s.log rs))
-        ∙ ap (λ ks. are_ordered (rec_log.trim_of s.log ks)) of ∙ trimmed_ordered s kept works sound)
+        ∙ ap are_ordered (append-nil (Trimming.trim_of s.log rs))
+        ∙ ap (λ ks. are_ordered (Trimming.trim_of s.log ks)) of ∙ trimmed_ordered s kept works sound)
   ];
   counted = elim broke.either [
     | inl same ↦ subst (λ (k : Kept). AreCountedCommits (records_of k)) (sym same) kept.counted
     | inr trimmed ↦ subst AreCountedCommits
-        (sym (ap (λ (k : Kept). records_of k) trimmed ∙ append-nil (rec_log.trim_of s.log rs)
-        ∙ ap (rec_log.trim_of s.log) of)) (trimmed_counted s kept works sound)
+        (sym (ap (λ (k : Kept). records_of k) trimmed ∙ append-nil (Trimming.trim_of s.log rs)
+        ∙ ap (Trimming.trim_of s.log) of)) (trimmed_counted s kept works sound)
   ];
   stands = λ no_more. absurd (let never : true ≡ false = sym broke.failed ∙ no_more in cc);
 }
@@ -247,16 +247,16 @@ trimmed_again old new count kind s r =
 
 pub untrimmed_again : (old new : LogState) (count : ℕ) (e : LogError) → old.sight.form.kind ≡ Manager
     → StaysTrimmed old count → NotRewritten old new (records_of old.sight.kept) e
-    → NotRewritten old new (rec_log.trim_of old (data_in old.sight)) e
+    → NotRewritten old new (Trimming.trim_of old (data_in old.sight)) e
 untrimmed_again old new count e kind s r =
-    subst (λ rs. NotRewritten old new (rec_log.trim_of old rs) e) (own_is_data old.sight kind)
+    subst (λ rs. NotRewritten old new (Trimming.trim_of old rs) e) (own_is_data old.sight kind)
     (settled_untrimmed old new count e s r)
 
 -- whichever the answer is, the manager stands, or has failed
 pub kept_again : {A : Type 0} (r : Result A LogError) (s : KvSight) (log : LogState) (n : ℕ) → IsKvManager s
     → s.log.sight.failed ≡ false → AllByRecursion (IsSound Manager) (records_of s.log.sight.kept)
     → OnOk r (LogTrimmed s.log log (data_in s.log.sight) n)
-    → IfErr r (λ e. NotRewritten s.log log (rec_log.trim_of s.log (data_in s.log.sight)) e)
+    → IfErr r (λ e. NotRewritten s.log log (Trimming.trim_of s.log (data_in s.log.sight)) e)
     → IsKvManager (record s { log = log })
 kept_again (Ok a) s log n kept works sound made why =
     kept_trimmed s log (data_in s.log.sight) n kept works sound refl made

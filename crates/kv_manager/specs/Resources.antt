@@ -1,7 +1,7 @@
 -- A key store with a log, as a process sees the resource manager that it drives.
 use Rattle.std.specs.Prelude.{◌≡◌, not}
 use Rattle.xa_codes.specs.declared.code.Code.{Code}
-use Rattle.xa_codes.specs.declared.code.Code.TheVariants as code
+use Rattle.xa_words.specs.code
 use Rattle.resource_manager.specs.declared.errors.DecideError.{DecideError}
 use Rattle.resource_manager.specs.declared.errors.DecideError.TheVariants as decides
 use Rattle.resource_manager.specs.Sights.{ManagerSight}

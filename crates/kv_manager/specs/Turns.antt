@@ -1,7 +1,7 @@
 -- The calls on a key store with a log.
 use Rattle.std.specs.Prelude.{◌≡◌, ⊤, ℕ, Bool, true, false, List, [], ◌∷◌, Option, Some, None, MatchBool}
 use Rattle.xa_codes.specs.declared.code.Code.{Code}
-use Rattle.xa_codes.specs.declared.code.Code.TheVariants as code
+use Rattle.xa_words.specs.code
 use Rattle.xa_tables.specs.declared.call.Call.{Call}
 use Rattle.xa_tables.specs.declared.call.Verb.{Verb}
 use Rattle.xa_xid.specs.declared.xid.Xid.{Xid}

@@ -9,7 +9,7 @@ ghost use Rattle.kv_manager.specs.Sights.{SameKv};
 ghost use Rattle.log_text.specs.Made.{frame_record};
 ghost use Rattle.log_text.specs.Payloads.{record_size};
 ghost use Rattle.log_records.specs.Sights.{IsRecord};
-ghost use Rattle.protocol.specs.declared.names.Kind.TheVariants as kind;
+ghost use Rattle.protocol_words.specs.kind;
 ghost use Rattle.kv_store.specs.writes.Writes.{ListedAt, writes_of};
 ghost use Rattle.kv_calls.specs.Turns.{IsEntry, applies, decide_turn, entry_record};
 ghost use Rattle.xa_branch.specs.Branches.{BranchStandsAt};

@@ -1,7 +1,7 @@
 //! A key store with a log, as an XA manager.
 
 ghost use Rattle.log_text.specs.Forms.{log_form};
-ghost use Rattle.protocol.specs.declared.records.LogRecord.{LogRecord as AnyRecord};
+ghost use Rattle.protocol_words.specs.Types.{AnyRecord};
 ghost use Rattle.std.specs.Prelude.{◌≡◌, ◌<◌, ◌+◌, ◌++◌, [], length, false, true, List, IfOk, IfErr, OnOk, OnErr, Err, Some, None};
 ghost use Rattle.key_lists.specs.declared.holders.Mode.TheVariants as mode;
 ghost use Rattle.kv_state.specs.Stores.{MovesTables, state_of};
@@ -19,7 +19,7 @@ ghost use Rattle.resource_manager.specs.Opening.{IsNewManager};
 ghost use Rattle.std.specs.List.{AllByRecursion};
 ghost use Rattle.log_rules.specs.sound.Sound.{IsSound};
 ghost use Rattle.log_records.specs.Sights.{IsLogFront, ReadsAs, left_by, log_state, records_of, whole_within};
-ghost use Rattle.protocol.specs.declared.names.Kind.TheVariants as kind;
+ghost use Rattle.protocol_words.specs.kind;
 ghost use Rattle.kv_manager.specs.Restarts.{IsReady, LeavesNone, NotReady, KvNotRestarted, NotRestored, Restarted, RestoredFrom, StartsOver};
 ghost use Rattle.kv_state.specs.Remembered.{RemembersData};
 ghost use Rattle.kv_manager.specs.Turns.{KvCalls, RefusesWork};

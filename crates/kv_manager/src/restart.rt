@@ -1,13 +1,13 @@
 //! What the records of a log leave of a manager.
 
 ghost use Rattle.std.specs.Prelude.{◌≡◌, ◌<◌, ◌^◌, true, false, IfOk, IfErr, List, OnOk};
-ghost use Rattle.protocol.specs.declared.records.LogRecord.{LogRecord as AnyRecord};
+ghost use Rattle.protocol_words.specs.Types.{AnyRecord};
 ghost use Rattle.xa_branch.specs.Branches.{in_doubt};
 ghost use Rattle.xa_assoc.specs.declared.states.States.{States as AnyStates};
 ghost use Rattle.xa_assoc.specs.Restored.{Restored};
 ghost use Rattle.kv_state.specs.Remembered.{LeavesNow, RemembersData};
 ghost use Rattle.kv_state.specs.Stores.{IsTidy, Rebuilt};
-ghost use Rattle.protocol.specs.declared.names.Kind.TheVariants as kind;
+ghost use Rattle.protocol_words.specs.kind;
 ghost use Rattle.log_text.specs.Made.{frame_record};
 ghost use Rattle.log_writing.specs.Writes.{WritesRecord};
 ghost use Rattle.log_records.specs.Sights.{IsRecord, left_by};

@@ -1,7 +1,7 @@
 //! A manager's trim.
 
 ghost use Rattle.std.specs.Prelude.{◌≡◌, IfErr, IfOk, OnErr, OnOk, false, map};
-ghost use Rattle.protocol.specs.declared.names.Kind.TheVariants as kind;
+ghost use Rattle.protocol_words.specs.kind;
 ghost use Rattle.protocol.specs.Store.{base_records, data_of};
 ghost use Rattle.log_text.specs.Made.{frame_record};
 ghost use Rattle.log_records.specs.Sights.{AreRecords, NotRewritten, records_of};

@@ -5,14 +5,15 @@ use Rattle.std.specs.Map.{lookup}
 use Rattle.xa_xid.specs.declared.xid.Xid.{Xid}
 use Rattle.protocol.specs.declared.names.ProcessId.{ProcessId}
 use Rattle.protocol.specs.declared.records.BranchName.{BranchName}
-use Rattle.protocol.specs.declared.records.BranchName.TheVariants.{Case as CaseBranch, Foreign}
+use Rattle.protocol.specs.declared.records.BranchName.TheVariants.{Foreign}
+use Rattle.protocol_words.specs.Variants.{BaseRecord, CaseBranch, PairRecord, ToldRecord}
 use Rattle.protocol.specs.declared.records.LogRecord.{LogRecord}
 use Rattle.protocol.specs.declared.records.Record.{Record}
-use Rattle.protocol.specs.declared.records.Record.TheVariants.{Opened, Collecting, Prepare, Commit, Abort, End, Prepared, Committed, RolledBack, Direct, HeurCommit, HeurRollback, Told as ToldRecord, Forgot, Base as BaseRecord, Pair as PairRecord, Cleared}
+use Rattle.protocol.specs.declared.records.Record.TheVariants.{Opened, Collecting, Prepare, Commit, Abort, End, Prepared, Committed, RolledBack, Direct, HeurCommit, HeurRollback, Forgot, Cleared}
 use Rattle.protocol.specs.declared.records.Write.{Write}
 use Rattle.protocol.specs.LogNames.{name_xid, renamed_by, by_xid}
 use Rattle.protocol.specs.Records.{record_branch, same_branch, same_xid, is_opened}
-use Rattle.protocol.specs.Store.{Data, applied, commits, no_data, stored, stored_after, writes_of as writes_promised, data_of}
+use Rattle.protocol.specs.Store.{Data, applied, commits, no_data, stored, stored_after, writes_of, data_of}
 use Rattle.log_text.proofs.NameReading.{same_xid_is, same_xid_refl}
 use Rattle.log_rules.specs.declared.order.seen.DoubtMark.{DoubtMark}
 use Rattle.log_rules.specs.declared.order.seen.DoubtMark.TheVariants.{Open, Decided, Told}
@@ -53,8 +54,8 @@ lawful_stays s t d e live fold rise l = record {
   tied = record {
     rise = rise;
     tied = λ x. subst (λ es. is_open (lookup (same x) es) ≡ true
-        → writes_promised (Foreign x) e.promised ≡ promised_by (lookup (same x) es)) (sym live)
-        (subst (λ ps. is_open (found s x) ≡ true → writes_promised (Foreign x) ps ≡ promised s x) (sym fold)
+        → writes_of (Foreign x) e.promised ≡ promised_by (lookup (same x) es)) (sym live)
+        (subst (λ ps. is_open (found s x) ≡ true → writes_of (Foreign x) ps ≡ promised s x) (sym fold)
         (l.tied.tied x));
   };
 }
@@ -67,16 +68,16 @@ tied_out s x d e fold rise l = record {
   orderly = orderly_out s x l.orderly;
   tied = record {
     rise = rise;
-    tied = λ y. subst (λ q. is_open q ≡ true → writes_promised (Foreign y) e.promised ≡ promised_by q)
+    tied = λ y. subst (λ q. is_open q ≡ true → writes_of (Foreign y) e.promised ≡ promised_by q)
         (sym (found_out x y s.live l.orderly.distinct))
         (subst (λ ps. is_open (cond (same x y) None (found s y)) ≡ true
-        → writes_promised (Foreign y) ps ≡ promised_by (cond (same x y) None (found s y))) (sym fold)
+        → writes_of (Foreign y) ps ≡ promised_by (cond (same x y) None (found s y))) (sym fold)
         (tied_by y (same x y)));
   };
 }
   where
     tied_by : (y : Xid) (b : Bool) → is_open (cond b None (found s y)) ≡ true
-        → writes_promised (Foreign y) d.promised ≡ promised_by (cond b None (found s y))
+        → writes_of (Foreign y) d.promised ≡ promised_by (cond b None (found s y))
     tied_by y true is_so = true_is_false (sym is_so)
     tied_by y false is_so = l.tied.tied y is_so
 
@@ -89,10 +90,10 @@ tied_mark s x m d e closed fold rise l = record {
   orderly = orderly_mark s x m closed l.orderly;
   tied = record {
     rise = rise;
-    tied = λ y. subst (λ q. is_open q ≡ true → writes_promised (Foreign y) e.promised ≡ promised_by q)
+    tied = λ y. subst (λ q. is_open q ≡ true → writes_of (Foreign y) e.promised ≡ promised_by q)
         (sym (found_put x y p s.live))
         (subst (λ ps. is_open (cond (same y x) (Some p) (found s y)) ≡ true
-        → writes_promised (Foreign y) ps ≡ promised_by (cond (same y x) (Some p) (found s y))) (sym fold)
+        → writes_of (Foreign y) ps ≡ promised_by (cond (same y x) (Some p) (found s y))) (sym fold)
         (tied_by y (same y x)));
   };
 }
@@ -101,7 +102,7 @@ tied_mark s x m d e closed fold rise l = record {
     p = record { mark = m; writes = [] }
 
     tied_by : (y : Xid) (b : Bool) → is_open (cond b (Some p) (found s y)) ≡ true
-        → writes_promised (Foreign y) d.promised ≡ promised_by (cond b (Some p) (found s y))
+        → writes_of (Foreign y) d.promised ≡ promised_by (cond b (Some p) (found s y))
     tied_by y true is_so = true_is_false (sym is_so ∙ closed)
     tied_by y false is_so = l.tied.tied y is_so
 
@@ -121,9 +122,9 @@ two_branches x y h = by_test (same_xid x y) refl
 
 promised_first : (x y : Xid) (ws : List Write) (ps : List (BranchName × List Write)) (b : Bool)
     → same_branch (Foreign x) (Foreign y) ≡ b
-    → writes_promised (Foreign y) ((Foreign x, ws) ∷ ps) ≡ cond b ws (writes_promised (Foreign y) ps)
-unfolding writes_promised
-promised_first x y ws ps b e = ap (λ t. cond t ws (writes_promised (Foreign y) ps)) e
+    → writes_of (Foreign y) ((Foreign x, ws) ∷ ps) ≡ cond b ws (writes_of (Foreign y) ps)
+unfolding writes_of
+promised_first x y ws ps b e = ap (λ t. cond t ws (writes_of (Foreign y) ps)) e
 
 lawful_promise : (s : SeenLog) (x : Xid) (ws : List Write) (d : Data) → keys_once ws ≡ true
     → keys_free (promises s) ws ≡ true → IsLawful s d
@@ -133,7 +134,7 @@ lawful_promise s x ws d once free l = record {
   orderly = orderly_put s x p once (apart_where_free s x ws free) l.orderly;
   tied = record {
     rise = l.tied.rise;
-    tied = λ y. subst (λ q. is_open q ≡ true → writes_promised (Foreign y)
+    tied = λ y. subst (λ q. is_open q ≡ true → writes_of (Foreign y)
         ((Foreign x, ws) ∷ d.promised) ≡ promised_by q) (sym (found_put x y p s.live))
         (tied_by y (same y x) refl);
   };
@@ -143,7 +144,7 @@ lawful_promise s x ws d once free l = record {
     p = record { mark = Open; writes = ws }
 
     tied_by : (y : Xid) (b : Bool) → same y x ≡ b → is_open (cond b (Some p) (found s y)) ≡ true
-        → writes_promised (Foreign y) ((Foreign x, ws) ∷ d.promised) ≡ promised_by
+        → writes_of (Foreign y) ((Foreign x, ws) ∷ d.promised) ≡ promised_by
         (cond b (Some p) (found s y))
     tied_by y true e is_so = promised_first x y ws d.promised true (one_branch x y e)
     tied_by y false e is_so = promised_first x y ws d.promised false (two_branches x y e)
@@ -208,7 +209,7 @@ lawful_followed s t q (Prepared b ws) d l h =
     (lawful_promise s x ws d parts.0 parts.1 l)
 lawful_followed s t q (Committed b) d l h =
     let x = name_xid q b in
-    let ws = writes_promised (Foreign x) d.promised in
+    let ws = writes_of (Foreign x) d.promised in
     subst (λ u. IsLawful u (commits ws d)) (taken (is_open (found s x)) _ t h).1
     (tied_out s x d (commits ws d) refl (rise_written d ws l.tied.rise) l)
 lawful_followed s t q (RolledBack b) d l h =
@@ -219,7 +220,7 @@ lawful_followed s t q (Direct b ws) d l h =
     lawful_stays s t d (commits ws d) (ap (λ u. u.live) (sym is)) refl (rise_written d ws l.tied.rise) l
 lawful_followed s t q (HeurCommit b) d l h =
     let x = name_xid q b in
-    let ws = writes_promised (Foreign x) d.promised in
+    let ws = writes_of (Foreign x) d.promised in
     subst (λ u. IsLawful u (commits ws d)) (taken (is_open (found s x)) _ t h).1
     (tied_mark s x Decided d (commits ws d) refl refl (rise_written d ws l.tied.rise) l)
 lawful_followed s t q (HeurRollback b) d l h =
@@ -273,7 +274,7 @@ lawful_from (r ∷ ls) s t d l h = by_after (after s r) refl h (λ u e. lawful_f
     by_after (Some u) e g more = more u (stored_after d (by_xid r)) (lawful_after s u r d l e) g
 
 lawful_nothing : IsLawful nothing_seen no_data
-unfolding IsDistinct keys_once names_key writes_promised
+unfolding IsDistinct keys_once names_key writes_of
 lawful_nothing = record {
   orderly = record { distinct = tt; once = λ x. refl; apart = λ x y k other names. refl };
   tied = record { rise = rise_nothing; tied = λ x is_so. true_is_false (sym is_so) };

@@ -9,7 +9,7 @@ use Rattle.protocol.specs.declared.records.Record.TheVariants.{Committed, Direct
 use Rattle.protocol.specs.declared.records.Write.{Write}
 use Rattle.protocol.specs.LogNames.{name_xid, renamed_by}
 use Rattle.protocol.specs.Records.{record_branch, is_opened}
-use Rattle.protocol.specs.Store.{Data, applied, commits, stored_after, with_pair, writes_of as writes_promised}
+use Rattle.protocol.specs.Store.{Data, applied, commits, stored_after, with_pair, writes_of}
 use Rattle.log_rules.specs.order.Orders.{SeenLog, after, followed, found, is_open, promised, with_promise, without_promise}
 use Rattle.log_rules.specs.declared.order.seen.DoubtMark.TheVariants.{Decided}
 use Rattle.kv_store.specs.Pairs.{keys_rise}
@@ -32,7 +32,7 @@ applies_data old new d ws rise are made = record {
 -- a commit of what an open branch promised
 pub promise_data : (s : SeenLog) (x : Xid) (old new : VersionTable) (d : Data) → is_open (found s x) ≡ true
     → AppliesCommit old new (promised s x) → IsTied s d → AreData old d
-    → AreData new (commits (writes_promised (Foreign x) d.promised) d)
+    → AreData new (commits (writes_of (Foreign x) d.promised) d)
 promise_data s x old new d is made tied are = subst (λ ws. AreData new (commits ws d)) (sym (tied.tied x is))
     (applies_data old new d (promised s x) tied.rise are made)
 
@@ -83,8 +83,8 @@ takes_promise s l x b old new entry name is made = ⊎_elim (λ h. subst Made (s
         → AreData new (stored_after d (renamed_by l.parent (record_branch r) r))
 
     own : (d : Data) → IsTied s d → AreData old d → AreData new
-        (commits (writes_promised (Foreign (name_xid l.parent b)) d.promised) d)
-    own d tied are = subst (λ y. AreData new (commits (writes_promised (Foreign y) d.promised) d)) name
+        (commits (writes_of (Foreign (name_xid l.parent b)) d.promised) d)
+    own d tied are = subst (λ y. AreData new (commits (writes_of (Foreign y) d.promised) d)) name
         (promise_data s x old new d is made tied are)
 
 pub takes_direct : (s : SeenLog) (l : LogRecord) (b : BranchName) (ws : List Write) (old new : VersionTable)

@@ -7,7 +7,7 @@ use Rattle.xa_xid.specs.declared.xid.Xid.{Xid}
 use Rattle.xa_branch.specs.declared.decision.Decision.{Decision}
 use Rattle.xa_branch.specs.Decisions.{decided_as, decision_after, decision_of}
 use Rattle.xa_branch.specs.Cases.{DecisionTable, NotesDecision, decision_in, decision_or}
-use Rattle.protocol.specs.declared.names.Outcome.TheVariants.{Aborted as AbortedOutcome, Committed as CommittedOutcome}
+use Rattle.protocol_words.specs.Variants.{AbortedOutcome, CommittedOutcome}
 use Rattle.protocol.specs.declared.records.BranchName.{BranchName}
 use Rattle.protocol.specs.declared.records.BranchName.TheVariants.{Foreign}
 use Rattle.protocol.specs.declared.records.LogRecord.{LogRecord}

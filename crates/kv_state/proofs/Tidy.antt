@@ -10,7 +10,7 @@ use Rattle.protocol.specs.declared.records.Write.{Write}
 use Rattle.protocol.specs.Records.{same_bytes}
 use Rattle.protocol.specs.Plays.{with_write}
 use Rattle.key_lists.specs.Tables.{same_key}
-use Rattle.kv_store.proofs.Order.{same_is as bytes_same}
+use Rattle.kv_store.proofs.Order.{same_is}
 use Rattle.key_lists.specs.declared.holders.Holder.{Holder}
 use Rattle.key_lists.specs.declared.holders.Mode.{Mode}
 use Rattle.key_lists.specs.declared.holders.Mode.TheVariants.{Exclusive, Shared}
@@ -141,7 +141,7 @@ tidy_wrote s writes locks x k v tidy works clear took left = record {
     own_key : (l : List ℕ) → names_key (with_write (writes_of s.writes x) k v) l ≡ true
         → (b : Bool) → same_bytes k l ≡ b
         → holders_of locks l ≡ record { xid = x; mode = Exclusive } ∷ []
-    own_key l named true e = ap (holders_of locks) (sym (bytes_same k l e)) ∙ took.own
+    own_key l named true e = ap (holders_of locks) (sym (same_is k l e)) ∙ took.own
     own_key l named false e = held_took s locks x k Exclusive tidy clear took x l
         (named_before (writes_of s.writes x) k l v named e)
 

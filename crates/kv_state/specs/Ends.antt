@@ -15,7 +15,7 @@ use Rattle.xa_branch.specs.Decisions.{decided_as, told_behind}
 use Rattle.xa_branch.specs.Cases.{DecisionTable, NotesDecision, decision_in, decision_or}
 use Rattle.log_text.specs.Parts.{name_in}
 use Rattle.protocol.specs.declared.names.Outcome.{Outcome}
-use Rattle.protocol.specs.declared.names.Outcome.TheVariants as outcome
+use Rattle.protocol_words.specs.outcome
 use Rattle.protocol.specs.declared.records.Write.{Write}
 use Rattle.kv_locks.specs.Locks.{ReleasesLocks}
 use Rattle.kv_store.specs.Versions.{Publishes, SameData, Stages}

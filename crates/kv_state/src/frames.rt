@@ -1,14 +1,14 @@
 //! The frames of a base and its pairs.
 
 ghost use Rattle.std.specs.Prelude.{◌≡◌, ◌∷◌, IfOk, map};
-ghost use Rattle.protocol.specs.declared.names.Kind.TheVariants as kind;
+ghost use Rattle.protocol_words.specs.kind;
 ghost use Rattle.log_text.specs.Made.{frame_record};
 ghost use Rattle.log_rules.specs.sound.Sound.{IsSound};
 ghost use Rattle.std.specs.List.{AllByRecursion};
 ghost use Rattle.log_records.specs.Sights.{AreRecords};
 ghost use Rattle.protocol.specs.Store.{pair_record};
 ghost use Rattle.protocol.specs.LogNames.{unnamed};
-ghost use Rattle.protocol.specs.declared.records.Record.TheVariants as entry;
+ghost use Rattle.protocol_words.specs.record_of;
 
 use log_text::Frame;
 use protocol::{Bytes, LogRecord, Record};
@@ -16,8 +16,8 @@ use std::alloc::{AllocError, Global};
 
 /// The frame of the count of a base.
 fn base(count: u64, alloc: Global) -> Result<Frame, AllocError>
-    requires { IsSound kind.Manager (unnamed (entry.Base count)) }
-    ensures { IfOk result (λ frame. frame_record frame ≡ unnamed (entry.Base count)) }
+    requires { IsSound kind.Manager (unnamed (record_of.Base count)) }
+    ensures { IfOk result (λ frame. frame_record frame ≡ unnamed (record_of.Base count)) }
 {
     let entry = LogRecord {
         entry: Record::Base(count),
@@ -28,8 +28,8 @@ fn base(count: u64, alloc: Global) -> Result<Frame, AllocError>
 
 /// The frame of a pair.
 fn pair(key: &Bytes, value: &Bytes, alloc: Global) -> Result<Frame, AllocError>
-    requires { IsSound kind.Manager (unnamed (entry.Pair key.now value.now)) }
-    ensures { IfOk result (λ frame. frame_record frame ≡ unnamed (entry.Pair key.now value.now)) }
+    requires { IsSound kind.Manager (unnamed (record_of.Pair key.now value.now)) }
+    ensures { IfOk result (λ frame. frame_record frame ≡ unnamed (record_of.Pair key.now value.now)) }
 {
     let entry = LogRecord {
         entry: Record::Pair(key.copied(alloc)?, value.copied(alloc)?),
@@ -44,10 +44,10 @@ pub fn base_frames(
     pairs: &[(Bytes, Bytes)],
     alloc: Global,
 ) -> Result<Vec<Frame>, AllocError>
-    requires base { IsSound kind.Manager (unnamed (entry.Base count)) }
+    requires base { IsSound kind.Manager (unnamed (record_of.Base count)) }
     requires pairs { AllByRecursion (λ p. IsSound kind.Manager (unnamed (pair_record p))) pairs.now }
     ensures frames { IfOk result (λ frames. map frame_record frames.items
-        ≡ unnamed (entry.Base count) ∷ map (λ p. unnamed (pair_record p)) pairs.now) }
+        ≡ unnamed (record_of.Base count) ∷ map (λ p. unnamed (pair_record p)) pairs.now) }
     ensures sound { IfOk result (λ frames. AreRecords kind.Manager (map frame_record frames.items)) }
 {
     let mut frames = Vec::new(alloc);

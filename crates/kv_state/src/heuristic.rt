@@ -1,7 +1,7 @@
 //! What operators decided.
 
 ghost use Rattle.std.specs.Prelude.{◌++◌, IfOk, List, OnOk, Some};
-ghost use Rattle.protocol.specs.declared.records.LogRecord.{LogRecord as AnyRecord};
+ghost use Rattle.protocol_words.specs.Types.{AnyRecord};
 ghost use Rattle.xa_branch.specs.Cases.{NotesDecision, decision_in, decision_or};
 ghost use Rattle.kv_state.specs.Decisions.{KnowDecided, NotesRecord};
 

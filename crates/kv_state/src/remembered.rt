@@ -1,7 +1,7 @@
 //! What a restart remembers of its log, so that the next one reads on from there.
 
 ghost use Rattle.std.specs.Prelude.{◌≡◌, ◌++◌, [], IfErr, IfOk, List};
-ghost use Rattle.protocol.specs.declared.records.LogRecord.{LogRecord as AnyRecord};
+ghost use Rattle.protocol_words.specs.Types.{AnyRecord};
 ghost use Rattle.xa_branch.specs.Cases.{SameDecisions};
 ghost use Rattle.kv_state.specs.Remembered.{IsOfSome, LeavesNow, RemembersData};
 ghost use Rattle.kv_state.specs.Replays.{ReplayFails};

@@ -1,7 +1,7 @@
 //! The pass over the records of a log.
 
 ghost use Rattle.std.specs.Prelude.{◌≡◌, ◌<◌, ◌^◌, ◌++◌, false, Some, IfOk, IfErr, List, OnOk};
-ghost use Rattle.protocol.specs.declared.records.LogRecord.{LogRecord as AnyRecord};
+ghost use Rattle.protocol_words.specs.Types.{AnyRecord};
 ghost use Rattle.log_rules.specs.order.Orders.{after};
 ghost use Rattle.kv_state.specs.Folds.{GoBack};
 ghost use Rattle.kv_state.specs.Remembered.{HasRead, ReadsNow};

@@ -6,20 +6,7 @@ ghost use Rattle.node_answers.specs.Texts.{ok_text};
 ghost use Rattle.script_words.specs.Steps.{same};
 ghost use Rattle.node_lines.specs.Asked.{end_word};
 ghost use Rattle.linked_node.specs.Numbers.{IsAnswerNumber};
-ghost use Rattle.linked_node.specs.Turns.{
-  Answered,
-  Closed as IsClosed,
-  Ends,
-  Fills,
-  HasEnded,
-  HasNotEnded,
-  Passed,
-  Shown,
-  TellsBy,
-  Turned,
-  Unanswered,
-  told_of as told_by,
-};
+ghost use Rattle.linked_node.specs.Turns.{Answered, Closed, Ends, Fills, HasEnded, HasNotEnded, Passed, Shown, TellsBy, Turned, Unanswered, told_of};
 
 use crate::numbers::{CALLS, DONE, ENDED, NO_CALL, WAITS, failure_number};
 use file_calls::{CalledFile, Calls};
@@ -66,7 +53,7 @@ impl Drop for Kept {
 /// Why a step failed. No call of the file is made within a step, and what is written goes to memory: so what failed of
 /// either is memory.
 fn told_of(failure: NodeFailure) -> NodeFailure
-    ensures { result ≡ told_by failure }
+    ensures { result ≡ told_of failure }
 {
     match failure {
         NodeFailure::Device | NodeFailure::Write => NodeFailure::Memory,
@@ -107,7 +94,7 @@ fn nothing(alloc: Global) -> Reaction
 
 /// Closes a store, in which all that stands is forced.
 fn closed(mut store: FileStore<CalledFile>) -> Result<(), NodeFailure>
-    ensures ok { IfOk result (λ _. IsClosed store) }
+    ensures ok { IfOk result (λ _. Closed store) }
     ensures err { IfErr result (λ e. e ≡ NodeFailure.Device) }
 {
     match store.close() {

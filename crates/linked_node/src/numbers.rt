@@ -1,7 +1,7 @@
 //! The numbers that calls answer, as `rstar_core.h` names them.
 
 ghost use Rattle.std.specs.Prelude.{◌≡◌};
-ghost use Rattle.linked_node.specs.Numbers.{failure_number as number_of_failure};
+ghost use Rattle.linked_node.specs.Numbers.{failure_number};
 
 use log_file::FileOpenError;
 use node_engine::{NodeFailure, StartError};
@@ -54,7 +54,7 @@ pub const FOREIGN: u32 = 38;
 
 /// The number of a failure, which every call answers from then on.
 pub fn failure_number(failure: NodeFailure) -> u32
-    ensures { result ≡ number_of_failure failure }
+    ensures { result ≡ failure_number failure }
 {
     match failure {
         NodeFailure::Read => 20,

@@ -132,12 +132,12 @@ impl<F: LogFile> FileStore<F> {
 }
 
 impl<F: LogFile> FileStore<F> {
-    ghost use Rattle.log_file.specs.Stores.{PutsFile, SameButFile, WritesBlock as Writes, file_bytes, file_failures, file_forced};
+    ghost use Rattle.log_file.specs.Stores.{PutsFile, SameButFile, WritesBlock, file_bytes, file_failures, file_forced};
 
     /// Writes what is not forced as a block, and syncs the file. Gives where the next block begins; None,
     /// where the device failed.
     fn write_block(&mut self) -> Option<u64>
-        ensures written { IfSome result (Writes F.writes F.syncs self.old self.new) }
+        ensures written { IfSome result (WritesBlock F.writes F.syncs self.old self.new) }
         ensures rest { SameButFile self.old self.new }
     {
         let payload = &self.bytes[self.forced..];

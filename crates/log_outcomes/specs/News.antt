@@ -1,6 +1,6 @@
 -- How a transaction ended, as far as the records of a log tell.
 use Rattle.std.specs.Prelude.{Bool, if◌then◌else◌, Some, None, List, fold}
-use Rattle.protocol.specs.declared.names.Outcome.TheVariants as outcome
+use Rattle.protocol_words.specs.outcome
 use Rattle.protocol.specs.declared.names.Txn.{Txn}
 use Rattle.protocol.specs.declared.records.LogRecord.{LogRecord}
 use Rattle.protocol.specs.Names.{same_txn}

@@ -10,7 +10,7 @@ ghost use Rattle.log_records.specs.Sights.{Appended, AreRecords, Breaks, EndsSou
 ghost use Rattle.log_store.specs.Stores.{AppendBreaks, Appends, MemoryRefuses, Replaces};
 ghost use Rattle.log_records.specs.Openings.{IsLogFound, IsRefused, LogNotOpened, OpensLog, SettlesText, is_old};
 ghost use Rattle.log_records.specs.Errors.{log_error_number};
-ghost use Rattle.protocol.specs.declared.records.LogRecord.{LogRecord as AnyRecord};
+ghost use Rattle.protocol_words.specs.Types.{AnyRecord};
 ghost use Rattle.log_records.specs.Restarting.{BreaksLeft, PutsLeft, WritesLeft};
 ghost use Rattle.log_records.specs.Texts.{records_in};
 ghost use Rattle.log_records.specs.Trimming.{StaysTrimmed, Spells, LogTrimmed, own_data, trim_of};

@@ -2,7 +2,7 @@
 
 ghost use Rattle.std.specs.Prelude.{◌≡◌, ◌+◌, ◌<◌, ◌^◌, Ok, IfOk, IfErr, length, map};
 ghost use Rattle.log_script.specs.Logs.{IsLogsError, IsLogsText, IsNumberedFault, each_has_log, has_log, logs_of, may_follow};
-ghost use Rattle.log_script.specs.Logs.{bytes_of as bytes_in};
+ghost use Rattle.log_script.specs.Logs.{bytes_of};
 
 use crate::line::{ProcessLog, ProcessLogs, log_of};
 use protocol::{ProcessId, Sequence, Tree, TreeProcess};
@@ -13,7 +13,7 @@ use tree_script::{ScriptError, ScriptFault, read_front};
 /// The bytes of a process's log; none where it has no line.
 #[tactic(auto, unfolding(crate::specs::Logs::bytes_of, protocol::specs::Names::same_process))]
 pub fn bytes_of(logs: &[ProcessLog], process: ProcessId) -> &[u8]
-    ensures { result.now ≡ bytes_in logs.now process }
+    ensures { result.now ≡ bytes_of logs.now process }
 {
     let mut rest = logs;
     while let [log, later @ ..] = rest {

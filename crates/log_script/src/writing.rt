@@ -3,7 +3,7 @@
 ghost use Rattle.std.specs.Prelude.{◌≡◌, ◌++◌, IfOk, OnOk};
 ghost use Rattle.tree_script.specs.Documents.{kind_text};
 ghost use Rattle.log_script.specs.Lines.{log_line, log_lines};
-ghost use Rattle.log_script.specs.Trees.{head_lines, info_line, parent_line, process_table, tree_text, logs_text as text_of_logs};
+ghost use Rattle.log_script.specs.Trees.{head_lines, info_line, parent_line, process_table, tree_text, logs_text};
 
 use crate::line::ProcessLog;
 use protocol::{Bytes, Kind, ProcessId, TreeProcess};
@@ -102,7 +102,7 @@ pub fn logs_text(
     entries: &[TreeProcess],
     logs: &[ProcessLog],
 ) -> Result<Vec<u8>, AllocError>
-    ensures { IfOk result (λ text. text.items ≡ text_of_logs entries.now logs.now) }
+    ensures { IfOk result (λ text. text.items ≡ logs_text entries.now logs.now) }
 {
     let mut out = Vec::new(alloc);
     push_tree(&mut out, entries)?;

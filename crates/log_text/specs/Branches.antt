@@ -5,7 +5,7 @@ use Rattle.xa_xid.specs.Xids.{XidParts}
 use Rattle.protocol.specs.declared.records.BranchName.{BranchName}
 use Rattle.protocol.specs.declared.records.LogRecord.{LogRecord}
 use Rattle.protocol.specs.declared.records.Record.{Record}
-use Rattle.protocol.specs.declared.records.Record.TheVariants as record_of
+use Rattle.protocol_words.specs.record_of
 use Rattle.log_text.specs.Parts.{name_in}
 use Rattle.log_text.specs.Payloads.{SizedWrite, outcome_byte, writes_text}
 use Rattle.log_text.specs.declared.branch.BranchEntry.{BranchEntry}

@@ -4,7 +4,7 @@ use Rattle.xa_xid.specs.declared.xid.Xid.{Xid}
 use Rattle.protocol.specs.declared.names.Ticket.{Ticket}
 use Rattle.protocol.specs.declared.records.LogRecord.{LogRecord}
 use Rattle.protocol.specs.declared.records.Record.{Record}
-use Rattle.protocol.specs.declared.records.Record.TheVariants as entry
+use Rattle.protocol_words.specs.record_of
 use Rattle.protocol.specs.LogNames.{name_xid, record_name}
 use Rattle.protocol.specs.Records.{none_of}
 use Rattle.log_text.specs.declared.mark.MarkDeed.{MarkDeed}
@@ -21,24 +21,24 @@ decision_by ts = if none_of ts then deed.Settles else deed.Owes
 
 -- what a record does to what is said of its name
 abbrev pub deed_of : Record → MarkDeed
-deed_of (entry.Opened n) = deed.Opens
-deed_of (entry.Base n) = deed.Nothing
-deed_of (entry.Pair k v) = deed.Nothing
-deed_of (entry.Collecting c ts) = deed.Begins
-deed_of (entry.Prepare c ts) = deed.Begins
-deed_of (entry.Commit c ts) = decision_by ts
-deed_of (entry.Abort c ts) = decision_by ts
-deed_of (entry.End c None) = deed.Ends
-deed_of (entry.End c (Some r)) = deed.Reports
-deed_of (entry.Cleared c) = deed.Clears
-deed_of (entry.Prepared b ws) = deed.Prepares
-deed_of (entry.Committed b) = deed.Ends
-deed_of (entry.RolledBack b) = deed.Ends
-deed_of (entry.Direct b ws) = deed.Ends
-deed_of (entry.HeurCommit b) = deed.Waits
-deed_of (entry.HeurRollback b) = deed.Waits
-deed_of (entry.Told b o) = deed.Waits
-deed_of (entry.Forgot b) = deed.Ends
+deed_of (record_of.Opened n) = deed.Opens
+deed_of (record_of.Base n) = deed.Nothing
+deed_of (record_of.Pair k v) = deed.Nothing
+deed_of (record_of.Collecting c ts) = deed.Begins
+deed_of (record_of.Prepare c ts) = deed.Begins
+deed_of (record_of.Commit c ts) = decision_by ts
+deed_of (record_of.Abort c ts) = decision_by ts
+deed_of (record_of.End c None) = deed.Ends
+deed_of (record_of.End c (Some r)) = deed.Reports
+deed_of (record_of.Cleared c) = deed.Clears
+deed_of (record_of.Prepared b ws) = deed.Prepares
+deed_of (record_of.Committed b) = deed.Ends
+deed_of (record_of.RolledBack b) = deed.Ends
+deed_of (record_of.Direct b ws) = deed.Ends
+deed_of (record_of.HeurCommit b) = deed.Waits
+deed_of (record_of.HeurRollback b) = deed.Waits
+deed_of (record_of.Told b o) = deed.Waits
+deed_of (record_of.Forgot b) = deed.Ends
 
 -- what a trim must know of a record: its name, as the log writes it, and what it does
 abbrev pub mark_of : LogRecord → TrimMark

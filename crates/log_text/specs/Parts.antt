@@ -10,7 +10,8 @@ use Rattle.protocol.specs.declared.names.Presumption.TheVariants.{PresumeAbort, 
 use Rattle.protocol.specs.declared.names.Ticket.{Ticket}
 use Rattle.protocol.specs.declared.names.Txn.{Txn}
 use Rattle.protocol.specs.declared.records.BranchName.{BranchName}
-use Rattle.protocol.specs.declared.records.BranchName.TheVariants.{Case as CaseBranch, Foreign}
+use Rattle.protocol.specs.declared.records.BranchName.TheVariants.{Foreign}
+use Rattle.protocol_words.specs.Variants.{CaseBranch}
 use Rattle.protocol.specs.declared.records.Reports.{Reports}
 use Rattle.protocol.specs.declared.records.Write.{Write}
 use Rattle.protocol.specs.Branches.{branch_parts}

@@ -5,7 +5,7 @@ ghost use Rattle.std.specs.List.{All};
 ghost use Rattle.byteorder.specs.Endian.{big_bytes};
 ghost use Rattle.xa_xid.specs.Bytes.{xid_bytes};
 ghost use Rattle.protocol.specs.LogNames.{name_xid};
-ghost use Rattle.protocol.specs.declared.records.BranchName.TheVariants.{Case as CaseBranch};
+ghost use Rattle.protocol_words.specs.Variants.{CaseBranch};
 ghost use Rattle.log_text.specs.Forms.{size_bytes, size_limit, unowned};
 ghost use Rattle.log_text.specs.Payloads.{
   FitsFrame,

@@ -3,7 +3,7 @@
 ghost use Rattle.std.specs.Prelude.{◌≡◌, ◌+◌};
 ghost use Rattle.protocol.specs.LogNames.{unnamed};
 ghost use Rattle.protocol.specs.declared.records.Record.TheVariants.{Opened};
-ghost use Rattle.log_text.specs.Forms.{form_in, format_in, header as header_of, log_form, old_form, size_bytes, unowned};
+ghost use Rattle.log_text.specs.Forms.{form_in, format_in, header, log_form, old_form, size_bytes, unowned};
 ghost use Rattle.log_text.specs.Payloads.{owner_text, record_text};
 
 use protocol::{Kind, ProcessId};
@@ -96,7 +96,7 @@ impl LogForm {
 impl LogFormat {
     /// What a log of this format begins with: `RLOG` and the format's number.
     pub fn header(self) -> [u8; 5]
-        ensures { result ≡ header_of self }
+        ensures { result ≡ header self }
     {
         match self {
             LogFormat::First => *b"RLOG\x01",

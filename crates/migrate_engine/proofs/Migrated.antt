@@ -13,7 +13,7 @@ use Rattle.log_script.specs.Faults.{damage_or, first_damage}
 use Rattle.log_script.specs.Lines.{process_log}
 use Rattle.log_script.specs.Logs.{bytes_of}
 use Rattle.log_script.proofs.Formats.{read_by_first, read_by_second}
-use Rattle.log_records.specs.Migrating.{IsMigrated as IsLogMigrated, NotMigrated as IsLogNotMigrated, read_by}
+use Rattle.log_records.specs.Migrating.{IsMigrated, NotMigrated as IsLogNotMigrated, read_by}
 use Rattle.log_records.specs.declared.migrating.MigrateError.{MigrateError}
 use Rattle.log_records.specs.declared.migrating.MigrateError.TheVariants as error
 use Rattle.log_records.specs.Openings.{is_old}
@@ -44,7 +44,7 @@ module _ (e : TreeProcess) (old new : List ℕ) where
 
   -- what is in the store after a migration is the log by the second format
   pub migrates : (b : Bool) (forced failures forced' failures' : ℕ) → AreBytes (drop 5 new) → is_old old ≡ b
-      → IsLogMigrated b form old forced failures new forced' failures'
+      → IsMigrated b form old forced failures new forced' failures'
       → MigratesTo e old (process_log e.id new)
   migrates true forced failures forced' failures' bytes is h =
       migrated_so h.0.records h.0.torn (read_by_first old e.id e.kind is ∙ h.0.read) h.0.text

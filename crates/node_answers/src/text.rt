@@ -3,17 +3,7 @@
 ghost use Rattle.std.specs.Prelude.{◌≡◌, ◌++◌, ◌<◌, ◌+◌, ◌^◌, IfOk, OnOk, length};
 ghost use Rattle.trace_lines.specs.Trace.{lines_text};
 ghost use Rattle.protocol.specs.Texts.{reaction_lines};
-ghost use Rattle.node_answers.specs.Texts.{
-  decision_line,
-  decisions_text,
-  doubt_line,
-  doubts_text,
-  news_text,
-  news_word as word_of,
-  ok_text,
-  shown_text,
-  trimmed_text,
-};
+ghost use Rattle.node_answers.specs.Texts.{decision_line, decisions_text, doubt_line, doubts_text, news_text, news_word, ok_text, shown_text, trimmed_text};
 
 use log_outcomes::{LoggedDecision, News};
 use protocol::{Case, ProcessId, Reaction, Txn};
@@ -131,7 +121,7 @@ pub fn doubt_text(
 }
 
 fn news_word(news: News) -> &'static str
-    ensures { result.now ≡ word_of news }
+    ensures { result.now ≡ news_word news }
 {
     match news {
         News::Unknown => " unknown\n",

@@ -1,14 +1,7 @@
 //! A JOINED of the input.
 
 ghost use Rattle.std.specs.Prelude.{◌≡◌, IfOk};
-ghost use Rattle.node_desk.specs.Words.{
-  JoinsByLine,
-  child_case as case_of_child,
-  join_line as join_line_of,
-  joined_line as joined_line_of,
-  joining_at as joining_at_text,
-  joining_by as joining_of,
-};
+ghost use Rattle.node_desk.specs.Words.{JoinsByLine, child_case, join_line, joined_line, joining_at, joining_by};
 
 use node_lines::line_of;
 use protocol::{Case, Envelope, Message, ProcessId, Ticket};
@@ -26,7 +19,7 @@ pub struct Joining {
 
 /// Who has joined, by a message; None, if it is no JOINED.
 fn joining_by(envelope: &Envelope) -> Option<Joining>
-    ensures { result ≡ joining_of envelope.now }
+    ensures { result ≡ joining_by envelope.now }
 {
     match &envelope.message {
         Message::Joined(case, ticket) => Some(Joining {
@@ -40,7 +33,7 @@ fn joining_by(envelope: &Envelope) -> Option<Joining>
 
 /// Who has joined, by the text of a line.
 fn joining_at(alloc: Global, root: ProcessId, line: &str) -> Result<Option<Joining>, AllocError>
-    ensures { IfOk result (λ joining. joining ≡ joining_at_text root line.now) }
+    ensures { IfOk result (λ joining. joining ≡ joining_at root line.now) }
 {
     match line_of(alloc, root, line)? {
         Some((_, envelope)) => Ok(joining_by(&envelope)),
@@ -65,7 +58,7 @@ pub fn joining_in(
 impl Joining {
     /// The case of the child.
     fn child_case(&self) -> Case
-        ensures { result ≡ case_of_child self.now }
+        ensures { result ≡ child_case self.now }
     {
         Case {
             txn: self.case.txn,
@@ -75,7 +68,7 @@ impl Joining {
 
     /// The line that asks whether the case still takes the child: its answer has a JOIN, if it does.
     pub fn join_line(&self, alloc: Global) -> Result<Vec<u8>, AllocError>
-        ensures { IfOk result (λ line. line.items ≡ join_line_of self.now) }
+        ensures { IfOk result (λ line. line.items ≡ join_line self.now) }
     {
         let mut line = Vec::new(alloc);
         push(&mut line, "join ")?;
@@ -87,7 +80,7 @@ impl Joining {
 
     /// The line that tells that the child has joined.
     pub fn joined_line(&self, alloc: Global) -> Result<Vec<u8>, AllocError>
-        ensures { IfOk result (λ line. line.items ≡ joined_line_of self.now) }
+        ensures { IfOk result (λ line. line.items ≡ joined_line self.now) }
     {
         let mut line = Vec::new(alloc);
         push(&mut line, "joined ")?;

@@ -1,7 +1,7 @@
 //! Lines of the desk's own, and what it tells of their answers.
 
 ghost use Rattle.std.specs.Prelude.{◌≡◌, IfOk};
-ghost use Rattle.node_desk.specs.Words.{ask_line as ask_line_of, messages_in as messages_of, takes as takes_by};
+ghost use Rattle.node_desk.specs.Words.{ask_line, messages_in, takes};
 
 use protocol::Case;
 use std::alloc::{AllocError, Global};
@@ -12,7 +12,7 @@ pub const TRIM: &str = "trim";
 
 /// The line that asks about a case.
 pub fn ask_line(alloc: Global, case: &Case) -> Result<Vec<u8>, AllocError>
-    ensures { IfOk result (λ line. line.items ≡ ask_line_of case.now) }
+    ensures { IfOk result (λ line. line.items ≡ ask_line case.now) }
 {
     let mut line = Vec::new(alloc);
     push(&mut line, "ask ")?;
@@ -22,7 +22,7 @@ pub fn ask_line(alloc: Global, case: &Case) -> Result<Vec<u8>, AllocError>
 
 /// What an answer says before its `ok`; of a refusal nothing.
 pub fn messages_in(answer: &[u8]) -> &[u8]
-    ensures { result.now ≡ messages_of answer.now }
+    ensures { result.now ≡ messages_in answer.now }
 {
     match answer.strip_suffix("ok\n".as_bytes()) {
         Some(messages) => messages,
@@ -32,7 +32,7 @@ pub fn messages_in(answer: &[u8]) -> &[u8]
 
 /// Whether an answer has a message before its `ok`.
 pub fn takes(answer: &[u8]) -> bool
-    ensures { result ≡ takes_by answer.now }
+    ensures { result ≡ takes answer.now }
 {
     !messages_in(answer).is_empty()
 }

@@ -6,7 +6,7 @@ use Rattle.std.specs.Str.{IsUtf8}
 use Rattle.protocol.specs.declared.messages.Envelope.{Envelope}
 use Rattle.protocol.specs.declared.names.ProcessId.{ProcessId}
 use Rattle.protocol.specs.declared.events.Input.{Input}
-use Rattle.protocol.specs.declared.events.Input.TheVariants.{Act as ActInput, Message as MessageInput}
+use Rattle.protocol_words.specs.Variants.{ActInput, MessageInput}
 use Rattle.protocol.specs.declared.events.Reaction.{Reaction}
 use Rattle.protocol.specs.declared.events.StepError.{StepError}
 use Rattle.protocol.specs.declared.events.StepError.TheVariants.{Memory, Device, NoSuch}

@@ -5,13 +5,7 @@ ghost use Rattle.std.specs.Map.{lookup};
 ghost use Rattle.protocol.specs.Records.{in_list};
 ghost use Rattle.coord_records.specs.Readings.{place_below, same, view_in};
 ghost use Rattle.coord_records.specs.Summaries.{view_of};
-ghost use Rattle.node_engine.specs.Again.{
-  decided_by,
-  owed_again as messages_again,
-  still_owing as owing_still,
-  telling as telling_of,
-  tellings_by,
-};
+ghost use Rattle.node_engine.specs.Again.{decided_by, owed_again, still_owing, telling, tellings_by};
 
 use coord_records::{CaseReading, Recorded};
 use protocol::{
@@ -33,7 +27,7 @@ fn decided(standing: Standing) -> Option<Outcome>
 
 /// The message that tells a child of the case the outcome.
 fn telling(me: ProcessId, case: &Case, outcome: Outcome, ticket: Ticket) -> Envelope
-    ensures { result ≡ telling_of me case.now outcome ticket }
+    ensures { result ≡ telling me case.now outcome ticket }
 {
     let child = Case {
         txn: case.txn,
@@ -58,7 +52,7 @@ fn tellings(
     outcome: Outcome,
     tickets: &[Ticket],
 ) -> Result<Envelopes, AllocError>
-    ensures { IfOk result (λ messages. messages ≡ map (telling_of me case.now outcome) tickets.now) }
+    ensures { IfOk result (λ messages. messages ≡ map (telling me case.now outcome) tickets.now) }
 {
     let mut messages = Vec::new(alloc);
     for ticket in tickets {
@@ -103,7 +97,7 @@ fn owed_by(
     owed: &[Ticket],
 ) -> Result<Option<Envelopes>, AllocError>
     ensures { IfOk result (λ told. told
-        ≡ tellings_by me case.now (owing_still owed.now (view_of recorded.now)) (view_of recorded.now).standing) }
+        ≡ tellings_by me case.now (still_owing owed.now (view_of recorded.now)) (view_of recorded.now).standing) }
 {
     match decided(recorded.standing()) {
         None => Ok(None),
@@ -131,7 +125,7 @@ fn owed_in(
     owed: &[Ticket],
 ) -> Result<Option<Envelopes>, AllocError>
     ensures { IfOk result (λ told. told ≡ tellings_by me case.now
-        (owing_still owed.now (view_in reading.now.table case.now)) (view_in reading.now.table case.now).standing) }
+        (still_owing owed.now (view_in reading.now.table case.now)) (view_in reading.now.table case.now).standing) }
 {
     match recorded_of(reading, case) {
         None => Ok(None),
@@ -152,7 +146,7 @@ pub(crate) fn owed_again(
     case: &Case,
 ) -> Result<Option<Envelopes>, AllocError>
     ensures { IfOk result (λ told. told
-        ≡ messages_again (place_below me parent tree.now) records.now owed.now case.now) }
+        ≡ owed_again (place_below me parent tree.now) records.now owed.now case.now) }
 {
     let reading = CaseReading::of(alloc, me, parent, tree, records)?;
     owed_in(alloc, me, case, &reading, owed)

@@ -2,7 +2,7 @@
 
 ghost use Rattle.std.specs.Prelude.{◌≡◌, IfOk, option_map};
 ghost use Rattle.branch_names.specs.Cases.{IsPlaced};
-ghost use Rattle.node_engine.specs.Branches.{IsBranchAnswer, name_text as text_of_name, own_logs, trust_by as trust_in};
+ghost use Rattle.node_engine.specs.Branches.{IsBranchAnswer, name_text, own_logs, trust_by};
 
 use audit_tree::AuditError;
 use branch_names::Naming;
@@ -16,7 +16,7 @@ use trace_lines::push;
 /// How far the log of a process counts, by whether it is the root of a branch below it, and by where the root's case of the
 /// transaction is there.
 pub(crate) fn trust_by(is_above: bool, standing: Standing) -> Trust
-    ensures { result ≡ trust_in is_above standing }
+    ensures { result ≡ trust_by is_above standing }
 {
     match (is_above, standing) {
         (true, Standing::Unknown) => Trust::Complete,
@@ -81,7 +81,7 @@ pub(crate) fn name_text(
     name: &str,
     answer: &Option<BranchAnswer>,
 ) -> Result<Vec<u8>, AllocError>
-    ensures { IfOk result (λ text. text.items ≡ text_of_name manner name.now answer.now) }
+    ensures { IfOk result (λ text. text.items ≡ name_text manner name.now answer.now) }
 {
     match answer {
         None => refused_text(alloc, manner, StepError::NoSuch),

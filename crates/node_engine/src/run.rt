@@ -4,7 +4,7 @@ ghost use Rattle.std.specs.Prelude.{◌≡◌, ◌⊎◌, ℕ, [], length, IfErr
 ghost use Rattle.std.specs.Io.KnownBytes.{Appends, Consumes, IsAtEnd};
 ghost use Rattle.report_io.specs.Streams.{WritesFront};
 ghost use Rattle.std.specs.Io.BufRead.{strip_last};
-ghost use Rattle.protocol.specs.declared.events.Reaction.{Reaction as AnyReaction};
+ghost use Rattle.protocol_words.specs.Types.{AnyReaction};
 ghost use Rattle.node_engine.specs.Answers.{state_of};
 ghost use Rattle.node_answers.specs.Texts.{ok_text};
 ghost use Rattle.node_engine.specs.Runs.{

@@ -8,47 +8,13 @@ ghost use Rattle.protocol.specs.Plays.{process_of_act};
 ghost use Rattle.protocol.specs.Trees.{root_of};
 ghost use Rattle.tree_process.specs.Nodes.{core_of, data_of};
 ghost use Rattle.process_state.specs.Inputs.{input_of};
-ghost use Rattle.process_state.specs.States.{form_of as form_at};
-ghost use Rattle.node_engine.specs.Answers.{
-  AnswersAsked,
-  AnswersAgain,
-  AnswersFor,
-  AnswersIf,
-  AnswersInput,
-  AnswersLine,
-  AnswersTrim,
-  FindsInLog,
-  IsRefusal,
-  IsUnrefused,
-  IsUnshown,
-  Resolves,
-  Shows,
-  NodeTakes,
-  TakesAgain,
-  TakesFor,
-  TakesIf,
-  TakesInput,
-  TakesLine,
-  TakesTrim,
-  TellsLog,
-  TellsName,
-  TellsOutcome,
-  TellsStatus,
-  doubt_text as text_of_doubts,
-  hears as may_hear,
-  is_root as is_at_root,
-  owed_at,
-  opened,
-  records_at,
-  resends,
-  speaks,
-  state_of,
-};
+ghost use Rattle.process_state.specs.States.{form_of};
+ghost use Rattle.node_engine.specs.Answers.{AnswersAsked, AnswersAgain, AnswersFor, AnswersIf, AnswersInput, AnswersLine, AnswersTrim, FindsInLog, IsRefusal, IsUnrefused, IsUnshown, Resolves, Shows, NodeTakes, TakesAgain, TakesFor, TakesIf, TakesInput, TakesLine, TakesTrim, TellsLog, TellsName, TellsOutcome, TellsStatus, doubt_text, hears, is_root, owed_at, opened, records_at, resends, speaks, state_of};
 ghost use Rattle.node_engine.specs.Branches.{trust_of};
 ghost use Rattle.node_engine.specs.DataTexts.{TellsData};
-ghost use Rattle.protocol.specs.declared.events.Input.TheVariants.{Act as ActInput, Message as MessageInput};
+ghost use Rattle.protocol_words.specs.Variants.{ActInput, MessageInput};
 ghost use Rattle.log_outcomes.specs.News.{news_in};
-ghost use Rattle.node_answers.specs.Texts.{news_text, ok_text, refused_text as text_of_refusal};
+ghost use Rattle.node_answers.specs.Texts.{news_text, ok_text, refused_text};
 
 use crate::again::owed_again;
 use crate::branches::{found_in, name_text, trust_by};
@@ -106,7 +72,7 @@ fn process_of(root: ProcessId, act: &Act) -> ProcessId
 
 /// The answer to what is refused. After a failed device, or without memory, there is none.
 fn refusal(alloc: Global, manner: Manner, error: StepError) -> Result<Vec<u8>, NodeFailure>
-    ensures text { IfOk result (λ text. text.items ≡ text_of_refusal manner error) }
+    ensures text { IfOk result (λ text. text.items ≡ refused_text manner error) }
     ensures refusal { OnOk result (IsRefusal error) }
     ensures err { IfErr result (IsUnrefused error) }
 {
@@ -119,7 +85,7 @@ fn refusal(alloc: Global, manner: Manner, error: StepError) -> Result<Vec<u8>, N
 
 /// The form of the log of a process.
 fn form_of<L: LogStore>(node: &Process<L>) -> LogForm
-    ensures { result ≡ form_at (core_of node.now).place }
+    ensures { result ≡ form_of (core_of node.now).place }
 {
     match node {
         Process::Coordinator(coordinator) => LogForm::of(coordinator.me(), Kind::Coordinator),
@@ -226,7 +192,7 @@ impl<L: LogStore> Serving<L> {
 
     /// Whether a message is for this process, and from one that may send it.
     fn hears(&self, envelope: &Envelope) -> bool
-        ensures { result ≡ may_hear (state_of self.now) envelope.now }
+        ensures { result ≡ hears (state_of self.now) envelope.now }
     {
         self.is(envelope.to) && may_speak(&self.tree, envelope)
     }
@@ -234,9 +200,9 @@ impl<L: LogStore> Serving<L> {
     /// The answer to a message with its number, which is refused where it is for another process, or from one
     /// that may not send it.
     fn hear(&mut self, number: u64, envelope: &Envelope) -> Result<Vec<u8>, NodeFailure>
-        ensures ok { IfOk result (λ text. AnswersIf (may_hear (state_of self.old) envelope.now)
+        ensures ok { IfOk result (λ text. AnswersIf (hears (state_of self.old) envelope.now)
             (state_of self.old) (state_of self.new) (MessageInput number envelope.now.message) text.items) }
-        ensures err { IfErr result (TakesIf (may_hear (state_of self.old) envelope.now)
+        ensures err { IfErr result (TakesIf (hears (state_of self.old) envelope.now)
             (state_of self.old) (state_of self.new) (MessageInput number envelope.now.message)) }
     {
         if self.hears(envelope) {
@@ -260,7 +226,7 @@ impl<L: LogStore> Serving<L> {
 
     /// A line for each case in doubt, and for each that an operator decided and that waits to be told.
     fn doubt(&self) -> Result<Vec<u8>, NodeFailure>
-        ensures ok { IfOk result (λ text. text.items ≡ text_of_doubts (state_of self.now)) }
+        ensures ok { IfOk result (λ text. text.items ≡ doubt_text (state_of self.now)) }
         ensures err { IfErr result (λ e. e ≡ NodeFailure.Memory) }
     {
         let records = self.node.records()?;
@@ -360,14 +326,14 @@ impl<L: LogStore> Serving<L> {
 
     /// Whether the process has no parent: it is the root of each transaction.
     fn is_root(&self) -> bool
-        ensures { result ≡ is_at_root (state_of self.now) }
+        ensures { result ≡ is_root (state_of self.now) }
     {
         self.tree.parent(self.me).is_none()
     }
 
     /// The refusal of what another process is to be asked.
     fn refuse(&self) -> Result<Vec<u8>, NodeFailure>
-        ensures ok { IfOk result (λ text. text.items ≡ text_of_refusal (state_of self.now).manner NoSuch) }
+        ensures ok { IfOk result (λ text. text.items ≡ refused_text (state_of self.now).manner NoSuch) }
         ensures err { IfErr result (λ e. e ≡ NodeFailure.Memory) }
     {
         Ok(refused_text(self.alloc, self.manner, StepError::NoSuch)?)
@@ -375,7 +341,7 @@ impl<L: LogStore> Serving<L> {
 
     /// The line of how a transaction ended, which is refused where this is not its root.
     fn tell(&self, txn: &Txn) -> Result<Vec<u8>, NodeFailure>
-        ensures ok { IfOk result (λ text. TellsOutcome (is_at_root (state_of self.now)) txn.now
+        ensures ok { IfOk result (λ text. TellsOutcome (is_root (state_of self.now)) txn.now
             (state_of self.now) (state_of self.now) text.items) }
         ensures err { IfErr result (λ e. e ≡ NodeFailure.Memory) }
     {
@@ -398,7 +364,7 @@ impl<L: LogStore> Serving<L> {
 
     /// How far the log counts of what a name is of.
     fn trust(&self, naming: Naming) -> Trust
-        ensures { result ≡ trust_of (is_at_root (state_of self.now)) (state_of self.now).core naming }
+        ensures { result ≡ trust_of (is_root (state_of self.now)) (state_of self.now).core naming }
     {
         match naming {
             Naming::Case(case) => trust_by(

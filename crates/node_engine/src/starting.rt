@@ -5,17 +5,7 @@ ghost use Rattle.std.specs.List.{list_all};
 ghost use Rattle.log_records.specs.Sights.{records_of};
 ghost use Rattle.tree_process.specs.Reopenings.{form_by, kind_by};
 ghost use Rattle.protocol.specs.Records.{record_case};
-ghost use Rattle.node_engine.specs.Starts.{
-  CopyOpens,
-  IsStart,
-  NamesOwn,
-  NoStart,
-  NotHome,
-  is_of_child as is_childs,
-  is_own_record,
-  names_children as names_own_children,
-  owns as owns_case,
-};
+ghost use Rattle.node_engine.specs.Starts.{CopyOpens, IsStart, NamesOwn, NoStart, NotHome, is_of_child, is_own_record, names_children, owns};
 
 use crate::serving::Serving;
 use coord_records::is_own;
@@ -63,7 +53,7 @@ fn kind_of(kind: Kind, parent: Option<ProcessId>) -> Kind
 /// Whether a ticket is of a child of this process.
 #[tactic(auto, unfolding(protocol::specs::Names::same_process))]
 fn is_of_child(tree: &Tree, me: ProcessId, ticket: &Ticket) -> bool
-    ensures { result ≡ is_childs tree.now me ticket.now }
+    ensures { result ≡ is_of_child tree.now me ticket.now }
 {
     match tree.parent(ticket.child) {
         None => false,
@@ -73,14 +63,14 @@ fn is_of_child(tree: &Tree, me: ProcessId, ticket: &Ticket) -> bool
 
 /// Whether each ticket is of a child of this process.
 fn are_of_children(tree: &Tree, me: ProcessId, tickets: &[Ticket]) -> bool
-    ensures { result ≡ list_all (is_childs tree.now me) tickets.now }
+    ensures { result ≡ list_all (is_of_child tree.now me) tickets.now }
 {
     tickets.iter().all(|ticket| is_of_child(tree, me, ticket))
 }
 
 /// Whether the tickets that a record names are of children of this process.
 fn names_children(tree: &Tree, me: ProcessId, record: &Record) -> bool
-    ensures { result ≡ names_own_children tree.now me record.now }
+    ensures { result ≡ names_children tree.now me record.now }
 {
     match record {
         Record::Collecting(_, tickets)
@@ -93,7 +83,7 @@ fn names_children(tree: &Tree, me: ProcessId, record: &Record) -> bool
 
 /// Whether a record names no case, or one of the process's own.
 fn names_own_case(me: ProcessId, parent: Option<ProcessId>, tree: &Tree, kept: &LogRecord) -> bool
-    ensures { result ≡ owns_case me parent tree.now kept.now.parent (record_case kept.now.entry) }
+    ensures { result ≡ owns me parent tree.now kept.now.parent (record_case kept.now.entry) }
 {
     match kept.entry.case() {
         None => true,

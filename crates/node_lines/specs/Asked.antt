@@ -4,7 +4,8 @@ use Rattle.spellings.specs.Words.{cut_at}
 use Rattle.protocol.specs.declared.names.ProcessId.{ProcessId}
 use Rattle.protocol.specs.declared.messages.Envelope.{Envelope}
 use Rattle.protocol.specs.declared.events.Event.{Event}
-use Rattle.protocol.specs.declared.events.Event.TheVariants.{Act as ActOf, Deliver, Settle, Restart, Trim as TrimOf}
+use Rattle.protocol.specs.declared.events.Event.TheVariants.{Deliver, Settle, Restart, Trim as TrimOf}
+use Rattle.protocol_words.specs.Variants.{ActOf}
 use Rattle.script_words.specs.Lines.{is_skipped}
 use Rattle.script_words.specs.Steps.{◌>>=◌, same}
 use Rattle.tree_script.specs.Names.{case_at, txn_at}

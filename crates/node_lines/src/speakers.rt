@@ -3,11 +3,7 @@
 ghost use Rattle.std.specs.Prelude.{◌≡◌};
 ghost use Rattle.protocol.specs.Nodes.{is_parent};
 ghost use Rattle.protocol.specs.Trees.{parent_of};
-ghost use Rattle.node_lines.specs.Speakers.{
-  goes_down as goes_down_in,
-  goes_up as goes_up_in,
-  may_speak as may_speak_in,
-};
+ghost use Rattle.node_lines.specs.Speakers.{goes_down, goes_up, may_speak};
 
 use protocol::{Case, Envelope, Message, ProcessId, Tree};
 
@@ -25,7 +21,7 @@ fn is_below(tree: &Tree, child: ProcessId, parent: ProcessId) -> bool
 /// Whether the case is the sender's, which tells its parent of it.
 #[tactic(auto, unfolding(protocol::specs::Names::same_process))]
 fn goes_up(tree: &Tree, envelope: &Envelope, case: &Case) -> bool
-    ensures { result ≡ goes_up_in tree.now envelope.now case.now }
+    ensures { result ≡ goes_up tree.now envelope.now case.now }
 {
     case.process() == envelope.from && is_below(tree, envelope.from, envelope.to)
 }
@@ -33,7 +29,7 @@ fn goes_up(tree: &Tree, envelope: &Envelope, case: &Case) -> bool
 /// Whether the case is the receiver's, which is told by its parent.
 #[tactic(auto, unfolding(protocol::specs::Names::same_process))]
 fn goes_down(tree: &Tree, envelope: &Envelope, case: &Case) -> bool
-    ensures { result ≡ goes_down_in tree.now envelope.now case.now }
+    ensures { result ≡ goes_down tree.now envelope.now case.now }
 {
     case.process() == envelope.to && is_below(tree, envelope.to, envelope.from)
 }
@@ -43,7 +39,7 @@ fn goes_down(tree: &Tree, envelope: &Envelope, case: &Case) -> bool
 /// votes, acknowledgements and questions from the child, whose ticket the case names.
 #[tactic(auto, unfolding(crate::specs::Speakers::may_speak, protocol::specs::Names::same_process))]
 pub fn may_speak(tree: &Tree, envelope: &Envelope) -> bool
-    ensures { result ≡ may_speak_in tree.now envelope.now }
+    ensures { result ≡ may_speak tree.now envelope.now }
 {
     match &envelope.message {
         Message::Join(case) => {

@@ -21,7 +21,7 @@ use Rattle.tree_engine.specs.Logs.{LeavesLogs}
 use Rattle.tree_engine.specs.Reports.{IsTreeReport, ReopensScript}
 use Rattle.tree_engine.specs.Trees.{RunsScript, Tells, ending, last_line, trace_by}
 use Rattle.tree_engine.proofs.OneScript.{one_script}
-use Rattle.tree_engine.proofs.OneText as traces
+use Rattle.tree_engine.proofs.OneText
 use Rattle.tree_engine.proofs.TreeReports.{script_tree}
 use Rattle.one_text.specs.OneText.{LogsHaveOneText}
 use Rattle.one_text.proofs.Processes.{same_logs}
@@ -101,7 +101,7 @@ stopped : (input text second : List ℕ) → BeginsWithNone input → RunsScript
     → RunsScript Logs Stopped input second → second ≡ text
 stopped input text second none h k =
     told k.events k.runs.end k.runs.refusal second k.runs.status_is k.runs.tells
-    ∙ (traces.one_input Trace Stopped Stopped input _ _ tt none (inl (as_trace Stopped input text h))
+    ∙ (OneText.one_input Trace Stopped Stopped input _ _ tt none (inl (as_trace Stopped input text h))
     (inl (as_trace Stopped input second k))).1
     ∙ sym (told h.events h.runs.end h.runs.refusal text h.runs.status_is h.runs.tells)
 
@@ -132,14 +132,14 @@ module _ (input : List ℕ) (none : BeginsWithNone input) where
   one_status : (status other : Status) (text second : List ℕ) → IsTreeReport Logs status input text
       → IsTreeReport Logs other input second → other ≡ status
   one_status status other text second h k =
-      (traces.one_input Trace status other input _ _ tt none (trace_report status text h) (trace_report other second k)).0
+      (OneText.one_input Trace status other input _ _ tt none (trace_report status text h) (trace_report other second k)).0
 
   -- reports of one status are one text
   one_of : (status : Status) (text second : List ℕ) → IsTreeReport Logs status input text
       → IsTreeReport Logs status input second → second ≡ text
   one_of Ended text second h k = ended input text second (runs Ended text h) (runs Ended second k)
   one_of Stopped text second h k = stopped input text second none (runs Stopped text h) (runs Stopped second k)
-  one_of Refused text second h k = (traces.one_input Trace Refused Refused input text second tt none h k).1
+  one_of Refused text second h k = (OneText.one_input Trace Refused Refused input text second tt none h k).1
 
   one : (status other : Status) (text second : List ℕ) → IsTreeReport Logs status input text
       → IsTreeReport Logs other input second → (other ≡ status) × (second ≡ text)

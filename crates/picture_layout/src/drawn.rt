@@ -3,7 +3,7 @@
 ghost use Rattle.std.specs.Prelude.{◌≡◌, ◌-◌, ◌++◌, IfOk, IfSome, OnOk, get_or, is_some, length, map, option_map, option_to_list, slice_get};
 ghost use Rattle.picture_layout.specs.declared.fates.Fate.{Fate as AnyFate};
 ghost use Rattle.picture_layout.specs.Fates.{leaving_in, leaving_of, leavings};
-ghost use Rattle.picture_layout.specs.Ways.{first_record as first_record_row, place_of_step, rows_in, spot_of, spots_from, spots_in, way_to, ways_in};
+ghost use Rattle.picture_layout.specs.Ways.{first_record, place_of_step, rows_in, spot_of, spots_from, spots_in, way_to, ways_in};
 ghost use Rattle.picture_layout.specs.declared.drawn.Arrow.{Arrow as AnyArrow};
 ghost use Rattle.picture_layout.specs.declared.drawn.RecordMark.{RecordMark as AnyMark};
 ghost use Rattle.picture_layout.specs.Whole.{deliveries, delivery, is_known, records_in};
@@ -240,7 +240,7 @@ fn is_right(
 
 /// The row of the first record of a step: that of its cause, but below a crash.
 fn first_record(entry: &JournalEntry, rows: StepRows) -> u32
-    ensures { result ≡ first_record_row entry.now.step.happening rows.first }
+    ensures { result ≡ first_record entry.now.step.happening rows.first }
 {
     match entry.step.happening {
         Happening::Restart(_) => rows.first.saturating_add(1),

@@ -1,7 +1,7 @@
 //! What becomes of each message.
 
 ghost use Rattle.std.specs.Prelude.{◌≡◌, ◌-◌, ◌++◌, ◌∷◌, [], List, IfOk, OnOk, false, get_or, length, map, replicate, set, true};
-ghost use Rattle.protocol.specs.declared.events.JournalEntry.{JournalEntry as AnyEntry};
+ghost use Rattle.protocol_words.specs.Types.{AnyEntry};
 ghost use Rattle.picture_layout.specs.declared.fates.Fate.{Fate as AnyFate};
 ghost use Rattle.picture_layout.specs.Fates.{AreFates, HeardFrom, heard_at, no_fate, unheard};
 ghost use Rattle.picture_layout.specs.Ways.{senders};

@@ -1,20 +1,20 @@
 -- Which steps of a run are of a transaction.
 use Rattle.std.specs.Prelude.{◌≡◌, ⊤, Bool, true, false, not, ◌==◌, ◌&&◌, ◌||◌, leb, ltb, Option, Some, None, List, [], ◌∷◌, ◌++◌, count_by, fold, length}
 use Rattle.protocol.specs.declared.events.Act.{Act}
-use Rattle.protocol.specs.declared.events.Act.TheVariants as act
+use Rattle.protocol_words.specs.act
 use Rattle.protocol.specs.declared.events.JournalEntry.{JournalEntry}
 use Rattle.protocol.specs.declared.events.Happening.{Happening}
-use Rattle.protocol.specs.declared.events.Happening.TheVariants as happening
-use Rattle.protocol.specs.declared.events.Input.TheVariants as input
+use Rattle.protocol_words.specs.happening
+use Rattle.protocol_words.specs.input
 use Rattle.protocol.specs.declared.messages.Envelope.{Envelope}
 use Rattle.protocol.specs.declared.messages.Message.{Message}
-use Rattle.protocol.specs.declared.messages.Message.TheVariants as message
+use Rattle.protocol_words.specs.message
 use Rattle.protocol.specs.declared.names.Case.{Case}
 use Rattle.protocol.specs.declared.names.ProcessId.{ProcessId}
 use Rattle.protocol.specs.declared.names.Txn.{Txn}
 use Rattle.protocol.specs.declared.records.ShownRecord.{ShownRecord}
 use Rattle.protocol.specs.declared.records.Subject.{Subject}
-use Rattle.protocol.specs.declared.records.Subject.TheVariants as subject
+use Rattle.protocol_words.specs.subject
 use Rattle.protocol.specs.Names.{same_process, same_txn}
 use Rattle.picture_parts.specs.declared.belonging.Choice.{Choice}
 use Rattle.picture_parts.specs.declared.belonging.Choice.TheVariants.{Between, OfTxn}

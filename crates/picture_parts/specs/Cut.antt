@@ -3,14 +3,14 @@ use Rattle.std.specs.Prelude.{ℕ, ◌+◌, ◌-◌, Bool, true, false, ◌==◌
 use Rattle.protocol.specs.declared.events.JournalEntry.{JournalEntry}
 use Rattle.protocol.specs.declared.events.Happening.{Happening}
 use Rattle.protocol.specs.declared.events.Happening.TheVariants as happening
-use Rattle.protocol.specs.declared.events.Input.TheVariants as input
+use Rattle.protocol_words.specs.input
 use Rattle.protocol.specs.declared.events.Reaction.{Reaction}
 use Rattle.protocol.specs.declared.messages.Envelope.{Envelope}
 use Rattle.protocol.specs.declared.names.ProcessId.{ProcessId}
 use Rattle.protocol.specs.declared.names.Txn.{Txn}
 use Rattle.protocol.specs.declared.records.ShownRecord.{ShownRecord}
 use Rattle.protocol.specs.declared.records.Subject.{Subject}
-use Rattle.protocol.specs.declared.records.Subject.TheVariants as subject
+use Rattle.protocol_words.specs.subject
 use Rattle.protocol.specs.Names.{same_process, same_txn}
 use Rattle.picture_parts.specs.Belonging.{message_is_of}
 use Rattle.picture_parts.specs.declared.belonging.Belonging.{Belonging}

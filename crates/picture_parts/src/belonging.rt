@@ -3,7 +3,7 @@
 ghost use Rattle.std.specs.Prelude.{◌≡◌, ◌&&◌, ◌||◌, IfOk, OnOk};
 ghost use Rattle.protocol.specs.Names.{same_process};
 ghost use Rattle.tree_world.specs.Worlds.{state};
-ghost use Rattle.picture_parts.specs.Belonging.{AddsPart, AddsParts, TookPart, act_is_of, is_among as is_among_by, is_of as is_by, is_restart as restarts, is_shown, is_txn as is_txn_by, marks_of as marks_by, message_case, message_is_of, names as names_by, record_is_of, with_mark};
+ghost use Rattle.picture_parts.specs.Belonging.{AddsPart, AddsParts, TookPart, act_is_of, is_among, is_of, is_restart, is_shown, is_txn, marks_of, message_case, message_is_of, names, record_is_of, with_mark};
 
 use log_store::MemoryStore;
 use protocol::{
@@ -34,7 +34,7 @@ fn case_of(message: &Message) -> Case
 
 /// Whether a transaction, if there is one, is this one.
 fn is_txn(txn: &Txn, found: Option<Txn>) -> bool
-    ensures { result ≡ is_txn_by txn.now found }
+    ensures { result ≡ is_txn txn.now found }
 {
     match found {
         None => false,
@@ -60,7 +60,7 @@ fn is_act_of(txn: &Txn, begun: Option<Txn>, act: &Act) -> bool
 
 /// Whether what a step handles names a transaction.
 fn names(txn: &Txn, begun: Option<Txn>, happening: &Happening) -> bool
-    ensures { result ≡ names_by txn.now begun happening.now }
+    ensures { result ≡ names txn.now begun happening.now }
 {
     match happening {
         Happening::Input(Input::Act(act)) => is_act_of(txn, begun, act),
@@ -91,7 +91,7 @@ pub(crate) fn is_message_of(txn: &Txn, envelope: &Envelope) -> bool
 /// Whether a step is of a transaction: it handles an act or a message of it, or makes a record or a message of it.
 #[tactic(auto, unfolding(crate::specs::Belonging::is_of))]
 pub(crate) fn is_of(txn: &Txn, entry: &JournalEntry) -> bool
-    ensures { result ≡ is_by txn.now entry.now }
+    ensures { result ≡ is_of txn.now entry.now }
 {
     let reaction = &entry.reaction;
     let written = reaction.written.as_slice();
@@ -127,7 +127,7 @@ pub(crate) enum Choice {
 
 /// Whether a process is one of these.
 fn is_among(process: ProcessId, parts: &[ProcessId]) -> bool
-    ensures { result ≡ is_among_by process parts.now }
+    ensures { result ≡ is_among process parts.now }
 {
     parts.iter().filter(|part| is_same(**part, process)).count() != 0
 }
@@ -152,7 +152,7 @@ fn add_part(parts: &mut Vec<ProcessId>, process: ProcessId) -> Result<(), AllocE
 
 /// Whether a step is a restart.
 fn is_restart(happening: &Happening) -> bool
-    ensures { result ≡ restarts happening.now }
+    ensures { result ≡ is_restart happening.now }
 {
     match happening {
         Happening::Restart(_) => true,
@@ -163,8 +163,8 @@ fn is_restart(happening: &Happening) -> bool
 
 /// Whether a step is drawn of a transaction in which these processes took part before.
 fn shows_txn(txn: &Txn, parts: &[ProcessId], entry: &JournalEntry) -> bool
-    ensures { result ≡ (is_by txn.now entry.now || (restarts entry.now.step.happening
-        && is_among_by entry.now.step.process parts.now)) }
+    ensures { result ≡ (is_of txn.now entry.now || (is_restart entry.now.step.happening
+        && is_among entry.now.step.process parts.now)) }
 {
     is_of(txn, entry) || is_restart(&entry.step.happening) && is_among(entry.step.process, parts)
 }
@@ -224,7 +224,7 @@ pub(crate) fn marks_of(
     world: &World<MemoryStore>,
     choice: &Choice,
 ) -> Result<Vec<Belonging>, AllocError>
-    ensures { IfOk result (λ marks. marks.items ≡ marks_by choice.now (state world.now).entries) }
+    ensures { IfOk result (λ marks. marks.items ≡ marks_of choice.now (state world.now).entries) }
 {
     let mut marks = Vec::new(alloc);
     let mut parts = Vec::new(alloc);

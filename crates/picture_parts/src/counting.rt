@@ -1,7 +1,7 @@
 //! The records of a process that a crash may take.
 
 ghost use Rattle.std.specs.Prelude.{◌≡◌, [], OnOk};
-ghost use Rattle.picture_parts.specs.Cut.{begun_by, own_left, record_stays as stays_by, with_record, with_records, with_step};
+ghost use Rattle.picture_parts.specs.Cut.{begun_by, own_left, record_stays, with_record, with_records, with_step};
 ghost use Rattle.picture_parts.specs.Tails.{AddsStep, KeepsTails, seen, tail_in};
 
 use crate::belonging::Belonging;
@@ -20,7 +20,7 @@ struct Tail {
 
 /// Whether a record is of no other transaction than this one, if only that is drawn.
 pub(crate) fn record_stays(only: Option<Txn>, logged: &ShownRecord) -> bool
-    ensures { result ≡ stays_by only logged.now }
+    ensures { result ≡ record_stays only logged.now }
 {
     match only {
         None => true,

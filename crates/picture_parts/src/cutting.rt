@@ -1,7 +1,7 @@
 //! The steps of a part of a run, as they are drawn.
 
 ghost use Rattle.std.specs.Prelude.{◌≡◌, ◌+◌, ◌++◌, ◌∷◌, [], if◌then◌else◌, IfOk, OnOk, filter};
-ghost use Rattle.picture_parts.specs.Cut.{cut as cut_by, drawn_entry as drawn_by, drawn_from as drawn_part, drawn_happening, drawn_messages, drawn_sent, message_stays as message_by, number_in, numbers_of as numbers_by, record_stays as record_by};
+ghost use Rattle.picture_parts.specs.Cut.{cut, drawn_entry, drawn_from, drawn_happening, drawn_messages, drawn_sent, message_stays, number_in, numbers_of, record_stays};
 ghost use Rattle.picture_parts.specs.Tails.{tail_in};
 
 use crate::belonging::{Belonging, is_message_of};
@@ -14,7 +14,7 @@ use std::alloc::{AllocError, Global};
 
 /// Whether a message is of no other transaction than this one, if only that is drawn.
 fn message_stays(only: Option<Txn>, envelope: &Envelope) -> bool
-    ensures { result ≡ message_by only envelope.now }
+    ensures { result ≡ message_stays only envelope.now }
 {
     match only {
         None => true,
@@ -28,7 +28,7 @@ fn records_of(
     only: Option<Txn>,
     written: &[ShownRecord],
 ) -> Result<Vec<ShownRecord>, AllocError>
-    ensures { IfOk result (λ stay. stay.items ≡ filter (record_by only) written.now) }
+    ensures { IfOk result (λ stay. stay.items ≡ filter (record_stays only) written.now) }
 {
     let mut stay = Vec::new(alloc);
     for logged in written {
@@ -45,7 +45,7 @@ fn messages_of(
     only: Option<Txn>,
     messages: &[Envelope],
 ) -> Result<Vec<Envelope>, AllocError>
-    ensures { IfOk result (λ stay. stay.items ≡ filter (message_by only) messages.now) }
+    ensures { IfOk result (λ stay. stay.items ≡ filter (message_stays only) messages.now) }
 {
     let mut stay = Vec::new(alloc);
     for envelope in messages {
@@ -58,7 +58,7 @@ fn messages_of(
 
 /// What is drawn of a reaction.
 fn cut(alloc: Global, only: Option<Txn>, reaction: &Reaction) -> Result<Reaction, AllocError>
-    ensures { IfOk result (λ drawn. drawn ≡ cut_by only reaction.now) }
+    ensures { IfOk result (λ drawn. drawn ≡ cut only reaction.now) }
 {
     let written = records_of(alloc, only, reaction.written.as_slice())?;
     let messages = messages_of(alloc, only, reaction.messages.as_slice())?;
@@ -118,7 +118,7 @@ fn push_drawn_number(numbers: &mut Vec<u64>, drawn: u64, flag: bool) -> Result<u
 /// Of each message its number in the picture; 0, if it is not drawn.
 #[tactic(auto, unfolding(crate::specs::Cut::numbers_of))]
 fn numbers_of(alloc: Global, sent: &[bool]) -> Result<Vec<u64>, Failure>
-    ensures { IfOk result (λ numbers. numbers.items ≡ numbers_by sent.now) }
+    ensures { IfOk result (λ numbers. numbers.items ≡ numbers_of sent.now) }
 {
     let mut numbers = Vec::new(alloc);
     let mut drawn: u64 = 0;
@@ -172,7 +172,7 @@ fn entry_of(
     tails: &Tails,
     entry: &JournalEntry,
 ) -> Result<JournalEntry, AllocError>
-    ensures { IfOk result (λ drawn. drawn ≡ drawn_by only numbers.now
+    ensures { IfOk result (λ drawn. drawn ≡ drawn_entry only numbers.now
         (tail_in tails.now.tails.entries entry.now.step.process) entry.now) }
 {
     let process = entry.step.process;
@@ -197,7 +197,7 @@ fn push_entry(
     tails: &Tails,
     marked: &Belonging,
 ) -> Result<(), AllocError>
-    ensures { OnOk result (drawn.new.items ≡ (if marked.now.shown then drawn.old.items ++ drawn_by only numbers.now
+    ensures { OnOk result (drawn.new.items ≡ (if marked.now.shown then drawn.old.items ++ drawn_entry only numbers.now
         (tail_in tails.now.tails.entries marked.now.entry.step.process) marked.now.entry ∷ [] else drawn.old.items)) }
 {
     if marked.shown {
@@ -213,7 +213,7 @@ pub fn drawn_from(
     only: Option<Txn>,
     marks: &[Belonging],
 ) -> Result<Vec<JournalEntry>, Failure>
-    ensures { IfOk result (λ drawn. drawn.items ≡ drawn_part only marks.now) }
+    ensures { IfOk result (λ drawn. drawn.items ≡ drawn_from only marks.now) }
 {
     let numbers = numbers_of(alloc, &sent_of(alloc, only, marks)?)?;
     let mut drawn = Vec::new(alloc);

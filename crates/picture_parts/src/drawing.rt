@@ -1,11 +1,11 @@
 //! Draws a part of a run.
 
 ghost use Rattle.std.specs.Prelude.{◌≡◌, IfNone, IfOk, IfSome, Option, length};
-ghost use Rattle.protocol.specs.declared.events.Event.{Event as AnyEvent};
+ghost use Rattle.protocol_words.specs.Types.{AnyEvent};
 ghost use Rattle.picture_run.specs.Pictures.{IsPicture};
 ghost use Rattle.tree_world.specs.Worlds.{state};
 ghost use Rattle.tree_engine.specs.Trees.{ending};
-ghost use Rattle.picture_parts.specs.Parts.{Answers, HasPicture, count_at as count_by};
+ghost use Rattle.picture_parts.specs.Parts.{Answers, HasPicture, count_at};
 ghost use Rattle.picture_parts.specs.Drawn.{AnswersFrom, AnswersScript, HasNoRun, IsNotTooLarge, IsTooLarge};
 
 use crate::belonging::{Belonging, Choice, marks_of};
@@ -31,7 +31,7 @@ pub type Picture = Result<(Vec<u8>, Status), PartFault>;
 
 /// How many steps are made after N events, if the first number of steps is made before them.
 fn count_at(start: usize, counts: &[usize], events: usize) -> usize
-    ensures { result ≡ count_by start counts.now events }
+    ensures { result ≡ count_at start counts.now events }
 {
     if events == 0 {
         return start;

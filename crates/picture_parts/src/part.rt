@@ -1,7 +1,7 @@
 //! Which part of a run is drawn, and how large it is.
 
 ghost use Rattle.std.specs.Prelude.{◌≡◌, ◌≤◌, ◌+◌, IfOk, IfSome, OnOk, length};
-ghost use Rattle.picture_parts.specs.Parts.{at_root as at_root_by, events_shown, is_there as is_there_by, shown_within as shown_by};
+ghost use Rattle.picture_parts.specs.Parts.{at_root, events_shown, is_there, shown_within};
 
 use crate::belonging::Belonging;
 use picture_layout::EventSteps;
@@ -46,7 +46,7 @@ pub fn range_of(word: &str) -> Option<Range>
 
 /// The transaction of this name whose root is this process.
 pub(crate) fn at_root(root: ProcessId, txn: &Txn) -> Txn
-    ensures { result ≡ at_root_by root txn.now }
+    ensures { result ≡ at_root root txn.now }
 {
     Txn {
         root,
@@ -58,7 +58,7 @@ pub(crate) fn at_root(root: ProcessId, txn: &Txn) -> Txn
 
 /// How many of the steps from a place on, up to another, are drawn.
 fn shown_within(marks: &[Belonging], from: usize, to: usize) -> usize
-    ensures { result ≡ shown_by marks.now from to }
+    ensures { result ≡ shown_within marks.now from to }
 {
     if from <= to && to <= marks.len() {
         marks[from..to].iter().filter(|marked| marked.shown).count()
@@ -69,7 +69,7 @@ fn shown_within(marks: &[Belonging], from: usize, to: usize) -> usize
 
 /// Whether a step is drawn.
 pub(crate) fn is_there(marks: &[Belonging]) -> bool
-    ensures { result ≡ is_there_by marks.now }
+    ensures { result ≡ is_there marks.now }
 {
     marks.iter().filter(|marked| marked.shown).count() != 0
 }

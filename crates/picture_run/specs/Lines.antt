@@ -5,8 +5,7 @@ use Rattle.std.specs.List.{flat_map}
 use Rattle.protocol.specs.declared.events.JournalEntry.{JournalEntry}
 use Rattle.protocol.specs.declared.events.Event.{Event}
 use Rattle.protocol.specs.declared.events.Happening.{Happening}
-use Rattle.protocol.specs.declared.events.Happening.TheVariants.{Input as Handles}
-use Rattle.protocol.specs.declared.events.Input.TheVariants.{Act as ActInput}
+use Rattle.protocol_words.specs.Variants.{ActInput, Handles}
 use Rattle.protocol.specs.declared.events.StepError.{StepError}
 use Rattle.protocol.specs.Texts.{told_lines}
 use Rattle.tree_script.specs.Spellings.{act_text, event_text}

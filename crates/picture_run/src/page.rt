@@ -10,7 +10,7 @@ ghost use Rattle.picture_run.specs.Layers.{all_words, below_shapes};
 ghost use Rattle.picture_run.specs.Lines.{refused_in, refused_lines, steps_lines};
 ghost use Rattle.picture_run.specs.Pictures.{IsPicture, titles_of};
 ghost use Rattle.picture_run.specs.Rings.{HasRings};
-ghost use Rattle.picture_run.specs.Sums.{crashes_in, is_restart as is_a_restart, summary_by};
+ghost use Rattle.picture_run.specs.Sums.{crashes_in, is_restart, summary_by};
 
 use crate::drawing::Drawing;
 use crate::endings::draw_refusal;
@@ -84,7 +84,7 @@ fn open_of(stubs: &[Stub]) -> u64
 }
 
 fn is_restart(entry: &JournalEntry) -> bool
-    ensures { result ≡ is_a_restart entry.now.step.happening }
+    ensures { result ≡ is_restart entry.now.step.happening }
 {
     matches!(entry.step.happening, Happening::Restart(_))
 }

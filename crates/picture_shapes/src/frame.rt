@@ -2,7 +2,7 @@
 
 ghost use Rattle.std.specs.Prelude.{◌≡◌, ◌-◌, ◌^◌, ◌<◌, ◌≤◌, min};
 ghost use Rattle.picture_shapes.specs.Grids.{line_at, row_at};
-ghost use Rattle.picture_shapes.specs.Head.{key_x, key_y, keys_in_line, width_of as width_in};
+ghost use Rattle.picture_shapes.specs.Head.{key_x, key_y, keys_in_line, width_of};
 
 /// The height of a row.
 pub const ROW: u64 = 30;
@@ -126,7 +126,7 @@ impl PictureFrame {
     }
 
     pub fn width(self) -> u64
-        ensures { result ≡ width_in self }
+        ensures { result ≡ width_of self }
     {
         self.x_of(self.processes)
     }

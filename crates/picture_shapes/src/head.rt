@@ -1,19 +1,7 @@
 //! What stands before the shapes of a picture: its size, its title, its style and its legend.
 
 ghost use Rattle.std.specs.Prelude.{◌≡◌, ◌++◌, OnOk, length, map};
-ghost use Rattle.picture_shapes.specs.Head.{
-  ground_text,
-  head_text,
-  key_of,
-  key_text,
-  keys_among,
-  keys_of as keys_in,
-  keys_text,
-  legend_text,
-  size_text,
-  summary_text,
-  title_words,
-};
+ghost use Rattle.picture_shapes.specs.Head.{ground_text, head_text, key_of, key_text, keys_among, keys_of, keys_text, legend_text, size_text, summary_text, title_words};
 
 use crate::fixed::{Key, LEGEND, STYLE};
 use crate::frame::PictureFrame;
@@ -128,7 +116,7 @@ fn count_keys(signs: &Signs, keys: &[Key; 20]) -> u64
 
 /// How many entries a legend has that explains these signs.
 pub fn keys_of(signs: &Signs) -> u64
-    ensures { result ≡ length (keys_in signs.now) }
+    ensures { result ≡ length (keys_of signs.now) }
 {
     count_keys(signs, &LEGEND)
 }

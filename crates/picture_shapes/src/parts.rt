@@ -1,7 +1,7 @@
 //! The text of what shapes have in common.
 
 ghost use Rattle.std.specs.Prelude.{◌≡◌, ◌++◌, OnOk};
-ghost use Rattle.picture_shapes.specs.Svg.{circle_text, place_text, size_text, title_text, tone_word as word_of_tone};
+ghost use Rattle.picture_shapes.specs.Svg.{circle_text, place_text, size_text, title_text, tone_word};
 ghost use Rattle.picture_shapes.specs.Words.{escaped};
 
 use crate::shapes::Tone;
@@ -11,7 +11,7 @@ use trace_lines::push;
 
 /// The class of a tone.
 fn tone_word(tone: Tone) -> &'static str
-    ensures { result.now ≡ word_of_tone tone }
+    ensures { result.now ≡ tone_word tone }
 {
     match tone {
         Tone::Ink => "ink",
@@ -26,7 +26,7 @@ fn tone_word(tone: Tone) -> &'static str
 
 /// A word, and a tone's class after it.
 pub(crate) fn push_tone(out: &mut Vec<u8>, word: &str, tone: Tone) -> Result<(), AllocError>
-    ensures { OnOk result (out.new.items ≡ out.old.items ++ (word.now ++ word_of_tone tone)) }
+    ensures { OnOk result (out.new.items ≡ out.old.items ++ (word.now ++ tone_word tone)) }
 {
     push(out, word)?;
     push(out, tone_word(tone))

@@ -1,7 +1,7 @@
 //! The signs of a picture that its legend explains.
 
 ghost use Rattle.std.specs.Prelude.{◌≡◌};
-ghost use Rattle.picture_shapes.specs.Head.{has as has_sign};
+ghost use Rattle.picture_shapes.specs.Head.{has};
 
 /// A sign, or a colour.
 #[derive(Clone, Copy, PartialEq, Eq)]
@@ -80,7 +80,7 @@ impl Signs {
     }
 
     pub(crate) fn has(&self, sign: Sign) -> bool
-        ensures { result ≡ has_sign self.now sign }
+        ensures { result ≡ has self.now sign }
     {
         match sign {
             Sign::Forced => self.forced,

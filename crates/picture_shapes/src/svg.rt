@@ -1,7 +1,7 @@
 //! The text of a shape.
 
 ghost use Rattle.std.specs.Prelude.{◌≡◌, ◌++◌, ◌-◌, OnOk, if◌then◌else◌};
-ghost use Rattle.picture_shapes.specs.Svg.{anchor_text, band_begin, band_words as words_of_band, bar_text, corner_text, dot_text, force_words as words_of_force, frame_text, ground_of, ground_text, joint_text, label_begin, label_text, note_text, life_text, look_word as word_of_look, patch_text, plate_words, record_title, ring_text, rule_text, shape_text, shapes_text, span_text, square_begin, square_text, squares_text, torn_text, trim_text, warning_text};
+ghost use Rattle.picture_shapes.specs.Svg.{anchor_text, band_begin, band_words, bar_text, corner_text, dot_text, force_words, frame_text, ground_of, ground_text, joint_text, label_begin, label_text, note_text, life_text, look_word, patch_text, plate_words, record_title, ring_text, rule_text, shape_text, shapes_text, span_text, square_begin, square_text, squares_text, torn_text, trim_text, warning_text};
 
 use crate::parts::{push_circle, push_place, push_size, push_title, push_tone, push_words};
 use crate::shapes::{
@@ -15,7 +15,7 @@ use trace_lines::push;
 
 /// The class of a look, after a tone's.
 fn look_word(look: Look) -> &'static str
-    ensures { result.now ≡ word_of_look look }
+    ensures { result.now ≡ look_word look }
 {
     match look {
         Look::Plain => "",
@@ -116,7 +116,7 @@ fn band_word(band: Band) -> &'static str
 
 /// What the cases of a stretch are.
 fn band_words(band: Band) -> &'static str
-    ensures { result.now ≡ words_of_band band }
+    ensures { result.now ≡ band_words band }
 {
     match band {
         Band::Doubt => " in doubt</title><rect class=\"doubt\"",
@@ -167,7 +167,7 @@ fn push_dot(out: &mut Vec<u8>, dot: &Dot) -> Result<(), AllocError>
 
 /// What the title of a record says of it.
 fn force_words(forced: bool, lost: bool) -> &'static str
-    ensures { result.now ≡ words_of_force forced lost }
+    ensures { result.now ≡ force_words forced lost }
 {
     match (forced, lost) {
         (true, false) => ", forced</title>",

@@ -7,7 +7,8 @@ use Rattle.protocol.specs.declared.messages.Message.{Message}
 use Rattle.protocol.specs.declared.messages.Message.TheVariants.{Join, Joined, Work, Prepare, Yes, No, Read, Commit, Abort, Ack, Inquire}
 use Rattle.protocol.specs.declared.records.ShownRecord.{ShownRecord}
 use Rattle.protocol.specs.declared.records.Subject.{Subject}
-use Rattle.protocol.specs.declared.records.Subject.TheVariants.{Boot, Case as OfCase, Other}
+use Rattle.protocol.specs.declared.records.Subject.TheVariants.{Boot, Other}
+use Rattle.protocol_words.specs.Variants.{OfCase}
 use Rattle.protocol.specs.Plays.{sent_as}
 use Rattle.protocol.specs.Texts.{case_text, envelope_text, findings_text, kind_word, op_text, outcome_word}
 

@@ -3,9 +3,9 @@
 ghost use Rattle.std.specs.Prelude.{◌≡◌, ◌-◌, ◌++◌, IfOk, OnOk, codes, decimal};
 ghost use Rattle.std.specs.Option.{option_copied};
 ghost use Rattle.protocol.specs.Plays.{sent_as};
-ghost use Rattle.protocol.specs.Texts.{case_text as text_of_case, word_of_conclusion, envelope_text, message_text, op_text, told_text};
-ghost use Rattle.tree_script.specs.Spellings.{act_text, decision_word as word_of_decision, event_text};
-ghost use Rattle.picture_words.specs.Labels.{in_room, message_name, number_text, record_name as name_of_record, subject_name, title_in, txn_name};
+ghost use Rattle.protocol.specs.Texts.{case_text, word_of_conclusion, envelope_text, message_text, op_text, told_text};
+ghost use Rattle.tree_script.specs.Spellings.{act_text, decision_word, event_text};
+ghost use Rattle.picture_words.specs.Labels.{in_room, message_name, number_text, record_name, subject_name, title_in, txn_name};
 
 use picture_shapes::{Tone, push_word};
 use protocol::{
@@ -138,7 +138,7 @@ pub fn message_label(
 
 /// A word, and a case after it.
 fn push_case_of(out: &mut Vec<u8>, word: &str, case: &Case) -> Result<(), AllocError>
-    ensures { OnOk result (out.new.items ≡ out.old.items ++ (word.now ++ text_of_case case.now)) }
+    ensures { OnOk result (out.new.items ≡ out.old.items ++ (word.now ++ case_text case.now)) }
 {
     push(out, word)?;
     push_case(out, case)
@@ -245,7 +245,7 @@ fn push_subject(out: &mut Vec<u8>, subject: &Subject) -> Result<(), AllocError>
 /// A record's kind, and what it is of.
 #[tactic(auto, unfolding(crate::specs::Labels::record_name))]
 fn push_record_name(out: &mut Vec<u8>, logged: &ShownRecord) -> Result<(), AllocError>
-    ensures { OnOk result (out.new.items ≡ out.old.items ++ name_of_record logged.now) }
+    ensures { OnOk result (out.new.items ≡ out.old.items ++ record_name logged.now) }
 {
     push(out, kind_word(logged.kind))?;
     push_subject(out, &logged.subject)
@@ -253,7 +253,7 @@ fn push_record_name(out: &mut Vec<u8>, logged: &ShownRecord) -> Result<(), Alloc
 
 /// The name of a record.
 pub fn record_name(alloc: Global, logged: &ShownRecord) -> Result<Vec<u8>, AllocError>
-    ensures { IfOk result (λ name. name.items ≡ name_of_record logged.now) }
+    ensures { IfOk result (λ name. name.items ≡ record_name logged.now) }
 {
     let mut out = Vec::new(alloc);
     push_record_name(&mut out, logged)?;
@@ -323,7 +323,7 @@ pub fn act_tone(act: &Act) -> Tone {
 
 /// The word of an operator's decision.
 fn decision_word(outcome: Outcome) -> &'static str
-    ensures { result.now ≡ word_of_decision outcome }
+    ensures { result.now ≡ decision_word outcome }
 {
     match outcome {
         Outcome::Committed => "commit",

@@ -1,6 +1,6 @@
 -- What a process handles, as it is lent to it.
 use Rattle.protocol.specs.declared.events.Input.{Input}
-use Rattle.protocol.specs.declared.events.Input.TheVariants.{Act as ActInput, Message as MessageInput}
+use Rattle.protocol_words.specs.Variants.{ActInput, MessageInput}
 use Rattle.process_state.specs.declared.inputs.InputRef.{InputRef}
 use Rattle.process_state.specs.declared.inputs.InputRef.TheVariants.{Act, Message}
 

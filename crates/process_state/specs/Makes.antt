@@ -10,7 +10,7 @@ use Rattle.protocol.specs.declared.messages.Message.TheVariants.{Prepare, Abort}
 use Rattle.protocol.specs.declared.standings.Standing.TheVariants.{Active, Heuristic}
 use Rattle.protocol.specs.declared.events.Act.TheVariants.{Decide}
 use Rattle.protocol.specs.declared.events.Input.{Input}
-use Rattle.protocol.specs.declared.events.Input.TheVariants.{Act as ActInput, Message as MessageInput}
+use Rattle.protocol_words.specs.Variants.{ActInput, MessageInput}
 use Rattle.protocol.specs.declared.events.Reaction.{Reaction}
 use Rattle.protocol.specs.declared.events.StepError.{StepError}
 use Rattle.protocol.specs.declared.events.StepError.TheVariants.{Memory, Device, Exhausted}

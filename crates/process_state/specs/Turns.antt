@@ -15,17 +15,15 @@ use Rattle.protocol.specs.declared.messages.Op.{Op}
 use Rattle.protocol.specs.declared.messages.Message.{Message}
 use Rattle.protocol.specs.declared.messages.Message.TheVariants.{Join, Joined, Work, Prepare, Yes, No, Read, Commit, Abort, Ack, Inquire}
 use Rattle.protocol.specs.declared.messages.Envelope.{Envelope}
-use Rattle.protocol.specs.declared.records.BranchName.TheVariants.{Case as CaseBranch}
+use Rattle.protocol_words.specs.Variants.{AbortAct, ActInput, CaseBranch, CommitAct, JoinAct, MessageInput, VoteNo, VoteRead, VoteYes, WorkAct}
 use Rattle.protocol.specs.declared.records.Record.{Record}
 use Rattle.protocol.specs.declared.records.Record.TheVariants.{HeurCommit, HeurRollback}
 use Rattle.protocol.specs.declared.standings.Standing.{Standing}
 use Rattle.protocol.specs.declared.standings.Standing.TheVariants.{Unknown, Active, Collecting, Prepared, Heuristic}
 use Rattle.protocol.specs.declared.standings.Vote.{Vote}
-use Rattle.protocol.specs.declared.standings.Vote.TheVariants.{Yes as VoteYes, No as VoteNo, Read as VoteRead}
 use Rattle.protocol.specs.declared.events.Act.{Act}
-use Rattle.protocol.specs.declared.events.Act.TheVariants.{Begin, Join as JoinAct, Work as WorkAct, Commit as CommitAct, Abort as AbortAct, Ask, Decide, Forget}
+use Rattle.protocol.specs.declared.events.Act.TheVariants.{Begin, Ask, Decide, Forget}
 use Rattle.protocol.specs.declared.events.Input.{Input}
-use Rattle.protocol.specs.declared.events.Input.TheVariants.{Act as ActInput, Message as MessageInput}
 use Rattle.protocol.specs.declared.events.StepError.{StepError}
 use Rattle.protocol.specs.declared.events.StepError.TheVariants.{UnknownTxn, NotAChild, Closed, Failed, NotInDoubt, NothingToForget, NoSuch, Device, Exhausted}
 use Rattle.protocol.specs.declared.trees.TreeProcess.{TreeProcess}
@@ -36,7 +34,7 @@ use Rattle.protocol.specs.Memory.{of_ticket, ticket_of_child}
 use Rattle.protocol.specs.Standings.{CoordinatorView, ManagerView}
 use Rattle.protocol.specs.CoordinatorRows.{Seat, Row, ByAct, active_join, active_work, active_commit, active_abort, collecting_abort, prepared_ask, on_vote, on_ack, on_inquiry, on_joined, on_prepare, on_commit, on_abort, post, tells_outcome, unknown_forget}
 use Rattle.protocol.specs.ManagerRows.{Leaf, LeafRow, prepared_decide, heuristic_forget, untold_ask}
-use Rattle.protocol.specs.ManagerRows as leaf
+use Rattle.protocol.specs.ManagerRows
 use Rattle.protocol.specs.Reactions.{Reacts, Refused, Does, row_effect, leaf_effect, sends_only, seat_of, leaf_of, act_is_listed}
 use Rattle.protocol.specs.Restarts.{is_known}
 use Rattle.protocol.specs.Views.{begin_effect}
@@ -315,15 +313,15 @@ decision_records c (Some Aborted) = HeurRollback (CaseBranch c) ∷ []
 -- the messages at a manager, with what its data answer; any other does nothing
 abbrev pub manager_turn : CoreState → ProcessId → DataAnswer → Message → Turn
 manager_turn s p a (Join d) = leaf_joined_turn s p d a.starts (s.ticket_for d)
-manager_turn s p a (Work d i op) = let v = s.branch_of d in Handles d (leaf.on_work i a.does v v.standing)
+manager_turn s p a (Work d i op) = let v = s.branch_of d in Handles d (ManagerRows.on_work i a.does v v.standing)
 manager_turn s p a (Prepare d k) =
-    let v = s.branch_of d in Handles d (leaf.on_prepare (leaf_in s p d) k a.holding v v.standing)
+    let v = s.branch_of d in Handles d (ManagerRows.on_prepare (leaf_in s p d) k a.holding v v.standing)
 manager_turn s p a (Commit d) =
     let v = s.branch_of d in
-    Handles d (leaf.on_commit this_version (leaf_in s p d) (decision_records d (s.decided_of d)) v v.standing)
+    Handles d (ManagerRows.on_commit this_version (leaf_in s p d) (decision_records d (s.decided_of d)) v v.standing)
 manager_turn s p a (Abort d) =
     let v = s.branch_of d in
-    Handles d (leaf.on_abort this_version (leaf_in s p d) (decision_records d (s.decided_of d)) v v.standing)
+    Handles d (ManagerRows.on_abort this_version (leaf_in s p d) (decision_records d (s.decided_of d)) v v.standing)
 manager_turn s p a _ = Says []
 
 -- Any process.

@@ -2,7 +2,7 @@
 
 ghost use Rattle.std.specs.Prelude.{◌≡◌, [], ◌∷◌, IfOk};
 ghost use Rattle.protocol.specs.CoordinatorRows.{post};
-ghost use Rattle.protocol.specs.Standings.{unknown_findings as findings_unknown};
+ghost use Rattle.protocol.specs.Standings.{unknown_findings};
 ghost use Rattle.process_state.specs.Turns.{this_version};
 
 use protocol::{Case, Envelope, Envelopes, Finding, Findings, Message, ProcessId, Sequence};
@@ -24,7 +24,7 @@ pub fn one_message(
 
 /// What is found of a case of which nothing is known: below the root its own ticket is unreported.
 pub fn unknown_findings(alloc: Global, case: Case) -> Result<Findings, AllocError>
-    ensures { IfOk result (λ findings. findings ≡ findings_unknown this_version case) }
+    ensures { IfOk result (λ findings. findings ≡ unknown_findings this_version case) }
 {
     let mut findings = Sequence::new(alloc);
     if let Some(ticket) = case.ticket {

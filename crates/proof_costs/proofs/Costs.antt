@@ -16,7 +16,7 @@ use Rattle.protocol.specs.Nodes.{First, Second, Version}
 use Rattle.protocol.specs.Standings.{CoordinatorView, ManagerView, unknown_view}
 use Rattle.protocol.specs.CoordinatorRows.{Row, Seat, active_commit_alone, active_commit_with, awaits, collecting_after, collecting_full, collecting_read_only, decided_ack_by, decides, on_ack, on_vote, other_tickets, quiet, root_commits}
 use Rattle.protocol.specs.Counts.{Walked, acknowledging, asks, hears_yes, manager_price, walks}
-use Rattle.protocol.specs.Counts as first
+use Rattle.protocol.specs.Counts
 use Rattle.protocol.specs.ManagerRows.{Leaf}
 use Rattle.proof_model.proofs.CostLaws.{committed_update_costs}
 use Rattle.proof_costs.specs.Costs.{CommittedUpdateCostsBy, hears_ack, manager_cost}
@@ -110,23 +110,23 @@ found_none s t v Aborting none = none
 found_none s t v Heuristic none = none
 
 heard : (s : Seat) (w : Walked) (t : Ticket) → s.parent ≡ None → w.view.found ≡ []
-    → hears_ack Second s w t ≡ first.hears_ack s w t
+    → hears_ack Second s w t ≡ Counts.hears_ack s w t
 heard s w t at_root none =
     ap (λ fs. walks w (on_ack Second s t Committed fs w.view w.view.standing)) none
     ∙ ap (walks w) (acked s t w.view w.view.standing at_root)
     ∙ ap (λ fs. walks w (on_ack First s t Committed fs w.view w.view.standing)) (sym none)
 
-pub found_then : (s : Seat) (w : Walked) (t : Ticket) → w.view.found ≡ [] → (first.hears_ack s w t).view.found ≡ []
+pub found_then : (s : Seat) (w : Walked) (t : Ticket) → w.view.found ≡ [] → (Counts.hears_ack s w t).view.found ≡ []
 found_then s w t none =
     ap (λ fs. (on_ack First s t Committed fs w.view w.view.standing).view.found) none
     ∙ found_none s t w.view w.view.standing none
 
 all_acked : (s : Seat) (w : Walked) (acks : List Ticket) → s.parent ≡ None → w.view.found ≡ []
-    → fold (hears_ack Second s) w acks ≡ fold (first.hears_ack s) w acks
+    → fold (hears_ack Second s) w acks ≡ fold (Counts.hears_ack s) w acks
 all_acked s w [] at_root none = refl
 all_acked s w (t ∷ acks) at_root none =
     ap (λ (x : Walked). fold (hears_ack Second s) x acks) (heard s w t at_root none)
-    ∙ all_acked s (first.hears_ack s w t) acks at_root (found_then s w t none)
+    ∙ all_acked s (Counts.hears_ack s w t) acks at_root (found_then s w t none)
 
 -- A manager.
 
@@ -135,17 +135,17 @@ same_number n = grind arith
 
 alike : (l : Leaf) (n : ℕ) (ws : List Write) (told : Option Outcome)
     → let v : ManagerView = record { standing = Active; done = n; spoiled = false; told = told } in
-    manager_cost Second l n ws v ≡ first.manager_cost l n ws v
+    manager_cost Second l n ws v ≡ Counts.manager_cost l n ws v
 alike l n ws told = rw (same_number n) refl
 
 managed : (ver : Version) (l : Leaf) (n : ℕ) (ws : List Write) (v : ManagerView) → v.standing ≡ Active → v.done ≡ n
-    → v.spoiled ≡ false → manager_cost ver l n ws v ≡ first.manager_cost l n ws v
+    → v.spoiled ≡ false → manager_cost ver l n ws v ≡ Counts.manager_cost l n ws v
 managed First l n ws v active done sound = refl
 managed Second l n ws v active done sound =
     let stands : v ≡ record { standing = Active; done = n; spoiled = false; told = v.told } =
     rw (sym active, sym done, sym sound) refl in
     ap (λ x. manager_cost Second l n ws x) stands ∙ alike l n ws v.told
-    ∙ sym (ap (λ x. first.manager_cost l n ws x) stands)
+    ∙ sym (ap (λ x. Counts.manager_cost l n ws x) stands)
 
 -- by each version the costs are the same
 pub costs_by : (ver : Version) (s : Seat) → CommittedUpdateCostsBy ver s

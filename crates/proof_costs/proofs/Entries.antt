@@ -7,9 +7,8 @@ use Rattle.std.proofs.lemmas.List.{length-map}
 use Rattle.protocol.specs.declared.messages.Message.{Message}
 use Rattle.protocol.specs.declared.events.Act.{Act}
 use Rattle.protocol.specs.declared.events.JournalEntry.{JournalEntry}
-use Rattle.protocol.specs.declared.events.Happening.TheVariants.{Input as Handles}
+use Rattle.protocol_words.specs.Variants.{ActInput, Handles, MessageInput}
 use Rattle.protocol.specs.declared.events.Input.{Input}
-use Rattle.protocol.specs.declared.events.Input.TheVariants.{Act as ActInput, Message as MessageInput}
 use Rattle.protocol.specs.declared.events.Reaction.{Reaction}
 use Rattle.protocol.specs.Counts.{Cost, cost_of, together}
 use Rattle.protocol.specs.Nodes.{Effect, Written, logged_of, reaction_of}

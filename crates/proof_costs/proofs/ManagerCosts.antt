@@ -12,9 +12,8 @@ use Rattle.protocol.specs.declared.messages.Message.{Message}
 use Rattle.protocol.specs.declared.messages.Message.TheVariants.{Ack, Commit, No, Prepare}
 use Rattle.protocol.specs.declared.records.Record.{Record}
 use Rattle.protocol.specs.declared.events.JournalEntry.{JournalEntry}
-use Rattle.protocol.specs.declared.events.Happening.TheVariants.{Input as Handles}
+use Rattle.protocol_words.specs.Variants.{ActInput, Handles, MessageInput}
 use Rattle.protocol.specs.declared.events.Input.{Input}
-use Rattle.protocol.specs.declared.events.Input.TheVariants.{Act as ActInput, Message as MessageInput}
 use Rattle.protocol.specs.declared.events.Reaction.{Reaction}
 use Rattle.protocol.specs.declared.standings.Standing.{Standing}
 use Rattle.protocol.specs.declared.standings.Standing.TheVariants.{Active}
@@ -25,7 +24,7 @@ use Rattle.protocol.specs.Nodes.{AtLeaf, Effect, Heard, Holding, Holds, Node, Pl
 use Rattle.protocol.specs.Outcomes.{is_yes_message}
 use Rattle.protocol.specs.Standings.{ManagerView, manager_view, unknown_branch}
 use Rattle.protocol.specs.ManagerRows.{Leaf, LeafRow, is_acknowledged}
-use Rattle.protocol.specs.ManagerRows as leaf
+use Rattle.protocol.specs.ManagerRows
 use Rattle.protocol.specs.Reactions.{Does, leaf_effect, leaf_of, reacts}
 use Rattle.protocol.specs.Views.{hears_message, leaf_place}
 use Rattle.protocol.specs.World.{Continues, IsRun, Made, World, entries_of, journal_of}
@@ -44,7 +43,7 @@ module _ (l : Leaf) (ver : Version) (rs : List Record) where
 
   -- after PREPARE's row COMMIT's is paid for, if one of them said YES
   abbrev Paid : LeafRow → ManagerView → Type 0
-  Paid r v = let q = leaf.on_commit ver l rs v v.standing in
+  Paid r v = let q = ManagerRows.on_commit ver l rs v v.standing in
       (says_yes r.messages || (says_yes q.messages || false)) ≡ true
       → (together (cost_of r.written r.messages) (cost_of q.written q.messages)
       ≡ manager_price l.own.txn.presumption) × (q.view ≡ unknown_branch)
@@ -61,16 +60,16 @@ module _ (l : Leaf) (ver : Version) (rs : List Record) where
   unheard true fs e = absurd (cc)
   unheard false fs e = absurd (cc)
 
-  by_holding : (holding : Holding) → let r = leaf.active_prepare_holding l holding in Paid r r.view
+  by_holding : (holding : Holding) → let r = ManagerRows.active_prepare_holding l holding in Paid r r.view
   by_holding ReadsOnly = λ e. unheard (is_acknowledged l.own.txn.presumption Committed) _ e
-  by_holding (Holds ws) = λ e. (obeyed l.own.txn.presumption (leaf.ends_record l Committed), refl)
+  by_holding (Holds ws) = λ e. (obeyed l.own.txn.presumption (ManagerRows.ends_record l Committed), refl)
 
-  by_done : (i : ℕ) (holding : Holding) (v : ManagerView) → let r = leaf.on_prepare l i holding v Active in
+  by_done : (i : ℕ) (holding : Holding) (v : ManagerView) → let r = ManagerRows.on_prepare l i holding v Active in
       Paid r r.view
   by_done i holding v = by_test ((v.done == i) && not v.spoiled)
     where
       by_test : (b : Bool)
-          → let r = if b then leaf.active_prepare_holding l holding else leaf.replies l (No l.own) unknown_branch in
+          → let r = if b then ManagerRows.active_prepare_holding l holding else ManagerRows.replies l (No l.own) unknown_branch in
           Paid r r.view
       by_test true = by_holding holding
       by_test false = λ e. unheard (is_acknowledged l.own.txn.presumption Committed) _ e
@@ -125,11 +124,11 @@ module _ (me p : ProcessId) (tree : List TreeProcess) (d : Case) where
   -- PREPARE and COMMIT, as their rows have it
   prepares : (n : Node) (h : Heard) (e : Effect) → reacts place n h ≡ Does e → (k i : ℕ)
       → h.input ≡ MessageInput k (Prepare d i)
-      → let row = leaf.on_prepare (leaf_of place p d) i h.data_answer.holding (see n) (see n).standing in
+      → let row = ManagerRows.on_prepare (leaf_of place p d) i h.data_answer.holding (see n) (see n).standing in
       (leaf_effect row ≡ e) × (see (after n h e) ≡ row.view)
   prepares n h e r k i same =
       let so = hears_so place n h e r k (Prepare d i) same in
-      let row = leaf.on_prepare (leaf_of place p d) i h.data_answer.holding (see n) (see n).standing in (
+      let row = ManagerRows.on_prepare (leaf_of place p d) i h.data_answer.holding (see n) (see n).standing in (
         so,
         subst (λ (x : Heard). see (after n x e) ≡ row.view) (sym (heard_as h k (Prepare d i) same))
             (subst (λ (x : Effect). see (after n (hears_message h.version k (Prepare d i) h.data_answer) x) ≡ row.view) so
@@ -138,11 +137,11 @@ module _ (me p : ProcessId) (tree : List TreeProcess) (d : Case) where
 
   commits : (n : Node) (h : Heard) (e : Effect) → reacts place n h ≡ Does e → (k : ℕ)
       → h.input ≡ MessageInput k (Commit d)
-      → let row = leaf.on_commit h.version (leaf_of place p d) (kept n) (see n) (see n).standing in
+      → let row = ManagerRows.on_commit h.version (leaf_of place p d) (kept n) (see n) (see n).standing in
       (leaf_effect row ≡ e) × (see (after n h e) ≡ row.view)
   commits n h e r k same =
       let so = hears_so place n h e r k (Commit d) same in
-      let row = leaf.on_commit h.version (leaf_of place p d) (kept n) (see n) (see n).standing in (
+      let row = ManagerRows.on_commit h.version (leaf_of place p d) (kept n) (see n) (see n).standing in (
         so,
         subst (λ (x : Heard). see (after n x e) ≡ row.view) (sym (heard_as h k (Commit d) same))
             (subst (λ (x : Effect). see (after n (hears_message h.version k (Commit d) h.data_answer) x) ≡ row.view) so
@@ -176,12 +175,12 @@ module _ (me p : ProcessId) (tree : List TreeProcess) (d : Case) where
 
   two_paid : (ver : Version) (rs : List Record) (es : List JournalEntry) (a b : JournalEntry) (r : LeafRow) (v : ManagerView)
       → es ≡ a ∷ b ∷ [] → a.reaction ≡ reaction_of (leaf_effect r)
-      → b.reaction ≡ reaction_of (leaf_effect (leaf.on_commit ver own rs v v.standing))
+      → b.reaction ≡ reaction_of (leaf_effect (ManagerRows.on_commit ver own rs v v.standing))
       → Paid own ver rs r v → list_any (shows_yes d) es ≡ true
       → (entries_cost es ≡ manager_price d.txn.presumption)
-      × ((leaf.on_commit ver own rs v v.standing).view ≡ unknown_branch)
+      × ((ManagerRows.on_commit ver own rs v v.standing).view ≡ unknown_branch)
   two_paid ver rs es a b r v both e f known votes =
-      let q = leaf.on_commit ver own rs v v.standing in
+      let q = ManagerRows.on_commit ver own rs v v.standing in
       let k = known (two_say a b r q e f (ap (list_any (shows_yes d)) (sym both) ∙ votes)) in
       (ap entries_cost both ∙ (two_pay a b r q e f ∙ k.0), k.1)
 
@@ -203,9 +202,9 @@ module _ (me p : ProcessId) (tree : List TreeProcess) (d : Case) where
       let hold = a.heard.data_answer.holding in
       let ver = b.heard.version in
       let rs = kept b.at in
-      let first = leaf.on_prepare own i hold (see a.at) (see a.at).standing in
+      let first = ManagerRows.on_prepare own i hold (see a.at) (see a.at).standing in
       let begun : Paid own ver rs first first.view =
-      subst (λ (s : Standing). let r = leaf.on_prepare own i hold (see a.at) s in Paid own ver rs r r.view)
+      subst (λ (s : Standing). let r = ManagerRows.on_prepare own i hold (see a.at) s in Paid own ver rs r r.view)
       (sym (ap (λ (v : ManagerView). v.standing) a.seen ∙ active)) (by_done own ver rs i hold (see a.at)) in
       let k = two_paid ver rs (mine es) a.entry b.entry first (see b.at)
       (a.is_next ∙ ap (λ xs. a.entry ∷ xs) (b.is_next ∙ ap (λ xs. b.entry ∷ xs) z.0))

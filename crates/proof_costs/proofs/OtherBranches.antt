@@ -7,7 +7,8 @@ use Rattle.protocol.specs.declared.names.Ticket.{Ticket}
 use Rattle.protocol.specs.declared.messages.Message.{Message}
 use Rattle.protocol.specs.declared.messages.Message.TheVariants.{Join, Joined, Work, Prepare, Yes, No, Read, Commit, Abort, Ack, Inquire}
 use Rattle.protocol.specs.declared.events.Act.{Act}
-use Rattle.protocol.specs.declared.events.Act.TheVariants.{Begin, Join as JoinAct, Work as WorkAct, Commit as CommitAct, Abort as AbortAct, Ask, Decide, Forget}
+use Rattle.protocol.specs.declared.events.Act.TheVariants.{Begin, Ask, Decide, Forget}
+use Rattle.protocol_words.specs.Variants.{AbortAct, CommitAct, JoinAct, WorkAct}
 use Rattle.protocol.specs.declared.events.StepError.TheVariants.{Closed, NoSuch, NotAChild, NotInDoubt, NothingToForget, UnknownTxn}
 use Rattle.protocol.specs.declared.standings.Standing.{Standing}
 use Rattle.protocol.specs.declared.standings.Standing.TheVariants.{Unknown, Active, Collecting, Prepared, Committing, Aborting, Heuristic}

@@ -11,12 +11,9 @@ use Rattle.protocol.specs.declared.names.Presumption.TheVariants.{PresumeAbort, 
 use Rattle.protocol.specs.declared.messages.Message.{Message}
 use Rattle.protocol.specs.declared.messages.Message.TheVariants.{Join, Joined, Work, Prepare, Yes, No, Read, Commit, Abort, Ack, Inquire}
 use Rattle.protocol.specs.declared.records.Record.{Record}
-use Rattle.protocol.specs.declared.records.Record.TheVariants.{Cleared as ClearedRecord, Prepare as PrepareRecord}
-use Rattle.protocol.specs.declared.standings.Vote.TheVariants.{Yes as VoteYes, No as VoteNo, Read as VoteRead}
-use Rattle.protocol.specs.declared.events.Act.TheVariants.{Begin, Join as JoinAct, Work as WorkAct, Commit as CommitAct, Abort as AbortAct, Ask, Decide, Forget}
+use Rattle.protocol_words.specs.Variants.{AbortAct, ActInput, ClearedRecord, CommitAct, Handles, JoinAct, MessageInput, PrepareRecord, VoteNo, VoteRead, VoteYes, WorkAct}
+use Rattle.protocol.specs.declared.events.Act.TheVariants.{Begin, Ask, Decide, Forget}
 use Rattle.protocol.specs.declared.events.Input.{Input}
-use Rattle.protocol.specs.declared.events.Input.TheVariants.{Act as ActInput, Message as MessageInput}
-use Rattle.protocol.specs.declared.events.Happening.TheVariants.{Input as Handles}
 use Rattle.protocol.specs.declared.trees.TreeProcess.{TreeProcess}
 use Rattle.protocol.specs.Names.{child_case, root_case, same_case, same_txn}
 use Rattle.protocol.specs.Records.{boot_after, boot_of}

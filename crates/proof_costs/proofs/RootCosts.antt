@@ -3,20 +3,16 @@ use Rattle.std.proofs.Common.{◌≡◌, ◌∙◌, ℕ, false, None, List, [], 
 use Rattle.std.specs.Prelude.{filter, map}
 use Rattle.std.proofs.lemmas.List.{append-nil}
 use Rattle.protocol.specs.declared.names.Case.{Case}
-use Rattle.protocol.specs.declared.names.Outcome.TheVariants.{Committed as CommittedOutcome}
+use Rattle.protocol_words.specs.Variants.{ActInput, CommitAct, CommittedOutcome, Handles, MessageInput, VoteYes}
 use Rattle.protocol.specs.declared.names.ProcessId.{ProcessId}
 use Rattle.protocol.specs.declared.names.Ticket.{Ticket}
 use Rattle.protocol.specs.declared.names.Txn.{Txn}
 use Rattle.protocol.specs.declared.messages.Message.{Message}
 use Rattle.protocol.specs.declared.messages.Message.TheVariants.{Ack, Yes}
-use Rattle.protocol.specs.declared.events.Act.TheVariants.{Commit as CommitAct}
 use Rattle.protocol.specs.declared.events.JournalEntry.{JournalEntry}
-use Rattle.protocol.specs.declared.events.Happening.TheVariants.{Input as Handles}
 use Rattle.protocol.specs.declared.events.Input.{Input}
-use Rattle.protocol.specs.declared.events.Input.TheVariants.{Act as ActInput, Message as MessageInput}
 use Rattle.protocol.specs.declared.events.Reaction.{Reaction}
 use Rattle.protocol.specs.declared.standings.Standing.TheVariants.{Active}
-use Rattle.protocol.specs.declared.standings.Vote.TheVariants.{Yes as VoteYes}
 use Rattle.protocol.specs.declared.trees.TreeProcess.{TreeProcess}
 use Rattle.protocol.specs.Counts.{Cost, IsOrderOf, Walked, acknowledging, asks, cost_of, hears_yes, root_price, row_cost, together}
 use Rattle.protocol.specs.Names.{child_case, root_case}
@@ -33,7 +29,7 @@ use Rattle.proof_processes.proofs.CoordinatorsHold.{coordinates}
 use Rattle.proof_costs.specs.Costs.{hears_ack, root_walk}
 use Rattle.proof_costs.specs.Journals.{Acts, Brings, RootCommits, RootPays, begun_is_of, cause_of, causes, entries_cost, entry_cost, happening_is_of, is_of, no_cost, of_txn, update_causes}
 use Rattle.proof_costs.proofs.Chains.{Chain, Plain, chain_of, next_of, none_next, plain_of}
-use Rattle.proof_costs.proofs.Costs as costs
+use Rattle.proof_costs.proofs.Costs
 use Rattle.proof_costs.proofs.Entries.{acted, after_nothing, brought, entry_pays, is_other}
 use Rattle.proof_costs.proofs.Handling.{acts_so, hears_so}
 use Rattle.proof_costs.proofs.OpenRoots.{none_yet}
@@ -128,7 +124,7 @@ module _ (me : ProcessId) (tree : List TreeProcess) (x : Txn) where
       by_version : (k : Version) → on_ack k seat t CommittedOutcome [] v v.standing
           ≡ on_ack First seat t CommittedOutcome [] v v.standing
       by_version First = refl
-      by_version Second = costs.acked seat t v v.standing refl
+      by_version Second = Costs.acked seat t v v.standing refl
 
   word_step : (w : Word) (n : Node) (h : Heard) (e : Effect) → Fact n → reacts place n h ≡ Does e → (k : ℕ)
       → h.input ≡ MessageInput k (word_message w) → (see n).found ≡ [] → IsRow n h e (word_row seat w (see n))
@@ -148,9 +144,9 @@ module _ (me : ProcessId) (tree : List TreeProcess) (x : Txn) where
 
   -- nothing is found by what a child says
   word_finds : (w : Word) (v : CoordinatorView) → v.found ≡ [] → (word_row seat w v).view.found ≡ []
-  word_finds (Votes t) v none = costs.voted seat t v v.standing none
+  word_finds (Votes t) v none = Costs.voted seat t v v.standing none
   word_finds (Acknowledges t) v none =
-      costs.found_then seat (record { cost = no_cost; view = v }) t none
+      Costs.found_then seat (record { cost = no_cost; view = v }) t none
 
   says_so : (w : Word) (c : Cost) (v : CoordinatorView)
       → says seat (record { cost = c; view = v }) w
@@ -199,8 +195,8 @@ module _ (me : ProcessId) (tree : List TreeProcess) (x : Txn) where
       let unfound : (see a.at).found ≡ [] = ap (λ (v : CoordinatorView). v.found) a.seen ∙ none in
       let row = active_commit seat (see a.at) in
       let row_finds : row.view.found ≡ [] =
-      costs.either (none_of (see a.at).accepted) (active_commit_alone seat) _ refl
-      (costs.asked seat (see a.at) x.presumption unfound) in
+      Costs.either (none_of (see a.at).accepted) (active_commit_alone seat) _ refl
+      (Costs.asked seat (see a.at) x.presumption unfound) in
       let paid : together no_cost (entry_cost a.entry) ≡ row_cost row =
       after_nothing (entry_cost a.entry)
       ∙ (entry_pays a.entry a.effect a.shows_it
@@ -245,7 +241,7 @@ module _ (me : ProcessId) (tree : List TreeProcess) (x : Txn) where
       let rows : fold (says seat) (asks seat (see n)) ws ≡ root_walk First seat (see n) votes acks =
       voted_first votes (map (λ t. Acknowledges t) as') (asks seat (see n))
       ∙ then_acknowledged as' (fold (hears_yes seat) (asks seat (see n)) votes) in
-      let said = (costs.costs_by First seat).root refl (see n) active none.0 none.1 takes votes acks is is' in
+      let said = (Costs.costs_by First seat).root refl (see n) active none.0 none.1 takes votes acks is is' in
       let all = sym walk ∙ (rows ∙ said) in
       (ap (λ (z : Walked). z.cost) all, ap (λ (z : Walked). z.view) all)
 

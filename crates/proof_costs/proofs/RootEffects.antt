@@ -3,16 +3,14 @@ use Rattle.std.proofs.Common.{◌≡◌, Bool, true, false, Some, None, List, []
 use Rattle.std.specs.Prelude.{filter}
 use Rattle.protocol.specs.declared.names.Case.{Case}
 use Rattle.protocol.specs.declared.names.Outcome.{Outcome}
-use Rattle.protocol.specs.declared.names.Outcome.TheVariants.{Committed as CommittedOutcome}
+use Rattle.protocol_words.specs.Variants.{AbortRecord, CommitRecord, CommittedOutcome, VoteYes}
 use Rattle.protocol.specs.declared.names.ProcessId.{ProcessId}
 use Rattle.protocol.specs.declared.names.Ticket.{Ticket}
 use Rattle.protocol.specs.declared.names.Txn.{Txn}
 use Rattle.protocol.specs.declared.messages.Finding.{Finding}
 use Rattle.protocol.specs.declared.records.Record.{Record}
-use Rattle.protocol.specs.declared.records.Record.TheVariants.{Abort as AbortRecord, Commit as CommitRecord}
 use Rattle.protocol.specs.declared.standings.Standing.{Standing}
 use Rattle.protocol.specs.declared.standings.Standing.TheVariants.{Unknown, Active, Collecting, Prepared, Committing, Aborting, Heuristic}
-use Rattle.protocol.specs.declared.standings.Vote.TheVariants.{Yes as VoteYes}
 use Rattle.protocol.specs.declared.trees.TreeProcess.{TreeProcess}
 use Rattle.protocol.specs.Names.{root_case, same_ticket}
 use Rattle.protocol.specs.Records.{in_list, named_by, named_in, owing_by, owing_in}

@@ -10,7 +10,7 @@ use Rattle.protocol.specs.Standings.{CoordinatorView, ManagerView, unknown_view}
 use Rattle.protocol.specs.CoordinatorRows.{Seat, on_ack}
 use Rattle.protocol.specs.Counts.{Cost, IsOrderOf, Walked, acknowledging, asks, hears_yes, leaf_cost, manager_price, root_price, together, walks}
 use Rattle.protocol.specs.ManagerRows.{Leaf}
-use Rattle.protocol.specs.ManagerRows as leaf
+use Rattle.protocol.specs.ManagerRows
 
 -- the acknowledgement of a child comes, which finds nothing
 abbrev pub hears_ack : Version → Seat → Walked → Ticket → Walked
@@ -24,8 +24,8 @@ root_walk ver s v votes acks =
 -- a manager that wrote: PREPARE, after all its works, and COMMIT
 abbrev pub manager_cost : Version → Leaf → ℕ → List Write → ManagerView → Cost
 manager_cost ver l n ws v =
-    let promise = leaf.on_prepare l n (Holds ws) v v.standing in
-    let outcome = leaf.on_commit ver l [] promise.view promise.view.standing in
+    let promise = ManagerRows.on_prepare l n (Holds ws) v v.standing in
+    let outcome = ManagerRows.on_commit ver l [] promise.view promise.view.standing in
     together (leaf_cost promise) (leaf_cost outcome)
 
 -- A committed update of a flat tree, of which nothing was found that contradicts it, costs the root and each manager by

@@ -10,14 +10,14 @@ use Rattle.protocol.specs.declared.names.Txn.{Txn}
 use Rattle.protocol.specs.declared.messages.Message.{Message}
 use Rattle.protocol.specs.declared.messages.Message.TheVariants.{Join, Joined, Work, Prepare, Yes, No, Read, Commit, Abort, Ack, Inquire}
 use Rattle.protocol.specs.declared.records.Subject.{Subject}
-use Rattle.protocol.specs.declared.records.Subject.TheVariants.{Boot, Case as OfCase, Other}
+use Rattle.protocol.specs.declared.records.Subject.TheVariants.{Boot, Other}
+use Rattle.protocol_words.specs.Variants.{AbortAct, ActInput, CommitAct, Handles, JoinAct, MessageInput, OfCase, WorkAct}
 use Rattle.protocol.specs.declared.standings.Standing.TheVariants.{Active}
 use Rattle.protocol.specs.declared.events.Act.{Act}
-use Rattle.protocol.specs.declared.events.Act.TheVariants.{Begin, Join as JoinAct, Work as WorkAct, Commit as CommitAct, Abort as AbortAct, Ask, Decide, Forget}
+use Rattle.protocol.specs.declared.events.Act.TheVariants.{Begin, Ask, Decide, Forget}
 use Rattle.protocol.specs.declared.events.JournalEntry.{JournalEntry}
 use Rattle.protocol.specs.declared.events.Happening.{Happening}
-use Rattle.protocol.specs.declared.events.Happening.TheVariants.{Input as Handles, Restart, Trim}
-use Rattle.protocol.specs.declared.events.Input.TheVariants.{Act as ActInput, Message as MessageInput}
+use Rattle.protocol.specs.declared.events.Happening.TheVariants.{Restart, Trim}
 use Rattle.protocol.specs.declared.trees.TreeProcess.{TreeProcess}
 use Rattle.protocol.specs.Counts.{Cost, IsOrderOf, acknowledging, manager_price, root_price, together}
 use Rattle.protocol.specs.Names.{child_case, root_case, same_case, same_txn}

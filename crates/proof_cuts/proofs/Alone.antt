@@ -6,11 +6,11 @@ use Rattle.protocol.specs.declared.messages.Envelope.{Envelope}
 use Rattle.protocol.specs.declared.messages.Message.{Message}
 use Rattle.protocol.specs.declared.events.JournalEntry.{JournalEntry}
 use Rattle.protocol.specs.declared.events.Event.{Event}
-use Rattle.protocol.specs.declared.events.Event.TheVariants as asked
+use Rattle.protocol_words.specs.event
 use Rattle.protocol.specs.declared.events.Happening.{Happening}
-use Rattle.protocol.specs.declared.events.Happening.TheVariants.{Input as Handles, Restart, Trim}
+use Rattle.protocol.specs.declared.events.Happening.TheVariants.{Restart, Trim}
+use Rattle.protocol_words.specs.Variants.{ActInput, Handles, MessageInput}
 use Rattle.protocol.specs.declared.events.Input.{Input}
-use Rattle.protocol.specs.declared.events.Input.TheVariants.{Act as ActInput, Message as MessageInput}
 use Rattle.protocol.specs.declared.events.Reaction.{Reaction}
 use Rattle.protocol.specs.declared.trees.TreeProcess.{TreeProcess}
 use Rattle.protocol.specs.Names.{same_process}
@@ -439,7 +439,7 @@ module _ (tree : List TreeProcess) (xs : List JournalEntry) (x : JournalEntry) (
   more_input (ActInput a) unfailed is mine made =
       let mine' : process_of_act (root_of mid.tree) a ≡ here =
       ap (λ l. process_of_act (root_of l) a) again.tree_is ∙ mine in
-      grows mid.delivered (Handles (ActInput a)) x.reaction (asked.Act a) is
+      grows mid.delivered (Handles (ActInput a)) x.reaction (event.Act a) is
       (subst (λ q. TreeSteps mid (with_node t e mid.delivered (Handles (ActInput a)) x.reaction) q (ActInput a) mid.delivered)
       (sym mine') (steps_by mid.delivered (ActInput a) x.reaction made))
       (shown_as (Handles (ActInput a)) x.reaction unfailed is refl)
@@ -447,7 +447,7 @@ module _ (tree : List TreeProcess) (xs : List JournalEntry) (x : JournalEntry) (
       let finds : IsNumberedMessage (net_of xs) 0 here k m =
       subst (λ h. FindsMessage (net_of xs) here h) is given.finds in
       let marked = marks mid.delivered k in
-      grows marked (Handles (MessageInput k m)) x.reaction (asked.Deliver k) (m, is)
+      grows marked (Handles (MessageInput k m)) x.reaction (event.Deliver k) (m, is)
       (record {
         envelope = record { from = finds.sender; to = here; message = m };
         sent = ap (λ l. sent_as l k) again.net ∙ found_sent (net_of xs) here k m finds;
@@ -459,7 +459,7 @@ module _ (tree : List TreeProcess) (xs : List JournalEntry) (x : JournalEntry) (
       → RestartsAlone s t e keep k x.reaction → MadeTogether tree (xs ++ x ∷ []) core held
   more_restart k keep unfailed is made =
       let h = restart_of s keep in
-      grows mid.delivered h x.reaction (asked.Restart here (Some keep)) (k, is)
+      grows mid.delivered h x.reaction (event.Restart here (Some keep)) (k, is)
       (record {
         before = s;
         behind = t;
@@ -478,7 +478,7 @@ module _ (tree : List TreeProcess) (xs : List JournalEntry) (x : JournalEntry) (
       → TrimsAlone s t d e remain → MadeTogether tree (xs ++ x ∷ []) core held
   more_trim remain unfailed is shows made =
       let r = trim_reaction remain in
-      grows mid.delivered Trim r (asked.Trim here) is
+      grows mid.delivered Trim r (event.Trim here) is
       (record {
         before = s;
         behind = t;

@@ -3,14 +3,15 @@ use Rattle.std.proofs.Common.{◌≡◌, ◌∙◌, ap, sym, subst, refl, inl, i
 use Rattle.protocol.specs.declared.names.ProcessId.{ProcessId}
 use Rattle.protocol.specs.declared.events.JournalEntry.{JournalEntry}
 use Rattle.protocol.specs.declared.events.Happening.{Happening}
-use Rattle.protocol.specs.declared.events.Happening.TheVariants.{Input as Handles, Trim}
+use Rattle.protocol.specs.declared.events.Happening.TheVariants.{Trim}
+use Rattle.protocol_words.specs.Variants.{Handles}
 use Rattle.protocol.specs.declared.events.Reaction.{Reaction}
 use Rattle.protocol.specs.declared.trees.TreeProcess.{TreeProcess}
 use Rattle.protocol.specs.NameLaws.{same_process_tells}
 use Rattle.protocol.specs.Nodes.{DataAnswer, Effect, Node, place_of}
-use Rattle.protocol.specs.World.{Made, Makes as Leaves, Move, World, entries_of, journal_of, made_by, opened_world, opens, put_at}
+use Rattle.protocol.specs.World.{Made, Makes, Move, World, entries_of, journal_of, made_by, opened_world, opens, put_at}
 use Rattle.protocol.proofs.RunLaws.{makes_at}
-use Rattle.proof_headline.proofs.runs.Headline as runs
+use Rattle.proof_headline.proofs.runs.Headline
 use Rattle.process_state.specs.States.{CoreState}
 use Rattle.process_state.specs.Turns.{no_answer, this_version, turn_of}
 use Rattle.protocol.specs.World.{AllBy}
@@ -71,7 +72,7 @@ module _ (tree : List TreeProcess) (q : ProcessId) (own : List JournalEntry) (ol
           shown = run.shown;
           mine = refl;
           by_this = (refl, made_by_all this_version run.moves run.by_this q);
-          makes = at.made ∙ ap (λ n. Leaves moves.effect n) same;
+          makes = at.made ∙ ap (λ n. Makes moves.effect n) same;
           is = ap (λ y. step_entry q h y) (sym moves.shown);
         };
         place = place;
@@ -151,7 +152,7 @@ cuts_hold tree xs left is_tree cut =
       by_this = one.by_this;
       are_entries = one.are_entries;
       given = cut.given;
-      headline = runs.headline tree is_tree one.moves one.world one.is_run;
+      headline = Headline.headline tree is_tree one.moves one.world one.is_run;
       mismatches_are_reported = second_runs_report tree is_tree one.moves one.world one.is_run one.by_this;
     }
 
@@ -184,7 +185,7 @@ one_stands tree xs left q s is_tree cut own =
       world = one.world;
       is_run = one.is_run;
       are_entries = one.are_entries;
-      headline = runs.headline tree is_tree one.moves one.world one.is_run;
+      headline = Headline.headline tree is_tree one.moves one.world one.is_run;
       mismatches_are_reported = second_runs_report tree is_tree one.moves one.world one.is_run one.by_this;
       place = own.place;
       stands = subst (λ n. StandsFor n s) (sym (one.nodes q ∙ here_one q node left)) own.stands;

@@ -4,10 +4,10 @@ use Rattle.protocol.specs.declared.names.ProcessId.{ProcessId}
 use Rattle.protocol.specs.declared.messages.Message.{Message}
 use Rattle.protocol.specs.declared.events.JournalEntry.{JournalEntry}
 use Rattle.protocol.specs.declared.events.Event.{Event}
-use Rattle.protocol.specs.declared.events.Event.TheVariants as asked
+use Rattle.protocol_words.specs.event
 use Rattle.protocol.specs.declared.events.Happening.{Happening}
-use Rattle.protocol.specs.declared.events.Happening.TheVariants.{Input as Handles, Restart, Trim}
-use Rattle.protocol.specs.declared.events.Input.TheVariants.{Act as ActInput, Message as MessageInput}
+use Rattle.protocol.specs.declared.events.Happening.TheVariants.{Restart, Trim}
+use Rattle.protocol_words.specs.Variants.{ActInput, Handles, MessageInput}
 use Rattle.protocol.specs.declared.events.Reaction.{Reaction}
 use Rattle.protocol.specs.declared.trees.TreeProcess.{TreeProcess}
 use Rattle.protocol.specs.Nodes.{is_listed}
@@ -27,11 +27,11 @@ use Rattle.tree_state.specs.Cuts.{AreGiven, net_of}
 
 -- what happens is what this event asks for
 abbrev pub AsksFor : Event → Happening → Type 0
-AsksFor (asked.Act a) h = h ≡ Handles (ActInput a)
-AsksFor (asked.Deliver k) h = (m : Message) × (h ≡ Handles (MessageInput k m))
-AsksFor asked.Settle h = ⊥
-AsksFor (asked.Restart p bytes) h = (k : ℕ) × (h ≡ Restart k)
-AsksFor (asked.Trim p) h = h ≡ Trim
+AsksFor (event.Act a) h = h ≡ Handles (ActInput a)
+AsksFor (event.Deliver k) h = (m : Message) × (h ≡ Handles (MessageInput k m))
+AsksFor event.Settle h = ⊥
+AsksFor (event.Restart p bytes) h = (k : ℕ) × (h ≡ Restart k)
+AsksFor (event.Trim p) h = h ≡ Trim
 
 -- an act is one of this process's, in a tree with this root
 abbrev pub IsMine : ProcessId → ProcessId → Happening → Type 0

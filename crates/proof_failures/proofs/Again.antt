@@ -3,11 +3,10 @@ use Rattle.std.proofs.Common.{◌≡◌, ◌∙◌, ap, sym, subst, refl, ℕ, z
 use Rattle.protocol.specs.declared.names.ProcessId.{ProcessId}
 use Rattle.protocol.specs.declared.events.JournalEntry.{JournalEntry}
 use Rattle.protocol.specs.declared.events.Event.{Event}
-use Rattle.protocol.specs.declared.events.Event.TheVariants.{Act as ActOf, Deliver, Settle, Restart, Trim}
+use Rattle.protocol.specs.declared.events.Event.TheVariants.{Deliver, Settle, Restart, Trim}
+use Rattle.protocol_words.specs.Variants.{ActInput, ActOf, Handles, MessageInput, Trimming}
 use Rattle.protocol.specs.declared.events.Happening.{Happening}
-use Rattle.protocol.specs.declared.events.Happening.TheVariants.{Input as Handles, Trim as Trimming}
 use Rattle.protocol.specs.declared.events.Input.{Input}
-use Rattle.protocol.specs.declared.events.Input.TheVariants.{Act as ActInput, Message as MessageInput}
 use Rattle.protocol.specs.declared.events.Reaction.{Reaction}
 use Rattle.protocol.specs.Plays.{process_of_act}
 use Rattle.protocol.specs.Trees.{root_of}

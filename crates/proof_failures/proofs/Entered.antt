@@ -4,14 +4,14 @@ use Rattle.protocol.specs.declared.names.ProcessId.{ProcessId}
 use Rattle.protocol.specs.declared.events.JournalEntry.{JournalEntry}
 use Rattle.protocol.specs.declared.events.Fault.{Fault}
 use Rattle.protocol.specs.declared.events.Happening.{Happening}
-use Rattle.protocol.specs.declared.events.Happening.TheVariants.{Input as Handles, Restart as Restarting, Trim as Trimming}
+use Rattle.protocol_words.specs.Variants.{Handles, Restarting, Trimming}
 use Rattle.protocol.specs.declared.events.Input.{Input}
 use Rattle.protocol.specs.declared.events.StepError.TheVariants.{Failed}
 use Rattle.protocol.specs.Nodes.{DataAnswer, Effect, Node, Place, is_listed, no_effect, place_of}
 use Rattle.protocol.specs.Reactions.{Does, Reacts, Refused, is_passed_over, reacts}
 use Rattle.protocol.specs.Restarts.{restart_effect, trim_effect}
 use Rattle.protocol.specs.World.{Made, World, fault_effect, input_makes, journal_of, node_makes, passes_over, trim_makes}
-use Rattle.protocol.specs.World.{Makes as Leaves, Refuses as RefusesMove}
+use Rattle.protocol.specs.World.{Makes, Refuses}
 use Rattle.protocol.specs.World.{MayHappen}
 use Rattle.process_state.specs.States.{CoreState}
 use Rattle.process_state.specs.Turns.{heard_now}
@@ -25,26 +25,26 @@ use Rattle.proof_failures.specs.Traces.{TraceGoesOn, with_trace}
 
 -- Nothing is sent in a move in which a device fails.
 
-same_effect : (a b : Effect) (m n : Node) → Leaves a m ≡ Leaves b n → a ≡ b
+same_effect : (a b : Effect) (m n : Node) → Makes a m ≡ Makes b n → a ≡ b
 same_effect a b m n h = cc
 
-unsent : (d e : Effect) (m n : Node) → Leaves d m ≡ Leaves e n → d.messages ≡ [] → e.messages ≡ []
+unsent : (d e : Effect) (m n : Node) → Makes d m ≡ Makes e n → d.messages ≡ [] → e.messages ≡ []
 unsent d e m n same none = ap (λ (x : Effect). x.messages) (sym (same_effect d e m n same)) ∙ none
 
 module _ (place : Place) (n : Node) (q : ProcessId) (f : Fault) (a : DataAnswer) (e : Effect) (left : Node) where
   input_unsent : (i : Input) (b : Bool) (r : Reacts)
-      → (if b then passes_over n (Some f) else input_makes n (heard_now a i) (Some f) r) ≡ Leaves e left
+      → (if b then passes_over n (Some f) else input_makes n (heard_now a i) (Some f) r) ≡ Makes e left
       → e.messages ≡ []
   input_unsent i true r h = unsent no_effect e _ left h refl
   input_unsent i false (Refused x) h = absurd (cc)
   input_unsent i false (Does d) h = unsent (fault_effect d f.appended) e _ left h refl
 
-  trim_unsent : (b : Bool) → (if b then RefusesMove Failed else trim_makes place n (Some f)) ≡ Leaves e left
+  trim_unsent : (b : Bool) → (if b then Refuses Failed else trim_makes place n (Some f)) ≡ Makes e left
       → e.messages ≡ []
   trim_unsent true h = absurd (cc)
   trim_unsent false h = unsent (fault_effect (trim_effect place n) 0) e _ left h refl
 
-  nothing_sent : (h : Happening) → node_makes place n (move_with q h (Some f) a) ≡ Leaves e left → e.messages ≡ []
+  nothing_sent : (h : Happening) → node_makes place n (move_with q h (Some f) a) ≡ Makes e left → e.messages ≡ []
   unfolding node_makes
   nothing_sent (Handles i) made = input_unsent i (is_passed_over place n i) (reacts place n (heard_now a i)) made
   nothing_sent (Restarting k) made = unsent (fault_effect (restart_effect place n k) f.appended) e _ left made refl
@@ -66,7 +66,7 @@ module _ (es : List Made) (w : World) (s t : WorldState) (q : ProcessId) (trace 
   pub fault_on : (h : Happening) (a : DataAnswer) (before behind : CoreState) → MayHappen w.net q h
       → MovesNode s t q before behind → t.net ≡ s.net → t.entries ≡ s.entries → behind.place ≡ before.place
       → (fault : Fault) (e : Effect) (n : Node)
-      → node_makes (place_of s.tree q) (w.at q) (move_with q h (Some fault) a) ≡ Leaves e n
+      → node_makes (place_of s.tree q) (w.at q) (move_with q h (Some fault) a) ≡ Makes e n
       → StandsFor n behind → TraceGoesOn es w s trace t (fault_entry q h fault ∷ [])
   unfolding journal_of
   fault_on h a before behind happens moves net entries place fault e n made stands =

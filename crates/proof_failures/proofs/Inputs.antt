@@ -4,14 +4,14 @@ use Rattle.std.specs.Prelude.{length}
 use Rattle.protocol.specs.declared.names.ProcessId.{ProcessId}
 use Rattle.protocol.specs.declared.events.JournalEntry.{JournalEntry}
 use Rattle.protocol.specs.declared.events.Fault.{Fault}
-use Rattle.protocol.specs.declared.events.Happening.TheVariants.{Input as Handles}
+use Rattle.protocol_words.specs.Variants.{Handles}
 use Rattle.protocol.specs.declared.events.Input.{Input}
 use Rattle.protocol.specs.declared.records.Record.{Record}
 use Rattle.protocol.specs.LogNames.{in_log}
 use Rattle.protocol.specs.Nodes.{AtLeaf, AtRoot, Below, DataAnswer, Effect, Heard, Node, Place, Role, begun_first, entries_written, fails_in}
 use Rattle.protocol.specs.Reactions.{Does, Reacts, is_passed_over, passes_at, reacts}
 use Rattle.protocol.specs.World.{InputStands, Made, World, fault_effect, input_makes, node_makes, passes_over}
-use Rattle.protocol.specs.World.{Makes as Leaves}
+use Rattle.protocol.specs.World.{Makes}
 use Rattle.log_records.specs.Sights.{records_of}
 use Rattle.process_state.specs.States.{CoreState, parent}
 use Rattle.process_state.specs.Turns.{heard_now}
@@ -109,7 +109,7 @@ module _ (es : List Made) (w : World) (s t : WorldState) (q : ProcessId) (trace 
       h.fails.broken.breaks.2.place fault (fault_effect so.effect fault.appended)
       (fails_in n (heard_now a i) so.effect fault.appended fault.forced)
       (subst (λ (p : Place). node_makes p n (move_with q (Handles i) (Some fault) a)
-      ≡ Leaves (fault_effect so.effect fault.appended)
+      ≡ Makes (fault_effect so.effect fault.appended)
       (fails_in n (heard_now a i) so.effect fault.appended fault.forced)) here.place
       (handled place n q i (Some fault) a (Does so.effect) late so.does))
       (subst (λ m. StandsFor m behind) (sym (left_in n (heard_now a i) so.effect so.appended so.forced)) so.stands))

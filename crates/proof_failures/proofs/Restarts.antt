@@ -5,7 +5,7 @@ use Rattle.std.specs.Prelude.{length}
 use Rattle.protocol.specs.declared.names.ProcessId.{ProcessId}
 use Rattle.protocol.specs.declared.events.JournalEntry.{JournalEntry}
 use Rattle.protocol.specs.declared.events.Fault.{Fault}
-use Rattle.protocol.specs.declared.events.Happening.TheVariants.{Restart as Restarting, Trim as Trimming}
+use Rattle.protocol_words.specs.Variants.{Restarting, Trimming}
 use Rattle.protocol.specs.declared.records.LogRecord.{LogRecord}
 use Rattle.protocol.specs.declared.records.Record.{Record}
 use Rattle.protocol.specs.LogNames.{in_log}
@@ -13,7 +13,7 @@ use Rattle.protocol.specs.Nodes.{Effect, Node, Place, kept}
 use Rattle.protocol.specs.Restarts.{crashed, reopens, restart_effect, restart_fails, trim_effect, trim_fails, trimmed}
 use Rattle.protocol.specs.Trees.{IsTree}
 use Rattle.protocol.specs.World.{Made, World, fault_effect, node_makes}
-use Rattle.protocol.specs.World.{Makes as Leaves}
+use Rattle.protocol.specs.World.{Makes}
 use Rattle.log_records.specs.Sights.{Kept, left_by, records_of, whole_within}
 use Rattle.process_state.specs.Restarting.{trimmed_log}
 use Rattle.process_state.specs.States.{CoreState, logged, parent}
@@ -37,7 +37,7 @@ use Rattle.proof_failures.proofs.Entered.{fault_on}
 use Rattle.proof_failures.proofs.Fronts.{length_append, length_map, within_is_front}
 use Rattle.proof_failures.proofs.Left.{counted, counted_left, counts}
 
-same_node : (a b : Effect) (m n : Node) → Leaves a m ≡ Leaves b n → m ≡ n
+same_node : (a b : Effect) (m n : Node) → Makes a m ≡ Makes b n → m ≡ n
 same_node a b m n h = cc
 
 -- what a fault in a restart leaves of the model's process
@@ -52,7 +52,7 @@ restart_left place n old new k b is =
 -- a restart in which the device fails so is a move of the model's process
 restart_made : (place : Place) (n : Node) (q : ProcessId) (k : ℕ) (fault : Fault)
     → node_makes place n (move_with q (Restarting k) (Some fault) no_answer)
-    ≡ Leaves (fault_effect (restart_effect place n k) fault.appended)
+    ≡ Makes (fault_effect (restart_effect place n k) fault.appended)
     (restart_fails place n k fault.appended fault.forced)
 unfolding node_makes
 restart_made place n q k fault = refl
@@ -119,7 +119,7 @@ module _ (es : List Made) (w : World) (s t : WorldState) (q : ProcessId) (trace 
         h.fails.broken.1 fault (fault_effect (restart_effect old.place n k) fault.appended)
         (restart_fails old.place n k fault.appended fault.forced)
         (subst (λ (p : Place). node_makes p n (move_with q (Restarting k) (Some fault) no_answer)
-        ≡ Leaves (fault_effect (restart_effect old.place n k) fault.appended)
+        ≡ Makes (fault_effect (restart_effect old.place n k) fault.appended)
         (restart_fails old.place n k fault.appended fault.forced)) (at old h.fails.moves.stood).place
         (restart_made old.place n q k fault))
         (subst (λ m. StandsFor m new) (sym (counted_left c rs b.fault.appended b.fault.forced)) left))
@@ -167,7 +167,7 @@ module _ (es : List Made) (w : World) (s t : WorldState) (q : ProcessId) (trace 
         (fault_on es w s t q trace f Trimming no_answer before behind tt h.fails.moves h.fails.net h.fails.entries
         h.fails.broken.place (trim_fault k) (fault_effect (trim_effect place n) 0) (trim_fails place n k)
         (subst (λ (p : Place). node_makes p n (quiet_move p.me Trimming (Some (trim_fault k)))
-        ≡ Leaves (fault_effect (trim_effect place n) 0) (trim_fails place n k)) sits.place
+        ≡ Makes (fault_effect (trim_effect place n) 0) (trim_fails place n k)) sits.place
         (trim_done place n (Some (trim_fault k)) false up)) left)
 
     by_left : (k : ℕ) → TrimLeaves before behind k → x ≡ fault_entry q Trimming (trim_fault k)

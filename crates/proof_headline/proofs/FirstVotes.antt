@@ -4,7 +4,7 @@ use Rattle.std.specs.List.{list_any}
 use Rattle.protocol.specs.declared.names.Case.{Case}
 use Rattle.protocol.specs.declared.names.Ticket.{Ticket}
 use Rattle.protocol.specs.declared.standings.Vote.{Vote}
-use Rattle.protocol.specs.declared.standings.Vote.TheVariants.{Yes as VoteYes, No as VoteNo, Read as VoteRead}
+use Rattle.protocol_words.specs.Variants.{VoteNo, VoteRead, VoteYes}
 use Rattle.protocol.specs.Names.{same_case, same_ticket}
 use Rattle.protocol.specs.Outcomes.{consents, first_vote, vote_in}
 use Rattle.protocol.specs.Memory.{same_vote}

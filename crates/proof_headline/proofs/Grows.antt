@@ -14,7 +14,7 @@ use Rattle.protocol.specs.Names.{process_of, same_case, same_ticket}
 use Rattle.protocol.specs.NameLaws.{same_ticket_tells}
 use Rattle.protocol.specs.Records.{has}
 use Rattle.protocol.specs.Nodes.{Role, AtRoot, Below, AtLeaf, Effect, Node, Place, Written, appends, entries_written, is_any_forced, kept}
-use Rattle.protocol.specs.Restarts.{crashed, reopens, trim_fails, trimmed as trimmed_log}
+use Rattle.protocol.specs.Restarts.{crashed, reopens, trim_fails, trimmed}
 use Rattle.protocol.specs.Outcomes.{has_accepted, is_joined_message, is_read_message, is_yes_message, sent}
 use Rattle.protocol.specs.World.{Move}
 use Rattle.proof_pairs.specs.readings.ReadingOf.{gives_case, is_prepare_message}
@@ -214,12 +214,12 @@ module _ (place : Place) (m : Move) (q : Record → Bool) where
       in_second q (take f.forced ((crashed place n j).unforced ++ take f.appended (reopens place.role (kept
       (crashed place n j)))))
       n.durable e
-  durable_still n _ _ (trims_log hp up) e = in_second q (trimmed_log place.role (kept n)) n.durable e
+  durable_still n _ _ (trims_log hp up) e = in_second q (trimmed place.role (kept n)) n.durable e
   durable_still n _ _ (failed_trimming f fl hp up) e = by_front f.appended
     where
       by_front : (j : ℕ) → has q (trim_fails place n j).durable ≡ true
       by_front zero = e
-      by_front (suc j) = in_second q (trimmed_log place.role (kept n)) n.durable e
+      by_front (suc j) = in_second q (trimmed place.role (kept n)) n.durable e
 
 module _ (place : Place) (m : Move) (c : Case) (t : Ticket) where
   accepts_more : (new old : List (Case × Ticket))

@@ -16,7 +16,7 @@ use Rattle.protocol.specs.World.{World}
 use Rattle.proof_pairs.specs.Chain.{IsBelow}
 use Rattle.proof_pairs.specs.Reading.{Reading}
 use Rattle.proof_pairs.specs.readings.ReadingOf.{ChildHalf, ParentHalf, child_half, gives_case, is_born, is_participant, is_root_ticket, parent_half, reading_from, wire}
-use Rattle.proof_processes.specs.Lasts.{Coordinates as NoManagersRecord, RoleLasts, logs_of}
+use Rattle.proof_processes.specs.Lasts.{Coordinates, RoleLasts, logs_of}
 use Rattle.proof_processes.specs.WorldHolds.{IsPair, IsParentRole, PairHolds, RoleHolds, WorldHolds, has_begun, pair_reading, takes_part}
 use Rattle.proof_processes.proofs.GivenCases.{joined_gives, sent_other}
 use Rattle.proof_processes.proofs.PairOf.{is_free, is_pair}
@@ -53,7 +53,7 @@ cascaded_leaf (AtLeaf p) u h = absurd (h)
 
 cascaded_lasts : (role : Role) (n : Node) (u : Ticket) → IsParentRole role (Some u)
     → RoleLasts role (logs_of n)
-    → NoManagersRecord (logs_of n)
+    → Coordinates (logs_of n)
 cascaded_lasts (Below p) n u h l = l
 cascaded_lasts AtRoot n u h l = absurd (h)
 cascaded_lasts (AtLeaf p) n u h l = absurd (h)

@@ -7,19 +7,19 @@ use Rattle.proof_pairs.specs.Invariant.{Common}
 use Rattle.proof_pairs.specs.Keeps.{FollowsReading, KeepsInvariant}
 use Rattle.proof_pairs.specs.Reading.{Reading}
 use Rattle.proof_pairs.specs.Standing.{Consents}
-use Rattle.proof_pairs.proofs.CascadedAbort as under_abort
-use Rattle.proof_pairs.proofs.CascadedCommit as under_commit
+use Rattle.proof_pairs.proofs.CascadedAbort
+use Rattle.proof_pairs.proofs.CascadedCommit
 use Rattle.proof_pairs.proofs.Later.{later-later, later-now}
 use Rattle.proof_pairs.specs.readings.ReadingOf.{ChildHalf, ParentHalf, Wire, reading_from}
 use Rattle.proof_processes.specs.WorldHolds.{InvariantOf}
 
 keeps_taking_part : (p : Presumption) → KeepsInvariant (InvariantOf p) MayTakePart takes_part
-keeps_taking_part PresumeAbort = under_abort.takes_part
-keeps_taking_part PresumeCommit = under_commit.takes_part
+keeps_taking_part PresumeAbort = CascadedAbort.takes_part
+keeps_taking_part PresumeCommit = CascadedCommit.takes_part
 
 keeps_committing : (p : Presumption) → KeepsInvariant (InvariantOf p) MayCommitAbove commits_above
-keeps_committing PresumeAbort = under_abort.commits_above
-keeps_committing PresumeCommit = under_commit.commits_above
+keeps_committing PresumeAbort = CascadedAbort.commits_above
+keeps_committing PresumeCommit = CascadedCommit.commits_above
 
 pub stays : (p : Presumption) (r : Reading) → InvariantOf p r → FollowsReading (InvariantOf p) r r
 stays p r h = record { invariant = h; later = later-now r }

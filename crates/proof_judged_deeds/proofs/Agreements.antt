@@ -5,7 +5,7 @@ use Rattle.std.proofs.lemmas.Bool.{false≢true}
 use Rattle.xa_tables.specs.Calls.{one_phase}
 use Rattle.xa_tables.specs.Tables.{assoc_rows, branch_rows}
 use Rattle.xa_tables.specs.declared.call.Call.{Call}
-use Rattle.xa_tables.specs.declared.call.Call.TheVariants as call
+use Rattle.xa_words.specs.call
 use Rattle.xa_tables.specs.declared.states.AssocState.{AssocState}
 use Rattle.xa_tables.specs.declared.states.AssocState.TheVariants.{T0, T1, T2, M}
 use Rattle.xa_tables.specs.declared.states.BranchState.{BranchState}
@@ -13,10 +13,10 @@ use Rattle.xa_tables.specs.declared.states.BranchState.TheVariants.{S0, S1, S2, 
 use Rattle.xa_assoc.specs.Ready.{has_rows, is_start, is_work}
 use Rattle.judge_state.specs.declared.parts.JudgedDecision.{JudgedDecision}
 use Rattle.judge_state.specs.declared.parts.Stand.{Stand}
-use Rattle.judge_state.specs.declared.parts.Stand.TheVariants as stand
+use Rattle.judge_words.specs.stand
 use Rattle.judge_state.specs.Parts.{waits}
 use Rattle.judge_rules.specs.declared.calls.BranchVerb.{BranchVerb}
-use Rattle.judge_rules.specs.declared.calls.BranchVerb.TheVariants as verb
+use Rattle.judge_words.specs.verb
 use Rattle.judge_rules.specs.Defects.{has_no_end, has_row, is_forget, stands_spoiled}
 use Rattle.judge_rules.specs.Flags.{has}
 use Rattle.proof_judged_deeds.proofs.Links.{is_one, is_two}

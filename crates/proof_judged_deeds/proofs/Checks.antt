@@ -16,7 +16,7 @@ use Rattle.judge_state.specs.declared.parts.JudgedDecision.{JudgedDecision}
 use Rattle.judge_state.specs.Parts.{is_named}
 use Rattle.judge_state.specs.Sights.{Sight}
 use Rattle.judge_state.specs.Questions.{branch_at, has_suspended, is_migrated}
-use Rattle.judge_rules.specs.declared.calls.XidSort.TheVariants as sort
+use Rattle.judge_words.specs.sort
 use Rattle.judge_rules.specs.Flags.{has}
 use Rattle.judge_rules.specs.Defects.{has_no_start, is_bad_name}
 use Rattle.proof_judged_deeds.specs.Names.{NameNumbers, are_none, lacks_forced, sort_of}

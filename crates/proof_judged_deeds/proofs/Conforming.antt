@@ -2,7 +2,7 @@
 use Rattle.std.proofs.Common.{◌≡◌, ℕ, Bool, not, Option, Some, None, List, [], ◌∷◌, length, Result, Ok, Err, refl, ap, sym, subst, ◌∙◌, inl, arith}
 use Rattle.std.specs.Prelude.{Contains}
 use Rattle.std.proofs.lemmas.Bool.{false≢true}
-use Rattle.xa_codes.specs.declared.code.Code.TheVariants as code
+use Rattle.xa_words.specs.code
 use Rattle.xa_codes.specs.declared.code.Code.{Code}
 use Rattle.xa_codes.specs.declared.flags.Flags.{Flags}
 use Rattle.xa_tables.specs.declared.call.Verb.{Verb}
@@ -21,17 +21,17 @@ use Rattle.proof_xa.proofs.Reached.{bare_moved, empty_states}
 use Rattle.protocol.specs.declared.records.Write.{Write}
 use Rattle.judge_state.specs.declared.parts.JudgedBranch.{JudgedBranch}
 use Rattle.judge_state.specs.declared.parts.JudgedDecision.{JudgedDecision}
-use Rattle.judge_state.specs.declared.parts.Stand.TheVariants as stand
+use Rattle.judge_words.specs.stand
 use Rattle.judge_state.specs.Sights.{Sight, first_sight}
 use Rattle.judge_state.specs.Questions.{active_of}
 use Rattle.judge_rules.specs.declared.calls.JudgedAnswer.{JudgedAnswer}
-use Rattle.judge_rules.specs.declared.calls.JudgedAnswer.TheVariants as answer
+use Rattle.judge_words.specs.answer
 use Rattle.judge_rules.specs.declared.calls.BranchVerb.{BranchVerb}
-use Rattle.judge_rules.specs.declared.calls.BranchVerb.TheVariants as verb
+use Rattle.judge_words.specs.verb
 use Rattle.judge_rules.specs.declared.calls.JudgedCall.{JudgedCall}
-use Rattle.judge_rules.specs.declared.calls.JudgedCall.TheVariants as asked
+use Rattle.judge_words.specs.call
 use Rattle.judge_rules.specs.declared.calls.HistoryEvent.{HistoryEvent}
-use Rattle.judge_rules.specs.declared.calls.Function.TheVariants as function
+use Rattle.judge_words.specs.function
 use Rattle.judge_rules.specs.Histories.{IsLegal, JudgeLeads}
 use Rattle.judge_rules.specs.Scans.{write_row}
 use Rattle.judge_rules.specs.Steps.{next}
@@ -108,11 +108,11 @@ module _ (n : NameNumbers) (old new : States) (d f : Xid → JudgedDecision) (l 
   kept u less is = lost_stays n l l' s.lost u.lost is less lost
 
   branch : (v : BranchVerb) (t : ℕ) (x : Xid) (flags : Flags) (c : Code)
-      → Is e (asked.Function (function.Branch v (on n t x flags))) (answer.Code c) → StillKnown new d f
+      → Is e (call.Function (function.Branch v (on n t x flags))) (answer.Code c) → StillKnown new d f
       → (goes : Goes n v s t x flags c new d) → AreLost n l' goes.sight.lost → Result_of
   branch v t x flags c is same goes left =
-      told (asked.Function (function.Branch v (on n t x flags))) (answer.Code c) goes.sight is
-      (in_next s (asked.Function (function.Branch v (on n t x flags))) (answer.Code c) goes.sight mirrors.waits goes.row)
+      told (call.Function (function.Branch v (on n t x flags))) (answer.Code c) goes.sight is
+      (in_next s (call.Function (function.Branch v (on n t x flags))) (answer.Code c) goes.sight mirrors.waits goes.row)
       (known_mirrors n new d f goes.sight same goes.mirrors) left goes.books
 
   -- nothing changed but room, and the judge stays where it is
@@ -169,19 +169,19 @@ module _ (n : NameNumbers) (old new : States) (d f : Xid → JudgedDecision) (l 
   finished verb.End w ws k t x flags c ends is h = absurd ends
 
   recovered : (t count : ℕ) (flags : Flags) (r : Result (List Xid) Code) (a : JudgedAnswer) → Recovers old new t count flags.0 r
-      → IsScan n r a → StillKnown new d f → NoMore l l' → Is e (asked.Function (function.Recover t count flags)) a
+      → IsScan n r a → StillKnown new d f → NoMore l l' → Is e (call.Function (function.Recover t count flags)) a
       → Result_of
   recovered t count flags (Err c) a h says same less is =
       let g = code_goes n old new d s t count flags.0 mirrors c h in
-      told (asked.Function (function.Recover t count flags)) (answer.Code c) g.0
+      told (call.Function (function.Recover t count flags)) (answer.Code c) g.0
       (record { calls = is.calls; says = is.says ∙ says })
-      (in_next s (asked.Function (function.Recover t count flags)) (answer.Code c) g.0 mirrors.waits g.1)
+      (in_next s (call.Function (function.Recover t count flags)) (answer.Code c) g.0 mirrors.waits g.1)
       (known_mirrors n new d f g.0 same g.2)
       (kept g.0 less (ap (λ (h : Ledger). h.lost) g.3)) g.3
   recovered t count flags (Ok xs) (answer.Given ks) h says same less is =
       let g = given_goes n old new d s t count flags.0 mirrors xs ks says h in
-      told (asked.Function (function.Recover t count flags)) (answer.Given ks) g.0 is
-      (in_next s (asked.Function (function.Recover t count flags)) (answer.Given ks) g.0 mirrors.waits g.1)
+      told (call.Function (function.Recover t count flags)) (answer.Given ks) g.0 is
+      (in_next s (call.Function (function.Recover t count flags)) (answer.Given ks) g.0 mirrors.waits g.1)
       (known_mirrors n new d f g.0 same g.2)
       (kept g.0 less (ap (λ (h : Ledger). h.lost) g.3)) g.3
   recovered t count flags (Ok xs) (answer.Code c) h says same less is = absurd says
@@ -194,8 +194,8 @@ module _ (n : NameNumbers) (old new : States) (d f : Xid → JudgedDecision) (l 
   pub deed_moves : Deed n old new d f l l' e → Result_of
   deed_moves (Opened flags migrates c h same less is) =
       let g = open_goes n old new d s flags migrates c mirrors once h in
-      told (asked.Function (function.Open flags)) (answer.Code c) g.0 is
-      (in_next s (asked.Function (function.Open flags)) (answer.Code c) g.0 mirrors.waits g.1)
+      told (call.Function (function.Open flags)) (answer.Code c) g.0 is
+      (in_next s (call.Function (function.Open flags)) (answer.Code c) g.0 mirrors.waits g.1)
       (known_mirrors n new d f g.0 same g.2)
       (kept g.0 less (ap (λ (h : Ledger). h.lost) g.3)) g.3
   deed_moves (Started wanted t x flags c h same less is) =
@@ -212,34 +212,34 @@ module _ (n : NameNumbers) (old new : States) (d f : Xid → JudgedDecision) (l 
       branch v t x flags code.RmErr is known goes (limited v t x flags code.RmErr less goes)
   deed_moves (Closed flags c counted h same less is) =
       let g = close_goes n old new d s flags c mirrors counted h in
-      told (asked.Function (function.Close flags)) (answer.Code c) g.0 is
-      (in_next s (asked.Function (function.Close flags)) (answer.Code c) g.0 mirrors.waits g.1)
+      told (call.Function (function.Close flags)) (answer.Code c) g.0 is
+      (in_next s (call.Function (function.Close flags)) (answer.Code c) g.0 mirrors.waits g.1)
       (known_mirrors n new d f g.0 same g.2)
       (kept g.0 less (ap (λ (h : Ledger). h.lost) g.3)) g.3
   deed_moves (Recovered t count flags r a h says same less is) = recovered t count flags r a h says same less is
   deed_moves (Decided x o q takes is others less event) =
       let g = decide_goes n old new d f s x o mirrors q takes is others in
-      told (asked.Decide (n.xid x) (is_commit o)) answer.Done g.0 event
-      (in_next s (asked.Decide (n.xid x) (is_commit o)) answer.Done g.0 mirrors.waits g.1) g.2 (kept g.0 less g.3) g.4
-  deed_moves (Undecided x o same known less is) = stays (asked.Decide (n.xid x) (is_commit o)) answer.Refused is same known less
-      (in_next s (asked.Decide (n.xid x) (is_commit o)) answer.Refused s mirrors.waits (first_in s [])) refl
+      told (call.Decide (n.xid x) (is_commit o)) answer.Done g.0 event
+      (in_next s (call.Decide (n.xid x) (is_commit o)) answer.Done g.0 mirrors.waits g.1) g.2 (kept g.0 less g.3) g.4
+  deed_moves (Undecided x o same known less is) = stays (call.Decide (n.xid x) (is_commit o)) answer.Refused is same known less
+      (in_next s (call.Decide (n.xid x) (is_commit o)) answer.Refused s mirrors.waits (first_in s [])) refl
   deed_moves (Wrote t k v same known less is) =
       let u = write_row (active_of t s) t (n.word k) (value_number n v) s in
-      told (asked.Put t (n.word k) (value_number n v)) answer.Done u is
-      (in_next s (asked.Put t (n.word k) (value_number n v)) answer.Done u mirrors.waits (first_in u []))
+      told (call.Put t (n.word k) (value_number n v)) answer.Done u is
+      (in_next s (call.Put t (n.word k) (value_number n v)) answer.Done u mirrors.waits (first_in u []))
       (known_mirrors n new d f u known (like_mirrors n new d u s (written_tables (active_of t s) t (n.word k) (value_number n v) s)
       (same_mirrors n old new d s same mirrors))) (kept u less (written_lost (active_of t s) t (n.word k) (value_number n v))) refl
   deed_moves (Unwritten t k v same known less is) =
-      stays (asked.Put t (n.word k) (value_number n v)) answer.Refused is same known less
-      (in_next s (asked.Put t (n.word k) (value_number n v)) answer.Refused s mirrors.waits (first_in s [])) refl
-  deed_moves (Unread t k same known less is) = stays (asked.Get t (n.word k)) answer.Refused is same known less
-      (in_next s (asked.Get t (n.word k)) answer.Refused s mirrors.waits (first_in s [])) refl
-  deed_moves (Trimmed same known less is) = stays asked.Trim answer.Told is same known less
-      (in_next s asked.Trim answer.Told s mirrors.waits (first_in s [])) refl
+      stays (call.Put t (n.word k) (value_number n v)) answer.Refused is same known less
+      (in_next s (call.Put t (n.word k) (value_number n v)) answer.Refused s mirrors.waits (first_in s [])) refl
+  deed_moves (Unread t k same known less is) = stays (call.Get t (n.word k)) answer.Refused is same known less
+      (in_next s (call.Get t (n.word k)) answer.Refused s mirrors.waits (first_in s [])) refl
+  deed_moves (Trimmed same known less is) = stays call.Trim answer.Told is same known less
+      (in_next s call.Trim answer.Told s mirrors.waits (first_in s [])) refl
   deed_moves (Restarted cut h is) =
       let g = restart_goes n old new d f l l' s cut mirrors lost h in
-      told (asked.Restart cut) answer.Told g.0 is
-      (in_next s (asked.Restart cut) answer.Told g.0 mirrors.waits g.1) g.2 g.3 g.4
+      told (call.Restart cut) answer.Told g.0 is
+      (in_next s (call.Restart cut) answer.Told g.0 mirrors.waits g.1) g.2 g.3 g.4
 
 -- New tables are those of the judge's first state.
 

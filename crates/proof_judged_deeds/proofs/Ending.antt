@@ -3,11 +3,11 @@ use Rattle.std.proofs.Common.{◌≡◌, ℕ, Bool, true, false, not, Option, So
 use Rattle.std.specs.Prelude.{◌⊎◌, is_some, Contains, MatchResult, if◌then◌else◌}
 use Rattle.std.proofs.lemmas.Bool.{not_from_true, not_from_false, or_right, or_from, and_right}
 use Rattle.xa_codes.specs.declared.code.Code.{Code}
-use Rattle.xa_codes.specs.declared.code.Code.TheVariants as code
+use Rattle.xa_words.specs.code
 use Rattle.xa_codes.specs.declared.flags.Flags.{Flags}
 use Rattle.xa_tables.specs.Calls.{fail, migrate, suspend}
 use Rattle.xa_tables.specs.declared.call.Call.{Call}
-use Rattle.xa_tables.specs.declared.call.Call.TheVariants as call
+use Rattle.xa_words.specs.call
 use Rattle.xa_tables.specs.declared.states.AssocState.{AssocState}
 use Rattle.xa_tables.specs.declared.states.AssocState.TheVariants.{T0, T1, T2, M}
 use Rattle.xa_tables.specs.declared.states.BranchState.{BranchState}
@@ -17,19 +17,19 @@ use Rattle.xa_xid.specs.Xids.{null_xid}
 use Rattle.xa_branch.specs.Names.{same}
 use Rattle.xa_branch.specs.Branches.{state_in}
 use Rattle.xa_assoc.specs.declared.states.States.{States}
-use Rattle.xa_assoc.specs.Associations.{AreThreadsListedOnce, AssocList, AssocRow, counts, end_plan, has_active as holds_active, has_seat, is_active as is_active_in, own_state, row}
+use Rattle.xa_assoc.specs.Associations.{AreThreadsListedOnce, AssocList, AssocRow, counts, end_plan, has_active as holds_active, has_seat, is_active, own_state, row}
 use Rattle.xa_assoc.specs.Answers.{ByState, EndsWork, ReactsByRows, RefusesCall, SameStates, Walks, left_state}
 use Rattle.xa_assoc.specs.Reacting.{end_call, left_by}
 use Rattle.xa_assoc.specs.Ready.{is_closed}
 use Rattle.judge_state.specs.declared.parts.JudgedBranch.{JudgedBranch}
 use Rattle.judge_state.specs.declared.parts.JudgedDecision.{JudgedDecision}
 use Rattle.judge_state.specs.declared.parts.Stand.{Stand}
-use Rattle.judge_state.specs.declared.parts.Stand.TheVariants as stand
+use Rattle.judge_words.specs.stand
 use Rattle.judge_state.specs.Moves.{linked, links_without, marked, migrating, unlinked}
 use Rattle.judge_state.specs.Sights.{Sight}
 use Rattle.judge_state.specs.Questions.{branch_at, has_active, has_suspended}
-use Rattle.judge_rules.specs.declared.calls.BranchVerb.TheVariants as verb
-use Rattle.judge_rules.specs.declared.replies.Reply.TheVariants as reply
+use Rattle.judge_words.specs.verb
+use Rattle.judge_words.specs.reply
 use Rattle.judge_rules.specs.Flags.{has, wrong_at_end}
 use Rattle.judge_rules.specs.Defects.{end_defects, has_no_end, is_bad_name, is_spoiled_at, stands_spoiled}
 use Rattle.judge_rules.specs.Passes.{end_passes, end_spoiled}
@@ -90,14 +90,14 @@ left_begun false false = refl
 none_by : (b c : Bool) → b ≡ false → c ≡ false → (if b then T1 else if c then T2 else T0) ≡ T0
 none_by b c p q = rw (p, q) refl
 
-pub out_of : (a : AssocList) (t : ℕ) (x : Xid) → is_active_in a t x ≡ false → has_seat a t x ≡ false → own_state a t x ≡ T0
-out_of a t x p q = none_by (is_active_in a t x) (has_seat a t x) p q
+pub out_of : (a : AssocList) (t : ℕ) (x : Xid) → is_active a t x ≡ false → has_seat a t x ≡ false → own_state a t x ≡ T0
+out_of a t x p q = none_by (is_active a t x) (has_seat a t x) p q
 
 two_by : (b c : Bool) → b ≡ false → c ≡ true → (if b then T1 else if c then T2 else T0) ≡ T2
 two_by b c p q = rw (p, q) refl
 
-pub seated_in : (a : AssocList) (t : ℕ) (x : Xid) → is_active_in a t x ≡ false → has_seat a t x ≡ true → own_state a t x ≡ T2
-seated_in a t x p q = two_by (is_active_in a t x) (has_seat a t x) p q
+pub seated_in : (a : AssocList) (t : ℕ) (x : Xid) → is_active a t x ≡ false → has_seat a t x ≡ true → own_state a t x ≡ T2
+seated_in a t x p q = two_by (is_active a t x) (has_seat a t x) p q
 
 -- a test that fails leaves the second
 second_is : (b : Bool) (u v : Sight) → b ≡ false → (if b then u else v) ≡ v
@@ -267,7 +267,7 @@ module _ (n : NameNumbers) (old new : States) (d : Xid → JudgedDecision) (s : 
       → MatchResult (end_plan old.associations t x is_lost succeeds) (Made c to) Left → Result_of
   planned c is_lost succeeds a to says goes h =
       let e = if succeeds && not is_lost then code.Ok else code.RbRollback in
-      let act = is_active_in old.associations t x in
+      let act = is_active old.associations t x in
       let seat = has_seat old.associations t x in
       by_test Result_of act
       (λ p. goes T1 (inl refl) (ap (λ o. is_one o || is_two o) (active_one old.associations t x p))

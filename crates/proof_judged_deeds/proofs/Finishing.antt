@@ -3,7 +3,7 @@ use Rattle.std.proofs.Common.{◌≡◌, ℕ, Bool, true, false, not, Option, So
 use Rattle.std.specs.Prelude.{is_some, nat_lt, Contains, if◌then◌else◌}
 use Rattle.std.proofs.lemmas.Bool.{false≢true, not_from_true, not_from_false, or_left, or_from, and_right, false_from_ne_true, ltb-false}
 use Rattle.xa_codes.specs.declared.code.Code.{Code}
-use Rattle.xa_codes.specs.declared.code.Code.TheVariants as code
+use Rattle.xa_words.specs.code
 use Rattle.xa_codes.specs.declared.flags.Flags.{Flags}
 use Rattle.xa_tables.specs.Calls.{one_phase}
 use Rattle.xa_tables.specs.declared.states.AssocState.{AssocState}
@@ -16,7 +16,7 @@ use Rattle.xa_branch.specs.Names.{same}
 use Rattle.xa_branch.specs.Scans.{ScanList}
 use Rattle.xa_branch.specs.Branches.{is_known, state_in}
 use Rattle.xa_assoc.specs.declared.states.States.{States}
-use Rattle.xa_assoc.specs.Associations.{AssocList, has_active as holds_active, has_seat, has_suspended as holds_suspended, is_active as is_active_in, moved_of, own_state}
+use Rattle.xa_assoc.specs.Associations.{AssocList, has_active, has_seat, has_suspended, is_active, moved_of, own_state}
 use Rattle.xa_assoc.specs.Answers.{SameStates, TakesTableRow, is_held}
 use Rattle.xa_assoc.specs.Ready.{is_closed}
 use Rattle.judge_state.specs.declared.parts.JudgedBranch.{JudgedBranch}
@@ -60,14 +60,14 @@ no_two s p q = absurd (let e : T0 ≡ T2 = sym p ∙ q in cc)
 -- no thread holds a branch that is not at work
 pub quiet_free : (n : NameNumbers) (m : States) (d : Xid → JudgedDecision) (s : Sight) (x : Xid) → Mirrors n m d s
     → is_quiet (state_in m.branches.branches x) ≡ true → is_held m.associations x ≡ false
-quiet_free n m d s x mirrors calm = or_none (holds_active m.associations x) (holds_suspended m.associations x)
+quiet_free n m d s x mirrors calm = or_none (has_active m.associations x) (has_suspended m.associations x)
     (nat_lt 0 (moved_of m.associations x))
-    (false_from_ne_true (holds_active m.associations x) (λ h.
+    (false_from_ne_true (has_active m.associations x) (λ h.
     let e = entered m.associations x mirrors.orderly.once h in
     no_one (own_state m.associations e.0 x) (mirrors.orderly.quiet e.0 x calm) e.1))
-    (false_from_ne_true (holds_suspended m.associations x) (λ h.
+    (false_from_ne_true (has_suspended m.associations x) (λ h.
     let e = suspender m.associations.seats x h in
-    elim (seat_state (is_active_in m.associations e.0 x) (has_seat m.associations e.0 x) e.1) [
+    elim (seat_state (is_active m.associations e.0 x) (has_seat m.associations e.0 x) e.1) [
       | inl is ↦ no_one (own_state m.associations e.0 x) (mirrors.orderly.quiet e.0 x calm) is
       | inr is ↦ no_two (own_state m.associations e.0 x) (mirrors.orderly.quiet e.0 x calm) is
     ]))
@@ -77,7 +77,7 @@ quiet_free n m d s x mirrors calm = or_none (holds_active m.associations x) (hol
 pub busy_held : (n : NameNumbers) (m : States) (d : Xid → JudgedDecision) (s : Sight) (x : Xid) → Mirrors n m d s
     → state_in m.branches.branches x ≡ S1 → is_held m.associations x ≡ true
 busy_held n m d s x mirrors e = let w = mirrors.orderly.busy x e in
-    or_one (holds_active m.associations x) (holds_suspended m.associations x) (nat_lt 0 (moved_of m.associations x))
+    or_one (has_active m.associations x) (has_suspended m.associations x) (nat_lt 0 (moved_of m.associations x))
     (holds_one m.associations w.0 x w.1)
 
 own_cases : (s : AssocState) → (s ≡ M → ⊥) → (s ≡ T1 → ⊥) → (s ≡ T2 → ⊥) → s ≡ T0
@@ -89,8 +89,8 @@ own_cases M m a b = absurd (m refl)
 -- of a branch that is not held no thread has an association
 pub unheld : (a : AssocList) (x : Xid) → is_held a x ≡ false → (u : ℕ) → own_state a u x ≡ T0
 unheld a x h u = own_cases (own_state a u x) (own_never a u x)
-    (λ e. false≢true (sym h ∙ or_one (holds_active a x) (holds_suspended a x) (nat_lt 0 (moved_of a x)) (holds_one a u x e)))
-    (λ e. false≢true (sym h ∙ or_two (holds_active a x) (holds_suspended a x) (nat_lt 0 (moved_of a x)) (holds_two a u x e)))
+    (λ e. false≢true (sym h ∙ or_one (has_active a x) (has_suspended a x) (nat_lt 0 (moved_of a x)) (holds_one a u x e)))
+    (λ e. false≢true (sym h ∙ or_two (has_active a x) (has_suspended a x) (nat_lt 0 (moved_of a x)) (holds_two a u x e)))
 
 third : (a b c : Bool) → (a || b || c) ≡ false → c ≡ false
 third true b c h = absurd cc
@@ -99,7 +99,7 @@ third false false c h = h
 
 pub unmoved_free : (a : AssocList) (x : Xid) → is_held a x ≡ false → moved_of a x ≡ 0
 unmoved_free a x h =
-    let le = ltb-false 0 (moved_of a x) (third (holds_active a x) (holds_suspended a x) (nat_lt 0 (moved_of a x)) h) in
+    let le = ltb-false 0 (moved_of a x) (third (has_active a x) (has_suspended a x) (nat_lt 0 (moved_of a x)) h) in
     omega arith
 
 -- How a branch stands.

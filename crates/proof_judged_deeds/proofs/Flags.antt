@@ -6,13 +6,13 @@ use Rattle.std.proofs.lemmas.Bool.{eqb-true, agree_below, agree_below_at, ltb-fa
 use Rattle.std.proofs.lemmas.Nat.{and_le_r, and_mod}
 use Rattle.std.specs.Int.Bits.{and_zero_r}
 use Rattle.xa_codes.specs.declared.code.Code.{Code}
-use Rattle.xa_codes.specs.declared.code.Code.TheVariants as code
+use Rattle.xa_words.specs.code
 use Rattle.xa_tables.specs.Calls.{async, one_phase, fail, no_wait, resume, success, suspend, start_scan, end_scan, join, migrate, legal, call_or, refused, refused_async, start_of, end_of, commit_of, recover_of, plain_of}
 use Rattle.xa_tables.specs.declared.call.Call.{Call}
-use Rattle.xa_tables.specs.declared.call.Call.TheVariants as call
+use Rattle.xa_words.specs.call
 use Rattle.xa_branch.specs.Branches.{ends_scan, starts_scan}
 use Rattle.xa_tables.specs.declared.call.Verb.{Verb}
-use Rattle.xa_tables.specs.declared.call.Verb.TheVariants as verb
+use Rattle.xa_words.specs.verb
 use Rattle.judge_rules.specs.Flags.{has, only, wrong_at_start, wrong_at_end, wrong_at_commit, wrong_elsewhere, wrong_at_recover, is_one_of}
 
 -- flags that are only these, none of which is below 2 ^ 20, are one of 4,096 multiples of 2 ^ 20

@@ -14,15 +14,15 @@ use Rattle.judge_state.specs.Parts.{is_in_doubt, is_named}
 use Rattle.judge_state.specs.Sights.{Sight}
 use Rattle.judge_state.specs.Questions.{active_of, branch_at}
 use Rattle.judge_rules.specs.declared.calls.JudgedAnswer.{JudgedAnswer}
-use Rattle.judge_rules.specs.declared.calls.JudgedAnswer.TheVariants as answer
+use Rattle.judge_words.specs.answer
 use Rattle.judge_rules.specs.declared.calls.BranchVerb.{BranchVerb}
-use Rattle.judge_rules.specs.declared.calls.BranchVerb.TheVariants as verb
+use Rattle.judge_words.specs.verb
 use Rattle.judge_rules.specs.declared.calls.JudgedCall.{JudgedCall}
-use Rattle.judge_rules.specs.declared.calls.JudgedCall.TheVariants as asked
-use Rattle.judge_rules.specs.declared.calls.Function.TheVariants as function
+use Rattle.judge_words.specs.call
+use Rattle.judge_words.specs.function
 use Rattle.judge_rules.specs.declared.defects.Refusals.{Refusals}
 use Rattle.judge_rules.specs.declared.replies.Reply.{Reply}
-use Rattle.judge_rules.specs.declared.replies.Reply.TheVariants as reply
+use Rattle.judge_words.specs.reply
 use Rattle.judge_rules.specs.Replies.{reply_of}
 use Rattle.judge_rules.specs.Scans.{write_row}
 use Rattle.judge_rules.specs.Steps.{outcome}
@@ -67,9 +67,9 @@ defect_keeps d a v x s (NotA h) = refl
 
 -- what any call but a restart, with its answer, makes of data
 abbrev pub outcome_of : JudgedCall → JudgedAnswer → Sight → Sight
-outcome_of (asked.Function (function.Branch v o)) (answer.Code c) s = effect (reply_of c) v o.xid.number s
-outcome_of (asked.Put t k v) answer.Done s = write_row (active_of t s) t k v s
-outcome_of (asked.Decide x commits) answer.Done s = decided x (outcome commits) s
+outcome_of (call.Function (function.Branch v o)) (answer.Code c) s = effect (reply_of c) v o.xid.number s
+outcome_of (call.Put t k v) answer.Done s = write_row (active_of t s) t k v s
+outcome_of (call.Decide x commits) answer.Done s = decided x (outcome commits) s
 outcome_of _ _ s = s
 
 -- Restarts.
@@ -93,5 +93,5 @@ pub record IsReturned (n : NameNumbers) (s u : Sight) (from to : Xid → BranchS
 
 -- what any call, with its answer, makes of data
 abbrev pub Carries : NameNumbers → Sight → Sight → (Xid → BranchState) → (Xid → BranchState) → JudgedCall → JudgedAnswer → Type 0
-Carries n s u from to (asked.Restart cut) a = IsReturned n s u from to
+Carries n s u from to (call.Restart cut) a = IsReturned n s u from to
 Carries n s u from to c a = ledger u ≡ ledger (outcome_of c a s)

@@ -15,12 +15,12 @@ use Rattle.xa_assoc.specs.Answers.{SameStates}
 use Rattle.judge_state.specs.declared.parts.JudgedBranch.{JudgedBranch}
 use Rattle.judge_state.specs.declared.parts.JudgedDecision.{JudgedDecision}
 use Rattle.judge_state.specs.declared.parts.Stand.{Stand}
-use Rattle.judge_state.specs.declared.parts.Stand.TheVariants as stand
+use Rattle.judge_words.specs.stand
 use Rattle.judge_state.specs.Moves.{is_prepared, is_prepared_at, others, remembered, was_prepared, works_of, works_without}
 use Rattle.judge_state.specs.Parts.{is_named}
 use Rattle.judge_state.specs.Sights.{Sight}
 use Rattle.judge_rules.specs.declared.calls.BranchVerb.{BranchVerb}
-use Rattle.judge_rules.specs.declared.calls.BranchVerb.TheVariants as verb
+use Rattle.judge_words.specs.verb
 use Rattle.proof_judged_deeds.specs.Deeds.{Loses, NoMore}
 use Rattle.proof_judged_deeds.specs.Names.{NameNumbers}
 use Rattle.proof_judged_deeds.proofs.Branches.{not_one}

@@ -24,7 +24,7 @@ use Rattle.xa_assoc.specs.Ready.{is_closed}
 use Rattle.judge_state.specs.declared.parts.JudgedBranch.{JudgedBranch}
 use Rattle.judge_state.specs.declared.parts.JudgedDecision.{JudgedDecision}
 use Rattle.judge_state.specs.declared.parts.Stand.{Stand}
-use Rattle.judge_state.specs.declared.parts.Stand.TheVariants as stand
+use Rattle.judge_words.specs.stand
 use Rattle.judge_state.specs.Parts.{is_named}
 use Rattle.judge_state.specs.Sights.{Sight}
 use Rattle.proof_judged_deeds.specs.Names.{NameNumbers}

@@ -4,10 +4,10 @@ use Rattle.std.specs.Prelude.{◌⊎◌, is_some, nat_eq, Contains, MatchResult,
 use Rattle.std.proofs.lemmas.Bool.{false≢true}
 use Rattle.std.proofs.lemmas.List.Elements.{Contains-append_right}
 use Rattle.xa_codes.specs.declared.code.Code.{Code}
-use Rattle.xa_codes.specs.declared.code.Code.TheVariants as code
+use Rattle.xa_words.specs.code
 use Rattle.xa_codes.specs.declared.flags.Flags.{Flags}
 use Rattle.xa_tables.specs.declared.call.Call.{Call}
-use Rattle.xa_tables.specs.declared.call.Call.TheVariants as call
+use Rattle.xa_words.specs.call
 use Rattle.xa_tables.specs.declared.states.InitState.{InitState}
 use Rattle.xa_tables.specs.declared.states.InitState.TheVariants.{R0, R1}
 use Rattle.xa_tables.specs.declared.states.AssocState.TheVariants.{T0, T1}
@@ -26,17 +26,17 @@ use Rattle.protocol.specs.declared.names.Outcome.{Outcome}
 use Rattle.protocol.specs.declared.names.Outcome.TheVariants.{Committed, Aborted}
 use Rattle.judge_state.specs.declared.parts.JudgedBranch.{JudgedBranch}
 use Rattle.judge_state.specs.declared.parts.JudgedDecision.{JudgedDecision}
-use Rattle.judge_state.specs.declared.parts.JudgedDecision.TheVariants as decision
+use Rattle.judge_words.specs.decision
 use Rattle.judge_state.specs.declared.parts.Link.{Link}
 use Rattle.judge_state.specs.declared.parts.Listed.{Listed}
-use Rattle.judge_state.specs.declared.parts.Stand.TheVariants as stand
+use Rattle.judge_words.specs.stand
 use Rattle.judge_state.specs.Moves.{decided, is_prepared_at, opened, scans_without, standing}
 use Rattle.judge_state.specs.Sights.{Sight}
 use Rattle.judge_rules.specs.declared.calls.JudgedAnswer.{JudgedAnswer}
-use Rattle.judge_rules.specs.declared.calls.JudgedAnswer.TheVariants as answer
+use Rattle.judge_words.specs.answer
 use Rattle.judge_rules.specs.declared.calls.JudgedCall.{JudgedCall}
 use Rattle.judge_rules.specs.declared.replies.Reply.{Reply}
-use Rattle.judge_rules.specs.declared.replies.Reply.TheVariants as reply
+use Rattle.judge_words.specs.reply
 use Rattle.judge_rules.specs.Defects.{open_defects}
 use Rattle.judge_rules.specs.Falls.{failed}
 use Rattle.judge_rules.specs.Flags.{wrong_elsewhere}

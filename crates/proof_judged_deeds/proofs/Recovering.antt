@@ -7,11 +7,11 @@ use Rattle.std.proofs.lemmas.Bool.{and_from, and_left, and_parts, and_right, cas
 use Rattle.std.proofs.lemmas.List.Elements.{Contains-append_left, Contains-append_right}
 use Rattle.std.proofs.lemmas.List.Folds.{list_all-append, list_all-map, list_any-append}
 use Rattle.xa_codes.specs.declared.code.Code.{Code}
-use Rattle.xa_codes.specs.declared.code.Code.TheVariants as code
+use Rattle.xa_words.specs.code
 use Rattle.xa_tables.specs.Calls.{end_scan, legal, start_scan}
 use Rattle.xa_tables.specs.Tables.{is_in_doubt as in_doubt_state}
 use Rattle.xa_tables.specs.declared.call.Call.{Call}
-use Rattle.xa_tables.specs.declared.call.Verb.TheVariants as table_verb
+use Rattle.xa_words.specs.verb
 use Rattle.xa_tables.specs.declared.states.InitState.{InitState}
 use Rattle.xa_tables.specs.declared.states.InitState.TheVariants.{R0, R1}
 use Rattle.xa_tables.specs.declared.states.BranchState.{BranchState}
@@ -28,15 +28,15 @@ use Rattle.judge_state.specs.declared.parts.JudgedDecision.{JudgedDecision}
 use Rattle.judge_state.specs.declared.parts.Link.{Link}
 use Rattle.judge_state.specs.declared.parts.Listed.{Listed}
 use Rattle.judge_state.specs.declared.parts.Stand.{Stand}
-use Rattle.judge_state.specs.declared.parts.Stand.TheVariants as stand
+use Rattle.judge_words.specs.stand
 use Rattle.judge_state.specs.Parts.{is_in_doubt, is_named, waits}
 use Rattle.judge_state.specs.Scans.{are_distinct, due_lines, given_lines, has, may_give, scan_closed, scan_given, scan_opened, with_given}
 use Rattle.judge_state.specs.Questions.{is_scanning}
 use Rattle.judge_state.specs.Sights.{Sight}
 use Rattle.judge_rules.specs.declared.calls.JudgedAnswer.{JudgedAnswer}
-use Rattle.judge_rules.specs.declared.calls.JudgedAnswer.TheVariants as answer
+use Rattle.judge_words.specs.answer
 use Rattle.judge_rules.specs.declared.defects.Refusals.{Refusals}
-use Rattle.judge_rules.specs.declared.replies.Reply.TheVariants as reply
+use Rattle.judge_words.specs.reply
 use Rattle.judge_rules.specs.Defects.{is_unscanned, recover_defects, recover_excuses}
 use Rattle.judge_rules.specs.Falls.{failed}
 use Rattle.judge_rules.specs.Flags.{has as has_flag, wrong_at_recover}
@@ -586,7 +586,7 @@ module _ (n : NameNumbers) (old new : States) (d : Xid → JudgedDecision) (s : 
     by_init X R1 e a b = b e
 
     -- a recover that is answered by a code
-    code_by : (c : Code) (l : Result Call Code) → legal table_verb.Recover f ≡ l
+    code_by : (c : Code) (l : Result Call Code) → legal verb.Recover f ≡ l
         → MatchResult l (λ k. Scanned old new t count k (Err c))
         (λ e. (◌≡◌ {A = Result (List Xid) Code} (Err c) (Err e)) × SameStates old new) → Steps_by (answer.Code c)
     code_by c (Ok k) e h = by_init (Steps_by (answer.Code c)) old.init refl
@@ -599,10 +599,10 @@ module _ (n : NameNumbers) (old new : States) (d : Xid → JudgedDecision) (s : 
         told c code.Inval (is ∙ wrong.0) (Inval (or_left (wrong_at_recover f) (is_unscanned s t f && not false) wrong.1)) h.1
 
     pub code_goes : (c : Code) → Recovers old new t count f (Err c) → Steps_by (answer.Code c)
-    code_goes c h = code_by c (legal table_verb.Recover f) refl h
+    code_goes c h = code_by c (legal verb.Recover f) refl h
 
     given_by_flags : (given : List Xid) (ks : Vec ℕ) (l : Result Call Code) → ks.items ≡ map n.xid given
-        → legal table_verb.Recover f ≡ l
+        → legal verb.Recover f ≡ l
         → MatchResult l (λ k. Scanned old new t count k (Ok given)) (λ e. (Ok given ≡ Err e) × SameStates old new)
         → Steps_by (answer.Given ks)
     given_by_flags given ks (Ok k) is e h = by_init (Steps_by (answer.Given ks)) old.init refl
@@ -612,4 +612,4 @@ module _ (n : NameNumbers) (old new : States) (d : Xid → JudgedDecision) (s : 
 
     pub given_goes : (given : List Xid) (ks : Vec ℕ) → ks.items ≡ map n.xid given → Recovers old new t count f (Ok given)
         → Steps_by (answer.Given ks)
-    given_goes given ks is h = given_by_flags given ks (legal table_verb.Recover f) is refl h
+    given_goes given ks is h = given_by_flags given ks (legal verb.Recover f) is refl h

@@ -24,14 +24,14 @@ use Rattle.judge_state.specs.declared.parts.JudgedDecision.{JudgedDecision}
 use Rattle.judge_state.specs.declared.parts.Link.{Link}
 use Rattle.judge_state.specs.declared.parts.Listed.{Listed}
 use Rattle.judge_state.specs.declared.parts.Stand.{Stand}
-use Rattle.judge_state.specs.declared.parts.Stand.TheVariants as stand
+use Rattle.judge_words.specs.stand
 use Rattle.judge_state.specs.declared.parts.Work.{Work}
 use Rattle.judge_state.specs.declared.parts.JudgedWrite.{JudgedWrite}
 use Rattle.judge_state.specs.Moves.{brought_back, doubted as unsettled, restarted, works_of}
 use Rattle.judge_state.specs.Parts.{is_in_doubt, is_named, waits}
 use Rattle.judge_state.specs.Questions.{branch_at}
 use Rattle.judge_state.specs.Sights.{Sight}
-use Rattle.judge_rules.specs.declared.calls.JudgedAnswer.TheVariants as answer
+use Rattle.judge_words.specs.answer
 use Rattle.judge_rules.specs.Falls.{may_return, maybe_back}
 use Rattle.judge_rules.specs.Passes.{one}
 use Rattle.judge_rules.specs.Steps.{restart_next}

@@ -4,10 +4,10 @@ use Rattle.std.specs.Prelude.{◌==◌, is_some, Contains, MatchResult, if◌the
 use Rattle.std.specs.List.{list_any}
 use Rattle.std.proofs.lemmas.Bool.{and_right, and_from}
 use Rattle.xa_codes.specs.declared.code.Code.{Code}
-use Rattle.xa_codes.specs.declared.code.Code.TheVariants as code
+use Rattle.xa_words.specs.code
 use Rattle.xa_codes.specs.declared.flags.Flags.{Flags}
 use Rattle.xa_tables.specs.Calls.{join, resume}
-use Rattle.xa_tables.specs.declared.call.Call.TheVariants as call
+use Rattle.xa_words.specs.call
 use Rattle.xa_tables.specs.declared.states.AssocState.{AssocState}
 use Rattle.xa_tables.specs.declared.states.AssocState.TheVariants.{T0, T1, T2, M}
 use Rattle.xa_tables.specs.declared.states.BranchState.{BranchState}
@@ -23,12 +23,12 @@ use Rattle.xa_assoc.specs.Reacting.{resumed}
 use Rattle.xa_assoc.specs.Ready.{is_closed}
 use Rattle.judge_state.specs.declared.parts.JudgedDecision.{JudgedDecision}
 use Rattle.judge_state.specs.declared.parts.Stand.{Stand}
-use Rattle.judge_state.specs.declared.parts.Stand.TheVariants as stand
+use Rattle.judge_words.specs.stand
 use Rattle.judge_state.specs.Moves.{begun, linked, links_without, picked, unlinked, without_first}
 use Rattle.judge_state.specs.Sights.{Sight}
 use Rattle.judge_state.specs.Questions.{branch_at, has_suspended}
-use Rattle.judge_rules.specs.declared.calls.BranchVerb.TheVariants as verb
-use Rattle.judge_rules.specs.declared.replies.Reply.TheVariants as reply
+use Rattle.judge_words.specs.verb
+use Rattle.judge_words.specs.reply
 use Rattle.judge_rules.specs.Flags.{has, wrong_at_start}
 use Rattle.judge_rules.specs.Defects.{is_plain, is_spoiled_at}
 use Rattle.judge_rules.specs.Passes.{branch_passes, entered, spoiled_passes, start_passes}

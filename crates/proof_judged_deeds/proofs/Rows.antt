@@ -7,7 +7,7 @@ use Rattle.judge_rules.specs.declared.calls.BranchVerb.{BranchVerb}
 use Rattle.judge_rules.specs.declared.calls.On.{On}
 use Rattle.judge_rules.specs.declared.defects.Refusals.{Refusals}
 use Rattle.judge_rules.specs.declared.replies.Reply.{Reply}
-use Rattle.judge_rules.specs.declared.replies.Reply.TheVariants as reply
+use Rattle.judge_words.specs.reply
 use Rattle.judge_rules.specs.Replies.{is_among, is_defective}
 use Rattle.judge_rules.specs.Defects.{branch_defects, branch_excuses}
 use Rattle.judge_rules.specs.Falls.{effects, failed, failed_rows}

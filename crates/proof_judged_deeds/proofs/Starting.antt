@@ -4,10 +4,10 @@ use Rattle.std.specs.Prelude.{is_some, nat_le, Contains, MatchResult, ifâ—Œthenâ
 use Rattle.std.specs.Option.{option_map_or}
 use Rattle.std.proofs.lemmas.Bool.{not_from_true, or_cases, or_parts, or_from, and_right, and_left, and_from}
 use Rattle.xa_codes.specs.declared.code.Code.{Code}
-use Rattle.xa_codes.specs.declared.code.Code.TheVariants as code
+use Rattle.xa_words.specs.code
 use Rattle.xa_codes.specs.declared.flags.Flags.{Flags}
 use Rattle.xa_tables.specs.Calls.{join, resume}
-use Rattle.xa_tables.specs.declared.call.Call.TheVariants as call
+use Rattle.xa_words.specs.call
 use Rattle.xa_tables.specs.declared.states.AssocState.{AssocState}
 use Rattle.xa_tables.specs.declared.states.AssocState.TheVariants.{T0, T1, T2}
 use Rattle.xa_tables.specs.declared.states.BranchState.{BranchState}
@@ -25,8 +25,8 @@ use Rattle.judge_state.specs.declared.parts.Stand.TheVariants as stand
 use Rattle.judge_state.specs.Moves.{begun, linked, picked, unlinked}
 use Rattle.judge_state.specs.Sights.{Sight}
 use Rattle.judge_state.specs.Questions.{branch_at, has_suspended, is_active, is_migrated}
-use Rattle.judge_rules.specs.declared.calls.BranchVerb.TheVariants as verb
-use Rattle.judge_rules.specs.declared.replies.Reply.TheVariants as reply
+use Rattle.judge_words.specs.verb
+use Rattle.judge_words.specs.reply
 use Rattle.judge_rules.specs.Flags.{has, wrong_at_start}
 use Rattle.judge_rules.specs.Replies.{reply_of}
 use Rattle.judge_rules.specs.Defects.{has_no_start, is_bad_name, is_plain, is_spoiled_at, start_defects}

@@ -3,7 +3,7 @@ use Rattle.std.proofs.Common.{◌≡◌, ℕ, Bool, true, false, not, Some, List
 use Rattle.std.specs.Prelude.{◌^◌, ◌-◌, nat_lt, is_some, Contains, MatchResult, if◌then◌else◌}
 use Rattle.std.proofs.lemmas.Bool.{not_from_true, not_from_false, or_left, or_right, or_from, and_from, and_left}
 use Rattle.xa_codes.specs.declared.code.Code.{Code}
-use Rattle.xa_codes.specs.declared.code.Code.TheVariants as code
+use Rattle.xa_words.specs.code
 use Rattle.xa_codes.specs.declared.flags.Flags.{Flags}
 use Rattle.xa_tables.specs.Calls.{migrate, suspend}
 use Rattle.xa_tables.specs.declared.call.Call.{Call}
@@ -16,18 +16,18 @@ use Rattle.xa_xid.specs.Xids.{null_xid}
 use Rattle.xa_branch.specs.Names.{same}
 use Rattle.xa_branch.specs.Branches.{state_in}
 use Rattle.xa_assoc.specs.declared.states.States.{States}
-use Rattle.xa_assoc.specs.Associations.{AreThreadsListedOnce, AssocRow, moved_of, suspend_plan, has_active as holds_active, has_seat, is_active as is_active_in, own_state, row}
+use Rattle.xa_assoc.specs.Associations.{AreThreadsListedOnce, AssocRow, moved_of, suspend_plan, has_active as holds_active, has_seat, is_active, own_state, row}
 use Rattle.xa_assoc.specs.Answers.{ByState, ReactsByRows, RefusesCall, SameStates, Suspends, Walks, left_state}
 use Rattle.xa_assoc.specs.Reacting.{left_by, suspend_call}
 use Rattle.xa_assoc.specs.Ready.{is_closed}
 use Rattle.judge_state.specs.declared.parts.JudgedBranch.{JudgedBranch}
 use Rattle.judge_state.specs.declared.parts.JudgedDecision.{JudgedDecision}
-use Rattle.judge_state.specs.declared.parts.Stand.TheVariants as stand
+use Rattle.judge_words.specs.stand
 use Rattle.judge_state.specs.Moves.{linked, links_without, migrating, unlinked}
 use Rattle.judge_state.specs.Sights.{Sight}
 use Rattle.judge_state.specs.Questions.{branch_at, has_active, has_suspended}
-use Rattle.judge_rules.specs.declared.calls.BranchVerb.TheVariants as verb
-use Rattle.judge_rules.specs.declared.replies.Reply.TheVariants as reply
+use Rattle.judge_words.specs.verb
+use Rattle.judge_words.specs.reply
 use Rattle.judge_rules.specs.Flags.{has, wrong_at_end}
 use Rattle.judge_rules.specs.Replies.{reply_of}
 use Rattle.judge_rules.specs.Defects.{end_defects, has_no_end, is_bad_name, is_spoiled_at}
@@ -225,7 +225,7 @@ module _ (n : NameNumbers) (old new : States) (d : Xid → JudgedDecision) (s : 
       (s.migrated ++ n.xid x ∷ []) mirrors.tied w.association.turns (unlinked_none n t x s.links mirrors.tied.named)
       (moved_count n x s.migrated mirrors.tied.moved_named)))
 
-  not_active : is_active_in old.associations t x ≡ false → (answer ≡ code.Proto) × SameStates old new → Result_of
+  not_active : is_active old.associations t x ≡ false → (answer ≡ code.Proto) × SameStates old new → Result_of
   not_active p h = by_test Result_of (has_seat old.associations t x)
       (λ q. away (seated_in old.associations t x p q) h)
       (λ q. outside (out_of old.associations t x p q) h)
@@ -244,7 +244,7 @@ module _ (n : NameNumbers) (old new : States) (d : Xid → JudgedDecision) (s : 
       (Made migrates lost) Left → Result_of)
       → MatchResult (suspend_plan old.associations t x lost migrates) (Made migrates lost) Left → Result_of
   planned migrates lost goes h =
-      let act = is_active_in old.associations t x in
+      let act = is_active old.associations t x in
       let rest = if lost then row T1 code.RbRollback T0 else if not migrates then row T1 code.Ok T2
       else if not old.associations.migrates then row T1 code.NoMigrate T2
       else if nat_lt (moved_of old.associations x) (2 ^ 64 - 1) then row T1 code.Ok M else Err code.RmErr in

@@ -1,7 +1,7 @@
 -- What happens at a key store, as its tables show it and as an event of the judge.
 use Rattle.std.specs.Prelude.{◌≡◌, ◌⊎◌, ◌&&◌, ℕ, Bool, true, false, List, [], ◌∷◌, Option, Result, Ok, Err, map}
 use Rattle.xa_codes.specs.declared.code.Code.{Code}
-use Rattle.xa_codes.specs.declared.code.Code.TheVariants as code
+use Rattle.xa_words.specs.code
 use Rattle.xa_codes.specs.declared.flags.Flags.{Flags}
 use Rattle.xa_tables.specs.declared.call.Verb.{Verb}
 use Rattle.xa_tables.specs.declared.call.Verb.TheVariants as table_verb
@@ -20,15 +20,15 @@ use Rattle.protocol.specs.declared.names.Outcome.TheVariants.{Committed, Aborted
 use Rattle.protocol.specs.declared.records.Write.{Write}
 use Rattle.resource_manager.specs.Ends.{row_of}
 use Rattle.judge_state.specs.declared.parts.JudgedDecision.{JudgedDecision}
-use Rattle.judge_state.specs.declared.parts.JudgedDecision.TheVariants as decision
+use Rattle.judge_words.specs.decision
 use Rattle.judge_rules.specs.declared.calls.JudgedAnswer.{JudgedAnswer}
-use Rattle.judge_rules.specs.declared.calls.JudgedAnswer.TheVariants as answer
+use Rattle.judge_words.specs.answer
 use Rattle.judge_rules.specs.declared.calls.BranchVerb.{BranchVerb}
-use Rattle.judge_rules.specs.declared.calls.BranchVerb.TheVariants as verb
+use Rattle.judge_words.specs.verb
 use Rattle.judge_rules.specs.declared.calls.JudgedCall.{JudgedCall}
-use Rattle.judge_rules.specs.declared.calls.JudgedCall.TheVariants as asked
+use Rattle.judge_words.specs.call
 use Rattle.judge_rules.specs.declared.calls.HistoryEvent.{HistoryEvent}
-use Rattle.judge_rules.specs.declared.calls.Function.TheVariants as function
+use Rattle.judge_words.specs.function
 use Rattle.judge_rules.specs.declared.calls.On.{On}
 use Rattle.proof_judged_deeds.specs.Names.{NameNumbers, sort_of, value_number}
 
@@ -113,51 +113,51 @@ Loses old new x l l' = (y : Xid) → l' y ≡ true
 pub data Deed (n : NameNumbers) (old new : States) (d d' : Xid → JudgedDecision) (l l' : Xid → Bool) (e : HistoryEvent) : Type 0 where
   -- an open
   Opened : (flags : Flags) (migrates : Bool) (c : Code) → OpensManager old new flags.0 migrates c → StillKnown new d d' → NoMore l l'
-      → Is e (asked.Function (function.Open flags)) (answer.Code c) → Deed n old new d d' l l' e
+      → Is e (call.Function (function.Open flags)) (answer.Code c) → Deed n old new d d' l l' e
   -- a close, of a manager that lists no migration that is none
   Closed : (flags : Flags) (c : Code) → ArePositiveCounts old.associations.moved → Closes old new flags.0 c → StillKnown new d d' → NoMore l l'
-      → Is e (asked.Function (function.Close flags)) (answer.Code c) → Deed n old new d d' l l' e
+      → Is e (call.Function (function.Close flags)) (answer.Code c) → Deed n old new d d' l l' e
   -- a start or an end
   Started : (wanted : Wanted) (t : ℕ) (x : Xid) (flags : Flags) (c : Code)
       → AnswersCall wanted old new table_verb.Start t x flags.0 c
       → StillKnown new d d' → NoMore l l'
-      → Is e (asked.Function (function.Branch verb.Start (on n t x flags))) (answer.Code c) → Deed n old new d d' l l' e
+      → Is e (call.Function (function.Branch verb.Start (on n t x flags))) (answer.Code c) → Deed n old new d d' l l' e
   Ended : (wanted : Wanted) (t : ℕ) (x : Xid) (flags : Flags) (c : Code)
       → AnswersCall wanted old new table_verb.End t x flags.0 c
       → StillKnown new d d' → NoMore l l'
-      → Is e (asked.Function (function.Branch verb.End (on n t x flags))) (answer.Code c) → Deed n old new d d' l l' e
+      → Is e (call.Function (function.Branch verb.End (on n t x flags))) (answer.Code c) → Deed n old new d d' l l' e
   -- a call that finishes a branch, by the key store's rows; what an operator decided is known
   Finished : (v : BranchVerb) (w : Verb) (ws : List Write) (k : Known) (t : ℕ) (x : Xid) (flags : Flags) (c : Code)
       → ends_branch v w → d x ≡ decision_of k.outcome → AnswersCall (rows_for old x ws k) old new w t x flags.0 c
       → StillKnown new d d' → Loses old new x l l'
-      → Is e (asked.Function (function.Branch v (on n t x flags))) (answer.Code c) → Deed n old new d d' l l' e
+      → Is e (call.Function (function.Branch v (on n t x flags))) (answer.Code c) → Deed n old new d d' l l' e
   -- any call on a branch, where a limit of the store's own is met
   Limited : (v : BranchVerb) (t : ℕ) (x : Xid) (flags : Flags) → SameStates old new → StillKnown new d d' → NoMore l l'
-      → Is e (asked.Function (function.Branch v (on n t x flags))) (answer.Code code.RmErr) → Deed n old new d d' l l' e
+      → Is e (call.Function (function.Branch v (on n t x flags))) (answer.Code code.RmErr) → Deed n old new d d' l l' e
   -- a recover
   Recovered : (t count : ℕ) (flags : Flags) (r : Result (List Xid) Code) (a : JudgedAnswer)
       → Recovers old new t count flags.0 r → IsScan n r a → StillKnown new d d' → NoMore l l'
-      → Is e (asked.Function (function.Recover t count flags)) a → Deed n old new d d' l l' e
+      → Is e (call.Function (function.Recover t count flags)) a → Deed n old new d d' l l' e
   -- an operator decides a prepared branch
   Decided : (x : Xid) (o : Outcome) → state_in old.branches.branches x ≡ S3 → TakesTableRow old new x S5
       → d' x ≡ decision_of o → ((y : Xid) → same x y ≡ false → d' y ≡ d y) → NoMore l l'
-      → Is e (asked.Decide (n.xid x) (is_commit o)) answer.Done → Deed n old new d d' l l' e
+      → Is e (call.Decide (n.xid x) (is_commit o)) answer.Done → Deed n old new d d' l l' e
   -- a decision is refused
   Undecided : (x : Xid) (o : Outcome) → SameStates old new → StillKnown new d d' → NoMore l l'
-      → Is e (asked.Decide (n.xid x) (is_commit o)) answer.Refused → Deed n old new d d' l l' e
+      → Is e (call.Decide (n.xid x) (is_commit o)) answer.Refused → Deed n old new d d' l l' e
   -- a thread writes a value, or a key is deleted; or it is refused
   Wrote : (t : ℕ) (k : List ℕ) (v : Option (List ℕ)) → SameStates old new → StillKnown new d d' → NoMore l l'
-      → Is e (asked.Put t (n.word k) (value_number n v)) answer.Done → Deed n old new d d' l l' e
+      → Is e (call.Put t (n.word k) (value_number n v)) answer.Done → Deed n old new d d' l l' e
   Unwritten : (t : ℕ) (k : List ℕ) (v : Option (List ℕ)) → SameStates old new → StillKnown new d d' → NoMore l l'
-      → Is e (asked.Put t (n.word k) (value_number n v)) answer.Refused → Deed n old new d d' l l' e
+      → Is e (call.Put t (n.word k) (value_number n v)) answer.Refused → Deed n old new d d' l l' e
   -- a thread's read is refused
   Unread : (t : ℕ) (k : List ℕ) → SameStates old new → StillKnown new d d' → NoMore l l'
-      → Is e (asked.Get t (n.word k)) answer.Refused → Deed n old new d d' l l' e
+      → Is e (call.Get t (n.word k)) answer.Refused → Deed n old new d d' l l' e
   -- a trim
-  Trimmed : SameStates old new → StillKnown new d d' → NoMore l l' → Is e asked.Trim answer.Told → Deed n old new d d' l l' e
+  Trimmed : SameStates old new → StillKnown new d d' → NoMore l l' → Is e call.Trim answer.Told → Deed n old new d d' l l' e
   -- a restart, after which some bytes are cut off or not
   Restarted : (cut : Bool) → DeedRestarts old new d d' l l' cut
-      → Is e (asked.Restart cut) answer.Told → Deed n old new d d' l l' e
+      → Is e (call.Restart cut) answer.Told → Deed n old new d d' l l' e
 
 -- events are what the judge hears of such deeds, one after another
 abbrev pub DeedsLead : NameNumbers → States → (Xid → JudgedDecision) → (Xid → Bool) → List HistoryEvent → Type 0

@@ -4,7 +4,7 @@ use Rattle.xa_xid.specs.declared.xid.Xid.{Xid}
 use Rattle.xa_xid.specs.Xids.{null_xid}
 use Rattle.xa_branch.specs.Names.{same}
 use Rattle.judge_rules.specs.declared.calls.XidSort.{XidSort}
-use Rattle.judge_rules.specs.declared.calls.XidSort.TheVariants as sort
+use Rattle.judge_words.specs.sort
 use Rattle.judge_rules.specs.declared.words.Rules.{Rules}
 
 -- numbers for the names of branches, and for keys and values: no number two names; and 0 is that of the word for

@@ -2,7 +2,7 @@
 use Rattle.std.proofs.Common.{◌≡◌, ◌≤◌, ◌<◌, ◌+◌, ◌-◌, ◌^◌, ℕ, Bool, true, false, Option, Some, None, List, [], ◌∷◌, ◌++◌, find, option_map, Result, Ok, Err, refl, ap, sym, subst, ◌∙◌, inl, inr, arith}
 use Rattle.std.proofs.lemmas.Bool.{false≢true}
 use Rattle.xa_codes.specs.declared.code.Code.{Code}
-use Rattle.xa_codes.specs.declared.code.Code.TheVariants as code
+use Rattle.xa_words.specs.code
 use Rattle.xa_codes.specs.declared.flags.Flags.{Flags}
 use Rattle.xa_tables.specs.declared.call.Call.{Call}
 use Rattle.xa_tables.specs.declared.call.Verb.{Verb}
@@ -51,13 +51,13 @@ use Rattle.judge_state.specs.Sights.{Sight}
 use Rattle.judge_rules.specs.declared.calls.JudgedAnswer.{JudgedAnswer}
 use Rattle.judge_rules.specs.declared.calls.JudgedAnswer.TheVariants as judged
 use Rattle.judge_rules.specs.declared.calls.BranchVerb.{BranchVerb}
-use Rattle.judge_rules.specs.declared.calls.BranchVerb.TheVariants as verb
+use Rattle.judge_words.specs.verb
 use Rattle.judge_rules.specs.declared.calls.JudgedCall.{JudgedCall}
-use Rattle.judge_rules.specs.declared.calls.JudgedCall.TheVariants as asked
+use Rattle.judge_words.specs.call
 use Rattle.judge_rules.specs.declared.calls.HistoryEvent.{HistoryEvent}
-use Rattle.judge_rules.specs.declared.calls.Function.TheVariants as function
+use Rattle.judge_words.specs.function
 use Rattle.judge_rules.specs.declared.replies.Reply.{Reply}
-use Rattle.judge_rules.specs.declared.replies.Reply.TheVariants as reply
+use Rattle.judge_words.specs.reply
 use Rattle.judge_rules.specs.Replies.{reply_of}
 use Rattle.judge_rules.specs.Scans.{write_row}
 use Rattle.xa_engine.specs.declared.script.request.BranchCall.{BranchCall}
@@ -270,11 +270,11 @@ module _ (n : NameNumbers) (old new : KvSight) (l l' : Xid → Bool) (b : ℕ) (
       )
 
   put_kept : (t : ℕ) (k : List ℕ) (v : Option (List ℕ)) (a : RequestAnswer) → IsWritten old new t k v a
-      → e.call ≡ asked.Put t (n.word k) (value_number n v) → SaysNumbered n a e.answer → Kept_so
+      → e.call ≡ call.Put t (n.word k) (value_number n v) → SaysNumbered n a e.answer → Kept_so
   put_kept t k v answer.Done h calls says =
-      done_kept t k v h (carried (asked.Put t (n.word k) (value_number n v)) judged.Done calls says)
+      done_kept t k v h (carried (call.Put t (n.word k) (value_number n v)) judged.Done calls says)
   put_kept t k v (answer.Refused w) h calls says =
-      refused_kept _ w h.1 (carried (asked.Put t (n.word k) (value_number n v)) judged.Refused calls says)
+      refused_kept _ w h.1 (carried (call.Put t (n.word k) (value_number n v)) judged.Refused calls says)
   put_kept t k v (answer.Code c) h calls says = absurd h
   put_kept t k v (answer.Given xs) h calls says = absurd h
   put_kept t k v (answer.Found w) h calls says = absurd h
@@ -286,9 +286,9 @@ module _ (n : NameNumbers) (old new : KvSight) (l l' : Xid → Bool) (b : ℕ) (
 
   get_kept : (t : ℕ) (k : List ℕ) (a : RequestAnswer) → IsRead old new t k a → IsRequestEvent n (Work t (Get k)) a e → Kept_so
   get_kept t k (answer.Found v) h is =
-      found_kept t k v h (carried (asked.Get t (n.word k)) (judged.Found (value_number n v)) is.calls is.says)
+      found_kept t k v h (carried (call.Get t (n.word k)) (judged.Found (value_number n v)) is.calls is.says)
   get_kept t k (answer.Refused w) h is =
-      refused_kept _ w h.1 (carried (asked.Get t (n.word k)) judged.Refused is.calls is.says)
+      refused_kept _ w h.1 (carried (call.Get t (n.word k)) judged.Refused is.calls is.says)
   get_kept t k (answer.Code c) h is = absurd h
   get_kept t k (answer.Given xs) h is = absurd h
   get_kept t k answer.Done h is = absurd h
@@ -330,7 +330,7 @@ module _ (n : NameNumbers) (old new : KvSight) (l l' : Xid → Bool) (b : ℕ) (
   trimmed_kept : (a : RequestAnswer) → RequestTrims old new a → IsRequestEvent n Trim a e → Kept_so
   trimmed_kept (answer.Trimmed z) h is = (
     trim_judged n old new l l' s u j r r' sound.log h.0.log h.1
-        (carried asked.Trim judged.Told is.calls is.says),
+        (carried call.Trim judged.Told is.calls is.says),
     subst (λ (ks : List LogRecord). AreBoots (b + 1) ks)
         (sym (forced_all new.log.sight (trim_of (records_of old.log.sight.kept))
         (ap (λ (k : LogSight). k.kept.forced) h.0.log) (ap (λ (k : LogSight). k.kept.unforced) h.0.log)))

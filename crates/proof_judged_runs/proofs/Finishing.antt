@@ -3,11 +3,11 @@ use Rattle.std.proofs.Common.{◌≡◌, ℕ, Bool, true, false, not, cond, Opti
 use Rattle.std.specs.Prelude.{◌⊎◌, Contains, if◌then◌else◌}
 use Rattle.std.proofs.lemmas.Bool.{and_from, and_parts, false≢true, not-true, not_from_false}
 use Rattle.xa_codes.specs.declared.code.Code.{Code}
-use Rattle.xa_codes.specs.declared.code.Code.TheVariants as code
+use Rattle.xa_words.specs.code
 use Rattle.xa_tables.specs.Calls.{legal}
-use Rattle.xa_tables.specs.Tables.{branch_rows, is_in_doubt as is_doubt}
+use Rattle.xa_tables.specs.Tables.{branch_rows, is_in_doubt}
 use Rattle.xa_tables.specs.declared.call.Call.{Call}
-use Rattle.xa_tables.specs.declared.call.Call.TheVariants as call
+use Rattle.xa_words.specs.call
 use Rattle.xa_tables.specs.declared.call.Verb.{Verb}
 use Rattle.xa_tables.specs.declared.call.Verb.TheVariants as table_verb
 use Rattle.xa_tables.specs.declared.states.BranchState.{BranchState}
@@ -27,7 +27,7 @@ use Rattle.proof_xa.proofs.Refused.{legal_refuses}
 use Rattle.log_store.specs.Stores.{MoreFailures}
 use Rattle.log_text.specs.Parts.{name_in}
 use Rattle.protocol.specs.declared.names.Outcome.{Outcome}
-use Rattle.protocol.specs.declared.names.Outcome.TheVariants as outcome
+use Rattle.protocol_words.specs.outcome
 use Rattle.protocol.specs.declared.records.BranchName.{BranchName}
 use Rattle.protocol.specs.declared.records.Write.{Write}
 use Rattle.kv_store.specs.writes.Writes.{writes_of}
@@ -35,7 +35,7 @@ use Rattle.kv_calls.specs.declared.entries.BranchRecord.{BranchRecord}
 use Rattle.kv_calls.specs.declared.entries.BranchRecord.TheVariants.{Prepared, Committed, RolledBack, Direct, HeurCommit, HeurRollback, Told, Forgot}
 use Rattle.kv_calls.specs.declared.turns.CallRow.{CallRow}
 use Rattle.kv_calls.specs.Turns.{decide_turn, direct_turn, prepare_turn, silent, tell_turn, turn_of, writes}
-use Rattle.kv_state.specs.Ends.{IsDue, IsRowListed, IsOff, OfCall, Refused as RefusedOff, Unlisted as UnlistedOff, known_of, turn_for, wrote_some}
+use Rattle.kv_state.specs.Ends.{IsDue, IsRowListed, IsOff, OfCall, Refused as RefusedOff, Unlisted, known_of, turn_for, wrote_some}
 use Rattle.kv_state.specs.Stores.{is_let_go, state_of}
 use Rattle.kv_manager.specs.Sights.{KvSight, SameKv, doubt_of}
 use Rattle.kv_manager.specs.Turns.{KvFinishes, IsDueTurn, KvMakes, KvTakes, Made, Broke, Spent, Failed, Refused, Taken}
@@ -46,7 +46,7 @@ use Rattle.judge_state.specs.declared.parts.JudgedDecision.{JudgedDecision}
 use Rattle.judge_state.specs.Moves.{committed, decided, gone, rolled}
 use Rattle.judge_state.specs.Sights.{Sight}
 use Rattle.judge_rules.specs.declared.calls.BranchVerb.{BranchVerb}
-use Rattle.judge_rules.specs.declared.calls.BranchVerb.TheVariants as verb
+use Rattle.judge_words.specs.verb
 use Rattle.judge_rules.specs.Replies.{reply_of}
 use Rattle.judge_rules.specs.Steps.{outcome as decision_taken}
 use Rattle.proof_judged_deeds.specs.Deeds.{ends_branch, is_commit}
@@ -349,7 +349,7 @@ finish_judged n old new d l l' s u j r r' mirrors breaks v w x flags c ends (Ref
   where
     refusal : IsOff old.store w x flags c → is_refusal c ≡ true
     refusal (RefusedOff h) = ready_refuses old.store.tables w x flags c h
-    refusal (UnlistedOff k h none is) = ap is_refusal is ∙ off_refusal k
+    refusal (Unlisted k h none is) = ap is_refusal is ∙ off_refusal k
 finish_judged n old new d l l' s u j r r' mirrors breaks v w x flags c ends (Taken f due is takes) books = by takes where
   by : KvTakes old new x due.1 c → IsJudged n new u
   by (Made q made) = call_made n old new d l l' s u x due.1 j r r' mirrors made c q v w flags due.0 ends

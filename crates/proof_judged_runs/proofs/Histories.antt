@@ -40,12 +40,12 @@ use Rattle.kv_manager.proofs.Restarted.{not_restarted}
 use Rattle.kv_manager.proofs.Turns.{data_behind}
 use Rattle.report_io.specs.declared.status.Status.TheVariants.{Ended}
 use Rattle.judge_state.specs.declared.parts.JudgedDecision.{JudgedDecision}
-use Rattle.judge_state.specs.Questions.{active_of as judged_active}
+use Rattle.judge_state.specs.Questions.{active_of}
 use Rattle.judge_state.specs.Sights.{Sight, first_sight}
 use Rattle.judge_rules.specs.declared.calls.JudgedAnswer.{JudgedAnswer}
 use Rattle.judge_rules.specs.declared.calls.JudgedAnswer.TheVariants as judged
 use Rattle.judge_rules.specs.declared.calls.JudgedCall.{JudgedCall}
-use Rattle.judge_rules.specs.declared.calls.JudgedCall.TheVariants as asked
+use Rattle.judge_words.specs.call
 use Rattle.judge_rules.specs.declared.calls.HistoryEvent.{HistoryEvent}
 use Rattle.judge_rules.specs.Histories.{IsLegal, JudgeLeads}
 use Rattle.judge_rules.specs.Scans.{read_rows, reads_in}
@@ -114,7 +114,7 @@ module _ (n : NameNumbers) (old new : KvSight) (l : Xid → Bool) (b : ℕ) (s :
   found_goes t k v h is =
       let w = h.works r.works in
       let who = worker_is old.store t w.branch w.works in
-      let active : judged_active t s ≡ Some (n.xid w.branch) =
+      let active : active_of t s ≡ Some (n.xid w.branch) =
       worker_same n old.store.tables.associations s.links s.migrated t w.branch mirrors.tied who.0 in
       let makes : RequestMakes old new (Work t (Get k)) (answer.Found v) = h in
       let recorded = op_recorded old new l r sound after t (Get k) (answer.Found v) makes in
@@ -124,8 +124,8 @@ module _ (n : NameNumbers) (old new : KvSight) (l : Xid → Bool) (b : ℕ) (s :
       record {
         sight = s;
         row = subst (λ (c : JudgedCall). Contains (next lacks_forced s c e.answer) s) (sym is.calls)
-            (subst (λ (a : JudgedAnswer). Contains (next lacks_forced s (asked.Get t (n.word k)) a) s) (sym is.says)
-            (in_next s (asked.Get t (n.word k)) (judged.Found (value_number n v)) s mirrors.waits
+            (subst (λ (a : JudgedAnswer). Contains (next lacks_forced s (call.Get t (n.word k)) a) s) (sym is.says)
+            (in_next s (call.Get t (n.word k)) (judged.Found (value_number n v)) s mirrors.waits
             (subst (λ (o : Option ℕ). Contains (read_rows lacks_forced o t (n.word k) (value_number n v) s) s) (sym active)
             (in_if (reads_in lacks_forced (n.xid w.branch) (n.word k) (value_number n v) s) s admitted))));
         lost = l;

@@ -2,7 +2,7 @@
 use Rattle.std.proofs.Common.{◌≡◌, ℕ, Bool, true, false, not, cond, Option, Some, None, List, [], ◌∷◌, ◌++◌, find, ◌||◌, ◌&&◌, refl, ap, sym, subst, ◌∙◌, inl, inr}
 use Rattle.std.specs.Prelude.{◌⊎◌, MatchBool, if◌then◌else◌}
 use Rattle.std.proofs.lemmas.Bool.{and_from, and_parts, false≢true, not-true}
-use Rattle.xa_tables.specs.Tables.{is_in_doubt as is_doubt}
+use Rattle.xa_tables.specs.Tables.{is_in_doubt}
 use Rattle.xa_tables.specs.declared.states.BranchState.{BranchState}
 use Rattle.xa_tables.specs.declared.states.BranchState.TheVariants.{S0, S1, S2, S3, S4, S5}
 use Rattle.xa_xid.specs.declared.xid.Xid.{Xid}
@@ -17,7 +17,7 @@ use Rattle.protocol.specs.Store.{data_of, writes_of as promised_of}
 use Rattle.log_rules.specs.order.Orders.{keys_once}
 use Rattle.log_records.specs.Sights.{LogSight, left_by, records_of}
 use Rattle.kv_store.specs.Pairs.{found_in}
-use Rattle.kv_store.specs.Versions.{AppliesCommit, SameData, VersionTable, value_at, written as left_after}
+use Rattle.kv_store.specs.Versions.{AppliesCommit, SameData, VersionTable, value_at, written}
 use Rattle.kv_store.specs.writes.Writes.{LeavesWrites, is_of, writes_of}
 use Rattle.kv_calls.specs.declared.entries.BranchRecord.{BranchRecord}
 use Rattle.kv_calls.specs.declared.entries.BranchRecord.TheVariants.{Prepared, Committed, RolledBack, Direct, HeurCommit, HeurRollback, Told, Forgot}
@@ -35,7 +35,7 @@ use Rattle.kv_manager.proofs.Staying.{SameDoubts, moves_doubts}
 use Rattle.kv_manager.proofs.Turns.{leads, settles}
 use Rattle.resource_manager.specs.Restarting.{marked_state}
 use Rattle.judge_state.specs.declared.parts.JudgedDecision.{JudgedDecision}
-use Rattle.judge_state.specs.declared.parts.JudgedDecision.TheVariants as decision
+use Rattle.judge_words.specs.decision
 use Rattle.judge_state.specs.declared.parts.Work.{Work}
 use Rattle.judge_state.specs.Moves.{committed, decided, gone, is_prepared_at, others, rolled, was_prepared, worked, works_of, works_without}
 use Rattle.judge_state.specs.Sights.{Sight}
@@ -70,7 +70,7 @@ abbrev pub promised_left : KvSight → ℕ → Xid → List Write
 promised_left m keep x = promised_of (Foreign x) (data_of (left_by m.log.sight keep)).promised
 
 abbrev pub comes_back : KvSight → ℕ → Xid → Bool
-comes_back m keep x = is_three (marked_state (mark_at (left_by m.log.sight keep) x)) && not (is_doubt (state_of m.store x))
+comes_back m keep x = is_three (marked_state (mark_at (left_by m.log.sight keep) x)) && not (is_in_doubt (state_of m.store x))
 
 -- the judge's data are those of the store, and of what a crash may leave of it
 pub record IsJudged (n : NameNumbers) (m : KvSight) (s : Sight) : Type 0 where
@@ -89,7 +89,7 @@ module _ (n : NameNumbers) (old new : KvSight) (s u : Sight) (j : IsJudged n old
       (comes_back old keep) (comes_back new keep) s s refl refl
       (λ k. ap (λ (g : LogSight). found_in (data_of (left_by g keep)).pairs k) log)
       (λ x e. ap (λ (g : LogSight). promised_of (Foreign x) (data_of (left_by g keep)).promised) log)
-      (λ x. ap (λ (g : LogSight). is_three (marked_state (mark_at (left_by g keep) x)) && not (is_doubt (state_of new.store x))) log
+      (λ x. ap (λ (g : LogSight). is_three (marked_state (mark_at (left_by g keep) x)) && not (is_in_doubt (state_of new.store x))) log
       ∙ ap (λ b. is_three (marked_state (mark_at (left_by old.log.sight keep) x)) && not b)
       (doubts_alike (state_of new.store x) (state_of old.store x) (doubts x)))
       (j.leave keep)
@@ -152,11 +152,11 @@ module _ (n : NameNumbers) (new : KvSight) (l : Xid → Bool) (u : Sight) (r : I
       (λ k. ap (λ ks. found_in (data_of ks).pairs k) whole ∙ sym (stored.are.values k))
       (λ x e.
       let parts = and_parts (is_three (marked_state (mark_at (left_by new.log.sight keep) x)))
-      (not (is_doubt (state_of new.store x))) e in
+      (not (is_in_doubt (state_of new.store x))) e in
       let three : state_of new.store x ≡ S3 = three_doubt (state_of new.store x)
       (sym (ap (λ ks. marked_state (mark_at ks x)) whole ∙ r.now x)
       ∙ three_is (marked_state (mark_at (left_by new.log.sight keep) x)) parts.0) in
-      false≢true (sym (not-true (is_doubt (state_of new.store x)) parts.1) ∙ ap is_doubt three))
+      false≢true (sym (not-true (is_in_doubt (state_of new.store x)) parts.1) ∙ ap is_in_doubt three))
 
   pub whole_promised : (x : Xid) → state_of new.store x ≡ S3 → promised_left new keep x ≡ written_by new x
   whole_promised x e = ap (λ ks. promised_of (Foreign x) (data_of ks).promised) whole ∙ sym (stored.prepared x e)
@@ -231,7 +231,7 @@ module _ (n : NameNumbers) (old new : KvSight) (d : Xid → JudgedDecision) (l l
         (λ h. settles_from e (state_of old.store x) h from) versions
 
     -- the commit of what the branch has written
-    applied : applies e ≡ true → (k : List ℕ) → value_of new k ≡ left_after ws k (value_of old k)
+    applied : applies e ≡ true → (k : List ℕ) → value_of new k ≡ written ws k (value_of old k)
     applied h k = (subst (λ (b : Bool). MatchBool b (AppliesCommit old.store.versions new.store.versions ws)
         (new.store.versions ≡ old.store.versions)) h versions).next k
 
@@ -244,7 +244,7 @@ module _ (n : NameNumbers) (old new : KvSight) (d : Xid → JudgedDecision) (l l
     with_entry : IsHeard n (value_of new) (written_by new) u
         → (turn.is_forced ≡ false → (keep : ℕ)
         → MayLeave n (value_left old keep) (promised_left old keep)
-        (λ y. is_three (marked_state (mark_at (left_by old.log.sight keep) y)) && not (is_doubt (state_of new.store y))) u)
+        (λ y. is_three (marked_state (mark_at (left_by old.log.sight keep) y)) && not (is_in_doubt (state_of new.store y))) u)
         → Judged_so
     with_entry heard front = record {
       stored = stored;
@@ -252,11 +252,11 @@ module _ (n : NameNumbers) (old new : KvSight) (d : Xid → JudgedDecision) (l l
       leave = λ keep. elim (fronts_more old new x e turn.is_forced log keep) [
         | inl whole ↦ whole_leave n new l' u r' stored heard keep whole
         | inr loose ↦ same_leave n (value_left old keep) (value_left new keep) (promised_left old keep) (promised_left new keep)
-            (λ y. is_three (marked_state (mark_at (left_by old.log.sight keep) y)) && not (is_doubt (state_of new.store y)))
+            (λ y. is_three (marked_state (mark_at (left_by old.log.sight keep) y)) && not (is_in_doubt (state_of new.store y)))
             (comes_back new keep) u u refl refl
             (λ k. ap (λ ks. found_in (data_of ks).pairs k) loose.1)
             (λ y q. ap (λ ks. promised_of (Foreign y) (data_of ks).promised) loose.1)
-            (λ y. ap (λ ks. is_three (marked_state (mark_at ks y)) && not (is_doubt (state_of new.store y))) loose.1)
+            (λ y. ap (λ ks. is_three (marked_state (mark_at ks y)) && not (is_in_doubt (state_of new.store y))) loose.1)
             (front loose.0 keep)
       ];
       promised = λ keep y three. elim (fronts_more old new x e turn.is_forced log keep) [
@@ -283,20 +283,20 @@ module _ (n : NameNumbers) (old new : KvSight) (d : Xid → JudgedDecision) (l l
         (λ h. never_loose f _ h)
 
     -- a crash brings the branch back
-    back_here : (keep : ℕ) → state_of old.store x ≡ S3 → is_doubt (leads e) ≡ false
-        → (is_three (marked_state (mark_at (left_by old.log.sight keep) x)) && not (is_doubt (state_of new.store x))) ≡ true
+    back_here : (keep : ℕ) → state_of old.store x ≡ S3 → is_in_doubt (leads e) ≡ false
+        → (is_three (marked_state (mark_at (left_by old.log.sight keep) x)) && not (is_in_doubt (state_of new.store x))) ≡ true
     back_here keep three ends =
         let said : marked_state (mark_at (left_by old.log.sight keep) x) ≡ S3 =
         subst (λ (st : BranchState). IsSaid (doubt_of st) (known_of old.store x)
         (marked_state (mark_at (left_by old.log.sight keep) x)) (decided_in (left_by old.log.sight keep) x) (l x)) three
         (r.left keep x) in
-        and_from (is_three (marked_state (mark_at (left_by old.log.sight keep) x))) (not (is_doubt (state_of new.store x)))
-        (ap is_three said) (ap (λ st. not (is_doubt st)) (state_now ∙ leads_to) ∙ ap not ends)
+        and_from (is_three (marked_state (mark_at (left_by old.log.sight keep) x))) (not (is_in_doubt (state_of new.store x)))
+        (ap is_three said) (ap (λ st. not (is_in_doubt st)) (state_now ∙ leads_to) ∙ ap not ends)
 
     others_back : (keep : ℕ) (y : Xid) → same x y ≡ false
-        → (is_three (marked_state (mark_at (left_by old.log.sight keep) y)) && not (is_doubt (state_of new.store y)))
+        → (is_three (marked_state (mark_at (left_by old.log.sight keep) y)) && not (is_in_doubt (state_of new.store y)))
         ≡ comes_back old keep y
-    others_back keep y apart = ap (λ st. is_three (marked_state (mark_at (left_by old.log.sight keep) y)) && not (is_doubt st))
+    others_back keep y apart = ap (λ st. is_three (marked_state (mark_at (left_by old.log.sight keep) y)) && not (is_in_doubt st))
         (others_stay y apart)
 
     -- it commits
@@ -308,15 +308,15 @@ module _ (n : NameNumbers) (old new : KvSight) (d : Xid → JudgedDecision) (l l
         (commit_heard n (value_of old) (value_of new) (written_by old) (written_by new) s x j.heard
         (lets_go (ap is_let_go (leads_to ∙ ends))) others_written (j.stored.once x) (applied a)))
         (λ f keep. same_leave n (value_left old keep) (value_left old keep) (promised_left old keep) (promised_left old keep)
-        (λ y. is_three (marked_state (mark_at (left_by old.log.sight keep) y)) && not (is_doubt (state_of new.store y)))
-        (λ y. is_three (marked_state (mark_at (left_by old.log.sight keep) y)) && not (is_doubt (state_of new.store y)))
+        (λ y. is_three (marked_state (mark_at (left_by old.log.sight keep) y)) && not (is_in_doubt (state_of new.store y)))
+        (λ y. is_three (marked_state (mark_at (left_by old.log.sight keep) y)) && not (is_in_doubt (state_of new.store y)))
         (committed (n.xid x) s) u (ap (λ (g : Ledger). g.values) books) (ap (λ (g : Ledger). g.lost_works) books)
         (λ k. refl) (λ y q. refl) (λ y. refl)
         (commit_leave n (value_left old keep) (written_by old) (promised_left old keep) (comes_back old keep)
-        (λ y. is_three (marked_state (mark_at (left_by old.log.sight keep) y)) && not (is_doubt (state_of new.store y)))
+        (λ y. is_three (marked_state (mark_at (left_by old.log.sight keep) y)) && not (is_in_doubt (state_of new.store y)))
         s x (j.leave keep) (others_back keep)
         (prepared_same n old.store.tables d s x mirrors (three f)) (j.promised keep x (three f)) (j.heard.works x)
-        (back_here keep (three f) (ap is_doubt ends))))
+        (back_here keep (three f) (ap is_in_doubt ends))))
 
     -- it rolls back
     pub roll_judged : applies e ≡ false → leads e ≡ S0 → state_of old.store x ≡ S3
@@ -327,15 +327,15 @@ module _ (n : NameNumbers) (old new : KvSight) (d : Xid → JudgedDecision) (l l
         (roll_heard n (value_of old) (value_of new) (written_by old) (written_by new) s x j.heard
         (lets_go (ap is_let_go (leads_to ∙ ends))) others_written (same_values a)))
         (λ f keep. same_leave n (value_left old keep) (value_left old keep) (promised_left old keep) (promised_left old keep)
-        (λ y. is_three (marked_state (mark_at (left_by old.log.sight keep) y)) && not (is_doubt (state_of new.store y)))
-        (λ y. is_three (marked_state (mark_at (left_by old.log.sight keep) y)) && not (is_doubt (state_of new.store y)))
+        (λ y. is_three (marked_state (mark_at (left_by old.log.sight keep) y)) && not (is_in_doubt (state_of new.store y)))
+        (λ y. is_three (marked_state (mark_at (left_by old.log.sight keep) y)) && not (is_in_doubt (state_of new.store y)))
         (rolled (n.xid x) s) u (ap (λ (g : Ledger). g.values) books) (ap (λ (g : Ledger). g.lost_works) books)
         (λ k. refl) (λ y q. refl) (λ y. refl)
         (roll_leave n (value_left old keep) (written_by old) (promised_left old keep) (comes_back old keep)
-        (λ y. is_three (marked_state (mark_at (left_by old.log.sight keep) y)) && not (is_doubt (state_of new.store y)))
+        (λ y. is_three (marked_state (mark_at (left_by old.log.sight keep) y)) && not (is_in_doubt (state_of new.store y)))
         s x (j.leave keep) (others_back keep)
         (prepared_same n old.store.tables d s x mirrors three) (j.promised keep x three) (j.heard.works x)
-        (back_here keep three (ap is_doubt ends))))
+        (back_here keep three (ap is_in_doubt ends))))
 
     -- one that an operator decided is told
     pub tell_judged : applies e ≡ false → leads e ≡ S5 → comes_from e ≡ S5 → ledger u ≡ ledger s → Judged_so
@@ -343,7 +343,7 @@ module _ (n : NameNumbers) (old new : KvSight) (d : Xid → JudgedDecision) (l l
         (same_heard n (value_of old) (value_of new) (written_by old) (written_by new) s u books (same_values a) writes j.heard)
         (λ f keep. same_leave n (value_left old keep) (value_left old keep) (promised_left old keep) (promised_left old keep)
         (comes_back old keep)
-        (λ y. is_three (marked_state (mark_at (left_by old.log.sight keep) y)) && not (is_doubt (state_of new.store y)))
+        (λ y. is_three (marked_state (mark_at (left_by old.log.sight keep) y)) && not (is_in_doubt (state_of new.store y)))
         s u (ap (λ (g : Ledger). g.values) books) (ap (λ (g : Ledger). g.lost_works) books)
         (λ k. refl) (λ y q. refl) (λ y. backs keep y (same x y) refl) (j.leave keep))
       where
@@ -355,12 +355,12 @@ module _ (n : NameNumbers) (old new : KvSight) (d : Xid → JudgedDecision) (l l
           by false q = others_written y q
 
         backs : (keep : ℕ) (y : Xid) (b : Bool) → same x y ≡ b
-            → (is_three (marked_state (mark_at (left_by old.log.sight keep) y)) && not (is_doubt (state_of new.store y)))
+            → (is_three (marked_state (mark_at (left_by old.log.sight keep) y)) && not (is_in_doubt (state_of new.store y)))
             ≡ comes_back old keep y
         backs keep y true q = subst (λ (z : Xid).
-            (is_three (marked_state (mark_at (left_by old.log.sight keep) z)) && not (is_doubt (state_of new.store z)))
+            (is_three (marked_state (mark_at (left_by old.log.sight keep) z)) && not (is_in_doubt (state_of new.store z)))
             ≡ comes_back old keep z) (same_is x y q)
-            (ap (λ st. is_three (marked_state (mark_at (left_by old.log.sight keep) x)) && not (is_doubt st))
+            (ap (λ st. is_three (marked_state (mark_at (left_by old.log.sight keep) x)) && not (is_in_doubt st))
             (state_now ∙ leads_to ∙ ends ∙ sym (from ∙ five)))
         backs keep y false q = others_back keep y q
 
@@ -460,7 +460,7 @@ module _ (n : NameNumbers) (old new : KvSight) (d : Xid → JudgedDecision) (l l
     empty_judged off ends none books = silent_judged off (committed (n.xid x) s)
         (commit_heard n (value_of old) (value_of new) (written_by old) (written_by new) s x j.heard (lets_go ends) others_written
         (j.stored.once x)
-        (λ k. value_stays old new versions_same k ∙ sym (ap (λ vs. left_after vs k (value_of old k)) none
+        (λ k. value_stays old new versions_same k ∙ sym (ap (λ vs. written vs k (value_of old k)) none
         ∙ unnamed_none k (value_of old k))))
         (λ keep. silent_leave n (value_left new keep) (promised_left new keep) (comes_back new keep) s x
         (unprepared n old.store.tables d s x mirrors off)

@@ -2,7 +2,7 @@
 use Rattle.std.proofs.Common.{◌≡◌, ℕ, Bool, true, false, not, Option, Some, None, List, [], ◌∷◌, ◌++◌, ◌&&◌, refl, ap, sym, subst, ◌∙◌, inl, inr}
 use Rattle.std.specs.Prelude.{if◌then◌else◌}
 use Rattle.std.proofs.lemmas.Bool.{and_from, and_parts, false≢true, not-true, not_from_false}
-use Rattle.xa_tables.specs.Tables.{is_in_doubt as is_doubt}
+use Rattle.xa_tables.specs.Tables.{is_in_doubt}
 use Rattle.xa_tables.specs.declared.states.BranchState.{BranchState}
 use Rattle.xa_tables.specs.declared.states.BranchState.TheVariants.{S0, S1, S2, S3, S4, S5}
 use Rattle.xa_xid.specs.declared.xid.Xid.{Xid}
@@ -157,9 +157,9 @@ restart_judged n old new l l' s u keep given j r r' made returned = forced_judge
     said : (x : Xid) → state_of new.store x ≡ marked_state (mark_at ls x)
     said x = (restarted old new keep given made).states x
 
-    stays : (x : Xid) → is_doubt (state_of old.store x) ≡ true → state_of new.store x ≡ state_of old.store x
+    stays : (x : Xid) → is_in_doubt (state_of old.store x) ≡ true → state_of new.store x ≡ state_of old.store x
     stays x h = said x ∙ by (state_of old.store x) h (known_of old.store x) (decided_in ls x) (l x) (r.left keep x) where
-      by : (st : BranchState) → is_doubt st ≡ true
+      by : (st : BranchState) → is_in_doubt st ≡ true
           → (k k' : Known) (b : Bool) → IsSaid (doubt_of st) k (marked_state (mark_at ls x)) k' b
           → marked_state (mark_at ls x) ≡ st
       by S3 e k k' b q = q
@@ -174,8 +174,8 @@ restart_judged n old new l l' s u keep given j r r' made returned = forced_judge
         (comes_back old keep) s u (state_in old.store.tables.branches.branches) (state_in new.store.tables.branches.branches)
         returned (j.leave keep) j.heard.works
         (λ x e.
-        let parts = and_parts (is_three (marked_state (mark_at ls x))) (not (is_doubt (state_of old.store x))) e in
-        (not-true (is_doubt (state_of old.store x)) parts.1, said x ∙ three_is (marked_state (mark_at ls x)) parts.0))
-        (λ x off three. and_from (is_three (marked_state (mark_at ls x))) (not (is_doubt (state_of old.store x)))
-        (ap is_three (sym (said x) ∙ three)) (not_from_false (is_doubt (state_of old.store x)) off))
+        let parts = and_parts (is_three (marked_state (mark_at ls x))) (not (is_in_doubt (state_of old.store x))) e in
+        (not-true (is_in_doubt (state_of old.store x)) parts.1, said x ∙ three_is (marked_state (mark_at ls x)) parts.0))
+        (λ x off three. and_from (is_three (marked_state (mark_at ls x))) (not (is_in_doubt (state_of old.store x)))
+        (ap is_three (sym (said x) ∙ three)) (not_from_false (is_in_doubt (state_of old.store x)) off))
         stays (j.promised keep) j.stored.decided (λ k. made.left.stored.values k) promises nothing

@@ -6,7 +6,7 @@ use Rattle.std.proofs.lemmas.Bool.{and_from, and_parts, false≢true, or_cases, 
 use Rattle.std.proofs.lemmas.Bool.Decides.{nat_tests}
 use Rattle.std.proofs.lemmas.List.{append-nil, append_cancel_left}
 use Rattle.xa_tables.specs.declared.call.Call.{Call}
-use Rattle.xa_tables.specs.declared.call.Call.TheVariants as call
+use Rattle.xa_words.specs.call
 use Rattle.xa_tables.specs.declared.states.BranchState.{BranchState}
 use Rattle.xa_tables.specs.declared.states.BranchState.TheVariants.{S0, S1, S2, S3, S4, S5}
 use Rattle.xa_xid.specs.declared.xid.Xid.{Xid}
@@ -23,7 +23,7 @@ use Rattle.protocol.specs.declared.records.BranchName.{BranchName}
 use Rattle.protocol.specs.declared.records.BranchName.TheVariants.{Foreign}
 use Rattle.protocol.specs.declared.records.LogRecord.{LogRecord}
 use Rattle.protocol.specs.declared.records.Record.{Record}
-use Rattle.protocol.specs.declared.records.Record.TheVariants as record_of
+use Rattle.protocol_words.specs.record_of
 use Rattle.protocol.specs.declared.records.Write.{Write}
 use Rattle.protocol.specs.LogNames.{unnamed}
 use Rattle.protocol.specs.Records.{same_branch}

@@ -3,10 +3,10 @@ use Rattle.std.proofs.Common.{◌≡◌, ℕ, Bool, true, false, ◌&&◌, Optio
 use Rattle.std.specs.Prelude.{◌⊎◌, if◌then◌else◌}
 use Rattle.std.proofs.lemmas.Bool.{false≢true}
 use Rattle.xa_codes.specs.declared.code.Code.{Code}
-use Rattle.xa_codes.specs.declared.code.Code.TheVariants as code
+use Rattle.xa_words.specs.code
 use Rattle.xa_codes.specs.declared.flags.Flags.{Flags}
 use Rattle.xa_tables.specs.declared.call.Call.{Call}
-use Rattle.xa_tables.specs.declared.call.Call.TheVariants as call
+use Rattle.xa_words.specs.call
 use Rattle.xa_tables.specs.declared.call.Verb.{Verb}
 use Rattle.xa_tables.specs.declared.call.Verb.TheVariants as table_verb
 use Rattle.xa_tables.specs.declared.states.BranchState.{BranchState}
@@ -28,7 +28,7 @@ use Rattle.protocol.specs.declared.messages.Op.{Op}
 use Rattle.protocol.specs.declared.messages.Op.TheVariants.{Put, Get, Delete}
 use Rattle.protocol.specs.declared.names.Kind.TheVariants.{Manager}
 use Rattle.protocol.specs.declared.names.Outcome.{Outcome}
-use Rattle.protocol.specs.declared.names.Outcome.TheVariants as outcome
+use Rattle.protocol_words.specs.outcome
 use Rattle.protocol.specs.Standings.{mark_at, mark_of}
 use Rattle.protocol.specs.declared.records.LogRecord.{LogRecord}
 use Rattle.protocol.specs.Records.{same_bytes}
@@ -51,7 +51,7 @@ use Rattle.kv_manager.specs.Resources.{sight_of}
 use Rattle.resource_manager.specs.Restarting.{boot_record, marked_state}
 use Rattle.kv_manager.specs.Restarts.{Restarted}
 use Rattle.kv_manager.specs.Sights.{KvSight, SameKv, doubt_of}
-use Rattle.kv_manager.specs.Turns.{KvCalls, KvFinishes, KvMakes, RefusesWork, KvTakes, Made as KvMade, Broke as KvBroke, Spent as KvSpent, Failed as KvFailed, Refused as KvRefused, Taken as KvTaken}
+use Rattle.kv_manager.specs.Turns.{KvCalls, KvFinishes, KvMakes, RefusesWork, KvTakes, Made as KvMade, Broke as KvBroke, Spent, Failed as KvFailed, Refused as KvRefused, Taken}
 use Rattle.kv_manager.proofs.Bounds.{none_refused}
 use Rattle.kv_manager.proofs.From.{comes_from}
 use Rattle.kv_manager.proofs.Keeping.{closes_one, opens_one, refused_same}
@@ -64,10 +64,10 @@ use Rattle.judge_state.specs.declared.parts.JudgedDecision.{JudgedDecision}
 use Rattle.judge_rules.specs.declared.calls.JudgedAnswer.{JudgedAnswer}
 use Rattle.judge_rules.specs.declared.calls.JudgedAnswer.TheVariants as judged
 use Rattle.judge_rules.specs.declared.calls.BranchVerb.{BranchVerb}
-use Rattle.judge_rules.specs.declared.calls.BranchVerb.TheVariants as verb
+use Rattle.judge_words.specs.verb
 use Rattle.judge_rules.specs.declared.calls.JudgedCall.TheVariants as asked
 use Rattle.judge_rules.specs.declared.calls.HistoryEvent.{HistoryEvent}
-use Rattle.judge_rules.specs.declared.calls.Function.TheVariants as function
+use Rattle.judge_words.specs.function
 use Rattle.judge_rules.specs.Histories.{IsLegal}
 use Rattle.xa_engine.specs.declared.script.request.BranchCall.{BranchCall}
 use Rattle.xa_engine.specs.declared.script.request.BranchCall.TheVariants.{Start, End, Prepare, Commit, Rollback, Forget}
@@ -537,11 +537,11 @@ module _ (old new : KvSight) (l : Xid → Bool) (r : IsRecorded old l) (sound : 
   finish_recorded v x flags c (KvFailed f q same) = absurd (fails_not f)
   finish_recorded v x flags c (KvRefused f off same) =
       more_recorded new l (lost_after l old new) (lost_before l old new) (same_recorded same)
-  finish_recorded v x flags c (KvTaken f due is takes) = by takes where
+  finish_recorded v x flags c (Taken f due is takes) = by takes where
     by : KvTakes old new x due.1 c → IsRecorded new (lost_after l old new)
     by (KvMade q makes) = turn_recorded old new l x due.0 due.1 r (due_turn old v x flags due.0 due.1 f is) makes
     by (KvBroke q fails) = absurd (breaks_not fails.log.cause)
-    by (KvSpent q commits none same) =
+    by (Spent q commits none same) =
         more_recorded new l (lost_after l old new) (lost_before l old new) (same_recorded same)
 
   call_recorded : (f : BranchCall) (t : ℕ) (x : Xid) (flags : ℕ) (c : Code) → CallsBranch f old new t x flags c → IsRecorded new (lost_call f l old new)

@@ -4,7 +4,7 @@ use Rattle.std.specs.Prelude.{◌⊎◌, MatchBool}
 use Rattle.std.proofs.lemmas.Bool.{and_from, and_parts, false≢true, false_from_ne_true, not-true, not_from_false}
 use Rattle.log_text.proofs.NameReading.{same_bytes_refl}
 use Rattle.proof_judged_deeds.proofs.Holding.{bytes_are}
-use Rattle.xa_tables.specs.Tables.{is_in_doubt as is_doubt}
+use Rattle.xa_tables.specs.Tables.{is_in_doubt}
 use Rattle.xa_tables.specs.declared.states.BranchState.{BranchState}
 use Rattle.xa_tables.specs.declared.states.BranchState.TheVariants.{S0, S1, S2, S3, S4, S5}
 use Rattle.xa_xid.specs.declared.xid.Xid.{Xid}
@@ -74,9 +74,9 @@ five_doubt S2 h = absurd cc
 five_doubt S3 h = absurd cc
 five_doubt S4 h = absurd cc
 
-pub doubts_alike : (s t : BranchState) → doubt_of s ≡ doubt_of t → is_doubt s ≡ is_doubt t
-doubts_alike s t h = sym (by s) ∙ ap is_doubt h ∙ by t where
-  by : (r : BranchState) → is_doubt (doubt_of r) ≡ is_doubt r
+pub doubts_alike : (s t : BranchState) → doubt_of s ≡ doubt_of t → is_in_doubt s ≡ is_in_doubt t
+doubts_alike s t h = sym (by s) ∙ ap is_in_doubt h ∙ by t where
+  by : (r : BranchState) → is_in_doubt (doubt_of r) ≡ is_in_doubt r
   by S0 = refl
   by S1 = refl
   by S2 = refl

@@ -20,7 +20,7 @@ use Rattle.xa_assoc.specs.declared.errors.WorkError.{WorkError}
 use Rattle.xa_assoc.specs.declared.errors.WorkError.TheVariants as work_error
 use Rattle.xa_codes.specs.Codes.{code_name}
 use Rattle.xa_codes.specs.declared.code.Code.{Code as AnyCode}
-use Rattle.xa_codes.specs.declared.code.Code.TheVariants as code
+use Rattle.xa_words.specs.code
 use Rattle.xa_xid.specs.Text.{xid_text}
 use Rattle.xa_xid.specs.Xids.{IsXid, null_xid}
 use Rattle.xa_xid.specs.declared.xid.Xid.{Xid}

@@ -15,7 +15,7 @@ use Rattle.judge_rules.specs.declared.calls.JudgedAnswer.TheVariants as judged
 use Rattle.judge_rules.specs.declared.calls.JudgedCall.{JudgedCall}
 use Rattle.judge_rules.specs.declared.calls.JudgedCall.TheVariants as call
 use Rattle.judge_rules.specs.declared.calls.HistoryEvent.{HistoryEvent}
-use Rattle.judge_rules.specs.declared.calls.Function.TheVariants as function
+use Rattle.judge_words.specs.function
 use Rattle.judge_rules.specs.declared.calls.XidSort.{XidSort}
 use Rattle.judge_rules.specs.declared.calls.XidSort.TheVariants as sort
 use Rattle.judge_rules.specs.declared.words.Rules.{Rules}

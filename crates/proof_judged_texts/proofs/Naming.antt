@@ -5,7 +5,7 @@ use Rattle.std.specs.List.{AllByRecursion, list_any, list_all}
 use Rattle.std.proofs.lemmas.Bool.{and_parts, eqb-true, false≢true, and_from, or_cases, or_left, or_right}
 use Rattle.judge_state.specs.declared.parts.JudgedBranch.{JudgedBranch}
 use Rattle.judge_state.specs.declared.parts.JudgedDecision.{JudgedDecision}
-use Rattle.judge_state.specs.declared.parts.JudgedDecision.TheVariants as decision
+use Rattle.judge_words.specs.decision
 use Rattle.judge_state.specs.declared.parts.Listed.{Listed}
 use Rattle.judge_state.specs.declared.parts.Stand.{Stand}
 use Rattle.judge_state.specs.declared.parts.Stand.TheVariants.{Active, Prepared, RollbackOnly, Heuristic}
@@ -17,17 +17,17 @@ use Rattle.judge_state.specs.Questions.{active_of, branch_at, has_suspended}
 use Rattle.judge_state.specs.Moves.{begun, brought_back, committed, decided, enlisted, fallen, gone, is_of, is_prepared, is_prepared_at, keeps_name, linked, marked, migrating, new_lines, outside, picked, prepared, published, remembered, restarted, rolled, scans_without, settled, stands, unlinked, with_stand, without_due, without_surety, works_of, worked, written}
 use Rattle.judge_state.specs.Scans.{has as lists_number, held_after, is_written, may_give, may_hold, has_value, has_worked, is_worked, may_read, scan_closed, scan_given, scan_opened, with_given}
 use Rattle.judge_rules.specs.declared.calls.JudgedAnswer.{JudgedAnswer}
-use Rattle.judge_rules.specs.declared.calls.JudgedAnswer.TheVariants as answer
+use Rattle.judge_words.specs.answer
 use Rattle.judge_rules.specs.declared.calls.BranchVerb.{BranchVerb}
-use Rattle.judge_rules.specs.declared.calls.BranchVerb.TheVariants as verb
+use Rattle.judge_words.specs.verb
 use Rattle.judge_rules.specs.declared.calls.JudgedCall.{JudgedCall}
-use Rattle.judge_rules.specs.declared.calls.JudgedCall.TheVariants as call
+use Rattle.judge_words.specs.call
 use Rattle.judge_rules.specs.declared.calls.Function.{Function}
-use Rattle.judge_rules.specs.declared.calls.Function.TheVariants as function
+use Rattle.judge_words.specs.function
 use Rattle.judge_rules.specs.declared.calls.On.{On}
 use Rattle.judge_rules.specs.declared.defects.Refusals.{Refusals}
 use Rattle.judge_rules.specs.declared.replies.Reply.{Reply}
-use Rattle.judge_rules.specs.declared.replies.Reply.TheVariants as reply
+use Rattle.judge_words.specs.reply
 use Rattle.judge_rules.specs.declared.words.Rules.{Rules}
 use Rattle.judge_rules.specs.Defects.{branch_defects, branch_excuses, close_defects, is_plain, is_spoiled_at, is_unscanned, open_defects, recover_defects, recover_excuses}
 use Rattle.judge_rules.specs.Falls.{after_restart, done_failing, effects, effects_rows, failed, failed_rows, half_done, is_decided, may_return, maybe_back}

@@ -15,7 +15,7 @@ use Rattle.spellings.specs.Words.{cut_at}
 use Rattle.xa_codes.specs.FlagNames.{IsFlagText}
 use Rattle.xa_codes.specs.declared.code.Code.{Code as AnyCode}
 use Rattle.xa_tables.specs.declared.call.Call.{Call as TableCall}
-use Rattle.xa_tables.specs.declared.call.Verb.TheVariants as table_verb
+use Rattle.xa_words.specs.verb
 use Rattle.xa_tables.specs.declared.states.InitState.{InitState}
 use Rattle.xa_tables.specs.declared.states.InitState.TheVariants.{R0, R1}
 use Rattle.xa_tables.specs.Calls.{legal}
@@ -173,7 +173,7 @@ scans_few : (old new : KvSight) (t count flags : ℕ) (xs : List Xid) → Reques
     → length xs ≤ count
 scans_few old new t count flags xs h = elim (cases_Bool old.log.sight.failed) [
   | inl failed ↦ none_given xs _ (h.failed failed).0
-  | inr works ↦ recovers_few old.store.tables new.store.tables t count xs (legal table_verb.Recover flags) (h.works works).tables
+  | inr works ↦ recovers_few old.store.tables new.store.tables t count xs (legal verb.Recover flags) (h.works works).tables
 ]
 
 -- an answer gives few branches

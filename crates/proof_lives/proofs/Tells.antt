@@ -3,12 +3,12 @@ use Rattle.std.proofs.Common.{◌≡◌, ◌∙◌, ◌||◌, ap, sym, subst, re
 use Rattle.std.specs.Prelude.{⊤}
 use Rattle.std.specs.List.{AllByRecursion, list_any}
 use Rattle.protocol.specs.declared.names.Case.{Case}
-use Rattle.protocol.specs.declared.names.Outcome.TheVariants as outcome
+use Rattle.protocol_words.specs.outcome
 use Rattle.protocol.specs.declared.names.Presumption.TheVariants.{PresumeAbort, PresumeCommit}
 use Rattle.protocol.specs.declared.names.ProcessId.{ProcessId}
 use Rattle.protocol.specs.declared.names.Ticket.{Ticket}
 use Rattle.protocol.specs.declared.names.Txn.{Txn}
-use Rattle.protocol.specs.declared.records.Record.TheVariants.{Commit as CommitRecord}
+use Rattle.protocol_words.specs.Variants.{CommitRecord}
 use Rattle.protocol.specs.declared.events.Conclusion.{Conclusion}
 use Rattle.protocol.specs.declared.events.Conclusion.TheVariants.{Committed, Aborted, ReadOnly}
 use Rattle.protocol.specs.declared.events.JournalEntry.{JournalEntry}
@@ -30,14 +30,14 @@ use Rattle.protocol.proofs.RunLaws.{makes_at}
 use Rattle.proof_pairs.specs.readings.ReadingOf.{is_told_of_txn}
 use Rattle.proof_pairs.specs.turns.CoordinatorTurns.{CaseTurn, rests, invites, accepts, sends_work, finds_nobody, asks_for_votes, gives_up, counts_vote, reads_only, commits, promises, hears_no, aborts, passes_commit, passes_abort, repeats_yes, asks, refuses, acknowledges, waits_for_acks, ends, clears, answers, CoordinatorTurn, does_nothing, of_case, begins, gives_again, gives_fresh, presumes}
 use Rattle.proof_pairs.specs.turns.LeafTurns.{LeafTurn}
-use Rattle.proof_pairs.specs.turns.LeafTurns as leaf
+use Rattle.proof_pairs.specs.turns.LeafTurns
 use Rattle.proof_pairs.specs.turns.Steps.{StepOf, TurnAt, handled, failed_in, passed, failed_passing, reopened, failed_reopening, trims_log, failed_trimming, heard_in}
 use Rattle.proof_pairs.proofs.turns.CoordinatorReactions.{CoordinatorTurnAt, coordinator_turn_of}
 use Rattle.proof_pairs.proofs.turns.Steps.{step_of, turn_of}
 use Rattle.proof_processes.specs.WorldHolds.{RootHolds, has_begun, is_record_of}
 use Rattle.proof_processes.proofs.RootsHold.{roots_begin}
 use Rattle.proof_headline.proofs.Grows.{durable_still}
-use Rattle.proof_headline.proofs.runs.Headline as runs
+use Rattle.proof_headline.proofs.runs.Headline
 use Rattle.proof_lives.specs.Tells.{EntriesTellSo, IsOutcome, TellsSo, ToldIsSo}
 
 -- Rows that tell.
@@ -126,22 +126,22 @@ module _ (place : Place) (n : Node) (h : Heard) where
   turn_tells role parent _ (presumes x t i e) top u g = absurd (cc)
 
   leaf_tells : (p : ProcessId) (e : Effect) → LeafTurn place p n h e → e.told ≡ None
-  leaf_tells p _ leaf.does_nothing = refl
-  leaf_tells p _ (leaf.gives_again d t i k) = refl
-  leaf_tells p _ (leaf.gives_fresh d i k s) = refl
-  leaf_tells p _ (leaf.votes_yes d j ws i k) = refl
-  leaf_tells p _ (leaf.votes_read d j i k) = refl
-  leaf_tells p _ (leaf.votes_no d j i k) = refl
-  leaf_tells p _ (leaf.repeats_yes d j i k) = refl
-  leaf_tells p _ (leaf.refuses d j i k) = refl
-  leaf_tells p _ (leaf.obeys d o i k) = refl
-  leaf_tells p _ (leaf.notes d o i k) = refl
-  leaf_tells p _ (leaf.acknowledges_told d o i k) = refl
-  leaf_tells p _ (leaf.acknowledges d o i k) = refl
-  leaf_tells p _ (leaf.drops d i k) = refl
-  leaf_tells p _ (leaf.asks d i k) = refl
-  leaf_tells p _ (leaf.decides d o i k) = refl
-  leaf_tells p _ (leaf.forgets d i k) = refl
+  leaf_tells p _ LeafTurns.does_nothing = refl
+  leaf_tells p _ (LeafTurns.gives_again d t i k) = refl
+  leaf_tells p _ (LeafTurns.gives_fresh d i k s) = refl
+  leaf_tells p _ (LeafTurns.votes_yes d j ws i k) = refl
+  leaf_tells p _ (LeafTurns.votes_read d j i k) = refl
+  leaf_tells p _ (LeafTurns.votes_no d j i k) = refl
+  leaf_tells p _ (LeafTurns.repeats_yes d j i k) = refl
+  leaf_tells p _ (LeafTurns.refuses d j i k) = refl
+  leaf_tells p _ (LeafTurns.obeys d o i k) = refl
+  leaf_tells p _ (LeafTurns.notes d o i k) = refl
+  leaf_tells p _ (LeafTurns.acknowledges_told d o i k) = refl
+  leaf_tells p _ (LeafTurns.acknowledges d o i k) = refl
+  leaf_tells p _ (LeafTurns.drops d i k) = refl
+  leaf_tells p _ (LeafTurns.asks d i k) = refl
+  leaf_tells p _ (LeafTurns.decides d o i k) = refl
+  leaf_tells p _ (LeafTurns.forgets d i k) = refl
 
   says_by : (role : Role) (e : Effect) → CoordinatorTurnAt role place n h e → TurnAt role place n h e
       → (u : Told) → e.told ≡ Some u → Says role e u
@@ -372,7 +372,7 @@ module _ (tree : List TreeProcess) (is_tree : IsTree tree) (es : List Made) (w :
   is_outcome : (x : Txn) (a : Conclusion) → Held tree w x a → IsOutcome w x a
   is_outcome x Committed h = rw h refl
   is_outcome x Aborted h =
-      sym ((runs.headline tree is_tree es w run).agreement.root_agrees x outcome.Aborted h.0 (by_told _ _ _ h.1))
+      sym ((Headline.headline tree is_tree es w run).agreement.root_agrees x outcome.Aborted h.0 (by_told _ _ _ h.1))
     where
       by_told : (a b c : Bool) → b ≡ true → (a || b || c) ≡ true
       by_told true b c e = refl

@@ -1,6 +1,6 @@
 -- What the root's log tells of how a transaction ended.
 use Rattle.std.specs.Prelude.{◌≡◌, ⊤, false, Some, List}
-use Rattle.protocol.specs.declared.names.Outcome.TheVariants as outcome
+use Rattle.protocol_words.specs.outcome
 use Rattle.protocol.specs.declared.names.ProcessId.{ProcessId}
 use Rattle.protocol.specs.declared.names.Txn.{Txn}
 use Rattle.protocol.specs.Nodes.{AtRoot, role_of}

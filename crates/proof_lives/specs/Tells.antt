@@ -1,7 +1,7 @@
 -- What the application is told of a transaction.
 use Rattle.std.specs.Prelude.{◌≡◌, ⊤, Option, Some, None, List}
 use Rattle.std.specs.List.{AllByRecursion}
-use Rattle.protocol.specs.declared.names.Outcome.TheVariants as outcome
+use Rattle.protocol_words.specs.outcome
 use Rattle.protocol.specs.declared.names.Txn.{Txn}
 use Rattle.protocol.specs.declared.events.Conclusion.{Conclusion}
 use Rattle.protocol.specs.declared.events.Conclusion.TheVariants.{Committed, Aborted, ReadOnly}

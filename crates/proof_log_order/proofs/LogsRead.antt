@@ -5,7 +5,7 @@ use Rattle.protocol.specs.declared.names.Kind.TheVariants.{Coordinator}
 use Rattle.protocol.specs.declared.names.Case.{Case}
 use Rattle.protocol.specs.declared.names.ProcessId.{ProcessId}
 use Rattle.protocol.specs.declared.names.Ticket.{Ticket}
-use Rattle.protocol.specs.declared.records.BranchName.TheVariants.{Case as CaseBranch}
+use Rattle.protocol_words.specs.Variants.{CaseBranch}
 use Rattle.protocol.specs.declared.records.LogRecord.{LogRecord}
 use Rattle.protocol.specs.declared.records.Record.{Record}
 use Rattle.protocol.specs.declared.records.Record.TheVariants.{Opened, Collecting, Prepare, Commit, Abort, End, Cleared}

@@ -6,7 +6,7 @@ use Rattle.protocol.specs.declared.names.ProcessId.{ProcessId}
 use Rattle.protocol.specs.declared.names.Ticket.{Ticket}
 use Rattle.protocol.specs.declared.names.Txn.{Txn}
 use Rattle.protocol.specs.declared.records.BranchName.{BranchName}
-use Rattle.protocol.specs.declared.records.BranchName.TheVariants.{Case as CaseBranch}
+use Rattle.protocol_words.specs.Variants.{CaseBranch}
 use Rattle.protocol.specs.Branches.{FitsBelow, FitsTxn, branch_parts}
 use Rattle.protocol.specs.LogNames.{below_of, is_own, is_ticketed, name_xid, parent_of, ticket_parent}
 use Rattle.protocol.specs.Names.{process_of, same_process}

@@ -12,9 +12,9 @@ use Rattle.protocol.specs.declared.names.Outcome.{Outcome}
 use Rattle.protocol.specs.declared.names.Ticket.{Ticket}
 use Rattle.protocol.specs.declared.messages.Finding.{Finding}
 use Rattle.protocol.specs.declared.records.Write.{Write}
-use Rattle.protocol.specs.declared.standings.Standing.TheVariants.{Active as ActiveStanding, Collecting, Committing}
+use Rattle.protocol.specs.declared.standings.Standing.TheVariants.{Collecting, Committing}
+use Rattle.protocol_words.specs.Variants.{ActiveStanding, VoteYes}
 use Rattle.protocol.specs.declared.standings.Vote.{Vote}
-use Rattle.protocol.specs.declared.standings.Vote.TheVariants.{Yes as VoteYes}
 use Rattle.protocol.specs.Names.{same_ticket}
 use Rattle.protocol.specs.NameLaws.{names, same_ticket-refl}
 use Rattle.protocol.specs.Records.{in_list, none_of}

@@ -7,17 +7,15 @@ use Rattle.protocol.specs.declared.names.Case.{Case}
 use Rattle.protocol.specs.declared.names.ProcessId.{ProcessId}
 use Rattle.protocol.specs.declared.names.Ticket.{Ticket}
 use Rattle.protocol.specs.declared.names.Outcome.{Outcome}
-use Rattle.protocol.specs.declared.names.Outcome.TheVariants.{Committed as CommittedOutcome, Aborted as AbortedOutcome}
+use Rattle.protocol_words.specs.Variants.{AbortedOutcome, ActInput, CaseBranch, CommittedOutcome, MessageInput}
 use Rattle.protocol.specs.declared.messages.Op.{Op}
 use Rattle.protocol.specs.declared.messages.Message.{Message}
 use Rattle.protocol.specs.declared.messages.Finding.{Finding}
 use Rattle.protocol.specs.declared.messages.Message.TheVariants.{Join, Joined, Work, Prepare, Yes, No, Read, Commit, Abort, Ack, Inquire}
 use Rattle.protocol.specs.declared.events.Act.TheVariants.{Ask, Decide, Forget}
 use Rattle.protocol.specs.declared.events.Input.{Input}
-use Rattle.protocol.specs.declared.events.Input.TheVariants.{Act as ActInput, Message as MessageInput}
 use Rattle.protocol.specs.declared.trees.TreeProcess.{TreeProcess}
 use Rattle.protocol.specs.declared.records.BranchName.{BranchName}
-use Rattle.protocol.specs.declared.records.BranchName.TheVariants.{Case as CaseBranch}
 use Rattle.protocol.specs.declared.records.Record.{Record}
 use Rattle.protocol.specs.declared.standings.Standing.{Standing}
 use Rattle.protocol.specs.declared.standings.Standing.TheVariants.{Unknown, Active, Collecting, Prepared, Committing, Aborting, Heuristic}
@@ -28,7 +26,7 @@ use Rattle.protocol.specs.Nodes.{Version, Place, AtLeaf, Node, kept, Heard, Effe
 use Rattle.protocol.specs.Memory.{Memory, Phase, Idle, Open, Asked, Over, fresh_memory, memory_of, remembers, manager_remembers, manager_hears, joins, gives, opens_case, next_ticket, active_ticket, without_ticket, works, closes, retires}
 use Rattle.protocol.specs.Standings.{ManagerView, unknown_branch, decided_findings, manager_view, marked_branch, heard_branch, active_branch, Mark, Unmarked, Promised, Decided, ToldOf, Finished, mark_of, mark_after}
 use Rattle.protocol.specs.ManagerRows.{Leaf, LeafRow, untold_ask, prepared_decide, heuristic_forget}
-use Rattle.protocol.specs.ManagerRows as leaf
+use Rattle.protocol.specs.ManagerRows
 use Rattle.protocol.specs.Reactions.{leaf_effect, leaf_of, leaf_joins}
 use Rattle.protocol.specs.Views.{MovesBranch, JoinsBranch, ManagerViews, leaf_place, hears_message, hears_act, fresh_case}
 use Rattle.protocol.proofs.ListLaws.{memory_of-after, kept-after}
@@ -96,15 +94,15 @@ heard_closes m Over e = rw e refl
 active_works : (m : Memory) (i : ℕ) (does b : Bool) → m.phase ≡ Open
     → marked_branch (if b then (if does then record m { done = i } else record m { spoiled = true }) else m)
     Unmarked
-    ≡ (if b then leaf.unmoved (if does then record (active_branch m) { done = i }
-    else record (active_branch m) { spoiled = true }) else leaf.unmoved (active_branch m)).view
+    ≡ (if b then ManagerRows.unmoved (if does then record (active_branch m) { done = i }
+    else record (active_branch m) { spoiled = true }) else ManagerRows.unmoved (active_branch m)).view
 active_works m i true true e = rw e refl
 active_works m i false true e = rw e refl
 active_works m i does false e = rw e refl
 
 work_heard : (m : Memory) (i : ℕ) (does : Bool) (phase : Phase) → m.phase ≡ phase
     → let v = heard_branch m phase in marked_branch (works m i does phase) Unmarked
-    ≡ (leaf.on_work i does v v.standing).view
+    ≡ (ManagerRows.on_work i does v v.standing).view
 work_heard m i does Idle e = rw e refl
 work_heard m i does Open e = active_works m i does ((i == m.done + 1) && not m.spoiled) e
 work_heard m i does Asked e = rw e refl
@@ -112,7 +110,7 @@ work_heard m i does Over e = rw e refl
 
 work_moves : (m : Memory) (i : ℕ) (does : Bool) (mark : Mark)
     → let v = marked_branch m mark in marked_branch (works m i does m.phase) mark
-    ≡ (leaf.on_work i does v v.standing).view
+    ≡ (ManagerRows.on_work i does v v.standing).view
 work_moves m i does Unmarked = work_heard m i does m.phase refl
 work_moves m i does Promised = refl
 work_moves m i does Decided = refl
@@ -125,10 +123,10 @@ active_writes true r q h k = h
 active_writes false r q h k = k
 
 pub work_writes : (i : ℕ) (does : Bool) (v : ManagerView) (s : Standing)
-    → entries_written (leaf.on_work i does v s).written ≡ []
+    → entries_written (ManagerRows.on_work i does v s).written ≡ []
 work_writes i does v Active = active_writes ((i == v.done + 1) && not v.spoiled)
-    (leaf.unmoved (if does then record v { done = i } else record v { spoiled = true }))
-    (leaf.unmoved v) refl refl
+    (ManagerRows.unmoved (if does then record v { done = i } else record v { spoiled = true }))
+    (ManagerRows.unmoved v) refl refl
 work_writes i does v Unknown = refl
 work_writes i does v Collecting = refl
 work_writes i does v Prepared = refl
@@ -149,8 +147,8 @@ pub record IsOwn (l : Leaf) (row : LeafRow) : Type 0 where
       → marks (CaseBranch c) mark (entries_written row.written) ≡ mark
 
 prepare_choice : (l : Leaf) (m : Memory) (holding : Holding) (b : Bool)
-    → let row = if b then leaf.active_prepare_holding l holding
-    else leaf.replies l (No l.own) unknown_branch in
+    → let row = if b then ManagerRows.active_prepare_holding l holding
+    else ManagerRows.replies l (No l.own) unknown_branch in
     marked_branch (record (retires m l.own) { phase = Over }) (marks_of l Unmarked row) ≡ row.view
 prepare_choice l m ReadsOnly true = refl
 prepare_choice l m (Holds ws) true = rw (same_branch-refl l.own) refl
@@ -158,7 +156,7 @@ prepare_choice l m holding false = refl
 
 prepare_heard : (l : Leaf) (m : Memory) (i : ℕ) (holding : Holding) (phase : Phase) → m.phase ≡ phase
     → let v = heard_branch m phase in
-    let row = leaf.on_prepare l i holding v v.standing in
+    let row = ManagerRows.on_prepare l i holding v v.standing in
     marked_branch (closes (retires m l.own) phase) (marks_of l Unmarked row) ≡ row.view
 prepare_heard l m i holding Idle e = rw e refl
 prepare_heard l m i holding Open e = prepare_choice l m holding ((m.done == i) && not m.spoiled)
@@ -167,7 +165,7 @@ prepare_heard l m i holding Over e = refl
 
 prepare_moves : (l : Leaf) (m : Memory) (i : ℕ) (holding : Holding) (mark : Mark)
     → let v = marked_branch m mark in
-    let row = leaf.on_prepare l i holding v v.standing in
+    let row = ManagerRows.on_prepare l i holding v v.standing in
     marked_branch (closes (retires m l.own) m.phase) (marks_of l mark row) ≡ row.view
 prepare_moves l m i holding Unmarked = prepare_heard l m i holding m.phase refl
 prepare_moves l m i holding Promised = refl
@@ -179,7 +177,7 @@ choice_own : (l : Leaf) (r q : LeafRow) (b : Bool) → IsOwn l r → IsOwn l q �
 choice_own l r q true h k = h
 choice_own l r q false h k = k
 
-prepares_own : (l : Leaf) (holding : Holding) → IsOwn l (leaf.active_prepare_holding l holding)
+prepares_own : (l : Leaf) (holding : Holding) → IsOwn l (ManagerRows.active_prepare_holding l holding)
 prepares_own l ReadsOnly = record { boot = λ b. refl; others = λ c mark o. refl }
 prepares_own l (Holds ws) = record { boot = λ b. refl; others = λ c mark o. rw (other_branch l.own c o) refl }
 
@@ -187,7 +185,7 @@ quiet_own : (l : Leaf) (row : LeafRow) → row.written ≡ [] → IsOwn l row
 quiet_own l row h = record { boot = λ b. rw h refl; others = λ c mark o. rw h refl }
 
 pub prepare_own : (l : Leaf) (i : ℕ) (holding : Holding) (v : ManagerView) (s : Standing)
-    → IsOwn l (leaf.on_prepare l i holding v s)
+    → IsOwn l (ManagerRows.on_prepare l i holding v s)
 prepare_own l i holding v Active = choice_own l _ _ ((v.done == i) && not v.spoiled) (prepares_own l holding)
     (quiet_own l _ refl)
 prepare_own l i holding v Unknown = quiet_own l _ refl
@@ -200,15 +198,15 @@ prepare_own l i holding v Heuristic = quiet_own l _ refl
 -- an outcome at a branch that an operator decided
 told_again : (l : Leaf) (m : Memory) (o told : Outcome) (fs : List Finding) (b : Bool)
     → let v = marked_branch m (ToldOf told) in
-    let row = if b then record { written = []; messages = leaf.acknowledgement l o fs; view = v }
-    else leaf.unmoved v in
+    let row = if b then record { written = []; messages = ManagerRows.acknowledgement l o fs; view = v }
+    else ManagerRows.unmoved v in
     marked_branch m (marks_of l (ToldOf told) row) ≡ row.view
 told_again l m o told fs true = refl
 told_again l m o told fs false = refl
 
 commit_heard : (ver : Version) (rs : List Record) (l : Leaf) (m : Memory) (phase : Phase) → m.phase ≡ phase
     → let v = heard_branch m phase in
-    let row = leaf.on_commit ver l rs v v.standing in
+    let row = ManagerRows.on_commit ver l rs v v.standing in
     heard_branch m phase ≡ row.view
 commit_heard ver rs l m Idle e = refl
 commit_heard ver rs l m Open e = refl
@@ -216,7 +214,7 @@ commit_heard ver rs l m Asked e = refl
 commit_heard ver rs l m Over e = refl
 
 commit_writes : (ver : Version) (rs : List Record) (l : Leaf) (m : Memory) (phase : Phase) → let v = heard_branch m phase in
-    (leaf.on_commit ver l rs v v.standing).written ≡ []
+    (ManagerRows.on_commit ver l rs v v.standing).written ≡ []
 commit_writes ver rs l m Idle = refl
 commit_writes ver rs l m Open = refl
 commit_writes ver rs l m Asked = refl
@@ -224,7 +222,7 @@ commit_writes ver rs l m Over = refl
 
 commit_moves : (ver : Version) (rs : List Record) (l : Leaf) (m : Memory) (mark : Mark)
     → let v = marked_branch m mark in
-    let row = leaf.on_commit ver l rs v v.standing in
+    let row = ManagerRows.on_commit ver l rs v v.standing in
     marked_branch m (marks_of l mark row) ≡ row.view
 commit_moves ver rs l m Unmarked = rw (commit_writes ver rs l m m.phase) (commit_heard ver rs l m m.phase refl)
 commit_moves ver rs l m Promised = rw (same_branch-refl l.own) refl
@@ -233,7 +231,7 @@ commit_moves ver rs l m (ToldOf told) = told_again l m CommittedOutcome told
     (decided_findings ver rs l.own CommittedOutcome) (same_outcome told CommittedOutcome)
 commit_moves ver rs l m Finished = refl
 
-outcome_own : (l : Leaf) (o : Outcome) → IsOwn l (leaf.prepared_outcome l o)
+outcome_own : (l : Leaf) (o : Outcome) → IsOwn l (ManagerRows.prepared_outcome l o)
 outcome_own l CommittedOutcome = record {
   boot = λ b. refl;
   others = λ c mark q. rw (other_branch l.own c q) refl;
@@ -244,12 +242,12 @@ outcome_own l AbortedOutcome = record {
 }
 
 heuristic_own : (l : Leaf) (o : Outcome) (fs : List Finding) (v : ManagerView) (told : Option Outcome)
-    → IsOwn l (leaf.heuristic_outcome l o fs v told)
+    → IsOwn l (ManagerRows.heuristic_outcome l o fs v told)
 heuristic_own l o fs v None = record { boot = λ b. refl; others = λ c mark q. rw (other_branch l.own c q) refl }
 heuristic_own l o fs v (Some told) = choice_own l _ _ (same_outcome told o) (quiet_own l _ refl)
     (quiet_own l _ refl)
 
-pub commit_own : (ver : Version) (rs : List Record) (l : Leaf) (v : ManagerView) (s : Standing) → IsOwn l (leaf.on_commit ver l rs v s)
+pub commit_own : (ver : Version) (rs : List Record) (l : Leaf) (v : ManagerView) (s : Standing) → IsOwn l (ManagerRows.on_commit ver l rs v s)
 commit_own ver rs l v Prepared = outcome_own l CommittedOutcome
 commit_own ver rs l v Heuristic = heuristic_own l CommittedOutcome (decided_findings ver rs l.own CommittedOutcome) v v.told
 commit_own ver rs l v Unknown = quiet_own l _ refl
@@ -260,7 +258,7 @@ commit_own ver rs l v Aborting = quiet_own l _ refl
 
 abort_heard : (ver : Version) (rs : List Record) (l : Leaf) (m : Memory) (phase : Phase) → m.phase ≡ phase
     → let v = heard_branch m phase in
-    let row = leaf.on_abort ver l rs v v.standing in
+    let row = ManagerRows.on_abort ver l rs v v.standing in
     marked_branch (closes (retires m l.own) phase) (marks_of l Unmarked row) ≡ row.view
 abort_heard ver rs l m Idle e = rw e refl
 abort_heard ver rs l m Open e = refl
@@ -269,7 +267,7 @@ abort_heard ver rs l m Over e = refl
 
 abort_moves : (ver : Version) (rs : List Record) (l : Leaf) (m : Memory) (mark : Mark)
     → let v = marked_branch m mark in
-    let row = leaf.on_abort ver l rs v v.standing in
+    let row = ManagerRows.on_abort ver l rs v v.standing in
     marked_branch (closes (retires m l.own) m.phase) (marks_of l mark row) ≡ row.view
 abort_moves ver rs l m Unmarked = abort_heard ver rs l m m.phase refl
 abort_moves ver rs l m Promised = rw (same_branch-refl l.own) refl
@@ -278,7 +276,7 @@ abort_moves ver rs l m (ToldOf told) = told_again l (closes (retires m l.own) m.
     (decided_findings ver rs l.own AbortedOutcome) (same_outcome told AbortedOutcome)
 abort_moves ver rs l m Finished = refl
 
-pub abort_own : (ver : Version) (rs : List Record) (l : Leaf) (v : ManagerView) (s : Standing) → IsOwn l (leaf.on_abort ver l rs v s)
+pub abort_own : (ver : Version) (rs : List Record) (l : Leaf) (v : ManagerView) (s : Standing) → IsOwn l (ManagerRows.on_abort ver l rs v s)
 abort_own ver rs l v Prepared = outcome_own l AbortedOutcome
 abort_own ver rs l v Heuristic = heuristic_own l AbortedOutcome (decided_findings ver rs l.own AbortedOutcome) v v.told
 abort_own ver rs l v Unknown = quiet_own l _ refl
@@ -461,22 +459,22 @@ module _ (ver : Version) (me p : ProcessId) (tree : List TreeProcess) (n : Node)
   own = leaf_of place p d
 
   pub work_views : (k i : ℕ) (op : Op) (a : DataAnswer) → let v = manager_view place n d in
-      MovesBranch place n (hears_message ver k (Work d i op) a) d (leaf.on_work i a.does v v.standing)
+      MovesBranch place n (hears_message ver k (Work d i op) a) d (ManagerRows.on_work i a.does v v.standing)
   unfolding manager_view
   work_views k i op a =
       let m = memory_of place n d in
       let mark = mark_of (CaseBranch d) (kept n) in
       let v = marked_branch m mark in
-      let nothing : entries_written (leaf.on_work i a.does v v.standing).written ≡ [] =
+      let nothing : entries_written (ManagerRows.on_work i a.does v v.standing).written ≡ [] =
       work_writes i a.does v v.standing in
-      let none : IsOwn own (leaf.on_work i a.does v v.standing) =
+      let none : IsOwn own (ManagerRows.on_work i a.does v v.standing) =
       record { boot = λ b. rw nothing refl; others = λ c w o. rw nothing refl } in
       assembled place n _ own _ none
       (rw (nothing, same_case-refl d) (work_moves m i a.does mark))
       (λ c w o. rw o refl)
 
   pub prepare_views : (k i : ℕ) (a : DataAnswer) → let v = manager_view place n d in
-      MovesBranch place n (hears_message ver k (Prepare d i) a) d (leaf.on_prepare own i a.holding v v.standing)
+      MovesBranch place n (hears_message ver k (Prepare d i) a) d (ManagerRows.on_prepare own i a.holding v v.standing)
   unfolding manager_view
   prepare_views k i a =
       let m = memory_of place n d in
@@ -487,7 +485,7 @@ module _ (ver : Version) (me p : ProcessId) (tree : List TreeProcess) (n : Node)
       (λ c w o. rw o (view_retires (memory_of place n c) d w))
 
   pub commit_views : (k : ℕ) (a : DataAnswer) (rs : List Record) → let v = manager_view place n d in
-      MovesBranch place n (hears_message ver k (Commit d) a) d (leaf.on_commit ver own rs v v.standing)
+      MovesBranch place n (hears_message ver k (Commit d) a) d (ManagerRows.on_commit ver own rs v v.standing)
   unfolding manager_view
   commit_views k a rs =
       let m = memory_of place n d in
@@ -497,7 +495,7 @@ module _ (ver : Version) (me p : ProcessId) (tree : List TreeProcess) (n : Node)
       (commit_moves ver rs own m mark) (λ c w o. refl)
 
   pub abort_views : (k : ℕ) (a : DataAnswer) (rs : List Record) → let v = manager_view place n d in
-      MovesBranch place n (hears_message ver k (Abort d) a) d (leaf.on_abort ver own rs v v.standing)
+      MovesBranch place n (hears_message ver k (Abort d) a) d (ManagerRows.on_abort ver own rs v v.standing)
   unfolding manager_view
   abort_views k a rs =
       let m = memory_of place n d in

@@ -9,10 +9,9 @@ use Rattle.protocol.specs.declared.messages.Message.{Message}
 use Rattle.protocol.specs.declared.messages.Finding.{Finding}
 use Rattle.protocol.specs.declared.messages.Message.TheVariants.{Joined, Yes, No, Read, Ack}
 use Rattle.protocol.specs.declared.standings.Vote.{Vote}
-use Rattle.protocol.specs.declared.standings.Vote.TheVariants.{Yes as VoteYes, No as VoteNo, Read as VoteRead}
-use Rattle.protocol.specs.declared.events.Act.TheVariants.{Begin, Work as WorkAct, Commit as CommitAct, Abort as AbortAct}
+use Rattle.protocol_words.specs.Variants.{AbortAct, ActInput, CommitAct, MessageInput, VoteNo, VoteRead, VoteYes, WorkAct}
+use Rattle.protocol.specs.declared.events.Act.TheVariants.{Begin}
 use Rattle.protocol.specs.declared.events.Input.{Input}
-use Rattle.protocol.specs.declared.events.Input.TheVariants.{Act as ActInput, Message as MessageInput}
 use Rattle.protocol.specs.declared.trees.TreeProcess.{TreeProcess}
 use Rattle.protocol.specs.Names.{same_txn, same_case, root_case}
 use Rattle.protocol.specs.Records.{none_of, boot_of}

@@ -7,19 +7,15 @@ use Rattle.protocol.specs.declared.names.ProcessId.{ProcessId}
 use Rattle.protocol.specs.declared.names.Ticket.{Ticket}
 use Rattle.protocol.specs.declared.names.Txn.{Txn}
 use Rattle.protocol.specs.declared.names.Outcome.{Outcome}
-use Rattle.protocol.specs.declared.names.Outcome.TheVariants.{Committed as CommittedOutcome, Aborted as AbortedOutcome}
+use Rattle.protocol_words.specs.Variants.{AbortAct, AbortRecord, AbortedOutcome, CollectingRecord, CommitAct, CommitRecord, CommittedOutcome, EndRecord, JoinAct, MessageInput, VoteNo, VoteRead, VoteYes, WorkAct}
 use Rattle.protocol.specs.declared.names.Presumption.{Presumption}
 use Rattle.protocol.specs.declared.names.Presumption.TheVariants.{PresumeAbort, PresumeCommit}
 use Rattle.protocol.specs.declared.messages.Op.{Op}
 use Rattle.protocol.specs.declared.messages.Finding.{Finding}
 use Rattle.protocol.specs.declared.messages.Message.TheVariants.{Join, Joined, Ack, Inquire}
 use Rattle.protocol.specs.declared.standings.Vote.{Vote}
-use Rattle.protocol.specs.declared.standings.Vote.TheVariants.{Yes as VoteYes, No as VoteNo, Read as VoteRead}
-use Rattle.protocol.specs.declared.events.Act.TheVariants.{Join as JoinAct, Work as WorkAct, Commit as CommitAct, Abort as AbortAct}
-use Rattle.protocol.specs.declared.events.Input.TheVariants.{Message as MessageInput}
 use Rattle.protocol.specs.declared.trees.TreeProcess.{TreeProcess}
 use Rattle.protocol.specs.declared.records.Record.{Record}
-use Rattle.protocol.specs.declared.records.Record.TheVariants.{Collecting as CollectingRecord, Commit as CommitRecord, Abort as AbortRecord, End as EndRecord}
 use Rattle.protocol.specs.declared.standings.Standing.{Standing}
 use Rattle.protocol.specs.declared.standings.Standing.TheVariants.{Unknown, Active, Collecting, Prepared, Committing, Aborting, Heuristic}
 use Rattle.protocol.specs.Names.{same_txn, same_case, root_case, child_case}

@@ -5,7 +5,7 @@ use Rattle.std.proofs.lemmas.List.{append-nil}
 use Rattle.protocol.specs.declared.names.Case.{Case}
 use Rattle.protocol.specs.declared.names.Ticket.{Ticket}
 use Rattle.protocol.specs.declared.records.Record.{Record}
-use Rattle.protocol.specs.declared.records.Record.TheVariants.{Commit as CommitRecord, Abort as AbortRecord}
+use Rattle.protocol_words.specs.Variants.{AbortRecord, CommitRecord}
 use Rattle.protocol.specs.Names.{same_case}
 use Rattle.protocol.specs.NameLaws.{same_case-refl, same_txn-refl, same_ticket_tells}
 use Rattle.protocol.specs.Records.{has, none_of, is_commit, is_abort, named_by, named_in, promised_by, promised_in, owing_by, owing_in}

@@ -2,9 +2,8 @@
 use Rattle.std.proofs.Common.{◌≡◌, ◌∙◌, ap, sym, subst, refl, inl, inr, ℕ, Bool, true, false, ◌&&◌, Option, Some, None, List, Result, Ok, Err}
 use Rattle.protocol.specs.declared.names.ProcessId.{ProcessId}
 use Rattle.protocol.specs.declared.messages.Envelope.{Envelope}
-use Rattle.protocol.specs.declared.events.Happening.TheVariants.{Input as Handles}
+use Rattle.protocol_words.specs.Variants.{ActInput, Handles, MessageInput}
 use Rattle.protocol.specs.declared.events.Input.{Input}
-use Rattle.protocol.specs.declared.events.Input.TheVariants.{Act as ActInput, Message as MessageInput}
 use Rattle.protocol.specs.declared.events.Reaction.{Reaction}
 use Rattle.protocol.specs.declared.events.StepError.{StepError}
 use Rattle.protocol.specs.declared.events.StepError.TheVariants.{Memory, Device, UnknownTxn, NotAChild, Closed, Failed, NotInDoubt, NothingToForget, NoSuch, Exhausted}
@@ -25,7 +24,7 @@ use Rattle.node_lines.specs.declared.asked.NodeLine.TheVariants as asked
 use Rattle.node_engine.specs.declared.failure.NodeFailure.{NodeFailure}
 use Rattle.node_engine.specs.Answers.{AnswersAsked, AnswersAgain, AnswersIf, NodeState, NodeTakes, TakesAgain, TakesIf, TellsOutcome, Took, NodeTrimmed, hears, is_root, leaves_it, owed_at, takes_it}
 use Rattle.proof_lives.specs.Lives.{LifeStep}
-use Rattle.proof_lives.specs.Lives as lives
+use Rattle.proof_lives.specs.Lives
 use Rattle.proof_nodes.specs.Nodes.{Answered, EntersAnswer, EntersAnswered, EntersEnd, EntersTake, EntersTaken, EntersTrim, MovesAlone, Silent, Sits, Unanswered, WasSent}
 
 -- each process is the same as it is
@@ -75,7 +74,7 @@ module _ (s t : WorldState) (old new : NodeState) (was : Sits s old) (same : new
   ]
 
   unmoved : Silent s t → SameCore old.core new.core → DataRests old.holdings new.holdings → LifeStep s t
-  unmoved quiet h d = lives.rests (record {
+  unmoved quiet h d = Lives.rests (record {
     tree = alone.tree;
     nodes = node_rests h;
     holdings = data_rest d;
@@ -94,7 +93,7 @@ module _ (s t : WorldState) (old new : NodeState) (was : Sits s old) (same : new
   module _ (i : Input) (sent : InputStands s.net old.me i) where
     made : (reaction : Reaction) → HandlesInput old.core new.core old.holdings new.holdings i reaction
         → Enters s t old.me (Handles i) reaction s.delivered → LifeStep s t
-    made reaction handles enters = lives.makes old.me i s.delivered sent (record {
+    made reaction handles enters = Lives.makes old.me i s.delivered sent (record {
       before = old.core;
       behind = new.core;
       reaction = reaction;
@@ -108,7 +107,7 @@ module _ (s t : WorldState) (old new : NodeState) (was : Sits s old) (same : new
     not_made : (e : StepError) → NotHandled old.core new.core old.holdings new.holdings i e → Silent s t
         → LifeStep s t
     not_made Memory h quiet = unmoved quiet h.not_made (h.keeps (λ e. absurd (cc)))
-    not_made Device h quiet = lives.breaks old.me i sent (record {
+    not_made Device h quiet = Lives.breaks old.me i sent (record {
       before = old.core;
       behind = new.core;
       moves = moves;
@@ -136,7 +135,7 @@ module _ (s t : WorldState) (old new : NodeState) (was : Sits s old) (same : new
 
   not_trimmed : (e : StepError) → NoTrim old.core new.core old.holdings new.holdings e → Silent s t → LifeStep s t
   not_trimmed Memory h quiet = unmoved quiet h.0 h.1
-  not_trimmed Device h quiet = lives.trim_breaks old.me (record {
+  not_trimmed Device h quiet = Lives.trim_breaks old.me (record {
     before = old.core;
     behind = new.core;
     moves = moves;
@@ -151,7 +150,7 @@ module _ (s t : WorldState) (old new : NodeState) (was : Sits s old) (same : new
   not_trimmed e h quiet = absurd h
 
   trimmed : (r : Result ℕ StepError) → NodeTrimmed old new r → EntersTrim s t old.me r → LifeStep s t
-  trimmed (Ok remain) h enters = lives.trims old.me (record {
+  trimmed (Ok remain) h enters = Lives.trims old.me (record {
     before = old.core;
     behind = new.core;
     remain = remain;

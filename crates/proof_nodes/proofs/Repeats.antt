@@ -7,14 +7,14 @@ use Rattle.protocol.specs.declared.names.Case.{Case}
 use Rattle.protocol.specs.declared.names.Kind.{Kind}
 use Rattle.protocol.specs.declared.names.Kind.TheVariants.{Coordinator, Manager}
 use Rattle.protocol.specs.declared.names.Outcome.{Outcome}
-use Rattle.protocol.specs.declared.names.Outcome.TheVariants.{Committed as CommittedOutcome, Aborted as AbortedOutcome}
+use Rattle.protocol_words.specs.Variants.{AbortRecord, AbortedOutcome, CommitRecord, CommittedOutcome}
 use Rattle.protocol.specs.declared.names.Presumption.TheVariants.{PresumeAbort, PresumeCommit}
 use Rattle.protocol.specs.declared.names.ProcessId.{ProcessId}
 use Rattle.protocol.specs.declared.names.Ticket.{Ticket}
 use Rattle.protocol.specs.declared.messages.Message.TheVariants.{Abort, Commit}
 use Rattle.protocol.specs.declared.records.LogRecord.{LogRecord}
 use Rattle.protocol.specs.declared.records.Record.{Record}
-use Rattle.protocol.specs.declared.records.Record.TheVariants.{Opened, Commit as CommitRecord, Abort as AbortRecord}
+use Rattle.protocol.specs.declared.records.Record.TheVariants.{Opened}
 use Rattle.protocol.specs.declared.standings.Standing.{Standing}
 use Rattle.protocol.specs.declared.standings.Standing.TheVariants.{Unknown, Collecting, Prepared, Committing, Aborting}
 use Rattle.protocol.specs.declared.trees.TreeProcess.{TreeProcess}

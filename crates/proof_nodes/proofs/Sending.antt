@@ -6,16 +6,16 @@ use Rattle.std.proofs.lemmas.Grind.{flat_map-append}
 use Rattle.protocol.specs.declared.messages.Envelope.{Envelope}
 use Rattle.protocol.specs.declared.names.Case.{Case}
 use Rattle.protocol.specs.declared.names.Outcome.{Outcome}
-use Rattle.protocol.specs.declared.names.Outcome.TheVariants.{Committed as CommittedOutcome, Aborted as AbortedOutcome}
+use Rattle.protocol_words.specs.Variants.{AbortRecord, AbortedOutcome, CommitRecord, CommittedOutcome, EndRecord}
 use Rattle.protocol.specs.declared.names.Presumption.{Presumption}
 use Rattle.protocol.specs.declared.names.Presumption.TheVariants.{PresumeAbort, PresumeCommit}
 use Rattle.protocol.specs.declared.names.ProcessId.{ProcessId}
 use Rattle.protocol.specs.declared.names.Ticket.{Ticket}
 use Rattle.protocol.specs.declared.records.Record.{Record}
-use Rattle.protocol.specs.declared.records.Record.TheVariants.{Opened, Commit as CommitRecord, Abort as AbortRecord, End as EndRecord}
+use Rattle.protocol.specs.declared.records.Record.TheVariants.{Opened}
 use Rattle.protocol.specs.declared.records.Reports.{Reports}
 use Rattle.protocol.specs.declared.standings.Standing.{Standing}
-use Rattle.protocol.specs.declared.standings.Standing.TheVariants as standing
+use Rattle.protocol_words.specs.standing
 use Rattle.protocol.specs.CoordinatorRows.{Seat}
 use Rattle.protocol.specs.Memory.{Idle, fresh_memory}
 use Rattle.protocol.specs.NameLaws.{same_case-refl}

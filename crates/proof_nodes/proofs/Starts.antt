@@ -29,7 +29,7 @@ use Rattle.tree_state.specs.Worlds.{RestartsData, SameNode, WorldState}
 use Rattle.resource_manager.specs.Data.{ManagerData}
 use Rattle.tree_process.proofs.Reopened.{all_left}
 use Rattle.proof_lives.specs.Lives.{LifeStep, anew_at, counted, counted_at, counted_log, saying}
-use Rattle.proof_lives.specs.Lives as lives
+use Rattle.proof_lives.specs.Lives
 use Rattle.protocol.specs.declared.names.Kind.{Kind}
 use Rattle.protocol.specs.declared.names.Kind.TheVariants.{Coordinator, Manager}
 use Rattle.tree_process.specs.Reopenings.{form_by, kind_by}
@@ -131,7 +131,7 @@ started s t placed found h =
     ap (λ (p : LogForm). read_log p h.bytes) (sym form) ∙ keeps.read in
     let left : left_by h.before.log keep ≡ records_of r.log.sight.kept =
     same_records _ _ keeps.torn r.opens.torn (sym read ∙ r.opens.read) in
-    lives.begins q h.failures keep (record {
+    Lives.begins q h.failures keep (record {
       before = before;
       behind = h.new.core;
       keep = keep;
@@ -265,7 +265,7 @@ started_first s t h =
     same_opened h.before h.new.core h.counted n (place_of s.tree q) h.heard_nothing opened in
     let stood = anew_is q n said spent s h.before h.was in
     let stands : t.node_at q ≡ Some h.new.core = ap (λ p. t.node_at p) (sym h.same) ∙ h.is.core in
-    lives.begins_anew q n (record {
+    Lives.begins_anew q n (record {
       tree = h.alone.tree;
       undecided = λ p c there was.
           let here : s.node_at q ≡ Some c = ap s.node_at (one_process q p there) ∙ was in

@@ -11,7 +11,7 @@ use Rattle.proof_runs.proofs.worlds.Events.{GoesOnIn, then_on, waits}
 use Rattle.proof_runs.proofs.worlds.Journals.{opened_behind_faults}
 use Rattle.proof_runs.proofs.worlds.Whole.{keeps_headline}
 use Rattle.proof_lives.specs.Lives.{LifeStep}
-use Rattle.proof_lives.specs.Lives as lives
+use Rattle.proof_lives.specs.Lives
 use Rattle.proof_lives.proofs.Lives.{step_on}
 use Rattle.proof_nodes.specs.Nodes.{NodeStep, NodeSteps, NodesAreRuns, StepsGoOn, answers, ends_in_start, ends_in_trim, ends_unanswered, ends_within, more, none, starts, starts_first}
 use Rattle.proof_nodes.proofs.Lines.{answered, unanswered}
@@ -22,11 +22,11 @@ use Rattle.proof_nodes.proofs.Starts.{AreFound, IsPlaced, started, started_first
 step_lives : (s t : WorldState) → IsPlaced s → AreFound s → NodeStep s t → LifeStep s t
 step_lives s t placed found (answers h) = answered s t h
 step_lives s t placed found (ends_unanswered h) = unanswered s t h
-step_lives s t placed found (ends_within q i sent h) = lives.breaks q i sent h
-step_lives s t placed found (ends_in_trim q h) = lives.trim_breaks q h
+step_lives s t placed found (ends_within q i sent h) = Lives.breaks q i sent h
+step_lives s t placed found (ends_in_trim q h) = Lives.trim_breaks q h
 step_lives s t placed found (starts h) = started s t placed found h
 step_lives s t placed found (starts_first h) = started_first s t h
-step_lives s t placed found (ends_in_start q n keep h) = lives.begin_breaks q n keep h
+step_lives s t placed found (ends_in_start q n keep h) = Lives.begin_breaks q n keep h
 
 placed_by : (s : WorldState) (es : List Made) (w : World) → FollowsBehindFaults es w s → IsPlaced s
 placed_by s es w f = λ q c there. (f.follows.nodes q c there).place

@@ -3,10 +3,10 @@ use Rattle.std.specs.Prelude.{◌≡◌, ◌⊎◌, ◌+◌, ℕ, zero, suc, Opt
 use Rattle.protocol.specs.declared.names.ProcessId.{ProcessId}
 use Rattle.protocol.specs.declared.events.JournalEntry.{JournalEntry}
 use Rattle.protocol.specs.declared.events.Event.{Event}
-use Rattle.protocol.specs.declared.events.Event.TheVariants as asked
+use Rattle.protocol_words.specs.event
 use Rattle.protocol.specs.declared.events.Happening.{Happening}
-use Rattle.protocol.specs.declared.events.Happening.TheVariants.{Input as Handles, Restart, Trim}
-use Rattle.protocol.specs.declared.events.Input.TheVariants.{Act as ActInput, Message as MessageInput}
+use Rattle.protocol.specs.declared.events.Happening.TheVariants.{Restart, Trim}
+use Rattle.protocol_words.specs.Variants.{ActInput, Handles, MessageInput}
 use Rattle.protocol.specs.declared.events.StepError.{StepError}
 use Rattle.protocol.specs.declared.events.StepError.TheVariants.{Memory, Device, Exhausted}
 use Rattle.protocol.specs.declared.records.LogRecord.{LogRecord}
@@ -32,10 +32,10 @@ unforced_in (Some s) = s.log.kept.unforced
 -- the event that makes what happened at a process again, in a tree that stands so: a restart keeps the bytes of as many
 -- records as it kept
 abbrev pub AsksAgain : WorldState → ProcessId → Happening → Event → Type 0
-AsksAgain w q (Handles (ActInput a)) e = e ≡ asked.Act a
-AsksAgain w q (Handles (MessageInput k m)) e = e ≡ asked.Deliver k
-AsksAgain w q (Restart n) e = e ≡ asked.Restart q (Some (bytes_of_first n (unforced_in (w.node_at q))))
-AsksAgain w q Trim e = e ≡ asked.Trim q
+AsksAgain w q (Handles (ActInput a)) e = e ≡ event.Act a
+AsksAgain w q (Handles (MessageInput k m)) e = e ≡ event.Deliver k
+AsksAgain w q (Restart n) e = e ≡ event.Restart q (Some (bytes_of_first n (unforced_in (w.node_at q))))
+AsksAgain w q Trim e = e ≡ event.Trim q
 
 -- the events of these entries were made again, from the first state to the second
 pub data Again (start : WorldState) : List JournalEntry → WorldState → Type 0 where

@@ -1,40 +1,40 @@
 -- Each move of a child keeps the invariant, under Presumed Commit.
 use Rattle.std.proofs.Common.{Bool, arith}
-use Rattle.proof_pairs.specs.Invariant.{PresumedCommit as Inv}
+use Rattle.proof_pairs.specs.Invariant.{PresumedCommit}
 use Rattle.proof_pairs.specs.Keeps.{KeepsInvariant}
-use Rattle.proof_pairs.specs.ChildMoves as move
+use Rattle.proof_pairs.specs.ChildMoves
 
-pub issues : KeepsInvariant Inv move.MayIssue move.issues
+pub issues : KeepsInvariant PresumedCommit ChildMoves.MayIssue ChildMoves.issues
 issues r h g = grind arith
 
-pub votes_yes : KeepsInvariant Inv move.MayVote move.votes_yes
+pub votes_yes : KeepsInvariant PresumedCommit ChildMoves.MayVote ChildMoves.votes_yes
 votes_yes r h g = grind arith
 
-pub votes_no : KeepsInvariant Inv move.MayVote move.votes_no
+pub votes_no : KeepsInvariant PresumedCommit ChildMoves.MayVote ChildMoves.votes_no
 votes_no r h g = grind arith
 
-pub votes_read : KeepsInvariant Inv move.MayVote move.votes_read
+pub votes_read : KeepsInvariant PresumedCommit ChildMoves.MayVote ChildMoves.votes_read
 votes_read r h g = grind arith
 
-pub drops : KeepsInvariant Inv move.MayDrop move.drops
+pub drops : KeepsInvariant PresumedCommit ChildMoves.MayDrop ChildMoves.drops
 drops r h g = grind arith
 
-pub repeats_yes : KeepsInvariant Inv move.MayRepeatYes move.repeats_yes
+pub repeats_yes : KeepsInvariant PresumedCommit ChildMoves.MayRepeatYes ChildMoves.repeats_yes
 repeats_yes r h g = grind arith
 
-pub refuses : KeepsInvariant Inv move.MayRefuse move.refuses
+pub refuses : KeepsInvariant PresumedCommit ChildMoves.MayRefuse ChildMoves.refuses
 refuses r h g = grind arith
 
-pub asks : KeepsInvariant Inv move.MayAsk move.asks
+pub asks : KeepsInvariant PresumedCommit ChildMoves.MayAsk ChildMoves.asks
 asks r h g = grind arith
 
-pub decides_alone : (commit : Bool) → KeepsInvariant Inv move.MayDecideAlone (move.decides_alone commit)
+pub decides_alone : (commit : Bool) → KeepsInvariant PresumedCommit ChildMoves.MayDecideAlone (ChildMoves.decides_alone commit)
 decides_alone commit r h g = grind arith
 
-pub forgets : KeepsInvariant Inv move.MayForget move.forgets
+pub forgets : KeepsInvariant PresumedCommit ChildMoves.MayForget ChildMoves.forgets
 forgets r h g = grind arith
 
-pub hardens_child : KeepsInvariant Inv move.MayHardenChild move.hardens_child
+pub hardens_child : KeepsInvariant PresumedCommit ChildMoves.MayHardenChild ChildMoves.hardens_child
 hardens_child r h g = record {
   invariant = record {
     common = grind arith;
@@ -53,23 +53,23 @@ hardens_child r h g = record {
   later = grind arith;
 }
 
-pub trims_child : KeepsInvariant Inv move.MayTrimChild move.trims_child
+pub trims_child : KeepsInvariant PresumedCommit ChildMoves.MayTrimChild ChildMoves.trims_child
 trims_child r h g = grind arith
 
-pub commits : KeepsInvariant Inv move.MayLearnCommit move.commits
+pub commits : KeepsInvariant PresumedCommit ChildMoves.MayLearnCommit ChildMoves.commits
 commits r h g = grind arith
 
-pub rolls_back : KeepsInvariant Inv move.MayLearnAbort move.rolls_back_forced
+pub rolls_back : KeepsInvariant PresumedCommit ChildMoves.MayLearnAbort ChildMoves.rolls_back_forced
 rolls_back r h g = grind arith
 
-pub acknowledges : KeepsInvariant Inv move.MayAcknowledgeAbort move.acknowledges
+pub acknowledges : KeepsInvariant PresumedCommit ChildMoves.MayAcknowledgeAbort ChildMoves.acknowledges
 acknowledges r h g = grind arith
 
-pub drops_and_acknowledges : KeepsInvariant Inv move.MayDropAndAcknowledge move.drops_and_acknowledges
+pub drops_and_acknowledges : KeepsInvariant PresumedCommit ChildMoves.MayDropAndAcknowledge ChildMoves.drops_and_acknowledges
 drops_and_acknowledges r h g = grind arith
 
-pub learns_abort : KeepsInvariant Inv move.MayLearnAbort move.learns_abort_forced
+pub learns_abort : KeepsInvariant PresumedCommit ChildMoves.MayLearnAbort ChildMoves.learns_abort_forced
 learns_abort r h g = grind arith
 
-pub acknowledges_settled : KeepsInvariant Inv move.MayAcknowledge move.acknowledges
+pub acknowledges_settled : KeepsInvariant PresumedCommit ChildMoves.MayAcknowledge ChildMoves.acknowledges
 acknowledges_settled r h g = grind arith

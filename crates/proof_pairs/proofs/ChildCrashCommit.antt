@@ -1,32 +1,32 @@
 -- Each fault and restart of a child keeps the invariant, under Presumed Commit.
 use Rattle.std.proofs.Common.{refl, Bool, arith}
-use Rattle.proof_pairs.specs.Invariant.{PresumedCommit as Inv}
+use Rattle.proof_pairs.specs.Invariant.{PresumedCommit}
 use Rattle.proof_pairs.specs.Keeps.{KeepsInvariant}
 use Rattle.proof_pairs.proofs.Later.{later-later}
-use Rattle.proof_pairs.specs.ChildCrash as crash
+use Rattle.proof_pairs.specs.ChildCrash
 use Rattle.proof_pairs.specs.ChildCrash.{ChildFront}
 
-pub child_fails : KeepsInvariant Inv crash.MayFailChild crash.child_fails
+pub child_fails : KeepsInvariant PresumedCommit ChildCrash.MayFailChild ChildCrash.child_fails
 child_fails r h g = grind arith
 
-pub fails_to_promise : KeepsInvariant Inv crash.MayFailToPromise crash.fails_to_promise
+pub fails_to_promise : KeepsInvariant PresumedCommit ChildCrash.MayFailToPromise ChildCrash.fails_to_promise
 fails_to_promise r h g = grind arith
 
-pub fails_to_commit : KeepsInvariant Inv crash.MayFailToLearnCommit crash.fails_to_commit
+pub fails_to_commit : KeepsInvariant PresumedCommit ChildCrash.MayFailToLearnCommit ChildCrash.fails_to_commit
 fails_to_commit r h g = grind arith
 
-pub fails_to_roll_back : KeepsInvariant Inv crash.MayFailToLearnAbort crash.fails_to_roll_back
+pub fails_to_roll_back : KeepsInvariant PresumedCommit ChildCrash.MayFailToLearnAbort ChildCrash.fails_to_roll_back
 fails_to_roll_back r h g = grind arith
 
 pub fails_to_decide_alone : (commit : Bool)
-    → KeepsInvariant Inv crash.MayFailToDecideAlone (crash.fails_to_decide_alone commit)
+    → KeepsInvariant PresumedCommit ChildCrash.MayFailToDecideAlone (ChildCrash.fails_to_decide_alone commit)
 fails_to_decide_alone commit r h g = grind arith
 
-pub fails_to_forget : KeepsInvariant Inv crash.MayFailToForget crash.fails_to_forget
+pub fails_to_forget : KeepsInvariant PresumedCommit ChildCrash.MayFailToForget ChildCrash.fails_to_forget
 fails_to_forget r h g = grind arith
 
 pub hardens_failed_child : (front : ChildFront)
-    → KeepsInvariant Inv (crash.MayHardenFailedChild front) (crash.hardens_failed_child front)
+    → KeepsInvariant PresumedCommit (ChildCrash.MayHardenFailedChild front) (ChildCrash.hardens_failed_child front)
 hardens_failed_child front r h g = record {
   invariant = record {
     common = grind arith;
@@ -45,15 +45,15 @@ hardens_failed_child front r h g = record {
   later = grind arith;
 }
 
-pub child_loses : (front : ChildFront) → KeepsInvariant Inv (crash.IsChildFront front) (crash.child_loses front)
+pub child_loses : (front : ChildFront) → KeepsInvariant PresumedCommit (ChildCrash.IsChildFront front) (ChildCrash.child_loses front)
 child_loses front r h g = grind arith
 
-pub child_reopens : KeepsInvariant Inv crash.MayReopenChild crash.child_reopens
+pub child_reopens : KeepsInvariant PresumedCommit ChildCrash.MayReopenChild ChildCrash.child_reopens
 child_reopens r h g = grind arith
 
 pub child_restarts : (front : ChildFront)
-    → KeepsInvariant Inv (crash.IsChildFront front) (crash.child_restarts front)
+    → KeepsInvariant PresumedCommit (ChildCrash.IsChildFront front) (ChildCrash.child_restarts front)
 child_restarts front r h g =
     let lost = child_loses front r h g in
-    let back = child_reopens (crash.child_loses front r) lost.invariant (record { failed = refl }) in
+    let back = child_reopens (ChildCrash.child_loses front r) lost.invariant (record { failed = refl }) in
     record { invariant = back.invariant; later = later-later _ _ _ lost.later back.later }

@@ -1,28 +1,28 @@
 -- Each fault and restart of a parent keeps the invariant, under Presumed Abort.
 use Rattle.std.proofs.Common.{refl, arith}
-use Rattle.proof_pairs.specs.Invariant.{PresumedAbort as Inv}
+use Rattle.proof_pairs.specs.Invariant.{PresumedAbort}
 use Rattle.proof_pairs.specs.Keeps.{KeepsInvariant}
 use Rattle.proof_pairs.proofs.Later.{later-later}
-use Rattle.proof_pairs.specs.ParentCrash as crash
+use Rattle.proof_pairs.specs.ParentCrash
 use Rattle.proof_pairs.specs.ParentCrash.{ParentFront}
-use Rattle.proof_pairs.specs.ParentMoves as rows
-use Rattle.proof_pairs.specs.RootMoves as root
-use Rattle.proof_pairs.specs.CascadedMoves as cascaded
+use Rattle.proof_pairs.specs.ParentMoves
+use Rattle.proof_pairs.specs.RootMoves
+use Rattle.proof_pairs.specs.CascadedMoves
 
-pub parent_fails : KeepsInvariant Inv crash.MayFailParent crash.parent_fails
+pub parent_fails : KeepsInvariant PresumedAbort ParentCrash.MayFailParent ParentCrash.parent_fails
 parent_fails r h g = grind arith
 
-pub fails_to_hear_no : KeepsInvariant Inv rows.MayHearNo crash.fails_to_hear_no
+pub fails_to_hear_no : KeepsInvariant PresumedAbort ParentMoves.MayHearNo ParentCrash.fails_to_hear_no
 fails_to_hear_no r h g = grind arith
 
-pub fails_at_no : KeepsInvariant Inv rows.MayHearNo crash.fails_at_no
+pub fails_at_no : KeepsInvariant PresumedAbort ParentMoves.MayHearNo ParentCrash.fails_at_no
 fails_at_no r h g = grind arith
 
-pub fails_to_promise_up : KeepsInvariant Inv cascaded.MayPromise crash.fails_to_promise_up
+pub fails_to_promise_up : KeepsInvariant PresumedAbort CascadedMoves.MayPromise ParentCrash.fails_to_promise_up
 fails_to_promise_up r h g = grind arith
 
 pub hardens_failed_parent : (front : ParentFront)
-    → KeepsInvariant Inv (crash.MayHardenFailedParent front) (crash.hardens_failed_parent front)
+    → KeepsInvariant PresumedAbort (ParentCrash.MayHardenFailedParent front) (ParentCrash.hardens_failed_parent front)
 hardens_failed_parent front r h g = record {
   invariant = record {
     common = grind arith;
@@ -40,7 +40,7 @@ hardens_failed_parent front r h g = record {
   later = grind arith;
 }
 
-pub parent_loses : (front : ParentFront) → KeepsInvariant Inv (crash.IsParentFront front) (crash.parent_loses front)
+pub parent_loses : (front : ParentFront) → KeepsInvariant PresumedAbort (ParentCrash.IsParentFront front) (ParentCrash.parent_loses front)
 parent_loses front r h g = record {
   invariant = record {
     common = record {
@@ -123,22 +123,22 @@ parent_loses front r h g = record {
   later = grind arith;
 }
 
-pub fails_to_end : KeepsInvariant Inv rows.MayEndCommit crash.fails_to_end
+pub fails_to_end : KeepsInvariant PresumedAbort ParentMoves.MayEndCommit ParentCrash.fails_to_end
 fails_to_end r h g = grind arith
 
-pub fails_to_abort : KeepsInvariant Inv rows.MayAbort crash.fails_to_abort
+pub fails_to_abort : KeepsInvariant PresumedAbort ParentMoves.MayAbort ParentCrash.fails_to_abort
 fails_to_abort r h g = grind arith
 
-pub fails_to_decide : KeepsInvariant Inv root.MayDecide crash.fails_to_decide_naming
+pub fails_to_decide : KeepsInvariant PresumedAbort RootMoves.MayDecide ParentCrash.fails_to_decide_naming
 fails_to_decide r h g = grind arith
 
-pub fails_to_pass_commit : KeepsInvariant Inv cascaded.MayPassCommit crash.fails_to_pass_commit_naming
+pub fails_to_pass_commit : KeepsInvariant PresumedAbort CascadedMoves.MayPassCommit ParentCrash.fails_to_pass_commit_naming
 fails_to_pass_commit r h g = grind arith
 
-pub fails_to_pass_abort : KeepsInvariant Inv cascaded.MayPassAbort crash.fails_to_pass_abort
+pub fails_to_pass_abort : KeepsInvariant PresumedAbort CascadedMoves.MayPassAbort ParentCrash.fails_to_pass_abort
 fails_to_pass_abort r h g = grind arith
 
-pub parent_reopens : KeepsInvariant Inv crash.MayReopenParent crash.parent_reopens_naming
+pub parent_reopens : KeepsInvariant PresumedAbort ParentCrash.MayReopenParent ParentCrash.parent_reopens_naming
 parent_reopens r h g = record {
   invariant = record {
     common = grind arith;
@@ -157,8 +157,8 @@ parent_reopens r h g = record {
 }
 
 pub parent_restarts : (front : ParentFront)
-    → KeepsInvariant Inv (crash.IsParentFront front) (crash.parent_restarts_naming front)
+    → KeepsInvariant PresumedAbort (ParentCrash.IsParentFront front) (ParentCrash.parent_restarts_naming front)
 parent_restarts front r h g =
     let lost = parent_loses front r h g in
-    let back = parent_reopens (crash.parent_loses front r) lost.invariant (record { failed = refl }) in
+    let back = parent_reopens (ParentCrash.parent_loses front r) lost.invariant (record { failed = refl }) in
     record { invariant = back.invariant; later = later-later _ _ _ lost.later back.later }

@@ -1,28 +1,28 @@
 -- Each fault and restart of a parent keeps the invariant, under Presumed Commit.
 use Rattle.std.proofs.Common.{refl, arith}
-use Rattle.proof_pairs.specs.Invariant.{PresumedCommit as Inv}
+use Rattle.proof_pairs.specs.Invariant.{PresumedCommit}
 use Rattle.proof_pairs.specs.Keeps.{KeepsInvariant}
 use Rattle.proof_pairs.proofs.Later.{later-later}
-use Rattle.proof_pairs.specs.ParentCrash as crash
+use Rattle.proof_pairs.specs.ParentCrash
 use Rattle.proof_pairs.specs.ParentCrash.{ParentFront}
-use Rattle.proof_pairs.specs.ParentMoves as rows
-use Rattle.proof_pairs.specs.RootMoves as root
-use Rattle.proof_pairs.specs.CascadedMoves as cascaded
+use Rattle.proof_pairs.specs.ParentMoves
+use Rattle.proof_pairs.specs.RootMoves
+use Rattle.proof_pairs.specs.CascadedMoves
 
-pub parent_fails : KeepsInvariant Inv crash.MayFailParent crash.parent_fails
+pub parent_fails : KeepsInvariant PresumedCommit ParentCrash.MayFailParent ParentCrash.parent_fails
 parent_fails r h g = grind arith
 
-pub fails_to_hear_no : KeepsInvariant Inv rows.MayHearNo crash.fails_to_hear_no
+pub fails_to_hear_no : KeepsInvariant PresumedCommit ParentMoves.MayHearNo ParentCrash.fails_to_hear_no
 fails_to_hear_no r h g = grind arith
 
-pub fails_at_no : KeepsInvariant Inv rows.MayHearNo crash.fails_at_no
+pub fails_at_no : KeepsInvariant PresumedCommit ParentMoves.MayHearNo ParentCrash.fails_at_no
 fails_at_no r h g = grind arith
 
-pub fails_to_promise_up : KeepsInvariant Inv cascaded.MayPromise crash.fails_to_promise_up
+pub fails_to_promise_up : KeepsInvariant PresumedCommit CascadedMoves.MayPromise ParentCrash.fails_to_promise_up
 fails_to_promise_up r h g = grind arith
 
 pub hardens_failed_parent : (front : ParentFront)
-    → KeepsInvariant Inv (crash.MayHardenFailedParent front) (crash.hardens_failed_parent front)
+    → KeepsInvariant PresumedCommit (ParentCrash.MayHardenFailedParent front) (ParentCrash.hardens_failed_parent front)
 hardens_failed_parent front r h g = record {
   invariant = record {
     common = grind arith;
@@ -41,7 +41,7 @@ hardens_failed_parent front r h g = record {
   later = grind arith;
 }
 
-pub parent_loses : (front : ParentFront) → KeepsInvariant Inv (crash.IsParentFront front) (crash.parent_loses front)
+pub parent_loses : (front : ParentFront) → KeepsInvariant PresumedCommit (ParentCrash.IsParentFront front) (ParentCrash.parent_loses front)
 parent_loses front r h g = record {
   invariant = record {
     common = record {
@@ -125,28 +125,28 @@ parent_loses front r h g = record {
   later = grind arith;
 }
 
-pub fails_to_end : KeepsInvariant Inv rows.MayEndAbort crash.fails_to_end
+pub fails_to_end : KeepsInvariant PresumedCommit ParentMoves.MayEndAbort ParentCrash.fails_to_end
 fails_to_end r h g = grind arith
 
-pub fails_to_collect : KeepsInvariant Inv crash.MayFailToCollect crash.fails_to_collect
+pub fails_to_collect : KeepsInvariant PresumedCommit ParentCrash.MayFailToCollect ParentCrash.fails_to_collect
 fails_to_collect r h g = grind arith
 
-pub fails_to_abort : KeepsInvariant Inv rows.MayAbort crash.fails_to_abort_naming
+pub fails_to_abort : KeepsInvariant PresumedCommit ParentMoves.MayAbort ParentCrash.fails_to_abort_naming
 fails_to_abort r h g = grind arith
 
-pub fails_to_end_read_only : KeepsInvariant Inv crash.MayFailToEndReadOnly crash.fails_to_end_read_only
+pub fails_to_end_read_only : KeepsInvariant PresumedCommit ParentCrash.MayFailToEndReadOnly ParentCrash.fails_to_end_read_only
 fails_to_end_read_only r h g = grind arith
 
-pub fails_to_decide : KeepsInvariant Inv root.MayDecide crash.fails_to_decide
+pub fails_to_decide : KeepsInvariant PresumedCommit RootMoves.MayDecide ParentCrash.fails_to_decide
 fails_to_decide r h g = grind arith
 
-pub fails_to_pass_commit : KeepsInvariant Inv cascaded.MayPassCommit crash.fails_to_pass_commit
+pub fails_to_pass_commit : KeepsInvariant PresumedCommit CascadedMoves.MayPassCommit ParentCrash.fails_to_pass_commit
 fails_to_pass_commit r h g = grind arith
 
-pub fails_to_pass_abort : KeepsInvariant Inv cascaded.MayPassAbort crash.fails_to_pass_abort_naming
+pub fails_to_pass_abort : KeepsInvariant PresumedCommit CascadedMoves.MayPassAbort ParentCrash.fails_to_pass_abort_naming
 fails_to_pass_abort r h g = grind arith
 
-pub fails_to_abort_at_restart : KeepsInvariant Inv crash.MayAbortAtRestart crash.fails_to_abort_at_restart
+pub fails_to_abort_at_restart : KeepsInvariant PresumedCommit ParentCrash.MayAbortAtRestart ParentCrash.fails_to_abort_at_restart
 fails_to_abort_at_restart r h g = record {
   invariant = record {
     common = grind arith;
@@ -165,7 +165,7 @@ fails_to_abort_at_restart r h g = record {
   later = grind arith;
 }
 
-pub parent_reopens : KeepsInvariant Inv crash.MayReopenParent crash.parent_reopens
+pub parent_reopens : KeepsInvariant PresumedCommit ParentCrash.MayReopenParent ParentCrash.parent_reopens
 parent_reopens r h g = record {
   invariant = record {
     common = record {
@@ -250,8 +250,8 @@ parent_reopens r h g = record {
 }
 
 pub parent_restarts : (front : ParentFront)
-    → KeepsInvariant Inv (crash.IsParentFront front) (crash.parent_restarts front)
+    → KeepsInvariant PresumedCommit (ParentCrash.IsParentFront front) (ParentCrash.parent_restarts front)
 parent_restarts front r h g =
     let lost = parent_loses front r h g in
-    let back = parent_reopens (crash.parent_loses front r) lost.invariant (record { failed = refl }) in
+    let back = parent_reopens (ParentCrash.parent_loses front r) lost.invariant (record { failed = refl }) in
     record { invariant = back.invariant; later = later-later _ _ _ lost.later back.later }

@@ -4,12 +4,12 @@ use Rattle.std.specs.Prelude.{◌≡◌, true, false, ◌&&◌}
 use Rattle.proof_pairs.specs.Reading.{Reading}
 use Rattle.proof_pairs.specs.Invariant.{Common}
 use Rattle.proof_pairs.specs.Chain.{IsBelow}
-use Rattle.proof_pairs.specs.ChildMoves as child
-use Rattle.proof_pairs.specs.ChildCrash as child_crash
-use Rattle.proof_pairs.specs.ParentMoves as parent
-use Rattle.proof_pairs.specs.RootMoves as root
-use Rattle.proof_pairs.specs.CascadedMoves as cascaded
-use Rattle.proof_pairs.specs.ParentCrash as parent_crash
+use Rattle.proof_pairs.specs.ChildMoves
+use Rattle.proof_pairs.specs.ChildCrash
+use Rattle.proof_pairs.specs.ParentMoves
+use Rattle.proof_pairs.specs.RootMoves
+use Rattle.proof_pairs.specs.CascadedMoves
+use Rattle.proof_pairs.specs.ParentCrash
 use Rattle.proof_pairs.specs.ChildCrash.{ChildFront}
 use Rattle.proof_pairs.specs.ParentCrash.{ParentFront}
 
@@ -33,96 +33,96 @@ pub record SameFront (above : ChildFront) (below : ParentFront) : Type 0 where
 -- One step of the process that two pairs share moves both: how it moves each.
 pub record OneStep : Type 0 where
   -- A JOIN makes the case.
-  pub join_makes_a_case : Together (λ a b. child.MayIssue a) child.issues cascaded.is_born
+  pub join_makes_a_case : Together (λ a b. ChildMoves.MayIssue a) ChildMoves.issues CascadedMoves.is_born
   -- Accepted by a case that takes part: the child takes part.
-  pub joins_a_participant : Together (λ a b. a.took_part_up ≡ true) parent.accepts cascaded.takes_part
+  pub joins_a_participant : Together (λ a b. a.took_part_up ≡ true) ParentMoves.accepts CascadedMoves.takes_part
   -- Accepted by one that does not: nothing changes below yet.
-  pub joins_a_bystander : Together (λ a b. a.took_part_up ≡ false) parent.accepts same
+  pub joins_a_bystander : Together (λ a b. a.took_part_up ≡ false) ParentMoves.accepts same
   -- The case above becomes a participant, and with it each child that it accepted.
-  pub takes_part_with_its_child : Together (λ a b. a.took_part ≡ true) cascaded.takes_part
-      cascaded.takes_part
+  pub takes_part_with_its_child : Together (λ a b. a.took_part ≡ true) CascadedMoves.takes_part
+      CascadedMoves.takes_part
   -- A child that it did not accept takes no part.
-  pub takes_part_without_it : Together (λ a b. a.took_part ≡ false) cascaded.takes_part same
+  pub takes_part_without_it : Together (λ a b. a.took_part ≡ false) CascadedMoves.takes_part same
   -- The root decides, naming whom it waits for.
-  pub root_commits : Together (λ a b. Unit {0}) root.decides_naming cascaded.commits_above
+  pub root_commits : Together (λ a b. Unit {0}) RootMoves.decides_naming CascadedMoves.commits_above
   -- The root decides, naming nobody.
-  pub root_commits_collected : Together (λ a b. Unit {0}) root.decides cascaded.commits_above
+  pub root_commits_collected : Together (λ a b. Unit {0}) RootMoves.decides CascadedMoves.commits_above
   -- What the root decided becomes true of the next pair.
-  pub commits_above : Together (λ a b. Unit {0}) cascaded.commits_above cascaded.commits_above
+  pub commits_above : Together (λ a b. Unit {0}) CascadedMoves.commits_above CascadedMoves.commits_above
   -- PREPARE: the case asks its own children.
-  pub asks_its_children : Together (λ a b. parent.MayAskForVotes b) same parent.asks_for_votes
+  pub asks_its_children : Together (λ a b. ParentMoves.MayAskForVotes b) same ParentMoves.asks_for_votes
   -- The same, with Collecting forced first.
-  pub collects_its_children : Together (λ a b. parent.MayAskForVotes b) same parent.collects_votes
+  pub collects_its_children : Together (λ a b. ParentMoves.MayAskForVotes b) same ParentMoves.collects_votes
   -- All its children voted: the promise, and YES.
-  pub promises : Together (λ a b. cascaded.MayPromise b) child.votes_yes cascaded.promises
+  pub promises : Together (λ a b. CascadedMoves.MayPromise b) ChildMoves.votes_yes CascadedMoves.promises
   -- No children: READ.
-  pub reads_empty : Together (λ a b. Unit {0}) child.votes_read cascaded.reads_empty
+  pub reads_empty : Together (λ a b. Unit {0}) ChildMoves.votes_read CascadedMoves.reads_empty
   -- All its children voted READ: READ.
-  pub reads : Together (λ a b. Unit {0}) child.votes_read cascaded.reads_up
+  pub reads : Together (λ a b. Unit {0}) ChildMoves.votes_read CascadedMoves.reads_up
   -- The same, with End after Collecting.
-  pub reads_collected : Together (λ a b. Unit {0}) child.votes_read cascaded.reads_up_collected
+  pub reads_collected : Together (λ a b. Unit {0}) ChildMoves.votes_read CascadedMoves.reads_up_collected
   -- A child voted NO: NO.
-  pub hears_no : Together (λ a b. parent.MayHearNo b) child.votes_no parent.hears_no
+  pub hears_no : Together (λ a b. ParentMoves.MayHearNo b) ChildMoves.votes_no ParentMoves.hears_no
   -- The same, with its Abort forced.
-  pub hears_no_forced : Together (λ a b. parent.MayHearNo b) child.votes_no parent.hears_no_forced
+  pub hears_no_forced : Together (λ a b. ParentMoves.MayHearNo b) ChildMoves.votes_no ParentMoves.hears_no_forced
   -- Another child voted NO: NO.
-  pub aborts_by_no : Together (λ a b. parent.MayAbort b) child.votes_no parent.aborts
+  pub aborts_by_no : Together (λ a b. ParentMoves.MayAbort b) ChildMoves.votes_no ParentMoves.aborts
   -- The same, with its Abort forced.
-  pub aborts_by_no_forced : Together (λ a b. parent.MayAbort b) child.votes_no parent.aborts_forced
+  pub aborts_by_no_forced : Together (λ a b. ParentMoves.MayAbort b) ChildMoves.votes_no ParentMoves.aborts_forced
   -- ABORT while it waits for votes.
-  pub aborts : Together (λ a b. parent.MayAbort b) child.drops parent.aborts
+  pub aborts : Together (λ a b. ParentMoves.MayAbort b) ChildMoves.drops ParentMoves.aborts
   -- The same, with its Abort forced, and an ACK.
-  pub aborts_forced : Together (λ a b. parent.MayAbort b) child.drops_and_acknowledges parent.aborts_forced
+  pub aborts_forced : Together (λ a b. ParentMoves.MayAbort b) ChildMoves.drops_and_acknowledges ParentMoves.aborts_forced
   -- ABORT while it is Active.
-  pub gives_up : Together (λ a b. Unit {0}) child.drops parent.gives_up
+  pub gives_up : Together (λ a b. Unit {0}) ChildMoves.drops ParentMoves.gives_up
   -- The same, with an ACK.
-  pub gives_up_and_acknowledges : Together (λ a b. Unit {0}) child.drops_and_acknowledges parent.gives_up
+  pub gives_up_and_acknowledges : Together (λ a b. Unit {0}) ChildMoves.drops_and_acknowledges ParentMoves.gives_up
   -- COMMIT finds it Prepared; Commit is forced.
-  pub passes_commit_forced : Together (λ a b. cascaded.MayPassCommit b) child.commits_forced
-      cascaded.passes_commit_forced
+  pub passes_commit_forced : Together (λ a b. CascadedMoves.MayPassCommit b) ChildMoves.commits_forced
+      CascadedMoves.passes_commit_forced
   -- The same, with Commit unforced.
-  pub passes_commit : Together (λ a b. cascaded.MayPassCommit b) child.commits cascaded.passes_commit
+  pub passes_commit : Together (λ a b. CascadedMoves.MayPassCommit b) ChildMoves.commits CascadedMoves.passes_commit
   -- ABORT finds it Prepared; Abort is unforced.
-  pub passes_abort : Together (λ a b. cascaded.MayPassAbort b) child.rolls_back cascaded.passes_abort
+  pub passes_abort : Together (λ a b. CascadedMoves.MayPassAbort b) ChildMoves.rolls_back CascadedMoves.passes_abort
   -- The same, with Abort forced.
-  pub passes_abort_forced : Together (λ a b. cascaded.MayPassAbort b) child.rolls_back_forced
-      cascaded.passes_abort_forced
+  pub passes_abort_forced : Together (λ a b. CascadedMoves.MayPassAbort b) ChildMoves.rolls_back_forced
+      CascadedMoves.passes_abort_forced
   -- The second version: COMMIT, or ABORT, finds it Prepared, and its ACK waits; ABORT finds it waiting for votes; the last ACK
   -- that is owed to it came, and its own goes up.
-  pub waits_to_acknowledge_commit : Together (λ a b. cascaded.MayPassCommit b) child.learns_commit_forced
-      cascaded.passes_commit_forced
-  pub waits_to_acknowledge_abort : Together (λ a b. cascaded.MayPassAbort b) child.learns_abort_forced
-      cascaded.passes_abort_forced
-  pub aborts_silently : Together (λ a b. parent.MayAbort b) child.drops parent.aborts_forced
-  pub ends_commit : Together (λ a b. parent.MayEndCommit b) child.acknowledges parent.ends
-  pub ends_abort : Together (λ a b. parent.MayEndAbort b) child.acknowledges parent.ends
+  pub waits_to_acknowledge_commit : Together (λ a b. CascadedMoves.MayPassCommit b) ChildMoves.learns_commit_forced
+      CascadedMoves.passes_commit_forced
+  pub waits_to_acknowledge_abort : Together (λ a b. CascadedMoves.MayPassAbort b) ChildMoves.learns_abort_forced
+      CascadedMoves.passes_abort_forced
+  pub aborts_silently : Together (λ a b. ParentMoves.MayAbort b) ChildMoves.drops ParentMoves.aborts_forced
+  pub ends_commit : Together (λ a b. ParentMoves.MayEndCommit b) ChildMoves.acknowledges ParentMoves.ends
+  pub ends_abort : Together (λ a b. ParentMoves.MayEndAbort b) ChildMoves.acknowledges ParentMoves.ends
   -- A record of another case is forced.
-  pub hardens : Together (λ a b. Unit {0}) child.hardens_child parent.hardens_parent
+  pub hardens : Together (λ a b. Unit {0}) ChildMoves.hardens_child ParentMoves.hardens_parent
   -- A trim takes the case.
-  pub trims : Together (λ a b. Unit {0}) child.trims_child parent.trims_parent
+  pub trims : Together (λ a b. Unit {0}) ChildMoves.trims_child ParentMoves.trims_parent
   -- A fault writes nothing of the case.
-  pub fails : Together (λ a b. Unit {0}) child_crash.child_fails parent_crash.parent_fails
+  pub fails : Together (λ a b. Unit {0}) ChildCrash.child_fails ParentCrash.parent_fails
   -- A fault after Collecting.
-  pub fails_to_collect : Together (λ a b. parent_crash.MayFailToCollect b) child_crash.child_fails
-      parent_crash.fails_to_collect
+  pub fails_to_collect : Together (λ a b. ParentCrash.MayFailToCollect b) ChildCrash.child_fails
+      ParentCrash.fails_to_collect
   -- A fault after the Abort of a case that waits for votes.
-  pub fails_to_abort : Together (λ a b. parent.MayAbort b) child_crash.child_fails
-      parent_crash.fails_to_abort
+  pub fails_to_abort : Together (λ a b. ParentMoves.MayAbort b) ChildCrash.child_fails
+      ParentCrash.fails_to_abort
   -- A fault after the promise.
-  pub fails_to_promise : Together (λ a b. cascaded.MayPromise b) child_crash.fails_to_promise
-      parent_crash.fails_to_promise_up
+  pub fails_to_promise : Together (λ a b. CascadedMoves.MayPromise b) ChildCrash.fails_to_promise
+      ParentCrash.fails_to_promise_up
   -- A fault after the Commit that obeys.
-  pub fails_to_pass_commit : Together (λ a b. cascaded.MayPassCommit b) child_crash.fails_to_commit
-      parent_crash.fails_to_pass_commit
+  pub fails_to_pass_commit : Together (λ a b. CascadedMoves.MayPassCommit b) ChildCrash.fails_to_commit
+      ParentCrash.fails_to_pass_commit
   -- A fault after the Abort that obeys.
-  pub fails_to_pass_abort : Together (λ a b. cascaded.MayPassAbort b) child_crash.fails_to_roll_back
-      parent_crash.fails_to_pass_abort
+  pub fails_to_pass_abort : Together (λ a b. CascadedMoves.MayPassAbort b) ChildCrash.fails_to_roll_back
+      ParentCrash.fails_to_pass_abort
   -- A restart forces what is left and answers.
-  pub reopens_naming : Together (λ a b. parent_crash.MayReopenParent b) child_crash.child_reopens
-      parent_crash.parent_reopens_naming
+  pub reopens_naming : Together (λ a b. ParentCrash.MayReopenParent b) ChildCrash.child_reopens
+      ParentCrash.parent_reopens_naming
   -- The same, where an undecided case aborts.
-  pub reopens : Together (λ a b. parent_crash.MayReopenParent b) child_crash.child_reopens
-      parent_crash.parent_reopens
+  pub reopens : Together (λ a b. ParentCrash.MayReopenParent b) ChildCrash.child_reopens
+      ParentCrash.parent_reopens
   -- The cut of a restart: both lose the same records.
   pub loses : (front : ChildFront) (below_front : ParentFront) → SameFront front below_front
-      → Together (λ a b. Unit {0}) (child_crash.child_loses front) (parent_crash.parent_loses below_front)
+      → Together (λ a b. Unit {0}) (ChildCrash.child_loses front) (ParentCrash.parent_loses below_front)

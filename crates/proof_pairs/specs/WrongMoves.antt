@@ -8,8 +8,8 @@ use Rattle.proof_pairs.specs.RootMoves.{decides_naming}
 use Rattle.proof_pairs.specs.CascadedMoves.{MayPromise, reads_up, passes_commit}
 use Rattle.proof_pairs.specs.ParentMoves.{MayAskForVotes, ends}
 use Rattle.proof_pairs.specs.ChildMoves.{MayLearnCommit, issues}
-use Rattle.proof_pairs.specs.StagesAbort as under_abort
-use Rattle.proof_pairs.specs.StagesCommit as under_commit
+use Rattle.proof_pairs.specs.StagesAbort
+use Rattle.proof_pairs.specs.StagesCommit
 
 -- The move breaks the invariant at that reading.
 abbrev pub Breaks : (Reading → Type 0) → (Reading → Type 0) → (Reading → Reading) → Reading → Type 0
@@ -77,17 +77,17 @@ pub record IsUp (r : Reading) : Type 0 where
 -- Each wrong move breaks the invariant at a reading that a run reaches.
 pub record WrongMoves : Type 0 where
   pub forgets_after_first_ack_breaks : Breaks PresumedAbort IsCommitting forgets_after_first_ack
-      under_abort.flat_commit_decided
+      StagesAbort.flat_commit_decided
   pub prepare_before_collecting_breaks : Breaks PresumedCommit MayAskForVotes prepare_before_collecting
-      under_commit.flat_commit_accepted
-  pub boot_reused_breaks : Breaks PresumedAbort IsUp boot_reused under_abort.flat_commit_voted
+      StagesCommit.flat_commit_accepted
+  pub boot_reused_breaks : Breaks PresumedAbort IsUp boot_reused StagesAbort.flat_commit_voted
   pub reads_over_a_yes_breaks : Breaks PresumedAbort MayPromise reads_over_a_yes
-      under_abort.cascaded_commit_heard
+      StagesAbort.cascaded_commit_heard
   pub obeys_contradicting_commit_breaks : Breaks PresumedCommit HasAborted obeys_contradicting_commit
-      under_commit.cascaded_abort_passed
+      StagesCommit.cascaded_abort_passed
   pub trim_drops_commit_breaks : Breaks PresumedCommit IsUnknownUnderCommit trim_drops_commit
-      under_commit.flat_commit_decided
+      StagesCommit.flat_commit_decided
   pub told_drops_decision_breaks : Breaks PresumedAbort MayLearnCommit told_drops_decision
-      under_abort.operator_decided
+      StagesAbort.operator_decided
   pub commits_on_votes_so_far_breaks : Breaks PresumedAbort Waiting commits_on_votes_so_far
-      under_abort.flat_commit_asked
+      StagesAbort.flat_commit_asked

@@ -7,9 +7,8 @@ use Rattle.protocol.specs.declared.names.Txn.{Txn}
 use Rattle.protocol.specs.declared.messages.Message.{Message}
 use Rattle.protocol.specs.declared.messages.Message.TheVariants.{Joined, Prepare, Abort}
 use Rattle.protocol.specs.declared.standings.Vote.{Vote}
-use Rattle.protocol.specs.declared.standings.Vote.TheVariants.{Yes as VoteYes, No as VoteNo, Read as VoteRead}
+use Rattle.protocol_words.specs.Variants.{MessageInput, VoteNo, VoteRead, VoteYes}
 use Rattle.protocol.specs.declared.events.Input.{Input}
-use Rattle.protocol.specs.declared.events.Input.TheVariants.{Message as MessageInput}
 use Rattle.protocol.specs.declared.trees.TreeProcess.{TreeProcess}
 use Rattle.protocol.specs.Names.{same_case, same_txn, root_case, child_case}
 use Rattle.protocol.specs.NameLaws.{same_case_tells, same_txn_tells}

@@ -8,7 +8,7 @@ use Rattle.protocol.specs.Records.{has, is_collecting, is_prepare, is_commit, is
 use Rattle.protocol.specs.Audits.{is_collecting_naming, is_prepare_naming, is_decision_naming}
 use Rattle.proof_processes.proofs.Tests.{either, in_first, in_either, not_both}
 use Rattle.proof_processes.proofs.Worlds.{has_other}
-use Rattle.proof_processes.proofs.CaseOrders as order
+use Rattle.proof_processes.proofs.CaseOrders
 use Rattle.proof_processes.proofs.CaseOrders.{AllFit, Fits, fit_rest, none_later}
 
 exactly : (a b : Bool) → (a ≡ true → b ≡ true) → (b ≡ true → a ≡ true) → a ≡ b
@@ -46,35 +46,35 @@ module _ (c : Case) (xs ys : List Record) (fit : AllFit [] (xs ++ ys)) where
 
   pub promise_behind_collecting : has (is_prepare c) xs ≡ true → has (is_collecting c) (xs ++ ys) ≡ true
       → has (is_collecting c) xs ≡ true
-  promise_behind_collecting = stands_before (is_collecting c) (is_prepare c) (order.collecting_bars_promise c)
+  promise_behind_collecting = stands_before (is_collecting c) (is_prepare c) (CaseOrders.collecting_bars_promise c)
 
   pub commit_behind_collecting : has (is_commit c) xs ≡ true → has (is_collecting c) (xs ++ ys) ≡ true
       → has (is_collecting c) xs ≡ true
-  commit_behind_collecting = stands_before (is_collecting c) (is_commit c) (order.collecting_bars_commit c)
+  commit_behind_collecting = stands_before (is_collecting c) (is_commit c) (CaseOrders.collecting_bars_commit c)
 
   pub commit_behind_promise : has (is_commit c) xs ≡ true → has (is_prepare c) (xs ++ ys) ≡ true
       → has (is_prepare c) xs ≡ true
-  commit_behind_promise = stands_before (is_prepare c) (is_commit c) (order.promise_bars_commit c)
+  commit_behind_promise = stands_before (is_prepare c) (is_commit c) (CaseOrders.promise_bars_commit c)
 
   pub abort_behind_collecting : has (is_abort c) xs ≡ true → has (is_collecting c) (xs ++ ys) ≡ true
       → has (is_collecting c) xs ≡ true
-  abort_behind_collecting = stands_before (is_collecting c) (is_abort c) (order.collecting_bars_abort c)
+  abort_behind_collecting = stands_before (is_collecting c) (is_abort c) (CaseOrders.collecting_bars_abort c)
 
   pub abort_behind_promise : has (is_abort c) xs ≡ true → has (is_prepare c) (xs ++ ys) ≡ true
       → has (is_prepare c) xs ≡ true
-  abort_behind_promise = stands_before (is_prepare c) (is_abort c) (order.promise_bars_abort c)
+  abort_behind_promise = stands_before (is_prepare c) (is_abort c) (CaseOrders.promise_bars_abort c)
 
   pub end_behind_collecting : has (is_end c) xs ≡ true → has (is_collecting c) (xs ++ ys) ≡ true
       → has (is_collecting c) xs ≡ true
-  end_behind_collecting = stands_before (is_collecting c) (is_end c) (order.collecting_bars_end c)
+  end_behind_collecting = stands_before (is_collecting c) (is_end c) (CaseOrders.collecting_bars_end c)
 
   pub end_behind_commit : has (is_end c) xs ≡ true → has (is_commit c) (xs ++ ys) ≡ true
       → has (is_commit c) xs ≡ true
-  end_behind_commit = stands_before (is_commit c) (is_end c) (order.commit_bars_end c)
+  end_behind_commit = stands_before (is_commit c) (is_end c) (CaseOrders.commit_bars_end c)
 
   pub end_behind_abort : has (is_end c) xs ≡ true → has (is_abort c) (xs ++ ys) ≡ true
       → has (is_abort c) xs ≡ true
-  end_behind_abort = stands_before (is_abort c) (is_end c) (order.abort_bars_end c)
+  end_behind_abort = stands_before (is_abort c) (is_end c) (CaseOrders.abort_bars_end c)
 
   -- Whom the records of a front name.
 
@@ -116,7 +116,7 @@ module _ (c : Case) (xs ys : List Record) (fit : AllFit [] (xs ++ ys)) where
         by_kind (is_collecting_naming c t) (has (is_collecting c) xs)
         (has_other (is_collecting_naming c t) (is_collecting c) xs collects_so)
         (λ e. none_of_them (is_collecting_naming c t) (is_collecting c) collects_so ys
-        (none_behind (is_collecting c) (is_collecting c) (order.collecting_is_once c) e))
+        (none_behind (is_collecting c) (is_collecting c) (CaseOrders.collecting_is_once c) e))
 
     pub names_in_front : has (is_prepare_naming c t) xs
         ≡ (has (is_prepare c) xs && has (is_prepare_naming c t) (xs ++ ys))
@@ -124,7 +124,7 @@ module _ (c : Case) (xs ys : List Record) (fit : AllFit [] (xs ++ ys)) where
         by_kind (is_prepare_naming c t) (has (is_prepare c) xs)
         (has_other (is_prepare_naming c t) (is_prepare c) xs names_so)
         (λ e. none_of_them (is_prepare_naming c t) (is_prepare c) names_so ys
-        (none_behind (is_prepare c) (is_prepare c) (order.promise_is_once c) e))
+        (none_behind (is_prepare c) (is_prepare c) (CaseOrders.promise_is_once c) e))
 
     abbrev is_decision : Record → Bool
     is_decision x = is_commit c x || is_abort c x
@@ -132,10 +132,10 @@ module _ (c : Case) (xs ys : List Record) (fit : AllFit [] (xs ++ ys)) where
     decided_once : (rs : List Record) (x : Record) → Fits rs x → is_decision x ≡ true
         → has is_decision rs ≡ false
     decided_once rs x f e = elim (either (is_commit c x) (is_abort c x) e) [
-      | inl commit ↦ neither_in rs (order.commit_is_once c rs x f commit)
-          (order.commit_bars_abort c rs x f commit)
-      | inr abort ↦ neither_in rs (order.abort_bars_commit c rs x f abort)
-          (order.abort_is_once c rs x f abort)
+      | inl commit ↦ neither_in rs (CaseOrders.commit_is_once c rs x f commit)
+          (CaseOrders.commit_bars_abort c rs x f commit)
+      | inr abort ↦ neither_in rs (CaseOrders.abort_bars_commit c rs x f abort)
+          (CaseOrders.abort_is_once c rs x f abort)
     ]
       where
         neither_in : (zs : List Record) → has (is_commit c) zs ≡ false → has (is_abort c) zs ≡ false

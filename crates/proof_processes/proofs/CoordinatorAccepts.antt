@@ -10,7 +10,7 @@ use Rattle.protocol.specs.declared.standings.Standing.{Standing}
 use Rattle.protocol.specs.declared.standings.Standing.TheVariants.{Active}
 use Rattle.protocol.specs.declared.standings.Vote.{Vote}
 use Rattle.protocol.specs.declared.events.Input.{Input}
-use Rattle.protocol.specs.declared.events.Input.TheVariants.{Message as MessageInput}
+use Rattle.protocol_words.specs.Variants.{MessageInput}
 use Rattle.protocol.specs.declared.events.StepError.TheVariants.{NoSuch}
 use Rattle.protocol.specs.declared.trees.TreeProcess.{TreeProcess}
 use Rattle.protocol.specs.Names.{same_case, same_ticket}

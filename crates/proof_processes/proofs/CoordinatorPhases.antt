@@ -10,10 +10,9 @@ use Rattle.protocol.specs.declared.messages.Op.{Op}
 use Rattle.protocol.specs.declared.standings.Standing.{Standing}
 use Rattle.protocol.specs.declared.standings.Standing.TheVariants.{Active, Collecting, Prepared}
 use Rattle.protocol.specs.declared.standings.Vote.{Vote}
-use Rattle.protocol.specs.declared.standings.Vote.TheVariants.{Yes as VoteYes, No as VoteNo, Read as VoteRead}
-use Rattle.protocol.specs.declared.events.Act.TheVariants.{Join as JoinAct, Work as WorkAct, Ask, Forget}
+use Rattle.protocol_words.specs.Variants.{ActInput, JoinAct, MessageInput, VoteNo, VoteRead, VoteYes, WorkAct}
+use Rattle.protocol.specs.declared.events.Act.TheVariants.{Ask, Forget}
 use Rattle.protocol.specs.declared.events.Input.{Input}
-use Rattle.protocol.specs.declared.events.Input.TheVariants.{Act as ActInput, Message as MessageInput}
 use Rattle.protocol.specs.declared.trees.TreeProcess.{TreeProcess}
 use Rattle.protocol.specs.Names.{same_txn, same_case, root_case, child_case}
 use Rattle.protocol.specs.NameLaws.{same_case-refl, same_txn-refl}

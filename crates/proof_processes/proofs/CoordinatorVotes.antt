@@ -8,9 +8,8 @@ use Rattle.protocol.specs.declared.names.Txn.{Txn}
 use Rattle.protocol.specs.declared.standings.Standing.{Standing}
 use Rattle.protocol.specs.declared.standings.Standing.TheVariants.{Collecting}
 use Rattle.protocol.specs.declared.standings.Vote.{Vote}
-use Rattle.protocol.specs.declared.standings.Vote.TheVariants.{Yes as VoteYes, No as VoteNo, Read as VoteRead}
+use Rattle.protocol_words.specs.Variants.{MessageInput, VoteNo, VoteRead, VoteYes}
 use Rattle.protocol.specs.declared.events.Input.{Input}
-use Rattle.protocol.specs.declared.events.Input.TheVariants.{Message as MessageInput}
 use Rattle.protocol.specs.declared.events.StepError.TheVariants.{NoSuch}
 use Rattle.protocol.specs.declared.trees.TreeProcess.{TreeProcess}
 use Rattle.protocol.specs.Names.{same_case, same_ticket, same_txn, child_case}

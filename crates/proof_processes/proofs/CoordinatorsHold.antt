@@ -15,7 +15,7 @@ use Rattle.protocol.specs.Nodes.{Role, AtRoot, Below, AtLeaf, Place, place_of, r
 use Rattle.protocol.specs.Memory.{Phase, Open, Asked, memory_of, next_txn, next_ticket}
 use Rattle.protocol.specs.Outcomes.{sent, has_accepted, is_joined_message}
 use Rattle.protocol.specs.Standings.{belongs, coordinator_view, own_cases}
-use Rattle.protocol.specs.World.{World, Made, IsRun, opens as opens_world, makes}
+use Rattle.protocol.specs.World.{World, Made, IsRun, opens, makes}
 use Rattle.protocol.proofs.RunLaws.{makes_at}
 use Rattle.proof_pairs.specs.readings.ReadingOf.{gives_case}
 use Rattle.proof_pairs.specs.turns.Steps.{StepOf}
@@ -206,7 +206,7 @@ module _ (tree : List TreeProcess) where
   pub all_coordinated : (es : List Made) (w : World) → IsRun tree es w → (q : ProcessId)
       → (parent : Option ProcessId) → role_of tree q ≡ role_below parent
       → Coordinated (coordinator_place q parent tree) (w.at q)
-  all_coordinated _ _ opens_world q = λ parent e. opened_coordinated q parent tree
+  all_coordinated _ _ opens q = λ parent e. opened_coordinated q parent tree
   all_coordinated _ _ (makes es w m e w' run stands step) q =
       let now = makes_at tree w m e w' step in
       let x = m.step.process in

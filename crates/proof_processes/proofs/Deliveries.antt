@@ -5,7 +5,7 @@ use Rattle.protocol.specs.declared.names.ProcessId.{ProcessId}
 use Rattle.protocol.specs.declared.messages.Message.{Message}
 use Rattle.protocol.specs.declared.messages.Envelope.{Envelope}
 use Rattle.protocol.specs.declared.events.Input.{Input}
-use Rattle.protocol.specs.declared.events.Input.TheVariants.{Message as MessageInput}
+use Rattle.protocol_words.specs.Variants.{MessageInput}
 use Rattle.protocol.specs.Outcomes.{sent}
 use Rattle.protocol.specs.World.{IsSent, InputStands}
 use Rattle.proof_processes.proofs.Tests.{left, right}

@@ -5,7 +5,7 @@ use Rattle.protocol.specs.declared.names.Ticket.{Ticket}
 use Rattle.protocol.specs.declared.messages.Message.TheVariants.{Join}
 use Rattle.protocol.specs.declared.messages.Envelope.{Envelope}
 use Rattle.protocol.specs.declared.events.Input.{Input}
-use Rattle.protocol.specs.declared.events.Input.TheVariants.{Message as MessageInput}
+use Rattle.protocol_words.specs.Variants.{MessageInput}
 use Rattle.protocol.specs.declared.events.StepError.TheVariants.{Failed, NoSuch}
 use Rattle.protocol.specs.declared.trees.TreeProcess.{TreeProcess}
 use Rattle.protocol.specs.Names.{same_case}

@@ -6,7 +6,7 @@ use Rattle.std.proofs.Common.{◌≡◌, ◌∙◌, ℕ, zero, suc, true, false,
 use Rattle.std.specs.Prelude.{reverse}
 use Rattle.protocol.specs.declared.names.Case.{Case}
 use Rattle.protocol.specs.declared.names.Outcome.{Outcome}
-use Rattle.protocol.specs.declared.names.Outcome.TheVariants.{Committed as CommittedOutcome, Aborted as AbortedOutcome}
+use Rattle.protocol_words.specs.Variants.{AbortedOutcome, CommittedOutcome}
 use Rattle.protocol.specs.declared.records.Record.{Record}
 use Rattle.protocol.specs.declared.records.Record.TheVariants.{Opened}
 use Rattle.protocol.specs.Records.{has, is_decided}

@@ -5,13 +5,11 @@ use Rattle.std.proofs.lemmas.List.{append-nil}
 use Rattle.protocol.specs.declared.names.Case.{Case}
 use Rattle.protocol.specs.declared.names.ProcessId.{ProcessId}
 use Rattle.protocol.specs.declared.names.Outcome.{Outcome}
-use Rattle.protocol.specs.declared.names.Outcome.TheVariants.{Committed as CommittedOutcome, Aborted as AbortedOutcome}
+use Rattle.protocol_words.specs.Variants.{AbortedOutcome, CaseBranch, CommittedOutcome, MessageInput, PreparedRecord}
 use Rattle.protocol.specs.declared.messages.Message.TheVariants.{Join, Prepare}
-use Rattle.protocol.specs.declared.records.BranchName.TheVariants.{Case as CaseBranch}
 use Rattle.protocol.specs.declared.records.Record.{Record}
-use Rattle.protocol.specs.declared.records.Record.TheVariants.{Prepared as PreparedRecord, Told, Forgot}
+use Rattle.protocol.specs.declared.records.Record.TheVariants.{Told, Forgot}
 use Rattle.protocol.specs.declared.records.Write.{Write}
-use Rattle.protocol.specs.declared.events.Input.TheVariants.{Message as MessageInput}
 use Rattle.protocol.specs.Records.{record_branch}
 use Rattle.protocol.specs.Nodes.{Place, Node, Heard, Effect, kept, entries_written, is_any_forced, after}
 use Rattle.protocol.specs.CoordinatorRows.{tells_outcome}

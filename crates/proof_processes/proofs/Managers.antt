@@ -5,10 +5,9 @@ use Rattle.std.specs.Prelude.{reverse}
 use Rattle.std.proofs.lemmas.List.{append-nil, take-append-drop}
 use Rattle.protocol.specs.declared.names.Case.{Case}
 use Rattle.protocol.specs.declared.names.Outcome.{Outcome}
-use Rattle.protocol.specs.declared.names.Outcome.TheVariants.{Committed as CommittedOutcome, Aborted as AbortedOutcome}
+use Rattle.protocol_words.specs.Variants.{AbortedOutcome, CaseBranch, CommittedOutcome}
 use Rattle.protocol.specs.declared.names.ProcessId.{ProcessId}
 use Rattle.protocol.specs.declared.records.BranchName.{BranchName}
-use Rattle.protocol.specs.declared.records.BranchName.TheVariants.{Case as CaseBranch}
 use Rattle.protocol.specs.declared.records.Record.{Record}
 use Rattle.protocol.specs.declared.records.Record.TheVariants.{Prepared, Committed, RolledBack, HeurCommit, HeurRollback, Told, Forgot}
 use Rattle.protocol.specs.NameLaws.{same_case_tells}

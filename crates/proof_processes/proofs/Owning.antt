@@ -11,7 +11,7 @@ use Rattle.protocol.specs.declared.records.Record.{Record}
 use Rattle.protocol.specs.declared.standings.Standing.{Standing}
 use Rattle.protocol.specs.declared.standings.Standing.TheVariants.{Unknown, Active, Collecting, Prepared, Committing, Aborting, Heuristic}
 use Rattle.protocol.specs.declared.events.Input.{Input}
-use Rattle.protocol.specs.declared.events.Input.TheVariants.{Message as MessageInput}
+use Rattle.protocol_words.specs.Variants.{MessageInput}
 use Rattle.protocol.specs.Records.{has, cases_in}
 use Rattle.protocol.specs.Nodes.{Below, Place, Node, kept, Written, entries_written}
 use Rattle.protocol.specs.Standings.{CoordinatorView}

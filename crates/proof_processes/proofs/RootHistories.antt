@@ -12,7 +12,8 @@ use Rattle.protocol.specs.declared.records.Record.{Record}
 use Rattle.protocol.specs.declared.standings.Standing.{Standing}
 use Rattle.protocol.specs.declared.standings.Standing.TheVariants.{Unknown, Active, Collecting}
 use Rattle.protocol.specs.declared.events.Conclusion.{Conclusion}
-use Rattle.protocol.specs.declared.events.Conclusion.TheVariants.{Committed as ConcludedCommitted, Aborted as ConcludedAborted, ReadOnly}
+use Rattle.protocol.specs.declared.events.Conclusion.TheVariants.{ReadOnly}
+use Rattle.protocol_words.specs.Variants.{ActInput, ConcludedAborted, ConcludedCommitted}
 use Rattle.protocol.specs.declared.events.Told.{Told}
 use Rattle.protocol.specs.declared.trees.TreeProcess.{TreeProcess}
 use Rattle.protocol.specs.Names.{root_case, same_case, same_txn, same_ticket}
@@ -39,7 +40,6 @@ use Rattle.protocol.specs.Standings.{some_case}
 use Rattle.protocol.specs.declared.names.Presumption.{Presumption}
 use Rattle.protocol.specs.declared.events.Act.TheVariants.{Begin}
 use Rattle.protocol.specs.declared.events.Input.{Input}
-use Rattle.protocol.specs.declared.events.Input.TheVariants.{Act as ActInput}
 
 abbrev pub took : Case → Ticket → List (Case × Ticket) → Bool
 took c t as' = list_any (λ a. same_case a.0 c && same_ticket a.1 t) as'

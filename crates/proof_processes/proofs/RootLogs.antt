@@ -6,7 +6,8 @@ use Rattle.protocol.specs.declared.names.Case.{Case}
 use Rattle.protocol.specs.declared.names.Presumption.{Presumption}
 use Rattle.protocol.specs.declared.names.Presumption.TheVariants.{PresumeAbort, PresumeCommit}
 use Rattle.protocol.specs.declared.records.Record.{Record}
-use Rattle.protocol.specs.declared.records.Record.TheVariants.{Opened, Abort as AbortRecord}
+use Rattle.protocol.specs.declared.records.Record.TheVariants.{Opened}
+use Rattle.protocol_words.specs.Variants.{AbortRecord}
 use Rattle.protocol.specs.declared.standings.Standing.{Standing}
 use Rattle.protocol.specs.declared.standings.Standing.TheVariants.{Unknown, Active, Collecting, Prepared, Committing, Aborting, Heuristic}
 use Rattle.protocol.specs.declared.names.Ticket.{Ticket}
@@ -22,7 +23,7 @@ use Rattle.proof_model.proofs.RootRowLaws.{phase_collecting}
 use Rattle.proof_pairs.proofs.readings.Trimmed.{gone}
 use Rattle.proof_pairs.proofs.turns.Operators.{reopens_none}
 use Rattle.proof_processes.specs.WorldHolds.{is_record_of, is_of}
-use Rattle.proof_processes.proofs.Tests.{not_both, has-nil, in_first, in_second, in_either, has-cons, either, left as first_of, right as last_of}
+use Rattle.proof_processes.proofs.Tests.{not_both, has-nil, in_first, in_second, in_either, has-cons, either, left, right}
 use Rattle.proof_processes.proofs.Trims.{trim_left}
 use Rattle.proof_processes.proofs.Worlds.{has_other}
 use Rattle.proof_pairs.proofs.readings.Inquiries.{has_case-more, found}
@@ -224,14 +225,14 @@ module _ (c : Case) where
 
       with_rest : (b : Bool) → has q (staying AtRoot whole rs) ≡ true
           → has q (if b then r ∷ staying AtRoot whole rs else staying AtRoot whole rs) ≡ true
-      with_rest true g = has-cons q r (staying AtRoot whole rs) ∙ last_of _ _ g
+      with_rest true g = has-cons q r (staying AtRoot whole rs) ∙ right _ _ g
       with_rest false g = g
 
       by_either : (q r ≡ true) ⊎ (has q rs ≡ true)
           → (has q rs ≡ true → has q (staying AtRoot whole rs) ≡ true)
           → has q (staying AtRoot whole (r ∷ rs)) ≡ true
       by_either (inl now) g =
-          rw (known (record_case r) (f r now)) (has-cons q r (staying AtRoot whole rs) ∙ first_of _ _ now)
+          rw (known (record_case r) (f r now)) (has-cons q r (staying AtRoot whole rs) ∙ left _ _ now)
       by_either (inr rest) g = with_rest (stays AtRoot whole rs r) (g rest)
 
   -- the records of a case that stays
@@ -241,7 +242,7 @@ module _ (c : Case) where
   unfolding trimmed
   known_stays q f rs k e =
       in_first q (Opened (boot_of rs) ∷ staying AtRoot rs rs) []
-      (has-cons q (Opened (boot_of rs)) (staying AtRoot rs rs) ∙ last_of _ _ (stays_whole q f rs rs k e))
+      (has-cons q (Opened (boot_of rs)) (staying AtRoot rs rs) ∙ right _ _ (stays_whole q f rs rs k e))
 
   -- what a trim leaves was there
   was_there : (q : Record → Bool) → ((k : ℕ) → q (Opened k) ≡ false) → (rs : List Record)

@@ -9,7 +9,8 @@ use Rattle.protocol.specs.declared.names.ProcessId.{ProcessId}
 use Rattle.protocol.specs.declared.names.Ticket.{Ticket}
 use Rattle.protocol.specs.declared.names.Txn.{Txn}
 use Rattle.protocol.specs.declared.records.Record.{Record}
-use Rattle.protocol.specs.declared.records.Record.TheVariants.{Opened, Abort as AbortRecord}
+use Rattle.protocol.specs.declared.records.Record.TheVariants.{Opened}
+use Rattle.protocol_words.specs.Variants.{AbortRecord}
 use Rattle.protocol.specs.declared.standings.Standing.{Standing}
 use Rattle.protocol.specs.declared.standings.Standing.TheVariants.{Unknown, Active, Collecting, Prepared, Committing, Aborting, Heuristic}
 use Rattle.protocol.specs.declared.trees.TreeProcess.{TreeProcess}

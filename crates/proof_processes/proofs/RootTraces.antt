@@ -11,7 +11,7 @@ use Rattle.protocol.specs.declared.records.Record.{Record}
 use Rattle.protocol.specs.declared.standings.Standing.TheVariants.{Unknown}
 use Rattle.protocol.specs.declared.events.Act.TheVariants.{Begin}
 use Rattle.protocol.specs.declared.events.Input.{Input}
-use Rattle.protocol.specs.declared.events.Input.TheVariants.{Act as ActInput}
+use Rattle.protocol_words.specs.Variants.{ActInput}
 use Rattle.protocol.specs.declared.events.StepError.TheVariants.{NoSuch}
 use Rattle.protocol.specs.declared.events.Told.{Told}
 use Rattle.protocol.specs.declared.trees.TreeProcess.{TreeProcess}

@@ -6,7 +6,7 @@ use Rattle.protocol.specs.declared.names.ProcessId.{ProcessId}
 use Rattle.protocol.specs.declared.names.Ticket.{Ticket}
 use Rattle.protocol.specs.declared.names.Presumption.TheVariants.{PresumeAbort, PresumeCommit}
 use Rattle.protocol.specs.declared.standings.Vote.{Vote}
-use Rattle.protocol.specs.declared.standings.Vote.TheVariants.{No as VoteNo}
+use Rattle.protocol_words.specs.Variants.{VoteNo}
 use Rattle.protocol.specs.Names.{same_case, same_ticket}
 use Rattle.protocol.specs.Nodes.{Place, Node, Heard, Effect}
 use Rattle.protocol.specs.CoordinatorRows.{Row}

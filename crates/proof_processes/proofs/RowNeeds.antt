@@ -4,7 +4,7 @@ use Rattle.protocol.specs.declared.names.Case.{Case}
 use Rattle.protocol.specs.declared.names.ProcessId.{ProcessId}
 use Rattle.protocol.specs.declared.names.Presumption.TheVariants.{PresumeAbort, PresumeCommit}
 use Rattle.protocol.specs.declared.records.Record.{Record}
-use Rattle.protocol.specs.declared.records.Record.TheVariants.{Collecting as CollectingRecord}
+use Rattle.protocol_words.specs.Variants.{CollectingRecord}
 use Rattle.protocol.specs.Names.{same_presumption}
 use Rattle.protocol.specs.NameLaws.{same_case_tells}
 use Rattle.protocol.specs.Records.{has, is_collecting}

@@ -26,7 +26,7 @@ use Rattle.proof_pairs.specs.Invariant.{PresumedAbort, PresumedCommit}
 use Rattle.proof_pairs.specs.Keeps.{Later}
 use Rattle.proof_pairs.specs.readings.ReadingOf.{reading_of, is_root_ticket, gives_case, is_prepare_message}
 use Rattle.protocol.specs.Audits.{is_promise, is_collecting_naming, is_prepare_naming, is_decision_naming}
-use Rattle.protocol.specs.declared.records.BranchName.TheVariants.{Case as CaseBranch}
+use Rattle.protocol_words.specs.Variants.{CaseBranch}
 use Rattle.protocol.specs.Outcomes.{is_told_aborted}
 use Rattle.proof_pairs.specs.Reading.{is_live}
 use Rattle.proof_pairs.specs.readings.ReadingOf.{is_begun, is_told_of_txn, phase_by}

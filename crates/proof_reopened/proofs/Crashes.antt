@@ -11,7 +11,7 @@ use Rattle.protocol.specs.Names.{same_process}
 use Rattle.protocol.specs.NameLaws.{same_process_tells}
 use Rattle.protocol.specs.Nodes.{Effect, Node, Place, is_listed, place_of}
 use Rattle.protocol.specs.Restarts.{left_of, restart_effect, restart_fails}
-use Rattle.protocol.specs.World.{Continues, IsRun, Made, Move, World, fault_effect, goes_on, makes as makes_move, node_makes, stays, world_makes}
+use Rattle.protocol.specs.World.{Continues, IsRun, Made, Move, World, fault_effect, goes_on, makes, node_makes, stays, world_makes}
 use Rattle.process_state.specs.Turns.{no_answer}
 use Rattle.proof_runs.proofs.worlds.Steps.{made_at, move_with, world_after}
 use Rattle.proof_reopened.proofs.Moves.{put_here, put_there}
@@ -135,7 +135,7 @@ module _ (tree : List TreeProcess) (es : List Made) (w : World) (run : IsRun tre
         moves = record { move = crash_move q k; effect = g } ∷ d.moves;
         world = world_after d.world q n g;
         leads = goes_on d.moves d.world (crash_move q k) g (world_after d.world q n g) d.leads tt step;
-        is_run = makes_move (d.moves ++ es) d.world (crash_move q k) g (world_after d.world q n g) d.is_run tt step;
+        is_run = makes (d.moves ++ es) d.world (crash_move q k) g (world_after d.world q n g) d.is_run tt step;
         down = λ p h. elim (same_process_tells e.id p) [
           | inl t ↦ subst (λ (r : ProcessId). IsDownWith ((world_after d.world q n g).at r) (left_of (w.at r) (keep r))) t.1
               (subst (λ (m : Node). IsDownWith m (left_of (w.at q) k)) (sym (put_here q n d.world.at))

@@ -6,9 +6,8 @@ use Rattle.protocol.specs.declared.names.ProcessId.{ProcessId}
 use Rattle.protocol.specs.declared.events.Act.TheVariants.{Ask}
 use Rattle.protocol.specs.declared.events.Fault.{Fault}
 use Rattle.protocol.specs.declared.events.Happening.{Happening}
-use Rattle.protocol.specs.declared.events.Happening.TheVariants.{Input as Handles, Restart as Restarting, Trim as Trimming}
+use Rattle.protocol_words.specs.Variants.{ActInput, Handles, Restarting, Trimming}
 use Rattle.protocol.specs.declared.events.Input.{Input}
-use Rattle.protocol.specs.declared.events.Input.TheVariants.{Act as ActInput}
 use Rattle.protocol.specs.declared.events.StepError.TheVariants.{Failed}
 use Rattle.protocol.specs.declared.trees.TreeProcess.{TreeProcess}
 use Rattle.protocol.specs.Nodes.{AtLeaf, AtRoot, Below, DataAnswer, Effect, Node, Place, Role, fails_in, is_listed, no_effect, place_of}
@@ -18,7 +17,7 @@ use Rattle.protocol.specs.Restarts.{restart_effect, trim_effect}
 use Rattle.protocol.specs.Standings.{coordinator_view}
 use Rattle.protocol.specs.Trees.{IsTree}
 use Rattle.protocol.specs.World.{InputStands, IsRun, Made, World, fault_effect, input_makes, node_makes, passes_over, trim_makes, world_makes}
-use Rattle.protocol.specs.World.{Makes as Leaves, Refuses as RefusesMove}
+use Rattle.protocol.specs.World.{Makes, Refuses}
 use Rattle.protocol.specs.World.{MayHappen}
 use Rattle.protocol.proofs.RunLaws.{makes_at}
 use Rattle.process_state.specs.States.{CoreState}
@@ -47,26 +46,26 @@ moves_one s t q before behind h =
 
 -- Nothing is sent in a move in which a device fails.
 
-same_effect : (a b : Effect) (m n : Node) → Leaves a m ≡ Leaves b n → a ≡ b
+same_effect : (a b : Effect) (m n : Node) → Makes a m ≡ Makes b n → a ≡ b
 same_effect a b m n h = cc
 
-unsent : (d e : Effect) (m n : Node) → Leaves d m ≡ Leaves e n → d.messages ≡ [] → e.messages ≡ []
+unsent : (d e : Effect) (m n : Node) → Makes d m ≡ Makes e n → d.messages ≡ [] → e.messages ≡ []
 unsent d e m n same none = ap (λ (x : Effect). x.messages) (sym (same_effect d e m n same)) ∙ none
 
 module _ (place : Place) (n : Node) (q : ProcessId) (f : Fault) (a : DataAnswer) (e : Effect) (left : Node) where
   input_unsent : (i : Input) (b : Bool) (r : Reacts)
-      → (if b then passes_over n (Some f) else input_makes n (heard_now a i) (Some f) r) ≡ Leaves e left
+      → (if b then passes_over n (Some f) else input_makes n (heard_now a i) (Some f) r) ≡ Makes e left
       → e.messages ≡ []
   input_unsent i true r h = unsent no_effect e _ left h refl
   input_unsent i false (Refused x) h = absurd (cc)
   input_unsent i false (Does d) h = unsent (fault_effect d f.appended) e _ left h refl
 
-  trim_unsent : (b : Bool) → (if b then RefusesMove Failed else trim_makes place n (Some f)) ≡ Leaves e left
+  trim_unsent : (b : Bool) → (if b then Refuses Failed else trim_makes place n (Some f)) ≡ Makes e left
       → e.messages ≡ []
   trim_unsent true h = absurd (cc)
   trim_unsent false h = unsent (fault_effect (trim_effect place n) 0) e _ left h refl
 
-  nothing_sent : (h : Happening) → node_makes place n (move_with q h (Some f) a) ≡ Leaves e left → e.messages ≡ []
+  nothing_sent : (h : Happening) → node_makes place n (move_with q h (Some f) a) ≡ Makes e left → e.messages ≡ []
   unfolding node_makes
   nothing_sent (Handles i) made = input_unsent i (is_passed_over place n i) (reacts place n (heard_now a i)) made
   nothing_sent (Restarting k) made = unsent (fault_effect (restart_effect place n k) f.appended) e _ left made refl
@@ -154,7 +153,7 @@ module _ (o : Earlier) (es : List Made) (w : World) (s s' : WorldState) (f : Fol
             let fault : Fault = record { appended = 0; forced = so.forced } in
             let made = subst (λ (x : Place). node_makes x n
             (move_with x.me (Handles (ActInput (Ask c))) (Some fault) h.answer)
-            ≡ Leaves (fault_effect e 0) left) (sym here ∙ sits)
+            ≡ Makes (fault_effect e 0) left) (sym here ∙ sits)
             (ask_fails me p tree n h.answer c quiet.0 quiet.1.prepared so.forced) in
             fault_since (Handles (ActInput (Ask c))) h.answer h.before h.behind tt h.moves h.net
             h.entries h.broken.breaks.2.place

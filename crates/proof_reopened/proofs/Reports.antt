@@ -4,15 +4,14 @@ use Rattle.protocol.specs.declared.names.ProcessId.{ProcessId}
 use Rattle.protocol.specs.declared.messages.Envelope.{Envelope}
 use Rattle.protocol.specs.declared.messages.Message.{Message}
 use Rattle.protocol.specs.declared.events.Happening.{Happening}
-use Rattle.protocol.specs.declared.events.Happening.TheVariants.{Input as Handles}
+use Rattle.protocol_words.specs.Variants.{ActInput, Handles, MessageInput}
 use Rattle.protocol.specs.declared.events.Input.{Input}
-use Rattle.protocol.specs.declared.events.Input.TheVariants.{Act as ActInput, Message as MessageInput}
 use Rattle.protocol.specs.declared.trees.TreeProcess.{TreeProcess}
 use Rattle.protocol.specs.Nodes.{Node, is_listed}
 use Rattle.protocol.specs.Trees.{IsTree}
 use Rattle.protocol.specs.World.{InputStands, Made, MayHappen, World}
 use Rattle.proof_headline.proofs.runs.Headline.{the_world_holds}
-use Rattle.proof_headline.proofs.runs.Headline as runs
+use Rattle.proof_headline.proofs.runs.Headline
 use Rattle.proof_reports.specs.SinceOpened.{AllHeardAmong, InputAmong, IsAmong, SinceOpened}
 use Rattle.proof_reports.proofs.Found.{among_at, among_second}
 use Rattle.proof_reports.proofs.Naming.{never}
@@ -73,6 +72,6 @@ module _ (tree : List TreeProcess) (is_tree : IsTree tree) (o : Earlier) (past :
 pub both_parts : BothPartsKeep
 both_parts o s es w is_tree f = record {
   is_run = run_of o es w s f;
-  headline = runs.headline s.tree is_tree (es ++ o.moves) w (run_of o es w s f);
+  headline = Headline.headline s.tree is_tree (es ++ o.moves) w (run_of o es w s f);
   mismatches_are_reported = since_reported s.tree is_tree o f.earlier es s.net w f.since;
 }

@@ -1,7 +1,7 @@
 -- What a tree comes to by an input, a restart or a trim stands for a run that goes on.
 use Rattle.std.proofs.Common.{◌≡◌, ◌∙◌, ap, sym, subst, refl, ℕ, Bool, false, Option, Some, None, is_some, List, [], ◌++◌}
 use Rattle.protocol.specs.declared.names.ProcessId.{ProcessId}
-use Rattle.protocol.specs.declared.events.Happening.TheVariants.{Input as Handles, Trim as Trimming}
+use Rattle.protocol_words.specs.Variants.{Handles, Trimming}
 use Rattle.protocol.specs.declared.events.Input.{Input}
 use Rattle.protocol.specs.Nodes.{is_listed, place_of}
 use Rattle.protocol.specs.Trees.{IsTree}

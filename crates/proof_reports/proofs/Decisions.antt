@@ -2,7 +2,7 @@
 use Rattle.std.proofs.Common.{◌≡◌, inl, inr, ℕ, zero, suc, Bool, true, false, List, [], ◌∷◌, refl, subst}
 use Rattle.protocol.specs.declared.names.Case.{Case}
 use Rattle.protocol.specs.declared.names.Outcome.{Outcome}
-use Rattle.protocol.specs.declared.names.Outcome.TheVariants.{Committed as CommittedOutcome, Aborted as AbortedOutcome}
+use Rattle.protocol_words.specs.Variants.{AbortedOutcome, CommittedOutcome}
 use Rattle.protocol.specs.declared.names.ProcessId.{ProcessId}
 use Rattle.protocol.specs.declared.records.Record.{Record}
 use Rattle.protocol.specs.Records.{has, is_decided}

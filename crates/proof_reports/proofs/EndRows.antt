@@ -8,7 +8,7 @@ use Rattle.protocol.specs.declared.names.Outcome.{Outcome}
 use Rattle.protocol.specs.declared.messages.Finding.{Finding}
 use Rattle.protocol.specs.declared.messages.Message.TheVariants.{Ack}
 use Rattle.protocol.specs.declared.records.Record.{Record}
-use Rattle.protocol.specs.declared.records.Record.TheVariants.{End as EndRecord}
+use Rattle.protocol_words.specs.Variants.{EndRecord}
 use Rattle.protocol.specs.declared.records.Reports.{Reports}
 use Rattle.protocol.specs.declared.standings.Standing.TheVariants.{Collecting}
 use Rattle.protocol.specs.Records.{has, none_of}

@@ -14,7 +14,7 @@ use Rattle.protocol.specs.declared.messages.Message.TheVariants.{Join, Joined, W
 use Rattle.protocol.specs.declared.messages.Envelope.{Envelope}
 use Rattle.protocol.specs.declared.records.Record.{Record}
 use Rattle.protocol.specs.declared.events.Input.{Input}
-use Rattle.protocol.specs.declared.events.Input.TheVariants.{Act as ActInput, Message as MessageInput}
+use Rattle.protocol_words.specs.Variants.{ActInput, MessageInput}
 use Rattle.protocol.specs.Names.{child_case}
 use Rattle.protocol.specs.Records.{has, in_order, is_decided, mixed_of, unreported_of}
 use Rattle.protocol.specs.Nodes.{Heard, Node}

@@ -6,11 +6,10 @@ use Rattle.protocol.specs.declared.names.ProcessId.{ProcessId}
 use Rattle.protocol.specs.declared.names.Ticket.{Ticket}
 use Rattle.protocol.specs.declared.names.Txn.{Txn}
 use Rattle.protocol.specs.declared.names.Outcome.{Outcome}
-use Rattle.protocol.specs.declared.names.Outcome.TheVariants.{Committed as CommittedOutcome, Aborted as AbortedOutcome}
+use Rattle.protocol_words.specs.Variants.{AbortedOutcome, CaseBranch, CommittedOutcome}
 use Rattle.protocol.specs.declared.messages.Finding.{Finding}
 use Rattle.protocol.specs.declared.messages.Finding.TheVariants.{Mixed, Unreported}
 use Rattle.protocol.specs.declared.messages.Message.TheVariants.{Ack}
-use Rattle.protocol.specs.declared.records.BranchName.TheVariants.{Case as CaseBranch}
 use Rattle.protocol.specs.declared.records.Record.{Record}
 use Rattle.protocol.specs.declared.trees.TreeProcess.{TreeProcess}
 use Rattle.protocol.specs.Names.{child_case, process_of, same_outcome}

@@ -4,13 +4,11 @@ use Rattle.std.proofs.lemmas.List.{append-nil}
 use Rattle.protocol.specs.declared.names.Case.{Case}
 use Rattle.protocol.specs.declared.names.ProcessId.{ProcessId}
 use Rattle.protocol.specs.declared.names.Outcome.{Outcome}
-use Rattle.protocol.specs.declared.names.Outcome.TheVariants.{Committed as CommittedOutcome, Aborted as AbortedOutcome}
+use Rattle.protocol_words.specs.Variants.{AbortedOutcome, ActInput, CommittedOutcome, Handles}
 use Rattle.protocol.specs.declared.records.Record.{Record}
 use Rattle.protocol.specs.declared.records.Record.TheVariants.{Base, Opened, Pair}
 use Rattle.protocol.specs.declared.events.Act.TheVariants.{Decide}
-use Rattle.protocol.specs.declared.events.Happening.TheVariants.{Input as Handles}
 use Rattle.protocol.specs.declared.events.Input.{Input}
-use Rattle.protocol.specs.declared.events.Input.TheVariants.{Act as ActInput}
 use Rattle.protocol.specs.declared.trees.TreeProcess.{TreeProcess}
 use Rattle.protocol.specs.Records.{boot_of, has, is_decided, is_heuristic}
 use Rattle.protocol.specs.Nodes.{AtLeaf, Effect, Heard, Node, Place, Written, after, appends, entries_written, is_any_forced, kept}

@@ -5,7 +5,7 @@ use Rattle.protocol.specs.declared.names.ProcessId.{ProcessId}
 use Rattle.protocol.specs.declared.names.Ticket.{Ticket}
 use Rattle.protocol.specs.declared.names.Txn.{Txn}
 use Rattle.protocol.specs.declared.names.Outcome.{Outcome}
-use Rattle.protocol.specs.declared.names.Outcome.TheVariants.{Committed as CommittedOutcome, Aborted as AbortedOutcome}
+use Rattle.protocol_words.specs.Variants.{AbortedOutcome, CommittedOutcome}
 use Rattle.protocol.specs.declared.records.Record.TheVariants.{Opened}
 use Rattle.protocol.specs.declared.events.Happening.{Happening}
 use Rattle.protocol.specs.declared.trees.TreeProcess.{TreeProcess}
@@ -21,12 +21,12 @@ use Rattle.proof_pairs.specs.turns.Steps.{StepOf}
 use Rattle.proof_processes.specs.WorldHolds.{NodeHolds}
 use Rattle.proof_processes.proofs.RootsHold.{nodes_hold}
 use Rattle.proof_processes.proofs.Tests.{has-nil}
-use Rattle.proof_headline.proofs.runs.Headline as headline
+use Rattle.proof_headline.proofs.runs.Headline
 use Rattle.proof_reports.specs.Findings.{MixedHadMismatch, reports_mixed}
 use Rattle.proof_reports.proofs.Commits.{CommitsForced, commits_forced}
 use Rattle.proof_reports.proofs.Reports.{IsReported, ended_still, has_ended, reported_then}
 use Rattle.proof_reports.proofs.Runs.{FindingsHold, findings_hold, input_so}
-use Rattle.proof_reports.proofs.Runs as runs
+use Rattle.proof_reports.proofs.Runs
 
 -- the root's commits are forced, and its reports are of tickets that were decided against
 pub record ReportsHold (tree : List TreeProcess) (w : World) : Type 0 where
@@ -47,7 +47,7 @@ module _ (tree : List TreeProcess) (es : List Made) (w : World) (run : IsRun tre
     step_at : role_of tree q ≡ AtRoot → StepOf (at AtRoot) (w.at q) m e (makes_at tree w m e w' made).node
     step_at f =
         subst (λ r. StepOf (at r) (w.at q) m e (makes_at tree w m e w' made).node) f
-        (runs.step tree es w run found m e w' stands made)
+        (Runs.step tree es w run found m e w' stands made)
 
     node : NodeHolds (place_of tree q) w.net (w.at q)
     node = nodes_hold tree es w run q
@@ -71,7 +71,7 @@ module _ (tree : List TreeProcess) (es : List Made) (w : World) (run : IsRun tre
         → IsReported (put_at q (makes_at tree w m e w' made).node w.at) n c t
     later r n c t s = record {
       outcome = s.outcome;
-      against = runs.grows tree es w run found m e w' stands made t.child _ s.against;
+      against = Runs.grows tree es w run found m e w' stands made t.child _ s.against;
       ended = s.ended;
     }
 
@@ -80,12 +80,12 @@ module _ (tree : List TreeProcess) (es : List Made) (w : World) (run : IsRun tre
       net = w.net ++ e.messages;
     })
     keeps = record {
-      forced = runs.by_process tree es w run found m e w' stands made
+      forced = Runs.by_process tree es w run found m e w' stands made
           (λ r n. role_of tree r ≡ AtRoot → CommitsForced n)
           (λ role. commits_forced q tree m (w.at q) e (makes_at tree w m e w' made).node (step_at role)
           (h.forced q role)) h.forced;
       reported = λ r role c t f. later r (put_at q (makes_at tree w m e w' made).node w.at r) c t
-          (runs.by_process tree es w run found m e w' stands made
+          (Runs.by_process tree es w run found m e w' stands made
           (λ r n. role_of tree r ≡ AtRoot → (c : Case) (t : Ticket) → has (reports_mixed c t) n.life ≡ true
           → IsReported w.at n c t) here h.reported r role c t f);
     }
@@ -118,7 +118,7 @@ pub reported_had_mismatch : (tree : List TreeProcess) → IsTree tree → (es : 
     → MixedHadMismatch tree w
 reported_had_mismatch tree is_tree es w run x t role e =
     let s = (reports_hold tree es w run).reported x.root role (root_case x) t e in
-    let agrees = (headline.headline tree is_tree es w run).agreement.root_agrees x s.outcome role
+    let agrees = (Headline.headline tree is_tree es w run).agreement.root_agrees x s.outcome role
     (ends_so (w.at x.root) x s.outcome s.ended) in (
       other_outcome s.outcome,
       record { decided = s.against; differs = other_differs s.outcome (outcome_of w x) agrees },

@@ -3,19 +3,17 @@ use Rattle.std.proofs.Common.{◌≡◌, ◌∙◌, ◌&&◌, ◌||◌, ◌⊎�
 use Rattle.std.specs.Prelude.{reverse, slice_get}
 use Rattle.protocol.specs.declared.names.Case.{Case}
 use Rattle.protocol.specs.declared.names.Outcome.{Outcome}
-use Rattle.protocol.specs.declared.names.Outcome.TheVariants.{Committed as CommittedOutcome, Aborted as AbortedOutcome}
+use Rattle.protocol_words.specs.Variants.{AbortedOutcome, ClearedRecord, CollectingRecord, CommittedOutcome, EndRecord, Handles, PrepareRecord}
 use Rattle.protocol.specs.declared.names.ProcessId.{ProcessId}
 use Rattle.protocol.specs.declared.names.Ticket.{Ticket}
 use Rattle.protocol.specs.declared.names.Txn.{Txn}
 use Rattle.protocol.specs.declared.messages.Finding.{Finding}
 use Rattle.protocol.specs.declared.records.Record.{Record}
-use Rattle.protocol.specs.declared.records.Record.TheVariants.{Collecting as CollectingRecord, End as EndRecord, Prepare as PrepareRecord, Cleared as ClearedRecord}
 use Rattle.protocol.specs.declared.records.Reports.{Reports}
 use Rattle.protocol.specs.declared.messages.Envelope.{Envelope}
 use Rattle.protocol.specs.declared.messages.Message.{Message}
 use Rattle.protocol.specs.declared.events.Input.{Input}
 use Rattle.protocol.specs.declared.events.Happening.{Happening}
-use Rattle.protocol.specs.declared.events.Happening.TheVariants.{Input as Handles}
 use Rattle.protocol.specs.declared.standings.Standing.{Standing}
 use Rattle.protocol.specs.declared.standings.Standing.TheVariants.{Collecting}
 use Rattle.protocol.specs.declared.trees.TreeProcess.{TreeProcess}
@@ -42,7 +40,7 @@ use Rattle.proof_processes.proofs.Remembering.{coordinator_place}
 use Rattle.proof_processes.proofs.RootsHold.{nodes_hold}
 use Rattle.proof_processes.proofs.Tests.{has-cons, has-nil, has-reverse, in_either, in_first, in_front, neither}
 use Rattle.proof_steps.proofs.parents.Tables.{aborting_facts, committing_facts}
-use Rattle.proof_headline.proofs.runs.Headline as headline
+use Rattle.proof_headline.proofs.runs.Headline
 use Rattle.proof_reports.specs.SinceOpened.{InputAmong, IsAmong, SinceOpened, is_decision}
 use Rattle.proof_reports.specs.Findings.{reports_mixed}
 use Rattle.proof_reports.specs.Mismatches.{AllReportTruly, IsNamedDown, Names, ReportsTruly, by_root, by_ticket, mixed_in}
@@ -286,7 +284,7 @@ module _ (tree : List TreeProcess) (is_tree : IsTree tree) (es : List Made) (w :
 
     agrees_so : (o : Outcome) → has_ended n c o ≡ true → o ≡ outcome_of w' c.txn
     agrees_so o f =
-        (headline.headline tree is_tree (record { move = m; effect = e } ∷ es) w' thereafter).agreement.root_agrees c.txn o
+        (Headline.headline tree is_tree (record { move = m; effect = e } ∷ es) w' thereafter).agreement.root_agrees c.txn o
         root_role
         (ends_so (w'.at c.txn.root) c.txn o
         (ap (λ (y : Node). has_ended y (root_case c.txn) o) at_root

@@ -4,11 +4,11 @@ use Rattle.std.specs.Prelude.{not, reverse}
 use Rattle.std.specs.List.{flat_map}
 use Rattle.protocol.specs.declared.names.Case.{Case}
 use Rattle.protocol.specs.declared.names.Outcome.{Outcome}
-use Rattle.protocol.specs.declared.names.Outcome.TheVariants.{Committed as CommittedOutcome, Aborted as AbortedOutcome}
+use Rattle.protocol_words.specs.Variants.{AbortRecord, AbortedOutcome, ClearedRecord, CollectingRecord, CommittedOutcome, EndRecord, PrepareRecord}
 use Rattle.protocol.specs.declared.names.ProcessId.{ProcessId}
 use Rattle.protocol.specs.declared.names.Ticket.{Ticket}
 use Rattle.protocol.specs.declared.records.Record.{Record}
-use Rattle.protocol.specs.declared.records.Record.TheVariants.{Abort as AbortRecord, Collecting as CollectingRecord, End as EndRecord, Opened, Prepare as PrepareRecord, Cleared as ClearedRecord}
+use Rattle.protocol.specs.declared.records.Record.TheVariants.{Opened}
 use Rattle.protocol.specs.declared.standings.Standing.{Standing}
 use Rattle.protocol.specs.declared.standings.Standing.TheVariants.{Unknown, Active, Collecting, Prepared, Committing, Aborting, Heuristic}
 use Rattle.protocol.specs.declared.trees.TreeProcess.{TreeProcess}

@@ -8,7 +8,8 @@ use Rattle.protocol.specs.declared.messages.Op.{Op}
 use Rattle.protocol.specs.declared.standings.Standing.{Standing}
 use Rattle.protocol.specs.declared.standings.Standing.TheVariants.{Unknown, Active, Collecting, Prepared, Committing, Aborting, Heuristic}
 use Rattle.protocol.specs.declared.events.Act.{Act}
-use Rattle.protocol.specs.declared.events.Act.TheVariants.{Begin, Join as JoinAct, Work as WorkAct, Commit as CommitAct, Abort as AbortAct, Ask, Decide, Forget}
+use Rattle.protocol.specs.declared.events.Act.TheVariants.{Begin, Ask, Decide, Forget}
+use Rattle.protocol_words.specs.Variants.{AbortAct, CommitAct, JoinAct, WorkAct}
 use Rattle.protocol.specs.declared.events.StepError.{StepError}
 use Rattle.protocol.specs.declared.events.StepError.TheVariants.{NotAChild, NotInDoubt}
 use Rattle.protocol.specs.declared.trees.TreeProcess.{TreeProcess}

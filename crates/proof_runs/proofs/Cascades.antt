@@ -15,13 +15,12 @@ use Rattle.protocol.specs.declared.messages.Message.TheVariants.{Join, Joined, W
 use Rattle.protocol.specs.declared.messages.Op.{Op}
 use Rattle.protocol.specs.declared.records.Record.{Record}
 use Rattle.protocol.specs.declared.standings.Standing.{Standing}
-use Rattle.protocol.specs.declared.standings.Standing.TheVariants as standing
+use Rattle.protocol_words.specs.standing
 use Rattle.protocol.specs.declared.standings.Vote.{Vote}
-use Rattle.protocol.specs.declared.standings.Vote.TheVariants.{Yes as VoteYes, No as VoteNo, Read as VoteRead}
+use Rattle.protocol_words.specs.Variants.{AbortAct, ActInput, CommitAct, JoinAct, MessageInput, VoteNo, VoteRead, VoteYes, WorkAct}
 use Rattle.protocol.specs.declared.events.Act.{Act}
-use Rattle.protocol.specs.declared.events.Act.TheVariants.{Begin, Join as JoinAct, Work as WorkAct, Commit as CommitAct, Abort as AbortAct, Ask, Decide, Forget}
+use Rattle.protocol.specs.declared.events.Act.TheVariants.{Begin, Ask, Decide, Forget}
 use Rattle.protocol.specs.declared.events.Input.{Input}
-use Rattle.protocol.specs.declared.events.Input.TheVariants.{Act as ActInput, Message as MessageInput}
 use Rattle.protocol.specs.declared.events.StepError.{StepError}
 use Rattle.protocol.specs.declared.events.StepError.TheVariants.{NotAChild}
 use Rattle.protocol.specs.declared.trees.TreeProcess.{TreeProcess}
@@ -31,7 +30,7 @@ use Rattle.protocol.specs.Records.{boot_of, has, in_list, none_of, owing_by, pro
 use Rattle.protocol.specs.Restarts.{is_known}
 use Rattle.protocol.specs.Nodes.{Below, DataAnswer, Heard, Node, Place, after, entries_written, is_child, is_leaf, kept, role_of, Version}
 use Rattle.protocol.specs.Memory.{Asked, Idle, Memory, Open, Over, Phase, accepts_ticket, active_ticket, asks_votes, closes, gives, has_child, hears_child, is_counted, joins, memory_of, next_ticket, opens_case, remembers, retires, sends_work, takes_ack, takes_vote, ticket_of_child, undecided_of, with_vote}
-use Rattle.protocol.specs.Standings.{CoordinatorView, case_of_child, coordinator_standing, coordinator_view, still_owed, view_at as view_by}
+use Rattle.protocol.specs.Standings.{CoordinatorView, case_of_child, coordinator_standing, coordinator_view, still_owed, view_at}
 use Rattle.protocol.specs.CoordinatorRows.{Row, Seat, ByAbort, active_abort, active_commit, active_join, active_joined, active_work, collecting_abort, collecting_vote, decided_ack, on_abort, on_ack, on_commit, on_inquiry, on_joined, on_prepare, on_vote, other_tickets, post, prepared_ask, quiet, sends, unknown_commit_by, unknown_abort_by}
 use Rattle.protocol.specs.Reactions.{is_passed_over, sends_only}
 use Rattle.protocol.specs.Views.{vote_message}
@@ -200,14 +199,14 @@ module _ (n : Node) (s s' : CoreState) (me p : ProcessId) (tree : List TreeProce
   unfolding coordinator_view
   stands_as c st is = sym (view_standing (coordinator_standing rs c (memory c)) rs c (memory c)) ∙ is
 
-  seen_as : (c : Case) (st : Standing) → (view c).standing ≡ st → view c ≡ view_by st rs c (memory c)
+  seen_as : (c : Case) (st : Standing) → (view c).standing ≡ st → view c ≡ view_at st rs c (memory c)
   unfolding coordinator_view
-  seen_as c st is = ap (λ q. view_by q rs c (memory c)) (stands_as c st is)
+  seen_as c st is = ap (λ q. view_at q rs c (memory c)) (stands_as c st is)
 
   -- the row over the view, by the row over the lists
   own_by : (c : Case) (st : Standing) → (view c).standing ≡ st → (f : CoordinatorView → Row) (k : Memory)
-      → read (rs ++ entries_written (f (view_by st rs c (memory c))).written) c k
-      ≡ (f (view_by st rs c (memory c))).view
+      → read (rs ++ entries_written (f (view_at st rs c (memory c))).written) c k
+      ≡ (f (view_at st rs c (memory c))).view
       → read (rs ++ entries_written (f (view c)).written) c k ≡ (f (view c)).view
   own_by c st is f k reads =
       subst (λ v. read (rs ++ entries_written (f v).written) c k ≡ (f v).view) (sym (seen_as c st is)) reads
@@ -627,7 +626,7 @@ module _ (n : Node) (s s' : CoreState) (me p : ProcessId) (tree : List TreeProce
     -- the row of an Active case
     accepted_reads : (c : Case) (t : Ticket) (b : Bool)
         → standing_with c.txn.presumption rs c (memory c) ≡ standing.Active
-        → let v = view_by standing.Active rs c (memory c) in
+        → let v = view_at standing.Active rs c (memory c) in
         let row = if b then quiet v else record {
           written = [];
           told = None;
@@ -816,8 +815,8 @@ module _ (n : Node) (s s' : CoreState) (me p : ProcessId) (tree : List TreeProce
         → (view c).standing ≡ st
         → (st ≡ standing.Active → ⊥) → (st ≡ standing.Collecting → ⊥)
         → (f : CoordinatorView → Row) → ((v : CoordinatorView) → on_ack this_version (seat c) t o (v.found ++ fs) v st ≡ f v)
-        → read (rs ++ entries_written (f (view_by st rs c (memory c))).written) c (acked (memory c) t o fs)
-        ≡ (f (view_by st rs c (memory c))).view
+        → read (rs ++ entries_written (f (view_at st rs c (memory c))).written) c (acked (memory c) t o fs)
+        ≡ (f (view_at st rs c (memory c))).view
         → Leads (MessageInput k (Ack (child_case c.txn t) o fs))
         (Takes c (on_ack this_version (seat c) t o ((s.view_of c).found ++ fs) (s.view_of c) st))
     ack_noted k o fs t c finds st is shut silent f so reads =

@@ -7,7 +7,7 @@ use Rattle.protocol.specs.declared.messages.Envelope.{Envelope}
 use Rattle.protocol.specs.declared.events.Input.{Input}
 use Rattle.protocol.specs.declared.events.StepError.{StepError}
 use Rattle.protocol.specs.declared.records.Record.{Record}
-use Rattle.protocol.specs.declared.records.Record.TheVariants.{Cleared as ClearedRecord}
+use Rattle.protocol_words.specs.Variants.{ClearedRecord}
 use Rattle.protocol.specs.declared.standings.Standing.{Standing}
 use Rattle.protocol.specs.declared.standings.Standing.TheVariants.{Heuristic, Unknown}
 use Rattle.protocol.specs.LogNames.{in_log, parent_of}
@@ -26,7 +26,7 @@ use Rattle.proof_model.proofs.StandingLaws.{view-after}
 use Rattle.proof_processes.proofs.Selves.{Self, self_after, self_of, self_remembers}
 use Rattle.log_records.specs.Sights.{LogSight}
 use Rattle.process_state.specs.States.{CoreState, wrote}
-use Rattle.process_state.specs.Makes.{TakesRow, retired_by, retires as retires_ticket}
+use Rattle.process_state.specs.Makes.{TakesRow, retired_by, retires}
 use Rattle.process_state.specs.Turns.{Refuses, Says, Takes, heard_now}
 use Rattle.process_state.proofs.Alike.{row_effect-same}
 use Rattle.tree_state.specs.StandsFor.{StandsFor, StandsUp, branch_at, view_at}
@@ -270,7 +270,7 @@ module _ (n : Node) (s s' : CoreState) (place : Place) (a : DataAnswer)
     pub refused : (i : Input) (x : StepError) → Follows n (heard i) old new i (Refuses x)
     refused i x e is made = absurd made
 
-    pub kept_by : (i : Input) → ((d : Case) (t : Ticket) → retires_ticket i d t ≡ false)
+    pub kept_by : (i : Input) → ((d : Case) (t : Ticket) → retires i d t ≡ false)
         → (d : Case) (o : Option Ticket) → retired_by i d o ≡ o
     kept_by i none d None = refl
     kept_by i none d (Some t) = ap (λ b. if b then None else Some t) (none d t)

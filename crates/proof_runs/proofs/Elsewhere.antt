@@ -7,7 +7,7 @@ use Rattle.protocol.specs.declared.names.Outcome.{Outcome}
 use Rattle.protocol.specs.declared.names.Ticket.{Ticket}
 use Rattle.protocol.specs.declared.names.Txn.{Txn}
 use Rattle.protocol.specs.declared.records.Record.{Record}
-use Rattle.protocol.specs.declared.records.Record.TheVariants.{Commit as CommitRecord, Abort as AbortRecord}
+use Rattle.protocol_words.specs.Variants.{AbortRecord, CommitRecord}
 use Rattle.protocol.specs.declared.messages.Message.TheVariants.{Ack}
 use Rattle.protocol.specs.declared.standings.Standing.{Standing}
 use Rattle.protocol.specs.declared.standings.Standing.TheVariants.{Unknown, Active, Collecting, Prepared, Committing, Aborting, Heuristic}
@@ -18,7 +18,7 @@ use Rattle.protocol.specs.NameLaws.{same_ticket_tells}
 use Rattle.protocol.specs.Records.{has_case, in_list, named_by, named_in, owing_by, owing_in}
 use Rattle.protocol.specs.Nodes.{Node, Place, kept}
 use Rattle.protocol.specs.Memory.{Asked, Idle, Memory, Open, Over, Phase, found_of, has_acked, has_voted, hears_child, memory_of, of_child, takes_ack, takes_vote, with_vote}
-use Rattle.protocol.specs.Standings.{CoordinatorView, belongs, coordinator_standing, coordinator_view, decided_outcome, own_cases, still_owed, view_at as view_by}
+use Rattle.protocol.specs.Standings.{CoordinatorView, belongs, coordinator_standing, coordinator_view, decided_outcome, own_cases, still_owed, view_at}
 use Rattle.protocol.specs.Restarts.{is_known}
 use Rattle.protocol.specs.Views.{IsOpenAlike, vote_message}
 use Rattle.protocol.specs.SameViews.{SameView}
@@ -197,24 +197,24 @@ owing_so v ts us fs gs e f = (λ i. record v { owed = e i; found = f i })
 -- the view of a live case in which nobody owes the ticket, or of one that is not live
 acked_view : (rs : List Record) (d : Case) (m : Memory) (t : Ticket) (o : Outcome) (fs : List Finding)
     (st : Standing) → (is_known st ≡ true → in_list (owing_by d rs) t ≡ false)
-    → view_by st rs d (acked m t o fs) ≡ view_by st rs d m
+    → view_at st rs d (acked m t o fs) ≡ view_at st rs d m
 acked_view rs d m t o fs Unknown h = refl
-acked_view rs d m t o fs Active h = owing_so (view_by Active rs d m) _ _ _ _
+acked_view rs d m t o fs Active h = owing_so (view_at Active rs d m) _ _ _ _
     (others_owe m.acks t o (decided_outcome Active) (owing_by d rs) (h refl))
     (others_found m.acks m.found t o (decided_outcome Active) fs (owing_by d rs) (h refl))
-acked_view rs d m t o fs Collecting h = owing_so (view_by Collecting rs d m) _ _ _ _
+acked_view rs d m t o fs Collecting h = owing_so (view_at Collecting rs d m) _ _ _ _
     (others_owe m.acks t o (decided_outcome Collecting) (owing_by d rs) (h refl))
     (others_found m.acks m.found t o (decided_outcome Collecting) fs (owing_by d rs) (h refl))
-acked_view rs d m t o fs Prepared h = owing_so (view_by Prepared rs d m) _ _ _ _
+acked_view rs d m t o fs Prepared h = owing_so (view_at Prepared rs d m) _ _ _ _
     (others_owe m.acks t o (decided_outcome Prepared) (owing_by d rs) (h refl))
     (others_found m.acks m.found t o (decided_outcome Prepared) fs (owing_by d rs) (h refl))
-acked_view rs d m t o fs Committing h = owing_so (view_by Committing rs d m) _ _ _ _
+acked_view rs d m t o fs Committing h = owing_so (view_at Committing rs d m) _ _ _ _
     (others_owe m.acks t o (decided_outcome Committing) (owing_by d rs) (h refl))
     (others_found m.acks m.found t o (decided_outcome Committing) fs (owing_by d rs) (h refl))
-acked_view rs d m t o fs Aborting h = owing_so (view_by Aborting rs d m) _ _ _ _
+acked_view rs d m t o fs Aborting h = owing_so (view_at Aborting rs d m) _ _ _ _
     (others_owe m.acks t o (decided_outcome Aborting) (owing_by d rs) (h refl))
     (others_found m.acks m.found t o (decided_outcome Aborting) fs (owing_by d rs) (h refl))
-acked_view rs d m t o fs Heuristic h = owing_so (view_by Heuristic rs d m) _ _ _ _
+acked_view rs d m t o fs Heuristic h = owing_so (view_at Heuristic rs d m) _ _ _ _
     (others_owe m.acks t o (decided_outcome Heuristic) (owing_by d rs) (h refl))
     (others_found m.acks m.found t o (decided_outcome Heuristic) fs (owing_by d rs) (h refl))
 

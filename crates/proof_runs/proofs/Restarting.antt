@@ -14,7 +14,7 @@ use Rattle.protocol.specs.Nodes.{AtLeaf, AtRoot, Below, Node, Place, Role, kept,
 use Rattle.protocol.specs.Records.{boot_of}
 use Rattle.protocol.specs.Restarts.{left_of, recorded_branch, recorded_view, reopens, restart_effect, restart_fails, restarted}
 use Rattle.protocol.specs.Standings.{coordinator_standing, coordinator_view, manager_view, marked_branch, mark_of, view_at as standing_view}
-use Rattle.protocol.specs.declared.records.BranchName.TheVariants.{Case as CaseBranch}
+use Rattle.protocol_words.specs.Variants.{CaseBranch}
 use Rattle.protocol.specs.World.{fault_effect, node_makes}
 use Rattle.protocol.specs.SameViews.{SameView}
 use Rattle.log_records.specs.Sights.{LogSight, left_by, records_of, record_size, whole_within}

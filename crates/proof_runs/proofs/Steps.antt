@@ -5,13 +5,13 @@ use Rattle.protocol.specs.declared.names.ProcessId.{ProcessId}
 use Rattle.protocol.specs.declared.messages.Message.{Message}
 use Rattle.protocol.specs.declared.events.Fault.{Fault}
 use Rattle.protocol.specs.declared.events.Input.{Input}
-use Rattle.protocol.specs.declared.events.Input.TheVariants.{Act as ActInput, Message as MessageInput}
+use Rattle.protocol_words.specs.Variants.{ActInput, MessageInput}
 use Rattle.protocol.specs.declared.events.Reaction.{Reaction}
 use Rattle.protocol.specs.declared.events.StepError.{StepError}
 use Rattle.protocol.specs.declared.events.StepError.TheVariants.{Failed}
 use Rattle.protocol.specs.Nodes.{AtLeaf, AtRoot, Below, DataAnswer, Node, Place, Role, after, fails_in, no_effect, reaction_of}
 use Rattle.protocol.specs.Reactions.{Does, Reacts, Refused, hears, is_passed_over, passes_at, reacts}
-use Rattle.protocol.specs.World.{Refuses as StepRefuses, fault_effect, input_makes, node_makes, passes_over}
+use Rattle.protocol.specs.World.{Refuses, fault_effect, input_makes, node_makes, passes_over}
 use Rattle.log_records.specs.Sights.{Kept}
 use Rattle.process_state.specs.States.{CoreState}
 use Rattle.process_state.specs.Makes.{IsBroken, IsRefusedInput, ProcessMakes, ProcessMoves}
@@ -163,14 +163,14 @@ module _ (n : Node) (old new : CoreState) (a : DataAnswer) (i : Input) (stands :
       ≡ Refused e = sym (message_done old.place n k m a (second _ n.failed over)) ∙ refused in cc)
 
   pub refusals_so : (e : StepError) → IsRefusedInput old new a i e
-      → (node_makes old.place n (input_move old.place.me i None a) ≡ StepRefuses e) × StandsFor n new
+      → (node_makes old.place n (input_move old.place.me i None a) ≡ Refuses e) × StandsFor n new
   refusals_so e refused = by_over (is_passed_over old.place n i) refl
     where
       so : (reacts old.place n (heard_now a i) ≡ Refused e) × StandsFor n new
       so = refuses_so n old new a i e stands children refused
 
       by_over : (b : Bool) → is_passed_over old.place n i ≡ b
-          → (node_makes old.place n (input_move old.place.me i None a) ≡ StepRefuses e) × StandsFor n new
+          → (node_makes old.place n (input_move old.place.me i None a) ≡ Refuses e) × StandsFor n new
       by_over false late = (handled_so old.place n i None a (Refused e) late so.0, so.1)
       by_over true over = not_refused old.place.role i e over so.0
 

@@ -6,16 +6,16 @@ use Rattle.protocol.specs.declared.names.Presumption.{Presumption}
 use Rattle.protocol.specs.declared.names.Presumption.TheVariants.{PresumeAbort, PresumeCommit}
 use Rattle.protocol.specs.declared.names.ProcessId.{ProcessId}
 use Rattle.protocol.specs.declared.names.Ticket.{Ticket}
-use Rattle.protocol.specs.declared.records.BranchName.TheVariants.{Case as CaseBranch}
+use Rattle.protocol_words.specs.Variants.{CaseBranch}
 use Rattle.protocol.specs.declared.records.Record.{Record}
 use Rattle.protocol.specs.declared.records.Record.TheVariants.{Abort, Collecting, Commit, Opened, Prepare, Prepared}
 use Rattle.protocol.specs.declared.standings.Standing.{Standing}
-use Rattle.protocol.specs.declared.standings.Standing.TheVariants as standing
+use Rattle.protocol_words.specs.standing
 use Rattle.protocol.specs.Memory.{Asked, Idle, Memory, Open, Over, Phase, fresh_memory, memory_of}
 use Rattle.protocol.specs.Nodes.{AtLeaf, AtRoot, Below, Node, Place, Role, kept, IsCoordinator}
 use Rattle.protocol.specs.Records.{boot_of, has, is_abort, is_collecting, is_commit, is_end, is_prepare, named_by, named_in, none_of, owing_by, owing_in, prepares_branch, promised_by, promised_in, record_case, is_reported}
 use Rattle.protocol.specs.Restarts.{case_stays, data_records, is_known, is_open, recorded_view, stays, staying, trimmed, trims}
-use Rattle.protocol.specs.Standings.{CoordinatorView, Decided, Finished, ManagerView, Mark, Promised, ToldOf, Unmarked, coordinator_standing, coordinator_view, known_view, manager_view, mark_after, mark_of, marked_branch, phase_standing, standing_by, unknown_view, view_at as standing_view}
+use Rattle.protocol.specs.Standings.{CoordinatorView, Decided, Finished, ManagerView, Mark, Promised, ToldOf, Unmarked, coordinator_standing, coordinator_view, known_view, manager_view, mark_after, mark_of, marked_branch, phase_standing, standing_by, unknown_view, view_at}
 use Rattle.protocol.specs.Views.{IsOpenAlike}
 use Rattle.proof_processes.specs.WorldHolds.{is_of, is_record_of}
 use Rattle.proof_processes.proofs.Boots.{trims_memory}
@@ -40,7 +40,7 @@ pub record SaysSame (c : Case) (xs ys : List Record) : Type 0 where
 
 module _ (c : Case) (m : Memory) where
   abbrev pub view : List Record → CoordinatorView
-  view rs = standing_view (coordinator_standing rs c m) rs c m
+  view rs = view_at (coordinator_standing rs c m) rs c m
 
   pub view_same : (xs ys : List Record) → SaysSame c xs ys → view xs ≡ view ys
   view_same xs ys s =
@@ -272,8 +272,8 @@ module _ (c : Case) where
   recorded_is rs = standing_is (coordinator_standing rs c fresh_memory) _ refl
 
   unknown_is : (s : Standing) (rs : List Record) (m : Memory) → s ≡ standing.Unknown
-      → standing_view s rs c m ≡ unknown_view
-  unknown_is s rs m e = ap (λ k. standing_view k rs c m) e
+      → view_at s rs c m ≡ unknown_view
+  unknown_is s rs m e = ap (λ k. view_at k rs c m) e
 
   module _ (place : Place) (n : Node) (alike : IsOpenAlike place n c) where
     abbrev m : Memory
@@ -290,7 +290,7 @@ module _ (c : Case) where
         absurd (let clash : standing.Unknown ≡ standing.Collecting = sym unknown
         ∙ alike.asked_is_collecting is in cc)
 
-    bare : view c m [] ≡ standing_view (phase_standing c.txn.presumption m.phase) [] c m
+    bare : view c m [] ≡ view_at (phase_standing c.txn.presumption m.phase) [] c m
     unfolding has
     bare = refl
 

@@ -7,7 +7,7 @@ use Rattle.protocol.specs.declared.events.Fault.{Fault}
 use Rattle.protocol.specs.declared.events.Happening.TheVariants.{Trim}
 use Rattle.protocol.specs.declared.events.StepError.TheVariants.{Device, Failed}
 use Rattle.protocol.specs.LogNames.{in_log}
-use Rattle.protocol.specs.declared.records.BranchName.TheVariants.{Case as CaseBranch}
+use Rattle.protocol_words.specs.Variants.{CaseBranch}
 use Rattle.protocol.specs.declared.standings.Standing.TheVariants.{Heuristic}
 use Rattle.protocol.specs.Memory.{Asked, Idle, Memory, Open, Over, Phase, active_ticket, memory_of}
 use Rattle.protocol.specs.Nodes.{AtLeaf, AtRoot, Below, Node, Place, Role, kept, IsCoordinator}

@@ -10,10 +10,9 @@ use Rattle.protocol.specs.declared.messages.Message.{Message}
 use Rattle.protocol.specs.declared.messages.Message.TheVariants.{Join, Joined, Work, Prepare, Yes, No, Read, Commit, Abort, Ack, Inquire}
 use Rattle.protocol.specs.declared.standings.Standing.TheVariants as standing
 use Rattle.protocol.specs.declared.standings.Vote.{Vote}
-use Rattle.protocol.specs.declared.standings.Vote.TheVariants.{Yes as VoteYes, No as VoteNo, Read as VoteRead}
+use Rattle.protocol_words.specs.Variants.{ActInput, MessageInput, VoteNo, VoteRead, VoteYes}
 use Rattle.protocol.specs.declared.events.Act.{Act}
 use Rattle.protocol.specs.declared.events.Input.{Input}
-use Rattle.protocol.specs.declared.events.Input.TheVariants.{Act as ActInput, Message as MessageInput}
 use Rattle.protocol.specs.declared.events.StepError.TheVariants.{Failed, NoSuch}
 use Rattle.protocol.specs.Names.{child_case, presumed}
 use Rattle.protocol.specs.NameLaws.{same_case-refl}
@@ -24,7 +23,7 @@ use Rattle.protocol.specs.Memory.{Memory, active_ticket, found_of, memory_of, ne
 use Rattle.protocol.specs.Standings.{CoordinatorView, case_of_child, coordinator_standing, coordinator_view, decided_against, decided_findings, manager_view, own_finding, some_case, unknown_view, found_below, ManagerView, view_at as view_by}
 use Rattle.protocol.specs.CoordinatorRows.{on_abort, on_ack, on_commit, on_inquiry, on_joined, on_prepare, on_vote, post, tells_outcome, Row, Seat}
 use Rattle.protocol.specs.ManagerRows.{Leaf, LeafRow}
-use Rattle.protocol.specs.ManagerRows as leaf
+use Rattle.protocol.specs.ManagerRows
 use Rattle.protocol.specs.Reactions.{Does, Refused, ack_for, act_is_listed, acts, cascaded_hears, coordinator_acts, handles, hears, hears_from_child, inquiry_for, joins_with, leaf_joins, leaf_of, manager_hears, reacts, row_effect, seat_of, sends_only, vote_for, leaf_effect}
 use Rattle.protocol.specs.SameViews.{SameView}
 use Rattle.process_state.specs.States.{CoreState, SameCore, logged, parent}
@@ -75,26 +74,26 @@ found_so s t Aborted fs rs c m standing.Heuristic = refl
 commit_decided : (l : Leaf) (rs : List Record) (o : Option Outcome) (v : ManagerView) (st : Standing)
     → (st ≡ standing.Heuristic → decided_findings this_version rs l.own Committed
     ≡ decided_findings this_version (decision_records l.own o) l.own Committed)
-    → leaf.on_commit this_version l rs v st ≡ leaf.on_commit this_version l (decision_records l.own o) v st
+    → ManagerRows.on_commit this_version l rs v st ≡ ManagerRows.on_commit this_version l (decision_records l.own o) v st
 commit_decided l rs o v standing.Committing h = refl
 commit_decided l rs o v standing.Aborting h = refl
 commit_decided l rs o v standing.Unknown h = refl
 commit_decided l rs o v standing.Active h = refl
 commit_decided l rs o v standing.Collecting h = refl
 commit_decided l rs o v standing.Prepared h = refl
-commit_decided l rs o v standing.Heuristic h = ap (λ fs. leaf.heuristic_outcome l Committed fs v v.told) (h refl)
+commit_decided l rs o v standing.Heuristic h = ap (λ fs. ManagerRows.heuristic_outcome l Committed fs v v.told) (h refl)
 
 abort_decided : (l : Leaf) (rs : List Record) (o : Option Outcome) (v : ManagerView) (st : Standing)
     → (st ≡ standing.Heuristic → decided_findings this_version rs l.own Aborted
     ≡ decided_findings this_version (decision_records l.own o) l.own Aborted)
-    → leaf.on_abort this_version l rs v st ≡ leaf.on_abort this_version l (decision_records l.own o) v st
+    → ManagerRows.on_abort this_version l rs v st ≡ ManagerRows.on_abort this_version l (decision_records l.own o) v st
 abort_decided l rs o v standing.Committing h = refl
 abort_decided l rs o v standing.Aborting h = refl
 abort_decided l rs o v standing.Unknown h = refl
 abort_decided l rs o v standing.Active h = refl
 abort_decided l rs o v standing.Collecting h = refl
 abort_decided l rs o v standing.Prepared h = refl
-abort_decided l rs o v standing.Heuristic h = ap (λ fs. leaf.heuristic_outcome l Aborted fs v v.told) (h refl)
+abort_decided l rs o v standing.Heuristic h = ap (λ fs. ManagerRows.heuristic_outcome l Aborted fs v v.told) (h refl)
 
 module _ (s : CoreState) (n : Node) (fit : ChildrenFit s.place n)
     (views : (c : Case) → s.view_of c ≡ coordinator_view s.place n c) where
@@ -266,21 +265,21 @@ module _ (s : CoreState) (n : Node) (fit : ChildrenFit s.place n) (reads : Reads
       → Does (manager_hears this_version s.place p n a m) ≡ reacted (manager_turn s p a m)
   manager_at p a branches (Join d) = leaf_hears s n reads.boot reads.given reads.tickets p d a.starts
   manager_at p a branches (Work d i op) = sym
-      (ap (λ v. reacted (Handles d (leaf.on_work i a.does v v.standing))) (branches d))
+      (ap (λ v. reacted (Handles d (ManagerRows.on_work i a.does v v.standing))) (branches d))
   manager_at p a branches (Prepare d k) = sym (ap (λ v. reacted
-      (Handles d (leaf.on_prepare (leaf_of s.place p d) k a.holding v v.standing))) (branches d))
+      (Handles d (ManagerRows.on_prepare (leaf_of s.place p d) k a.holding v v.standing))) (branches d))
   manager_at p a branches (Commit d) =
       let v = manager_view s.place n d in
       ap (λ (r : LeafRow). Does (leaf_effect r)) (commit_decided (leaf_of s.place p d) (kept n) (s.decided_of d) v v.standing
       (λ is. decided_so d Committed (ap (λ (u : ManagerView). u.standing) (branches d) ∙ is)))
-      ∙ sym (ap (λ v. reacted (Handles d (leaf.on_commit this_version (leaf_of s.place p d)
+      ∙ sym (ap (λ v. reacted (Handles d (ManagerRows.on_commit this_version (leaf_of s.place p d)
       (decision_records d (s.decided_of d)) v v.standing)))
       (branches d))
   manager_at p a branches (Abort d) =
       let v = manager_view s.place n d in
       ap (λ (r : LeafRow). Does (leaf_effect r)) (abort_decided (leaf_of s.place p d) (kept n) (s.decided_of d) v v.standing
       (λ is. decided_so d Aborted (ap (λ (u : ManagerView). u.standing) (branches d) ∙ is)))
-      ∙ sym (ap (λ v. reacted (Handles d (leaf.on_abort this_version (leaf_of s.place p d)
+      ∙ sym (ap (λ v. reacted (Handles d (ManagerRows.on_abort this_version (leaf_of s.place p d)
       (decision_records d (s.decided_of d)) v v.standing)))
       (branches d))
   manager_at p a branches (Joined d t) = refl

@@ -10,13 +10,13 @@ use Rattle.protocol.proofs.RunLaws.{runs_by_are_runs}
 use Rattle.proof_costs.specs.Journals.{is_of}
 use Rattle.proof_worked.specs.CostRuns.{CostsAreMet, both_begin, both_commit, then_commit}
 use Rattle.proof_worked.specs.SecondPlays.{second_plays_all}
-use Rattle.proof_worked.proofs.wrong.Computing as runs
+use Rattle.proof_worked.proofs.wrong.Computing
 use Rattle.proof_worked.proofs.wrong.PlayedRuns.{goes, player_of}
 use Rattle.proof_worked.proofs.wrong.SecondPlayed.{continues_by, is_run_by}
 
 -- what a run computes with
 unfoldable computing : ⊤
-unfolding runs.computing entries_of journal_of are_distinct is_of
+unfolding Computing.computing entries_of journal_of are_distinct is_of
 computing = tt
 
 abbrev first : Played

@@ -4,7 +4,7 @@ use Rattle.protocol.specs.declared.records.Record.{Record}
 use Rattle.protocol.specs.declared.events.StepError.{StepError}
 use Rattle.protocol.specs.Records.{has}
 use Rattle.protocol.specs.Nodes.{Effect, Node, Place, Written, appends, entries_written, fails_with, is_any_forced, kept}
-use Rattle.protocol.specs.Restarts.{crashed, reopens, trim_fails, trims, trimmed as trimmed_log}
+use Rattle.protocol.specs.Restarts.{crashed, reopens, trim_fails, trims, trimmed}
 use Rattle.protocol.specs.World.{Made, Makes, Move, Refuses, Stepped, node_by, node_left, node_makes}
 use Rattle.proof_pairs.specs.turns.Steps.{StepOf, handled, failed_in, passed, failed_passing, reopened, failed_reopening, trims_log, failed_trimming}
 use Rattle.proof_pairs.proofs.turns.Steps.{step_of}
@@ -56,7 +56,7 @@ module _ (q : Record → Bool) (n : Node) (within : has q n.forced ≡ true → 
       by_test false false c f = refl
 
   trimmed_so : (place : Place) → Adds q n (trims place n)
-  trimmed_so place = has-append q (trimmed_log place.role (kept n)) n.durable
+  trimmed_so place = has-append q (trimmed place.role (kept n)) n.durable
 
   step_adds : (place : Place) (m : Move) (e : Effect) (k : Node) → StepOf place n m e k → Adds q n k
   step_adds place m _ _ (handled i g hp np r) = appended g.written

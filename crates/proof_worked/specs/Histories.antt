@@ -10,7 +10,8 @@ use Rattle.protocol.specs.declared.standings.Standing.TheVariants.{Active, Colle
 use Rattle.protocol.specs.declared.standings.Vote.{Vote}
 use Rattle.protocol.specs.declared.events.Input.{Input}
 use Rattle.protocol.specs.declared.events.Happening.{Happening}
-use Rattle.protocol.specs.declared.events.Happening.TheVariants.{Input as Handles, Restart}
+use Rattle.protocol.specs.declared.events.Happening.TheVariants.{Restart}
+use Rattle.protocol_words.specs.Variants.{Handles}
 use Rattle.protocol.specs.Names.{same_txn}
 use Rattle.protocol.specs.Records.{has, in_list}
 use Rattle.protocol.specs.Nodes.{Role, AtRoot, Place, Node, opened_node}

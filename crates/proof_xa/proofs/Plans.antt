@@ -2,10 +2,10 @@
 use Rattle.std.proofs.Common.{◌≡◌, Bool, true, false, not, List, [], ◌∷◌, Option, Some, None, Result, Ok, Err, refl}
 use Rattle.std.specs.Prelude.{◌||◌, ◌&&◌, is_some, unwrap_or, IfOk, IfErr, if◌then◌else◌}
 use Rattle.xa_codes.specs.declared.code.Code.{Code}
-use Rattle.xa_codes.specs.declared.code.Code.TheVariants as code
+use Rattle.xa_words.specs.code
 use Rattle.xa_tables.specs.Tables.{assoc_rows, branch_rows, is_spoiled}
 use Rattle.xa_tables.specs.declared.call.Call.{Call}
-use Rattle.xa_tables.specs.declared.call.Call.TheVariants as call
+use Rattle.xa_words.specs.call
 use Rattle.xa_tables.specs.declared.states.AssocState.{AssocState}
 use Rattle.xa_tables.specs.declared.states.AssocState.TheVariants.{T0, T1, T2, M}
 use Rattle.xa_tables.specs.declared.states.BranchState.{BranchState}

@@ -6,7 +6,7 @@ use Rattle.xa_tables.specs.Calls.{legal}
 use Rattle.xa_tables.specs.Tables.{init_rows, assoc_rows, branch_rows}
 use Rattle.xa_tables.specs.declared.call.Call.{Call}
 use Rattle.xa_tables.specs.declared.call.Verb.{Verb}
-use Rattle.xa_tables.specs.declared.call.Verb.TheVariants as verb
+use Rattle.xa_words.specs.verb
 use Rattle.xa_tables.specs.declared.states.InitState.{InitState}
 use Rattle.xa_tables.specs.declared.states.InitState.TheVariants.{R0}
 use Rattle.xa_tables.specs.declared.states.AssocState.{AssocState}

@@ -1,7 +1,7 @@
 -- What happens at a resource manager, as far as its tables of states show it.
 use Rattle.std.specs.Prelude.{◌≡◌, ◌⊎◌, ℕ, Bool, true, false, List, [], ◌∷◌, Result, IsErrAnd, Contains}
 use Rattle.xa_codes.specs.declared.code.Code.{Code}
-use Rattle.xa_codes.specs.declared.code.Code.TheVariants as code
+use Rattle.xa_words.specs.code
 use Rattle.xa_codes.specs.Codes.{is_own}
 use Rattle.xa_tables.specs.Tables.{branch_rows}
 use Rattle.xa_tables.specs.declared.call.Call.{Call}

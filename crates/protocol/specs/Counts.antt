@@ -15,7 +15,7 @@ use Rattle.protocol.specs.Standings.{CoordinatorView, ManagerView, unknown_view}
 use Rattle.protocol.specs.Nodes.{First}
 use Rattle.protocol.specs.CoordinatorRows.{Seat, Row, active_commit, on_vote, on_ack}
 use Rattle.protocol.specs.ManagerRows.{Leaf, LeafRow}
-use Rattle.protocol.specs.ManagerRows as leaf
+use Rattle.protocol.specs.ManagerRows
 
 -- records, forced ones among them, and messages
 pub record Cost : Type 0 where
@@ -81,8 +81,8 @@ root_walk s v votes acks =
 -- PREPARE, after all its works, and COMMIT
 abbrev pub manager_cost : Leaf → ℕ → List Write → ManagerView → Cost
 manager_cost l n ws v =
-    let promise = leaf.on_prepare l n (Holds ws) v v.standing in
-    let outcome = leaf.on_commit First l [] promise.view promise.view.standing in
+    let promise = ManagerRows.on_prepare l n (Holds ws) v v.standing in
+    let outcome = ManagerRows.on_commit First l [] promise.view promise.view.standing in
     together (leaf_cost promise) (leaf_cost outcome)
 
 -- a list has no ticket twice

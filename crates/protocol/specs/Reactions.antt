@@ -33,7 +33,7 @@ use Rattle.protocol.specs.Memory.{Memory, memory_of, next_txn, next_ticket, acti
 use Rattle.protocol.specs.Standings.{CoordinatorView, ManagerView, coordinator_view, manager_view, some_case, case_of_child, found_below}
 use Rattle.protocol.specs.CoordinatorRows.{Seat, Row, post, active_join, active_work, active_commit, active_abort, collecting_abort, ByAct, prepared_ask, tells_outcome, on_vote, on_ack, on_inquiry, on_joined, on_prepare, on_commit, on_abort, unknown_forget}
 use Rattle.protocol.specs.ManagerRows.{Leaf, LeafRow, prepared_decide, heuristic_forget, untold_ask}
-use Rattle.protocol.specs.ManagerRows as leaf
+use Rattle.protocol.specs.ManagerRows
 
 -- what an input leads to
 pub data Reacts : Type 0 where
@@ -307,16 +307,16 @@ abbrev pub manager_hears : Version → Place → ProcessId → Node → DataAnsw
 manager_hears ver place p n a (Join d) =
     let m = memory_of place n d in leaf_joins place p n d m a.starts (active_ticket m.active d)
 manager_hears ver place p n a (Work d i op) =
-    let v = manager_view place n d in leaf_effect (leaf.on_work i a.does v v.standing)
+    let v = manager_view place n d in leaf_effect (ManagerRows.on_work i a.does v v.standing)
 manager_hears ver place p n a (Prepare d k) =
     let v = manager_view place n d in leaf_effect
-    (leaf.on_prepare (leaf_of place p d) k a.holding v v.standing)
+    (ManagerRows.on_prepare (leaf_of place p d) k a.holding v v.standing)
 manager_hears ver place p n a (Commit d) =
     let v = manager_view place n d in
-    leaf_effect (leaf.on_commit ver (leaf_of place p d) (kept n) v v.standing)
+    leaf_effect (ManagerRows.on_commit ver (leaf_of place p d) (kept n) v v.standing)
 manager_hears ver place p n a (Abort d) =
     let v = manager_view place n d in
-    leaf_effect (leaf.on_abort ver (leaf_of place p d) (kept n) v v.standing)
+    leaf_effect (ManagerRows.on_abort ver (leaf_of place p d) (kept n) v v.standing)
 manager_hears ver place p n a _ = no_effect
 
 -- Any process.

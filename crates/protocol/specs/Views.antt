@@ -27,7 +27,7 @@ use Rattle.protocol.specs.Memory.{Open, Asked, memory_of, next_txn, next_ticket,
 use Rattle.protocol.specs.Standings.{some_case, coordinator_view, manager_view, mark_of, Unmarked}
 use Rattle.protocol.specs.CoordinatorRows.{Seat, Row, ByAct, active_commit, active_abort, active_join, active_work, collecting_abort, on_joined, on_vote, on_ack, on_inquiry}
 use Rattle.protocol.specs.ManagerRows.{Leaf, LeafRow, prepared_decide, heuristic_forget, untold_ask}
-use Rattle.protocol.specs.ManagerRows as leaf
+use Rattle.protocol.specs.ManagerRows
 use Rattle.protocol.specs.Reactions.{row_effect, leaf_effect, leaf_of, leaf_joins}
 
 -- A manager.
@@ -78,17 +78,17 @@ pub record JoinsBranch (place : Place) (p : ProcessId) (n : Node) (h : Heard) (d
 pub record ManagerViews (ver : Version) (me p : ProcessId) (tree : List TreeProcess) (n : Node) (d : Case) : Type 0 where
   pub work : (k i : ℕ) (op : Op) (a : DataAnswer) → let place = leaf_place me p tree in let v =
       manager_view place n d in
-      MovesBranch place n (hears_message ver k (Work d i op) a) d (leaf.on_work i a.does v v.standing)
+      MovesBranch place n (hears_message ver k (Work d i op) a) d (ManagerRows.on_work i a.does v v.standing)
   pub prepare : (k i : ℕ) (a : DataAnswer) → let place = leaf_place me p tree in let v =
       manager_view place n d in
       MovesBranch place n (hears_message ver k (Prepare d i) a) d
-      (leaf.on_prepare (leaf_of place p d) i a.holding v v.standing)
+      (ManagerRows.on_prepare (leaf_of place p d) i a.holding v v.standing)
   pub commit : (k : ℕ) (a : DataAnswer) (rs : List Record) → let place = leaf_place me p tree in let v =
       manager_view place n d in
-      MovesBranch place n (hears_message ver k (Commit d) a) d (leaf.on_commit ver (leaf_of place p d) rs v v.standing)
+      MovesBranch place n (hears_message ver k (Commit d) a) d (ManagerRows.on_commit ver (leaf_of place p d) rs v v.standing)
   pub abort : (k : ℕ) (a : DataAnswer) (rs : List Record) → let place = leaf_place me p tree in let v =
       manager_view place n d in
-      MovesBranch place n (hears_message ver k (Abort d) a) d (leaf.on_abort ver (leaf_of place p d) rs v v.standing)
+      MovesBranch place n (hears_message ver k (Abort d) a) d (ManagerRows.on_abort ver (leaf_of place p d) rs v v.standing)
   pub join : (k : ℕ) (a : DataAnswer) → JoinsBranch (leaf_place me p tree) p n
       (hears_message ver k (Join d) a) d a.starts
   pub ask : (a : DataAnswer) → let place = leaf_place me p tree in let v = manager_view place n d in

@@ -4,8 +4,8 @@ ghost use Rattle.std.specs.Prelude.{◌≡◌, ◌≤◌, ◌&&◌, OnOk, IfErr,
 ghost use Rattle.std.specs.Option.{option_copied};
 ghost use Rattle.std.specs.List.{list_any};
 ghost use Rattle.protocol.specs.Names.{same_process};
-ghost use Rattle.protocol.specs.Nodes.{is_listed as is_listed_in};
-ghost use Rattle.protocol.specs.Trees.{tree_error_number, times_listed as times_listed_in, lists_twice as lists_twice_in, is_unlisted, has_unknown_parent, parent_of as parent_in, level_within, has_cycle, is_too_deep, has_wrong_roots, is_listed_manager, has_managed_child, has_fault, is_managed as is_managed_in, is_top, root_of as root_in, is_manager_kind, IsTree, IsFirstFault};
+ghost use Rattle.protocol.specs.Nodes.{is_listed};
+ghost use Rattle.protocol.specs.Trees.{tree_error_number, times_listed, lists_twice, is_unlisted, has_unknown_parent, parent_of, level_within, has_cycle, is_too_deep, has_wrong_roots, is_listed_manager, has_managed_child, has_fault, is_managed, is_top, root_of, is_manager_kind, IsTree, IsFirstFault};
 
 use crate::names::{Kind, ProcessId};
 use short_bytes::Bytes;
@@ -115,14 +115,14 @@ impl Tree {
 
     /// The parent of a process, if it is listed and has one.
     pub fn parent(&self, id: ProcessId) -> Option<ProcessId>
-        ensures { result ≡ parent_in self.now id }
+        ensures { result ≡ parent_of self.now id }
     {
         parent_of(&self.entries, id)
     }
 
     /// Whether a process is listed.
     pub fn is_listed(&self, id: ProcessId) -> bool
-        ensures { result ≡ is_listed_in self.now id }
+        ensures { result ≡ is_listed self.now id }
     {
         is_listed(&self.entries, id)
     }
@@ -131,7 +131,7 @@ impl Tree {
     /// where every process has one.
     #[tactic(auto, unfolding(crate::specs::Trees::root_of))]
     pub fn root(&self) -> ProcessId
-        ensures { result ≡ root_in self.now }
+        ensures { result ≡ root_of self.now }
     {
         match top_of(&self.entries) {
             None => ProcessId(0),
@@ -176,21 +176,21 @@ impl Tree {
 
 #[tactic(auto, unfolding(crate::specs::Nodes::is_listed, crate::specs::Names::same_process))]
 fn is_listed(entries: &[TreeProcess], id: ProcessId) -> bool
-    ensures { result ≡ is_listed_in entries.now id }
+    ensures { result ≡ is_listed entries.now id }
 {
     entries.iter().any(|entry| entry.id == id)
 }
 
 #[tactic(auto, unfolding(crate::specs::Trees::times_listed, crate::specs::Names::same_process))]
 fn times_listed(entries: &[TreeProcess], id: ProcessId) -> usize
-    ensures { result ≡ times_listed_in entries.now id }
+    ensures { result ≡ times_listed entries.now id }
 {
     entries.iter().filter(|entry| entry.id == id).count()
 }
 
 #[tactic(auto, unfolding(crate::specs::Trees::lists_twice))]
 fn lists_twice(entries: &[TreeProcess]) -> bool
-    ensures { result ≡ lists_twice_in entries.now }
+    ensures { result ≡ lists_twice entries.now }
 {
     entries
         .iter()
@@ -224,7 +224,7 @@ fn entry_of(entries: &[TreeProcess], id: ProcessId) -> Option<&TreeProcess>
 
 #[tactic(auto, unfolding(crate::specs::Trees::parent_of))]
 fn parent_of(entries: &[TreeProcess], id: ProcessId) -> Option<ProcessId>
-    ensures { result ≡ parent_in entries.now id }
+    ensures { result ≡ parent_of entries.now id }
 {
     match entry_of(entries, id) {
         None => None,
@@ -295,7 +295,7 @@ fn is_manager(entries: &[TreeProcess], id: ProcessId) -> bool
 }
 
 fn is_managed(entries: &[TreeProcess], parent: Option<ProcessId>) -> bool
-    ensures { result ≡ is_managed_in entries.now parent }
+    ensures { result ≡ is_managed entries.now parent }
 {
     match parent {
         None => false,

@@ -11,7 +11,7 @@ ghost use Rattle.tree_script.specs.declared.script.ScriptFault.TheVariants.{Utf8
 ghost use Rattle.resolve_engine.specs.Answers.{answer_of};
 ghost use Rattle.branch_names.specs.Cases.{IsPlaced};
 ghost use Rattle.resolve_engine.specs.Finders.{Finds, Looks};
-ghost use Rattle.resolve_engine.specs.Reports.{GivesAll, GivesOne, IsResolveReport, IsResolved, Tells, ending_by, ending_number, naming_answer, waits as waits_by};
+ghost use Rattle.resolve_engine.specs.Reports.{GivesAll, GivesOne, IsResolveReport, IsResolved, Tells, ending_by, ending_number, naming_answer, waits};
 ghost use Rattle.resolve_engine.specs.declared.engine.ResolveStatus.{ResolveStatus as AnyEnding};
 
 use crate::answer::{AnswerReason, AnswerWord, BranchAnswer};
@@ -182,7 +182,7 @@ pub fn answer_named(
 
 /// Whether a name has to wait, or a log is wanted for it.
 fn waits(word: AnswerWord) -> bool
-    ensures { result ≡ waits_by word }
+    ensures { result ≡ waits word }
 {
     matches!(word, AnswerWord::Wait | AnswerWord::Unknown(_))
 }

@@ -6,8 +6,8 @@ ghost use Rattle.protocol.specs.Names.{process_of};
 ghost use Rattle.protocol.specs.Nodes.{is_listed};
 ghost use Rattle.protocol.specs.Trees.{IsTree};
 ghost use Rattle.audit_tree.specs.Tables.{AreNotes};
-ghost use Rattle.log_script.specs.Logs.{has_log as has_log_in};
-ghost use Rattle.resolve_engine.specs.Answers.{above_answer, answer_of, decided_in, if_complete as if_complete_by, is_unpromised as is_unpromised_by, kept_answer, not_kept as not_kept_by, step_answer, own_answer as own_answer_by, own_kinds};
+ghost use Rattle.log_script.specs.Logs.{has_log};
+ghost use Rattle.resolve_engine.specs.Answers.{above_answer, answer_of, decided_in, if_complete, is_unpromised, kept_answer, not_kept, step_answer, own_answer, own_kinds};
 ghost use Rattle.resolve_engine.specs.Finders.{Finds, Looks};
 
 use crate::answer::{AnswerReason, AnswerWord, BranchAnswer, by_outcome};
@@ -33,7 +33,7 @@ pub struct Finder<'a> {
 /// Whether a process has a log among these.
 #[tactic(auto, unfolding(log_script::specs::Logs::has_log, protocol::specs::Names::same_process))]
 pub(crate) fn has_log(logs: &[ProcessLog], process: ProcessId) -> bool
-    ensures { result ≡ has_log_in logs.now process }
+    ensures { result ≡ has_log logs.now process }
 {
     logs.iter().any(|log| log.process == process)
 }
@@ -53,7 +53,7 @@ fn decided(kinds: Kinds) -> Option<Outcome>
 
 /// What its own log says of a case, if it says what to do.
 fn own_answer(kinds: Kinds) -> Option<BranchAnswer>
-    ensures { result ≡ own_answer_by kinds }
+    ensures { result ≡ own_answer kinds }
 {
     if kinds.heur_commit {
         Some(BranchAnswer {
@@ -113,7 +113,7 @@ impl<'a> Finder<'a> {
 
     /// This word, if the logs are complete; else it has to wait.
     fn if_complete(&self, word: AnswerWord) -> AnswerWord
-        ensures { result ≡ if_complete_by self.now.trust word }
+        ensures { result ≡ if_complete self.now.trust word }
     {
         match self.trust {
             Trust::Complete => word,
@@ -140,7 +140,7 @@ impl<'a> Finder<'a> {
 
     /// What follows where no case of this process names the ticket.
     fn not_kept(&self, process: ProcessId, case: &Case) -> BranchAnswer
-        ensures { result ≡ not_kept_by self.now.trust (has_log_in self.now.logs.now process) process case.now }
+        ensures { result ≡ not_kept self.now.trust (has_log self.now.logs.now process) process case.now }
     {
         if !has_log(self.logs, process) {
             return BranchAnswer {
@@ -181,7 +181,7 @@ impl<'a> Finder<'a> {
 
     /// Whether nothing is known above, and the case's own log, which is here, has no promise of it.
     fn is_unpromised(&self, case: &Case, kinds: Kinds, found: BranchAnswer) -> bool
-        ensures { result ≡ is_unpromised_by self.now.logs.now case.now kinds found }
+        ensures { result ≡ is_unpromised self.now.logs.now case.now kinds found }
     {
         let is_promised = kinds.prepared || kinds.prepare || kinds.ended;
         let is_known = match found.reason {

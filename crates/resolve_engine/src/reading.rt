@@ -1,7 +1,7 @@
 //! Reads a tree and the logs of some of its processes.
 
 ghost use Rattle.std.specs.Prelude.{◌≡◌, ◌+◌, ◌<◌, ◌^◌, Ok, IfOk, IfErr, length, map};
-ghost use Rattle.log_script.specs.Logs.{IsNumberedFault, may_follow as may_follow_in};
+ghost use Rattle.log_script.specs.Logs.{IsNumberedFault, may_follow};
 ghost use Rattle.resolve_engine.specs.Inputs.{IsSomeLogsError, IsSomeLogsText, some_logs_of};
 
 use crate::finding::has_log;
@@ -13,7 +13,7 @@ use tree_script::{ScriptError, ScriptFault, read_front};
 
 /// Whether a log is the first of a process of the tree.
 fn may_follow(tree: &Tree, logs: &[ProcessLog], log: &ProcessLog) -> bool
-    ensures { result ≡ may_follow_in tree.now logs.now log.now }
+    ensures { result ≡ may_follow tree.now logs.now log.now }
 {
     tree.is_listed(log.process) && !has_log(logs, log.process)
 }

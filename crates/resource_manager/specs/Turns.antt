@@ -6,7 +6,7 @@ use Rattle.protocol.specs.declared.names.Case.{Case}
 use Rattle.protocol.specs.declared.names.Outcome.{Outcome}
 use Rattle.protocol.specs.declared.names.ProcessId.{ProcessId}
 use Rattle.protocol.specs.declared.names.Ticket.{Ticket}
-use Rattle.protocol.specs.declared.records.BranchName.TheVariants.{Case as CaseBranch}
+use Rattle.protocol_words.specs.Variants.{ActInput, CaseBranch, MessageInput}
 use Rattle.protocol.specs.LogNames.{name_xid}
 use Rattle.protocol.specs.Names.{child_case}
 use Rattle.protocol.specs.Plays.{held_writes}
@@ -16,7 +16,6 @@ use Rattle.protocol.specs.declared.messages.Message.TheVariants.{Join, Work, Pre
 use Rattle.protocol.specs.declared.standings.Standing.{Standing}
 use Rattle.protocol.specs.declared.standings.Standing.TheVariants.{Active, Prepared, Heuristic}
 use Rattle.protocol.specs.declared.events.Input.{Input}
-use Rattle.protocol.specs.declared.events.Input.TheVariants.{Act as ActInput, Message as MessageInput}
 use Rattle.protocol.specs.declared.events.Act.{Act}
 use Rattle.protocol.specs.declared.events.Act.TheVariants.{Decide, Forget}
 use Rattle.protocol.specs.Nodes.{DataAnswer, Holding, ReadsOnly, Holds}
@@ -24,7 +23,7 @@ use Rattle.protocol.specs.Standings.{ManagerView}
 use Rattle.process_state.specs.States.{CoreState}
 use Rattle.process_state.specs.Turns.{next_ticket, no_answer}
 use Rattle.resource_manager.specs.Data.{CanBegin, ManagerData, obstacle_in}
-use Rattle.resource_manager.specs.Data as model_data
+use Rattle.resource_manager.specs.Data
 
 -- nothing; or the branch of a case begins; or it does an operation; or it lets its writes and its keys go, and is
 -- known still, or is ended
@@ -112,11 +111,11 @@ data_turn s a (MessageInput k m) = message_data s a m
 
 -- what is left of the data, by the names that the manager has for cases
 abbrev pub MovesData : ManagerData → ManagerData → (Case → Xid) → DataTurn → Type 0
-MovesData old new x Rests = model_data.DataRests old new
-MovesData old new x (Begins c) = model_data.DataBegins old new (x c)
-MovesData old new x (Operates c op) = model_data.Operates old new (x c) op
-MovesData old new x (Releases c) = model_data.ReleasesHolds old new (x c)
-MovesData old new x (Ends c) = model_data.Ends old new (x c)
+MovesData old new x Rests = Data.DataRests old new
+MovesData old new x (Begins c) = Data.DataBegins old new (x c)
+MovesData old new x (Operates c op) = Data.Operates old new (x c) op
+MovesData old new x (Releases c) = Data.ReleasesHolds old new (x c)
+MovesData old new x (Ends c) = Data.Ends old new (x c)
 
 -- what the data answer to a message: whether they let the branch of a JOIN begin, whether they are in the way of the
 -- operation of a WORK, and what the branch of a PREPARE has written

@@ -1,7 +1,7 @@
 //! The calls of a resource manager.
 
 ghost use Rattle.std.specs.Prelude.{◌≡◌, ◌≢◌, ◌+◌, ◌++◌, false, Err, IfErr, IfOk, List, OnErr, OnOk};
-ghost use Rattle.protocol.specs.declared.records.LogRecord.{LogRecord as AnyRecord};
+ghost use Rattle.protocol_words.specs.Types.{AnyRecord};
 ghost use Rattle.std.specs.List.{AllByRecursion};
 ghost use Rattle.xa_branch.specs.Branches.{AreBranchesListedOnce};
 ghost use Rattle.xa_branch.specs.Decisions.{decision_at};
@@ -17,7 +17,7 @@ ghost use Rattle.resource_manager.specs.Orders.{AreInOrder};
 ghost use Rattle.resource_manager.specs.Trimming.{ManagerNotTrimmed, ManagerTrims};
 ghost use Rattle.log_records.specs.Sights.{IsLogFront, frames_size, left_by, records_of};
 ghost use Rattle.log_rules.specs.sound.Sound.{IsSound};
-ghost use Rattle.protocol.specs.declared.names.Kind.TheVariants as kind;
+ghost use Rattle.protocol_words.specs.kind;
 
 use crate::errors::{DecideError, RestartError, TrimError};
 use protocol::{LogRecord, Op, Outcome};

@@ -8,7 +8,7 @@ use Rattle.xa_xid.specs.contracts.xid.XidPartialEq.TheImpl as names
 use Rattle.protocol.specs.declared.names.Case.{Case}
 use Rattle.protocol.specs.declared.messages.Op.{Op}
 use Rattle.protocol.specs.declared.messages.Op.TheVariants.{Put, Get, Delete}
-use Rattle.protocol.specs.declared.records.BranchName.TheVariants.{Case as CaseBranch}
+use Rattle.protocol_words.specs.Variants.{CaseBranch}
 use Rattle.protocol.specs.LogNames.{name_xid}
 use Rattle.run_notes.specs.declared.branch.Branch.{Branch}
 use Rattle.run_notes.specs.declared.branch.Spoiled.{Spoiled}

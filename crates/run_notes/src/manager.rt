@@ -1,7 +1,7 @@
 //! One manager: its pairs, its branches, and what a crash may take back.
 
 ghost use Rattle.std.specs.Prelude.{◌≡◌, Some, IfOk, is_some, option_map};
-ghost use Rattle.protocol.specs.declared.records.BranchName.TheVariants.{Case as CaseBranch};
+ghost use Rattle.protocol_words.specs.Variants.{CaseBranch};
 ghost use Rattle.run_notes.specs.Managers.{branch_at, bytes_in, found_at, is_refused, told_of_op, told_of_work, why_no, xid_of};
 
 use crate::branch::{Branch, Spoiled, is_too_long, key_of, writes};

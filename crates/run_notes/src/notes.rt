@@ -3,7 +3,7 @@
 ghost use Rattle.std.specs.Prelude.{◌≡◌, [], IfOk, OnOk, map, unwrap_or};
 ghost use Rattle.std.specs.Map.{keys_of};
 ghost use Rattle.run_notes.specs.Managers.{bytes_in};
-ghost use Rattle.run_notes.specs.Told.{AddsManager, AreManagers, AreNotes, is_no as says_no, known, told, told_at, told_of_message, votes_no as has_no};
+ghost use Rattle.run_notes.specs.Told.{AddsManager, AreManagers, AreNotes, is_no, known, told, told_at, told_of_message, votes_no};
 
 use crate::manager::Manager;
 use indexmap::IndexMap;
@@ -37,7 +37,7 @@ fn given(reaction: &Reaction) -> Option<(Case, Ticket)> {
 
 /// Whether a message is the vote NO.
 fn is_no(message: &Message) -> bool
-    ensures { result ≡ says_no message.now }
+    ensures { result ≡ is_no message.now }
 {
     match message {
         Message::No(_) => true,
@@ -47,7 +47,7 @@ fn is_no(message: &Message) -> bool
 
 /// Whether a reaction has the vote NO.
 fn votes_no(reaction: &Reaction) -> bool
-    ensures { result ≡ has_no reaction.now }
+    ensures { result ≡ votes_no reaction.now }
 {
     let messages = reaction.messages.as_slice();
     messages

@@ -1,7 +1,7 @@
 //! The words of a note.
 
 ghost use Rattle.std.specs.Prelude.{◌≡◌, ◌++◌, [], IfOk, OnOk, option_map};
-ghost use Rattle.run_notes.specs.Words.{byte_text, bytes_text, count_text, held_text, is_plain as stands_as_it_is, no_text, read_text, spoiled_text, unknown_text, value_text};
+ghost use Rattle.run_notes.specs.Words.{byte_text, bytes_text, count_text, held_text, is_plain, no_text, read_text, spoiled_text, unknown_text, value_text};
 
 use crate::branch::Spoiled;
 use protocol::{BranchName as Name, Case};
@@ -11,7 +11,7 @@ use trace_lines::{push, push_case, push_number};
 
 /// Whether a byte of a key or a value stands as it is: a visible character of ASCII, and no backslash.
 fn is_plain(byte: u8) -> bool
-    ensures { result ≡ stands_as_it_is byte }
+    ensures { result ≡ is_plain byte }
 {
     33 <= byte && byte <= 126 && byte != 92
 }

@@ -16,7 +16,7 @@ use Rattle.protocol.specs.Nodes.{Place}
 use Rattle.protocol.specs.Records.{has_case, with_case}
 use Rattle.protocol.specs.Standings.{Decided, Finished, Mark, Promised, ToldOf, Unmarked, mark_of}
 use Rattle.protocol.specs.Views.{leaf_place}
-use Rattle.protocol.specs.declared.records.BranchName.TheVariants.{Case as CaseBranch}
+use Rattle.protocol_words.specs.Variants.{CaseBranch}
 use Rattle.protocol.proofs.NameTests.{case_tells}
 use Rattle.resource_manager.specs.Restarting.{boot_record}
 use Rattle.sub_branches.specs.declared.branch.LiveBranch.{LiveBranch}

@@ -6,17 +6,17 @@ use Rattle.protocol.specs.declared.names.Case.{Case}
 use Rattle.protocol.specs.declared.names.Outcome.{Outcome}
 use Rattle.protocol.specs.declared.names.ProcessId.{ProcessId}
 use Rattle.protocol.specs.declared.records.BranchName.{BranchName}
-use Rattle.protocol.specs.declared.records.BranchName.TheVariants.{Case as CaseBranch, Foreign}
+use Rattle.protocol.specs.declared.records.BranchName.TheVariants.{Foreign}
+use Rattle.protocol_words.specs.Variants.{AbortedOutcome, CaseBranch, CommittedOutcome, PreparedRecord}
 use Rattle.protocol.specs.declared.records.LogRecord.{LogRecord}
 use Rattle.protocol.specs.declared.records.Record.{Record}
-use Rattle.protocol.specs.declared.records.Record.TheVariants.{Opened, Collecting, Prepare, Commit, Abort, End, Prepared as PreparedRecord, Committed, RolledBack, Direct, HeurCommit, HeurRollback, Told, Forgot, Base, Pair, Cleared}
+use Rattle.protocol.specs.declared.records.Record.TheVariants.{Opened, Collecting, Prepare, Commit, Abort, End, Committed, RolledBack, Direct, HeurCommit, HeurRollback, Told, Forgot, Base, Pair, Cleared}
 use Rattle.protocol.specs.declared.trees.TreeProcess.{TreeProcess}
 use Rattle.protocol.specs.LogNames.{is_own, name_xid, own_records, same_parent}
 use Rattle.protocol.specs.Names.{same_case}
 use Rattle.protocol.proofs.NameTests.{case_tells, process_tells}
 use Rattle.protocol.specs.Nodes.{Place}
 use Rattle.protocol.specs.Records.{boot_after, boot_of, cases_in, decision_after as case_decision_after, decision_of as case_decision, is_branch, same_branch, with_case, with_record}
-use Rattle.protocol.specs.declared.names.Outcome.TheVariants.{Committed as CommittedOutcome, Aborted as AbortedOutcome}
 use Rattle.xa_branch.specs.declared.decision.Decision.{Decision}
 use Rattle.xa_branch.specs.Decisions.{decided_as, decision_after, decision_of}
 use Rattle.protocol.specs.Standings.{Decided, Finished, Mark, Promised, ToldOf, Unmarked, mark_after, mark_of}

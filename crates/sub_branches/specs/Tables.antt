@@ -4,7 +4,8 @@ use Rattle.std.specs.Prelude.{◌≡◌, ℕ, Bool, true, false, if◌then◌els
 use Rattle.xa_xid.specs.declared.xid.Xid.{Xid}
 use Rattle.protocol.specs.declared.names.Case.{Case}
 use Rattle.protocol.specs.declared.names.Ticket.{Ticket}
-use Rattle.protocol.specs.declared.standings.Standing.TheVariants.{Active as ActiveStanding, Heuristic as HeuristicStanding, Prepared as PreparedStanding}
+use Rattle.protocol.specs.declared.standings.Standing.TheVariants.{Prepared as PreparedStanding}
+use Rattle.protocol_words.specs.Variants.{ActiveStanding, HeuristicStanding}
 use Rattle.protocol.specs.Names.{child_case, same_case}
 use Rattle.protocol.specs.Records.{has_case}
 use Rattle.protocol.specs.Standings.{ManagerView, standing_branch, unknown_branch}

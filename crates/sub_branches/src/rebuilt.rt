@@ -7,9 +7,7 @@ ghost use Rattle.sub_branches.specs.Tables.{AreLiveOf, HavePromised, branch_in};
 ghost use Rattle.sub_branches.specs.Rebuilt.{AreFit, IsRefusal, RecordsLeave, BranchesNotRebuilt, RebuildsBranches, asks, is_asked};
 ghost use Rattle.sub_branches.specs.Remembered.{IsOfSome, RemembersBranches};
 ghost use Rattle.protocol.specs.Nodes.{Place};
-ghost use Rattle.protocol.specs.declared.names.Case.{Case as AnyCase};
-ghost use Rattle.protocol.specs.declared.names.ProcessId.{ProcessId as AnyProcess};
-ghost use Rattle.protocol.specs.declared.records.LogRecord.{LogRecord as AnyRecord};
+ghost use Rattle.protocol_words.specs.Types.{AnyCase, AnyProcess, AnyRecord};
 ghost use Rattle.protocol.specs.Views.{leaf_place};
 
 use crate::branch::LiveBranch;

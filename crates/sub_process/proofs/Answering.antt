@@ -3,7 +3,7 @@ use Rattle.std.proofs.Common.{true, refl}
 use Rattle.protocol.specs.declared.messages.Message.{Message}
 use Rattle.protocol.specs.declared.messages.Message.TheVariants.{Join, Work, Prepare}
 use Rattle.protocol.specs.declared.events.Input.{Input}
-use Rattle.protocol.specs.declared.events.Input.TheVariants.{Act as ActInput, Message as MessageInput}
+use Rattle.protocol_words.specs.Variants.{ActInput, MessageInput}
 use Rattle.xa_branch.specs.Branches.{AreBranchesListedOnce}
 use Rattle.resource_manager.specs.Sights.{manager_data}
 use Rattle.resource_manager.specs.Turns.{AnswersInput, AnswersMessage, case_xid}

@@ -1,7 +1,7 @@
 -- What comes of an operator's decision, of the outcome after it, and of its end.
 use Rattle.std.proofs.Common.{◌≡◌, ◌∙◌, ℕ, Bool, true, false, Option, Some, None, List, [], ◌∷◌, refl, sym, ap, subst, if◌then◌else◌}
 use Rattle.std.specs.Prelude.{option_map}
-use Rattle.xa_tables.specs.declared.call.Call.TheVariants as call
+use Rattle.xa_words.specs.call
 use Rattle.xa_assoc.specs.Answers.{state_at}
 use Rattle.xa_tables.specs.declared.states.BranchState.{BranchState}
 use Rattle.xa_tables.specs.declared.states.BranchState.TheVariants.{S5}
@@ -14,12 +14,11 @@ use Rattle.protocol.specs.declared.names.Outcome.{Outcome}
 use Rattle.protocol.specs.declared.names.Outcome.TheVariants.{Committed, Aborted}
 use Rattle.protocol.specs.declared.events.Act.{Act}
 use Rattle.protocol.specs.declared.events.Act.TheVariants.{Decide, Forget}
-use Rattle.protocol.specs.declared.events.Input.TheVariants.{Act as ActInput, Message as MessageInput}
+use Rattle.protocol_words.specs.Variants.{ActInput, CaseBranch, MessageInput, ToldRecord}
 use Rattle.protocol.specs.declared.events.Reaction.{Reaction}
 use Rattle.protocol.specs.declared.events.StepError.{StepError}
-use Rattle.protocol.specs.declared.records.BranchName.TheVariants.{Case as CaseBranch}
-use Rattle.protocol.specs.declared.records.Record.TheVariants.{HeurCommit, HeurRollback, Told as ToldRecord}
-use Rattle.protocol.specs.declared.records.RecordKind.TheVariants as kind
+use Rattle.protocol.specs.declared.records.Record.TheVariants.{HeurCommit, HeurRollback}
+use Rattle.protocol_words.specs.record_kind
 use Rattle.protocol.specs.declared.records.Write.{Write}
 use Rattle.protocol.specs.Names.{same_outcome}
 use Rattle.protocol.specs.Records.{decision_of as case_decision}
@@ -33,7 +32,7 @@ use Rattle.resource_manager.specs.Sights.{ManagerSight, manager_data}
 use Rattle.resource_manager.specs.Deciding.{decision_writes}
 use Rattle.resource_manager.specs.Ends.{decided_behind, row_for, row_of, tells, written_by}
 use Rattle.sub_work.specs.Deeds.{BranchComes, DecidesWork, FinishesWork, WorkNotDecided, NotFinished, outcome_call}
-use Rattle.resource_manager.specs.Data as model_data
+use Rattle.resource_manager.specs.Data
 use Rattle.resource_manager.specs.Turns.{DataTurn, MovesData, abort_data, commit_data, decide_data, forget_data, message_data, told_data}
 use Rattle.sub_branches.specs.declared.branch.LiveBranch.{LiveBranch}
 use Rattle.sub_branches.specs.declared.branch.BranchStage.TheVariants.{Heuristic}
@@ -111,7 +110,7 @@ module _ {f : Front} (s : SubState) (key : ℕ) (c : Case) (x : Xid) (o : Outcom
             made.comes.boot));
         writes = subst (λ (q : DataTurn). MovesData (manager_data s.manager) (manager_data m) (λ c. xid_of s c) q)
             (sym (ap (λ (k : Option LiveBranch). decide_data c (kept_view k).standing) at.live))
-            (subst (λ (y : Xid). model_data.ReleasesHolds (manager_data s.manager) (manager_data m) y) named.is made.releases);
+            (subst (λ (y : Xid). Data.ReleasesHolds (manager_data s.manager) (manager_data m) y) named.is made.releases);
       }
 
   pub decides_tied : (t : BranchTable) (m : ManagerSight) → NotesStage s.table t key (Heuristic None)
@@ -268,14 +267,14 @@ module _ {f : Front} (s : SubState) (key : ℕ) (c : Case) (x : Xid) (o : Outcom
   pub told_first : (t : BranchTable) (m : ManagerSight) → NotesStage s.table t key (Heuristic (Some o))
       → FinishesWork s.manager m x (outcome_call o)
       → Hears s (behind s t m) (tells_outcome o c)
-      (outcome_reply kind.Told c o (decided_found s c o) s.me s.parent)
+      (outcome_reply record_kind.Told c o (decided_found s c o) s.me s.parent)
   told_first t m notes f =
       let named = tied.named c (decided x None) at.live in
       let r = notes_at s.table t key (Heuristic (Some o)) c (decided x None) at notes in
       record {
         turns = λ k.
             subst (λ (turn : Turn). Turns s (behind s t m) (MessageInput k (tells_outcome o c)) turn
-            (outcome_reply kind.Told c o (decided_found s c o) s.me s.parent))
+            (outcome_reply record_kind.Told c o (decided_found s c o) s.me s.parent))
             (sym (outcome_is s key c x None kept at o))
             (handled s t m (MessageInput k (tells_outcome o c)) c row
             (log_is s c x named (tied.given_before c (decided x None) at.live) m S5 (s.manager.writes x)
@@ -292,7 +291,7 @@ module _ {f : Front} (s : SubState) (key : ℕ) (c : Case) (x : Xid) (o : Outcom
             f.comes.boot);
         writes = subst (λ (q : DataTurn). MovesData (manager_data s.manager) (manager_data m) (λ c. xid_of s c) q)
             (sym (outcome_data s key c x None kept at o))
-            (subst (λ (y : Xid). model_data.ReleasesHolds (manager_data s.manager) (manager_data m) y) named.is
+            (subst (λ (y : Xid). Data.ReleasesHolds (manager_data s.manager) (manager_data m) y) named.is
             (decided_data s.manager m x (outcome_call o) f (tied.stands c (decided x None) at.live) there));
       }
 
@@ -331,14 +330,14 @@ module _ {f : Front} (s : SubState) (key : ℕ) (c : Case) (x : Xid) (told : Opt
 
   pub forgets : (t : BranchTable) (m : ManagerSight) → Retires s.table t key nothing
       → FinishesWork s.manager m x call.Forget
-      → Acts s (behind s t m) (Forget c) (logged_alone kind.Forgot c)
+      → Acts s (behind s t m) (Forget c) (logged_alone record_kind.Forgot c)
   forgets t m gone f =
       let named = tied.named c (decided x told) at.live in
       let row : LeafRow = heuristic_forget (leaf_in (core_of s) s.parent c) in
       let r = retires_at s.table t key nothing c (decided x told) at gone in
       record {
         turns = subst (λ (turn : Turn). Turns s (behind s t m) (ActInput (Forget c)) turn
-            (logged_alone kind.Forgot c)) (sym forget_is)
+            (logged_alone record_kind.Forgot c)) (sym forget_is)
             (handled s t m (ActInput (Forget c)) c row
             (log_is s c x named (tied.given_before c (decided x told) at.live) m S5
             (s.manager.writes x) call.Forget row.written
@@ -351,7 +350,7 @@ module _ {f : Front} (s : SubState) (key : ℕ) (c : Case) (x : Xid) (told : Opt
             f.comes.boot);
         writes = subst (λ (q : DataTurn). MovesData (manager_data s.manager) (manager_data m) (λ c. xid_of s c) q)
             (sym (ap (λ (k : Option LiveBranch). forget_data c (kept_view k).standing) at.live))
-            (subst (λ (y : Xid). model_data.Ends (manager_data s.manager) (manager_data m) y) named.is
+            (subst (λ (y : Xid). Data.Ends (manager_data s.manager) (manager_data m) y) named.is
             (ended_data s.manager m x call.Forget f refl));
       }
 

@@ -7,8 +7,7 @@ use Rattle.protocol.specs.declared.names.Case.{Case}
 use Rattle.protocol.specs.declared.names.Ticket.{Ticket}
 use Rattle.protocol.specs.declared.messages.Op.{Op}
 use Rattle.protocol.specs.declared.messages.Message.TheVariants.{Work}
-use Rattle.protocol.specs.declared.events.Input.TheVariants.{Message as MessageInput}
-use Rattle.protocol.specs.declared.standings.Standing.TheVariants.{Active as ActiveStanding}
+use Rattle.protocol_words.specs.Variants.{ActiveStanding, MessageInput}
 use Rattle.protocol.specs.ManagerRows.{on_work, unmoved}
 use Rattle.protocol.specs.Standings.{ManagerView}
 use Rattle.process_state.specs.Turns.{Handles, Turn}
@@ -16,7 +15,7 @@ use Rattle.process_state.specs.Makes.{retired_by}
 use Rattle.case_table.specs.Tables.{MovesValue}
 use Rattle.resource_manager.specs.Sights.{ManagerSight, manager_data, obstacle}
 use Rattle.sub_work.specs.Deeds.{Idles, BranchWorks}
-use Rattle.resource_manager.specs.Data as model_data
+use Rattle.resource_manager.specs.Data
 use Rattle.resource_manager.specs.Turns.{DataTurn, MovesData, Operates, Rests, message_data, work_data}
 use Rattle.sub_branches.specs.declared.branch.LiveBranch.{LiveBranch}
 use Rattle.sub_branches.specs.declared.branch.BranchStage.{BranchStage}
@@ -89,7 +88,7 @@ module _ {f : Front} (s : SubState) (key : ℕ) (c g : Case) (n i : ℕ) (x : Xi
 
   moves_as : (does : Bool) (m : ManagerSight) → BranchWorks s.manager m x op does
       → MovesData (manager_data s.manager) (manager_data m) (λ c. xid_of s c) (if does then Operates c op else Rests)
-  moves_as true m w = subst (λ (y : Xid). model_data.Operates (manager_data s.manager) (manager_data m) y op)
+  moves_as true m w = subst (λ (y : Xid). Data.Operates (manager_data s.manager) (manager_data m) y op)
       (tied.named c (active x g n false) at.live).is w.operates
   moves_as false m w = w.operates
 

@@ -14,8 +14,7 @@ use Rattle.protocol.specs.declared.names.Txn.{Txn}
 use Rattle.protocol.specs.declared.messages.Envelope.{Envelope}
 use Rattle.protocol.specs.declared.messages.Message.TheVariants.{Join, Joined}
 use Rattle.protocol.specs.declared.events.Input.{Input}
-use Rattle.protocol.specs.declared.events.Input.TheVariants.{Message as MessageInput}
-use Rattle.protocol.specs.declared.standings.Standing.TheVariants.{Heuristic as HeuristicStanding}
+use Rattle.protocol_words.specs.Variants.{HeuristicStanding, MessageInput}
 use Rattle.protocol.specs.Branches.{branch_format, branch_parts}
 use Rattle.protocol.specs.Names.{same_case}
 use Rattle.protocol.specs.CoordinatorRows.{post}
@@ -23,7 +22,7 @@ use Rattle.protocol.specs.Reactions.{sends_only}
 use Rattle.protocol.specs.Standings.{ManagerView}
 use Rattle.process_state.specs.States.{SameCore}
 use Rattle.process_state.specs.Turns.{Issues, Says, Turn, leaf_joined_turn, next_ticket}
-use Rattle.resource_manager.specs.Data as model_data
+use Rattle.resource_manager.specs.Data
 use Rattle.resource_manager.specs.Sights.{ManagerSight, SameManager, manager_data}
 use Rattle.resource_manager.specs.Turns.{MovesData, join_data}
 use Rattle.xa_tables.specs.declared.states.BranchState.TheVariants.{S2}
@@ -251,7 +250,7 @@ module _ {f : Front} (s : SubState) (d : Case) (t : BranchTable) (m : ManagerSig
       place = refl;
       boot = h.1.comes.boot;
     },
-    subst (λ (y : Xid). model_data.DataBegins (manager_data s.manager) (manager_data m) y) named.is (record {
+    subst (λ (y : Xid). Data.DataBegins (manager_data s.manager) (manager_data m) y) named.is (record {
       keeps = record { writes = h.1.rest.writes; holders = h.1.rest.holders };
       known = comes_known s.manager m x S2 h.1.comes;
     }),

@@ -6,12 +6,10 @@ use Rattle.xa_tables.specs.declared.call.Call.TheVariants as call
 use Rattle.xa_xid.specs.declared.xid.Xid.{Xid}
 use Rattle.protocol.specs.declared.names.Case.{Case}
 use Rattle.protocol.specs.declared.names.Ticket.{Ticket}
-use Rattle.protocol.specs.declared.names.Outcome.TheVariants.{Committed as CommittedOutcome, Aborted as AbortedOutcome}
+use Rattle.protocol_words.specs.Variants.{AbortedOutcome, CaseBranch, CommittedOutcome, MessageInput}
 use Rattle.protocol.specs.declared.messages.Message.{Message}
 use Rattle.protocol.specs.declared.messages.Message.TheVariants.{Prepare, Commit, Abort, No}
-use Rattle.protocol.specs.declared.events.Input.TheVariants.{Message as MessageInput}
 use Rattle.protocol.specs.declared.events.StepError.{StepError}
-use Rattle.protocol.specs.declared.records.BranchName.TheVariants.{Case as CaseBranch}
 use Rattle.protocol.specs.declared.records.Record.{Record}
 use Rattle.protocol.specs.declared.records.Write.{Write}
 use Rattle.protocol.specs.Names.{child_case, same_case}
@@ -25,7 +23,7 @@ use Rattle.xa_branch.specs.declared.decision.Decision.{Decision}
 use Rattle.xa_tables.specs.declared.states.BranchState.{BranchState}
 use Rattle.xa_tables.specs.declared.states.BranchState.TheVariants.{S0}
 use Rattle.resource_manager.specs.Ends.{row_of, written_by}
-use Rattle.resource_manager.specs.Data as model_data
+use Rattle.resource_manager.specs.Data
 use Rattle.sub_work.specs.Deeds.{FinishesWork, NotFinished, can_roll_back}
 use Rattle.resource_manager.specs.Turns.{DataTurn, Ends, MovesData, abort_data, commit_data, message_data, prepare_data, vote_data}
 use Rattle.sub_branches.specs.declared.branch.LiveBranch.{LiveBranch}
@@ -84,7 +82,7 @@ module _ {f : Front} (s : SubState) (key : ℕ) (c : Case) (b : LiveBranch) (mes
             (MessageInput k message)
             (λ d o apart. refl) (λ e. absurd (cc))) f.comes.boot);
         writes = subst (λ (t : DataTurn). MovesData (manager_data s.manager) (manager_data m) (λ c. xid_of s c) t) (sym ends.drops)
-            (subst (λ (y : Xid). model_data.Ends (manager_data s.manager) (manager_data m) y) (tied.named c b at.live).is
+            (subst (λ (y : Xid). Data.Ends (manager_data s.manager) (manager_data m) y) (tied.named c b at.live).is
             (ended_data s.manager m b.xid call f (ap (λ (q : BranchState).
             (row_of call q (s.manager.writes b.xid) (s.manager.decided b.xid)).1) (tied.stands c b at.live)
             ∙ ends.gone)));

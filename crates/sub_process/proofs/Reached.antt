@@ -4,7 +4,7 @@ use Rattle.std.proofs.lemmas.Grind.{fold-append}
 use Rattle.std.proofs.lemmas.List.{append-nil, map-append}
 use Rattle.std.specs.List.{AllByRecursion}
 use Rattle.xa_tables.specs.declared.call.Call.{Call}
-use Rattle.xa_tables.specs.declared.call.Call.TheVariants as call
+use Rattle.xa_words.specs.call
 use Rattle.xa_tables.specs.declared.states.BranchState.{BranchState}
 use Rattle.xa_tables.specs.declared.states.BranchState.TheVariants.{S2, S3, S5}
 use Rattle.xa_xid.specs.declared.xid.Xid.{Xid}
@@ -14,10 +14,10 @@ use Rattle.protocol.specs.declared.names.Kind.TheVariants.{Manager}
 use Rattle.protocol.specs.declared.names.Outcome.{Outcome}
 use Rattle.protocol.specs.declared.names.Outcome.TheVariants.{Committed, Aborted}
 use Rattle.protocol.specs.declared.names.ProcessId.{ProcessId}
-use Rattle.protocol.specs.declared.records.BranchName.TheVariants.{Case as CaseBranch}
+use Rattle.protocol_words.specs.Variants.{CaseBranch}
 use Rattle.protocol.specs.declared.records.LogRecord.{LogRecord}
 use Rattle.protocol.specs.declared.records.Record.{Record}
-use Rattle.protocol.specs.declared.records.Record.TheVariants as entries
+use Rattle.protocol_words.specs.record_of
 use Rattle.protocol.specs.declared.records.Write.{Write}
 use Rattle.protocol.specs.LogNames.{is_own, own_records, unnamed}
 use Rattle.protocol.specs.Nodes.{AtLeaf, Place, Written, is_any_forced}
@@ -106,12 +106,12 @@ boot_more ls l = ap (fold boot_after 0) (map-append (λ (k : LogRecord). k.entry
 -- boots never fall
 boot_grows : (b : ℕ) (ls : List LogRecord) (q : Option ProcessId) (r : Record)
     → MayFollow ls (record { entry = r; parent = q }) → boot_in ls ≤ boot_after (boot_in ls) r
-boot_grows b ls q (entries.Opened n) may = may
+boot_grows b ls q (record_of.Opened n) may = may
 boot_grows b ls q _ may = omega arith
 
 -- the boot that a record names
 boot_named : (n b : ℕ) (r : Record) → n ≤ boot_after 0 r → n ≤ boot_after b r
-boot_named n b (entries.Opened k) h = h
+boot_named n b (record_of.Opened k) h = h
 boot_named n b _ h = omega (arith, h)
 
 in_order_front : (ls ks : List LogRecord) → AreInOrder (ls ++ ks) → AreInOrder ls
@@ -160,7 +160,7 @@ opened_reaches n b o (l ∷ ls) known h =
   where
     one : (r : Record) (q : Option ProcessId) → (n ≤ b → Reaches n o) → n ≤ boot_after b r
         → Reaches n (opened_after o (record { entry = r; parent = q }))
-    one (entries.Opened k) q known h = inl h
+    one (record_of.Opened k) q known h = inl h
     one _ q known h = known h
 
 trim_reaches : (n : ℕ) (ls : List LogRecord) → n ≤ boot_in ls → Reaches n (trim_of ls)
@@ -176,12 +176,12 @@ module _ (place : Place) (boot : ℕ) (name : Name) (given : IsGivenWhere boot (
   under ws = map (λ (w : Written). record { entry = w.entry; parent = name.0 }) ws
 
   promise_reached : (ws : List Write)
-      → AllByRecursion (IsReached place boot) (under (unless_empty (entries.Prepared name.1) ws))
+      → AllByRecursion (IsReached place boot) (under (unless_empty (record_of.Prepared name.1) ws))
   promise_reached [] = tt
   promise_reached (w ∷ ws) = (given, tt)
 
   direct_reached : (ws : List Write)
-      → AllByRecursion (IsReached place boot) (under (unless_empty (entries.Direct name.1) ws))
+      → AllByRecursion (IsReached place boot) (under (unless_empty (record_of.Direct name.1) ws))
   direct_reached [] = tt
   direct_reached (w ∷ ws) = (tt, tt)
 

@@ -10,18 +10,18 @@ use Rattle.log_text.specs.Forms.{log_form}
 use Rattle.protocol.specs.declared.names.Kind.TheVariants.{Manager}
 use Rattle.protocol.specs.declared.names.Case.{Case}
 use Rattle.protocol.specs.declared.messages.Envelope.{Envelope}
-use Rattle.protocol.specs.declared.records.BranchName.TheVariants.{Case as CaseBranch, Foreign}
+use Rattle.protocol.specs.declared.records.BranchName.TheVariants.{Foreign}
+use Rattle.protocol_words.specs.Variants.{CaseBranch, HeuristicStanding}
 use Rattle.protocol.specs.declared.records.LogRecord.{LogRecord}
 use Rattle.protocol.specs.declared.records.Record.{Record}
 use Rattle.protocol.specs.declared.records.Record.TheVariants.{Opened}
 use Rattle.protocol.specs.declared.records.RecordKind.TheVariants as kind
 use Rattle.protocol.specs.declared.records.Subject.TheVariants as subject
 use Rattle.protocol.specs.declared.events.Reaction.{Reaction}
-use Rattle.protocol.specs.declared.events.StepError.TheVariants as error
+use Rattle.protocol_words.specs.step_error
 use Rattle.protocol.specs.LogNames.{below_of, name_xid, own_records, by_xid}
 use Rattle.protocol.specs.Branches.{branch_parts}
 use Rattle.protocol.specs.declared.names.Outcome.{Outcome}
-use Rattle.protocol.specs.declared.standings.Standing.TheVariants.{Heuristic as HeuristicStanding}
 use Rattle.protocol.specs.Records.{boot_of, decision_after, decision_of as case_decision}
 use Rattle.protocol.specs.Restarts.{recorded_branch}
 use Rattle.protocol.specs.Standings.{Decided, Finished, Mark, Promised, ToldOf, Unmarked, mark_at, mark_of, unknown_view}
@@ -306,7 +306,7 @@ broken_tied s m keep tied fails =
     tied.reached fails.boot fails.log.stand fails.log.no_less)
 
 pub broken : (s : SubState) (m : ManagerSight) (keep : ℕ) → ManagerRestartFails s.manager m keep
-    → ProcessNotRestarted (core_of s) keep (core_of (behind s s.table m)) error.Device
+    → ProcessNotRestarted (core_of s) keep (core_of (behind s s.table m)) step_error.Device
 broken s m keep fails = (
   subst (λ n. LogRestartBreaks (state_of s.manager.log) (state_of m.log) keep (boot_record n ∷ []))
       (ap (λ n. n + 1) (sym (boots_alike s.me s.parent s.tree (left_by s.manager.log keep)))) fails.log,
@@ -318,7 +318,7 @@ broken s m keep fails = (
 -- no boot comes after the manager's last one
 pub boots_used : (s : SubState) (m : ManagerSight) (keep : ℕ) → SameManager s.manager m
     → 2 ^ 63 ≤ next_boot (left_by s.manager.log keep)
-    → ProcessNotRestarted (core_of s) keep (core_of (behind s s.table m)) error.Exhausted
+    → ProcessNotRestarted (core_of s) keep (core_of (behind s s.table m)) step_error.Exhausted
 boots_used s m keep same used = (
   (same_keeps s m same).core,
   λ held. absurd (omega (arith, used, held.0.1, boots_alike s.me s.parent s.tree (left_by s.manager.log keep))),

@@ -5,12 +5,11 @@ use Rattle.xa_xid.specs.declared.xid.Xid.{Xid}
 use Rattle.protocol.specs.declared.names.Case.{Case}
 use Rattle.protocol.specs.declared.names.Ticket.{Ticket}
 use Rattle.protocol.specs.declared.names.Outcome.{Outcome}
-use Rattle.protocol.specs.declared.names.Outcome.TheVariants.{Committed as CommittedOutcome, Aborted as AbortedOutcome}
+use Rattle.protocol_words.specs.Variants.{AbortedOutcome, CommittedOutcome, MessageInput}
 use Rattle.protocol.specs.declared.messages.Message.{Message}
 use Rattle.protocol.specs.declared.messages.Message.TheVariants.{Prepare, Commit, Abort, Work}
 use Rattle.protocol.specs.declared.messages.Op.{Op}
 use Rattle.std.specs.Prelude.{◌==◌, ◌&&◌, is_none}
-use Rattle.protocol.specs.declared.events.Input.TheVariants.{Message as MessageInput}
 use Rattle.protocol.specs.declared.records.LogRecord.{LogRecord}
 use Rattle.protocol.specs.Names.{child_case, same_case}
 use Rattle.protocol.specs.ManagerRows.{Leaf, LeafRow, on_abort, on_commit, on_prepare, on_work, promised_prepare, unknown_outcome, unknown_prepare, unmoved}
@@ -26,7 +25,7 @@ use Rattle.sub_branches.specs.Stages.{takes}
 use Rattle.sub_branches.specs.Tables.{BranchTable, IsBranchTable, branch_in, kept_view, retired_at, ticket_in, view_in}
 use Rattle.sub_process.specs.Subordinates.{Hears, IsAt, SubState, Turns, MovesWrites, active, answer_for, core_of, decided, prepared, turn_for, xid_of}
 use Rattle.resource_manager.specs.Turns.{DataTurn, MovesData, Operates, Rests, abort_data, commit_data, message_data, prepare_data, work_data}
-use Rattle.resource_manager.specs.Data as model_data
+use Rattle.resource_manager.specs.Data
 use Rattle.resource_manager.specs.Sights.{ManagerSight, manager_data, obstacle}
 use Rattle.sub_work.specs.Replies.{shown}
 use Rattle.sub_process.proofs.Ties.{one}
@@ -62,7 +61,7 @@ heard s c message row stays = record {
 }
 
 -- a manager that has not changed
-pub rests : (m : ManagerSight) → model_data.DataRests (manager_data m) (manager_data m)
+pub rests : (m : ManagerSight) → Data.DataRests (manager_data m) (manager_data m)
 rests m = record { keeps = record { writes = λ y. refl; holders = λ k. refl }; known = λ y. refl }
 
 -- a message of which the data rest leaves them

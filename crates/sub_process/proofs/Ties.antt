@@ -13,7 +13,7 @@ use Rattle.protocol.specs.declared.events.Input.{Input}
 use Rattle.protocol.specs.declared.standings.Standing.TheVariants.{Heuristic}
 use Rattle.process_state.specs.Makes.{decided_by}
 use Rattle.protocol.specs.declared.names.ProcessId.{ProcessId}
-use Rattle.protocol.specs.declared.records.BranchName.TheVariants.{Case as CaseBranch}
+use Rattle.protocol_words.specs.Variants.{CaseBranch}
 use Rattle.protocol.specs.Names.{same_case}
 use Rattle.protocol.proofs.NameTests.{case_tells}
 use Rattle.log_text.specs.Parts.{Name}

@@ -2,7 +2,7 @@
 use Rattle.std.proofs.Common.{◌≡◌, ◌≢◌, ◌∙◌, ℕ, true, false, Option, Some, None, List, [], ◌∷◌, Bool, refl, sym, ap, subst, arith, if◌then◌else◌}
 use Rattle.std.specs.Prelude.{◌==◌, ◌&&◌}
 use Rattle.std.proofs.lemmas.Bool.Decides.{nat_tests}
-use Rattle.xa_tables.specs.declared.call.Call.TheVariants as call
+use Rattle.xa_words.specs.call
 use Rattle.xa_tables.specs.declared.states.BranchState.{BranchState}
 use Rattle.xa_tables.specs.declared.states.BranchState.TheVariants.{S2, S3}
 use Rattle.xa_xid.specs.declared.xid.Xid.{Xid}
@@ -11,14 +11,11 @@ use Rattle.xa_branch.proofs.Names.{same_is}
 use Rattle.protocol.specs.declared.names.Case.{Case}
 use Rattle.protocol.specs.declared.names.Ticket.{Ticket}
 use Rattle.protocol.specs.declared.messages.Message.TheVariants.{Prepare, No, Yes as YesMessage, Read as ReadMessage}
-use Rattle.protocol.specs.declared.events.Input.TheVariants.{Message as MessageInput}
+use Rattle.protocol_words.specs.Variants.{CaseBranch, HeuristicStanding, MessageInput, PreparedRecord}
 use Rattle.protocol.specs.declared.events.StepError.{StepError}
-use Rattle.protocol.specs.declared.records.BranchName.TheVariants.{Case as CaseBranch}
-use Rattle.protocol.specs.declared.records.Record.TheVariants.{Prepared as PreparedRecord}
 use Rattle.protocol.specs.declared.records.Write.{Write}
 use Rattle.protocol.specs.declared.standings.Vote.{Vote}
 use Rattle.protocol.specs.declared.standings.Vote.TheVariants.{Yes, Read}
-use Rattle.protocol.specs.declared.standings.Standing.TheVariants.{Heuristic as HeuristicStanding}
 use Rattle.protocol.specs.CoordinatorRows.{forced, post}
 use Rattle.protocol.specs.ManagerRows.{Leaf, LeafRow, active_prepare_holding, on_prepare, replies}
 use Rattle.protocol.specs.Nodes.{Holds}
@@ -32,7 +29,7 @@ use Rattle.resource_manager.specs.Sights.{ManagerSight, manager_data}
 use Rattle.xa_branch.specs.declared.decision.Decision.{Decision}
 use Rattle.resource_manager.specs.Ends.{left_with, prepare_row, row_for, written_by}
 use Rattle.resource_manager.specs.Data.{held_with, is_begun}
-use Rattle.resource_manager.specs.Data as model_data
+use Rattle.resource_manager.specs.Data
 use Rattle.resource_manager.specs.Turns.{DataTurn, Ends, MovesData, message_data, prepare_data, vote_data}
 use Rattle.sub_work.specs.Deeds.{FinishesWork, NotFinished, vote_of}
 use Rattle.sub_branches.specs.declared.branch.LiveBranch.{LiveBranch}
@@ -105,7 +102,7 @@ module _ {f : Front} (s : SubState) (key : ℕ) (c g : Case) (n : ℕ) (x : Xid)
       ∙ ap (λ b. if b && true then vote_data c holding else Ends c) (same_number n)
 
   stayed : (m : ManagerSight) → FinishesWork s.manager m x call.Prepare
-      → (row_for s.manager x call.Prepare).1 ≡ S3 → model_data.DataRests (manager_data s.manager) (manager_data m)
+      → (row_for s.manager x call.Prepare).1 ≡ S3 → Data.DataRests (manager_data s.manager) (manager_data m)
   stayed m f is = record {
     keeps = record {
       writes = λ y. by_name y (same x y) refl;
@@ -123,7 +120,7 @@ module _ {f : Front} (s : SubState) (key : ℕ) (c g : Case) (n : ℕ) (x : Xid)
   voted_data : (m : ManagerSight) (ws : List Write) → s.manager.writes x ≡ ws
       → FinishesWork s.manager m x call.Prepare
       → MovesData (manager_data s.manager) (manager_data m) (λ c. xid_of s c) (vote_data c (held_writes ws))
-  voted_data m [] is f = subst (λ (y : Xid). model_data.Ends (manager_data s.manager) (manager_data m) y)
+  voted_data m [] is f = subst (λ (y : Xid). Data.Ends (manager_data s.manager) (manager_data m) y)
       (tied.named c (active x g n false) at.live).is
       (ended_data s.manager m x call.Prepare f (ap (λ (vs : List Write). (prepare_row vs).1) is))
   voted_data m (w ∷ ws) is f = stayed m f (ap (λ (vs : List Write). (prepare_row vs).1) is)

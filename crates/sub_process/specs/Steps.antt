@@ -7,10 +7,10 @@ use Rattle.xa_xid.specs.declared.xid.Xid.{Xid}
 use Rattle.protocol.specs.declared.records.LogRecord.{LogRecord}
 use Rattle.protocol.specs.declared.events.Act.{Act}
 use Rattle.protocol.specs.declared.events.Input.{Input}
-use Rattle.protocol.specs.declared.events.Input.TheVariants.{Act as ActInput, Message as MessageInput}
+use Rattle.protocol_words.specs.Variants.{ActInput, MessageInput}
 use Rattle.protocol.specs.declared.events.Reaction.{Reaction}
 use Rattle.protocol.specs.declared.events.StepError.{StepError}
-use Rattle.protocol.specs.declared.events.StepError.TheVariants as steps
+use Rattle.protocol_words.specs.step_error
 use Rattle.protocol.specs.LogNames.{own_records}
 use Rattle.protocol.specs.Records.{boot_of}
 use Rattle.protocol.specs.Nodes.{DataAnswer, Place}
@@ -84,8 +84,8 @@ LeavesPromises old keep new = PromisesLeft (left_by old.manager.log keep) new.ma
 -- why no restart was made ready where these records are left: boots are used up where none below 2^63 comes after
 -- the last one
 abbrev pub NotReady : Place → List LogRecord → StepError → Type 0
-NotReady place ls steps.Memory = ⊤
-NotReady place ls steps.Exhausted = 2 ^ 63 ≤ boot_of (own_records place ls) + 1
+NotReady place ls step_error.Memory = ⊤
+NotReady place ls step_error.Exhausted = 2 ^ 63 ≤ boot_of (own_records place ls) + 1
 NotReady place ls e = ⊥
 
 -- why no process goes on over the log of a manager that restarted, but for want of memory: no such process can have

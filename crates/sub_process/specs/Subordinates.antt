@@ -14,17 +14,15 @@ use Rattle.protocol.specs.declared.messages.Finding.{Finding}
 use Rattle.protocol.specs.declared.messages.Finding.TheVariants.{Mixed}
 use Rattle.protocol.specs.declared.messages.Message.{Message}
 use Rattle.protocol.specs.declared.messages.Message.TheVariants.{Join, Work, Prepare, Ack}
-use Rattle.protocol.specs.declared.records.BranchName.TheVariants.{Case as CaseBranch}
+use Rattle.protocol_words.specs.Variants.{CaseBranch, MessageInput, OfCase}
 use Rattle.protocol.specs.declared.trees.TreeProcess.{TreeProcess}
 use Rattle.protocol.specs.declared.events.Input.{Input}
-use Rattle.protocol.specs.declared.events.Input.TheVariants.{Message as MessageInput}
 use Rattle.protocol.specs.declared.events.Reaction.{Reaction}
 use Rattle.protocol.specs.declared.events.StepError.{StepError}
 use Rattle.protocol.specs.declared.events.StepError.TheVariants.{Device, Exhausted, Memory}
 use Rattle.protocol.specs.declared.records.ShownRecord.{ShownRecord}
 use Rattle.protocol.specs.declared.records.RecordKind.{RecordKind}
 use Rattle.protocol.specs.declared.records.RecordKind.TheVariants.{HeurCommit, HeurRollback}
-use Rattle.protocol.specs.declared.records.Subject.TheVariants.{Case as OfCase}
 use Rattle.protocol.specs.declared.names.Outcome.{Outcome}
 use Rattle.protocol.specs.declared.names.Outcome.TheVariants.{Committed, Aborted}
 use Rattle.protocol.specs.ManagerRows.{is_acknowledged}

@@ -2,7 +2,7 @@
 
 ghost use Rattle.std.specs.Prelude.{◌≡◌, false, true, IfErr, IfOk};
 ghost use Rattle.process_state.specs.Turns.{Refuses, childless_turn, is_refusal};
-ghost use Rattle.protocol.specs.declared.events.Act.TheVariants as act;
+ghost use Rattle.protocol_words.specs.act;
 ghost use Rattle.sub_branches.specs.Tables.{branch_in, kept_view};
 ghost use Rattle.sub_process.specs.Subordinates.{seen};
 ghost use Rattle.sub_process.specs.Steps.{Acts, NotActed};

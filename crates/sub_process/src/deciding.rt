@@ -3,8 +3,8 @@
 ghost use Rattle.std.specs.Prelude.{◌≡◌, ℕ, false, None, Some, Option, IfErr, IfOk, option_map};
 ghost use Rattle.protocol.specs.Names.{same_outcome};
 ghost use Rattle.protocol.specs.CoordinatorRows.{tells_outcome};
-ghost use Rattle.protocol.specs.declared.events.Act.TheVariants as act;
-ghost use Rattle.protocol.specs.declared.names.Outcome.{Outcome as AnyOutcome};
+ghost use Rattle.protocol_words.specs.act;
+ghost use Rattle.protocol_words.specs.Types.{AnyOutcome};
 ghost use Rattle.xa_xid.specs.declared.xid.Xid.{Xid as AnyXid};
 ghost use Rattle.sub_branches.specs.Tables.{IsBranchTable};
 ghost use Rattle.sub_process.specs.Subordinates.{Hears, IsAt, NotHeard, decided, decided_found, decision_kind, found_against, logged_alone, prepared, seen};

@@ -1,8 +1,8 @@
 //! How a branch ends: refused at PREPARE, aborted, or committed.
 
 ghost use Rattle.std.specs.Prelude.{◌≡◌, ◌==◌, ◌&&◌, [], not, Bool, ℕ, false, IfErr, IfOk};
-ghost use Rattle.protocol.specs.declared.names.Case.{Case as AnyCase};
-ghost use Rattle.protocol.specs.declared.messages.Message.TheVariants as message;
+ghost use Rattle.protocol_words.specs.Types.{AnyCase};
+ghost use Rattle.protocol_words.specs.message;
 ghost use Rattle.protocol.specs.declared.records.RecordKind.TheVariants as kind;
 ghost use Rattle.sub_branches.specs.Tables.{IsBranchTable};
 ghost use Rattle.sub_process.specs.Subordinates.{Hears, IsAt, NotHeard, acknowledged, active, outcome_reply, prepared, seen};

@@ -1,7 +1,7 @@
 //! PREPARE, COMMIT and ABORT, in whatever standing they find their case.
 
 ghost use Rattle.std.specs.Prelude.{◌≡◌, [], false, IfErr, IfOk};
-ghost use Rattle.protocol.specs.declared.messages.Message.TheVariants as message;
+ghost use Rattle.protocol_words.specs.message;
 ghost use Rattle.protocol.specs.Standings.{unknown_findings};
 ghost use Rattle.process_state.specs.Turns.{this_version};
 ghost use Rattle.sub_work.specs.Replies.{shown};

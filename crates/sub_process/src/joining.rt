@@ -2,7 +2,7 @@
 
 ghost use Rattle.std.specs.Prelude.{◌≡◌, false, None, IfErr, IfOk, OnErr};
 ghost use Rattle.protocol.specs.Names.{child_case};
-ghost use Rattle.protocol.specs.declared.messages.Message.TheVariants as message;
+ghost use Rattle.protocol_words.specs.message;
 ghost use Rattle.process_state.specs.States.{HasNumbers};
 ghost use Rattle.process_state.specs.Turns.{next_ticket};
 ghost use Rattle.sub_branches.specs.Tables.{IsBranchTable, ticket_in};

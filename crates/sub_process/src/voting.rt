@@ -2,8 +2,8 @@
 
 ghost use Rattle.std.specs.Prelude.{◌≡◌, ◌<◌, [], false, IfErr, IfOk};
 ghost use Rattle.std.specs.Vec.{vec_capacity, vec_len};
-ghost use Rattle.protocol.specs.declared.messages.Message.TheVariants as message;
-ghost use Rattle.protocol.specs.declared.names.Case.{Case as AnyCase};
+ghost use Rattle.protocol_words.specs.message;
+ghost use Rattle.protocol_words.specs.Types.{AnyCase};
 ghost use Rattle.protocol.specs.CoordinatorRows.{post};
 ghost use Rattle.sub_process.specs.Subordinates.{Hears, IsAt, NotHeard, active, says, seen};
 

@@ -1,7 +1,7 @@
 //! WORK: done in order, and nothing after a refusal.
 
 ghost use Rattle.std.specs.Prelude.{◌≡◌, ◌+◌, false, IfErr, IfOk};
-ghost use Rattle.protocol.specs.declared.messages.Message.TheVariants as message;
+ghost use Rattle.protocol_words.specs.message;
 ghost use Rattle.sub_process.specs.Subordinates.{Hears, IsAt, NotHeard, active, seen};
 
 use crate::subordinate::{Subordinate, find_branch};

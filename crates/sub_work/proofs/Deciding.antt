@@ -6,7 +6,7 @@ use Rattle.xa_xid.specs.declared.xid.Xid.{Xid}
 use Rattle.xa_assoc.specs.Associations.{AssocList}
 use Rattle.xa_branch.specs.Branches.{state_in}
 use Rattle.protocol.specs.declared.names.Outcome.{Outcome}
-use Rattle.protocol.specs.declared.events.StepError.TheVariants as error
+use Rattle.protocol_words.specs.step_error
 use Rattle.log_records.specs.Sights.{LogSight}
 use Rattle.process_state.proofs.Wrote.{wrote_form}
 use Rattle.resource_manager.specs.Data.{is_begun}
@@ -43,7 +43,7 @@ decides old new x o idle d =
     }
 
 pub not_decided : (old new : ManagerSight) (x : Xid) (o : Outcome) → IsIdle old → DecideFails old new x o
-    → WorkNotDecided old new x o error.Device
+    → WorkNotDecided old new x o step_error.Device
 not_decided old new x o idle f = record {
   log = f.log;
   states = λ y. ap (λ (bs : List (Xid × BranchState)). state_in bs y) f.tables.branches.branches;

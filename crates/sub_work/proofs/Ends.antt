@@ -2,10 +2,10 @@
 use Rattle.std.proofs.Common.{◌≡◌, ◌≢◌, ◌∙◌, ℕ, true, false, List, [], ◌∷◌, Ok, Err, Result, refl, sym, ap, subst, arith}
 use Rattle.std.specs.Prelude.{Contains}
 use Rattle.xa_codes.specs.declared.code.Code.{Code}
-use Rattle.xa_codes.specs.declared.code.Code.TheVariants as code
+use Rattle.xa_words.specs.code
 use Rattle.xa_tables.specs.Tables.{branch_rows, is_in_doubt}
 use Rattle.xa_tables.specs.declared.call.Call.{Call}
-use Rattle.xa_tables.specs.declared.call.Call.TheVariants as call
+use Rattle.xa_words.specs.call
 use Rattle.xa_tables.specs.declared.call.Verb.{Verb}
 use Rattle.xa_tables.specs.declared.states.BranchState.{BranchState}
 use Rattle.xa_tables.specs.declared.states.BranchState.TheVariants.{S0, S1, S2, S3, S4, S5}

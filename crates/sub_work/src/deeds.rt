@@ -1,7 +1,7 @@
 //! Whole pieces of work at a manager: no thread is at work before one, nor after it.
 
 ghost use Rattle.std.specs.Prelude.{◌≡◌, ◌≢◌, false, true, IfErr, IfOk, OnErr, OnOk};
-ghost use Rattle.xa_tables.specs.declared.call.Call.TheVariants as call;
+ghost use Rattle.xa_words.specs.call;
 ghost use Rattle.xa_tables.specs.declared.states.BranchState.TheVariants as state;
 ghost use Rattle.xa_xid.specs.Xids.{null_xid};
 ghost use Rattle.xa_assoc.specs.Answers.{state_at};

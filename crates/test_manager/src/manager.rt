@@ -3,7 +3,7 @@
 ghost use Rattle.std.specs.Prelude.{◌≡◌, false, true, IfOk, Ok, OnErr};
 ghost use Rattle.std.specs.List.{list_any};
 ghost use Rattle.xa_branch.specs.Names.{same};
-ghost use Rattle.xa_codes.specs.declared.code.Code.TheVariants as code;
+ghost use Rattle.xa_words.specs.code;
 ghost use Rattle.resource_manager.specs.Ends.{ManagerFinishes};
 ghost use Rattle.resource_manager.specs.Opening.{IsNewManager};
 ghost use Rattle.resource_manager.specs.Sights.{SameManager};

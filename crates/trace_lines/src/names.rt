@@ -2,7 +2,7 @@
 
 ghost use Rattle.std.specs.Prelude.{◌≡◌, ◌+◌, ◌<◌, ◌≤◌, ◌∷◌, ◌++◌, length, drop, decimal};
 ghost use Rattle.trace_lines.specs.declared.names.TheConstants.{CASE, NUMBER, TICKET, TXN};
-ghost use Rattle.protocol.specs.Texts.{ticket_text, txn_text, case_text as text_of_case};
+ghost use Rattle.protocol.specs.Texts.{ticket_text, txn_text, case_text};
 
 use protocol::{Case, Presumption, Ticket, Txn};
 
@@ -81,7 +81,7 @@ pub(crate) fn write_ticket(ticket: &Ticket, line: &mut [u8], end: usize) -> usiz
 pub(crate) fn write_case(case: &Case, line: &mut [u8], end: usize) -> usize
     requires { (CASE ≤ end) × (end ≤ length line.old) }
     ensures begin { (result ≤ end) × (end ≤ result + CASE) }
-    ensures written { drop result line.new ≡ text_of_case case.now ++ drop end line.old }
+    ensures written { drop result line.new ≡ case_text case.now ++ drop end line.old }
 {
     match &case.ticket {
         None => write_txn(&case.txn, line, end),

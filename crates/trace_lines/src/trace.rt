@@ -4,29 +4,7 @@ ghost use Rattle.std.specs.Prelude.{◌≡◌, ◌+◌, ◌<◌, ◌≤◌, ◌^
 ghost use Rattle.std.specs.List.{list_any};
 ghost use Rattle.trace_lines.specs.declared.names.TheConstants.{CASE};
 ghost use Rattle.trace_lines.specs.declared.trace.TheConstants.{WAY};
-ghost use Rattle.protocol.specs.Texts.{
-  txn_text,
-  ticket_text,
-  case_text as text_of_case,
-  op_text,
-  outcome_word as word_of_outcome,
-  message_text,
-  findings_text,
-  is_mixed,
-  is_unreported,
-  mixed_word,
-  unreported_word,
-  kind_word as word_of_kind,
-  subject_text,
-  logged_text,
-  word_of_conclusion,
-  told_text,
-  begun_lines,
-  logged_lines,
-  told_lines,
-  envelope_lines,
-  kept_lines,
-};
+ghost use Rattle.protocol.specs.Texts.{txn_text, ticket_text, case_text, op_text, outcome_word, message_text, findings_text, is_mixed, is_unreported, mixed_word, unreported_word, kind_word, subject_text, logged_text, word_of_conclusion, told_text, begun_lines, logged_lines, told_lines, envelope_lines, kept_lines};
 ghost use Rattle.trace_lines.specs.Trace.{case_word, line_text, lines_text, mixed_words, number_word, unreported_words, way_text};
 
 use crate::names::{
@@ -46,7 +24,7 @@ const LINE: usize = 192;
 
 /// The name of a case, as `a1.1@2.1.1`.
 pub fn case_text(alloc: Global, case: &Case) -> Result<Vec<u8>, AllocError>
-    ensures { IfOk result (λ text. text.items ≡ text_of_case case.now) }
+    ensures { IfOk result (λ text. text.items ≡ case_text case.now) }
 {
     let mut out = Vec::new(alloc);
     push_case(&mut out, case)?;
@@ -92,7 +70,7 @@ pub fn push_ticket(out: &mut Vec<u8>, ticket: &Ticket) -> Result<(), AllocError>
 
 /// Adds the name of a case, as `a1.1@2.1.1`.
 pub fn push_case(out: &mut Vec<u8>, case: &Case) -> Result<(), AllocError>
-    ensures { OnOk result (out.new.items ≡ out.old.items ++ text_of_case case.now) }
+    ensures { OnOk result (out.new.items ≡ out.old.items ++ case_text case.now) }
 {
     let mut text = [0; CASE];
     let begin = write_case(case, &mut text, CASE);
@@ -122,7 +100,7 @@ fn push_bytes(out: &mut Vec<u8>, word: &str, bytes: &Bytes) -> Result<(), AllocE
 
 /// The word of an outcome.
 pub fn outcome_word(outcome: Outcome) -> &'static str
-    ensures { result.now ≡ word_of_outcome outcome }
+    ensures { result.now ≡ outcome_word outcome }
 {
     match outcome {
         Outcome::Committed => "commit",
@@ -172,7 +150,7 @@ fn push_head(
 ) -> Result<(), AllocError>
     requires { length word.now ≤ 8 }
     ensures { OnOk result (out.new.items
-        ≡ out.old.items ++ (way_text number envelope.now ++ (word.now ++ text_of_case case.now))) }
+        ≡ out.old.items ++ (way_text number envelope.now ++ (word.now ++ case_text case.now))) }
 {
     let mut line = [0; LINE];
     let end = write_case(case, &mut line, LINE);
@@ -301,7 +279,7 @@ fn push_envelope(out: &mut Vec<u8>, number: u64, envelope: &Envelope) -> Result<
 
 /// The word of a record's kind.
 pub fn kind_word(kind: RecordKind) -> &'static str
-    ensures word { result.now ≡ word_of_kind kind }
+    ensures word { result.now ≡ kind_word kind }
     ensures short { length result.now ≤ 12 }
 {
     match kind {

@@ -4,7 +4,7 @@ use Rattle.std.specs.List.{AllByRecursion, flat_map, fold}
 use Rattle.protocol.specs.declared.names.ProcessId.{ProcessId}
 use Rattle.protocol.specs.declared.messages.Envelope.{Envelope}
 use Rattle.protocol.specs.declared.messages.Message.{Message}
-use Rattle.protocol.specs.declared.messages.Message.TheVariants as message
+use Rattle.protocol_words.specs.message
 use Rattle.protocol.specs.declared.records.ShownRecord.{ShownRecord}
 use Rattle.protocol.specs.declared.events.JournalEntry.{JournalEntry}
 use Rattle.protocol.specs.declared.trees.TreeProcess.{TreeProcess}

@@ -2,7 +2,7 @@
 use Rattle.std.specs.Prelude.{◌≡◌, ◌≢◌, ℕ, false, true, is_some, Option, None, Some, Ok, List, [], length}
 use Rattle.protocol.specs.declared.events.Event.{Event}
 use Rattle.protocol.specs.declared.events.StepError.{StepError}
-use Rattle.protocol.specs.declared.events.StepError.TheVariants as steps
+use Rattle.protocol_words.specs.step_error
 use Rattle.protocol.specs.declared.trees.TreeProcess.{TreeProcess}
 use Rattle.protocol.specs.Trees.{IsTree}
 use Rattle.tree_state.specs.Runs.{IsOpenedTree}
@@ -25,13 +25,13 @@ use Rattle.tree_engine.specs.Trees.{IsNumberedRefusal, ending}
 
 -- an event was refused for itself: memory was not refused, no device failed, and numbers are not used up
 abbrev pub IsOwn : StepError → Type 0
-IsOwn e = (e ≢ steps.Memory) × (e ≢ steps.Device) × (e ≢ steps.Exhausted)
+IsOwn e = (e ≢ step_error.Memory) × (e ≢ step_error.Device) × (e ≢ step_error.Exhausted)
 
 -- a run cannot go on after this refusal of a step, for the same reason
 abbrev pub IsFailure : StepError → Failure → Type 0
-IsFailure steps.Memory why = why ≡ failure.Memory
-IsFailure steps.Device why = why ≡ failure.Device
-IsFailure steps.Exhausted why = why ≡ failure.Exhausted
+IsFailure step_error.Memory why = why ≡ failure.Memory
+IsFailure step_error.Device why = why ≡ failure.Device
+IsFailure step_error.Exhausted why = why ≡ failure.Exhausted
 IsFailure e why = ⊥
 
 -- N given events led from one state to another, up to the refused one, if one was

@@ -1,7 +1,7 @@
 //! The picture of a run.
 
 ghost use Rattle.std.specs.Prelude.{◌≡◌, ◌⊎◌, ◌≤◌, ◌++◌, [], IfErr, IfOk, List, OnOk, length, option_map};
-ghost use Rattle.protocol.specs.declared.events.Event.{Event as AnyEvent};
+ghost use Rattle.protocol_words.specs.Types.{AnyEvent};
 ghost use Rattle.report_io.specs.Streams.{IsOfRun};
 ghost use Rattle.picture_layout.specs.Long.{IsLong};
 ghost use Rattle.tree_state.specs.Worlds.{WorldState};

@@ -1,7 +1,7 @@
 //! The kinds of messages.
 
 ghost use Rattle.std.specs.Prelude.{◌≡◌};
-ghost use Rattle.tree_engine.specs.Counts.{count_kind, kind_of as kind_by};
+ghost use Rattle.tree_engine.specs.Counts.{count_kind, kind_of};
 
 use protocol::{Envelope, Message};
 
@@ -24,7 +24,7 @@ pub enum MessageKind {
 impl MessageKind {
     /// The kind of a message.
     pub fn of(message: &Message) -> MessageKind
-        ensures { result ≡ kind_by message.now }
+        ensures { result ≡ kind_of message.now }
     {
         match message {
             Message::Join(_) => MessageKind::Join,

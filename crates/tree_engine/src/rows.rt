@@ -1,7 +1,7 @@
 //! The counts of all processes of a tree.
 
 ghost use Rattle.std.specs.Prelude.{◌≡◌, ◌++◌, ◌∷◌, [], IfErr, IfOk, List, OnOk, map};
-ghost use Rattle.protocol.specs.declared.events.JournalEntry.{JournalEntry as AnyEntry};
+ghost use Rattle.protocol_words.specs.Types.{AnyEntry};
 ghost use Rattle.protocol.specs.declared.trees.TreeProcess.{TreeProcess as AnyTreeEntry};
 ghost use Rattle.protocol.specs.Names.{same_process};
 ghost use Rattle.tree_engine.specs.Counts.{AllFit, Fit, row_behind, rows_of, total_of};

@@ -2,7 +2,7 @@
 
 ghost use Rattle.std.specs.Prelude.{◌≡◌, ◌⊎◌, ◌+◌, ◌++◌, ◌∷◌, [], IfErr, IfOk, List, OnOk, map};
 ghost use Rattle.report_io.specs.Streams.{IsOfRun};
-ghost use Rattle.protocol.specs.declared.events.Event.{Event as AnyEvent};
+ghost use Rattle.protocol_words.specs.Types.{AnyEvent};
 ghost use Rattle.protocol.specs.Trees.{IsTree};
 ghost use Rattle.tree_state.specs.Worlds.{WorldState};
 ghost use Rattle.log_store.specs.Memory.{memory_bytes};

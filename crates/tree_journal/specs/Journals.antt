@@ -5,7 +5,7 @@ use Rattle.protocol.specs.declared.messages.Envelope.{Envelope}
 use Rattle.protocol.specs.declared.events.JournalEntry.{JournalEntry}
 use Rattle.protocol.specs.declared.events.Input.{Input}
 use Rattle.protocol.specs.declared.events.Reaction.{Reaction}
-use Rattle.protocol.specs.declared.events.Input.TheVariants.{Act as ActInput, Message as MessageInput}
+use Rattle.protocol_words.specs.Variants.{ActInput, MessageInput}
 use Rattle.tree_state.specs.Worlds.{entry_at, marks, undelivered}
 use Rattle.tree_journal.specs.Kept.{HasStepRoom, Room}
 

@@ -6,10 +6,9 @@ use Rattle.protocol.specs.declared.messages.Envelope.{Envelope}
 use Rattle.protocol.specs.declared.events.Act.{Act}
 use Rattle.protocol.specs.declared.events.JournalEntry.{JournalEntry}
 use Rattle.protocol.specs.declared.events.Happening.{Happening}
-use Rattle.protocol.specs.declared.events.Happening.TheVariants.{Input as Handles, Restart as Restarting, Trim as Trimming}
+use Rattle.protocol_words.specs.Variants.{ActInput, Handles, MessageInput, Restarting, Trimming}
 use Rattle.protocol.specs.declared.events.Reaction.{Reaction}
 use Rattle.protocol.specs.declared.events.Told.{Told}
-use Rattle.protocol.specs.declared.events.Input.TheVariants.{Act as ActInput, Message as MessageInput}
 use Rattle.protocol.specs.declared.records.ShownRecord.{ShownRecord}
 use Rattle.protocol.specs.Plays.{sent_as}
 use Rattle.tree_state.specs.Worlds.{step_entry}

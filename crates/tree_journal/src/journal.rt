@@ -2,9 +2,9 @@
 
 ghost use Rattle.std.specs.Prelude.{◌≡◌, ◌+◌, ◌<◌, ◌++◌, ◌∷◌, [], false, true, Err, Ok, IfErr, IfNone, IfOk, IfSome, OnOk, ◌⊎◌, is_some, length, option_map, slice_get};
 ghost use Rattle.std.specs.Option.{option_copied};
-ghost use Rattle.protocol.specs.declared.events.Reaction.{Reaction as AnyReaction};
+ghost use Rattle.protocol_words.specs.Types.{AnyReaction};
 ghost use Rattle.protocol.specs.Plays.{sent_as};
-ghost use Rattle.tree_state.specs.Worlds.{least_open as least_open_in, marks, step_entry, undelivered};
+ghost use Rattle.tree_state.specs.Worlds.{least_open, marks, step_entry, undelivered};
 ghost use Rattle.tree_journal.specs.Steps.{HandlesSent};
 ghost use Rattle.tree_journal.specs.Shown.{entry_part, shown_part};
 ghost use Rattle.tree_journal.specs.Journals.{EntersJournal, IsReadyJournal, SameJournal};
@@ -103,7 +103,7 @@ impl Journal {
     pub fn least_open(&mut self) -> Result<Option<u64>, AllocError>
         ensures keeps { SameJournal self.old self.new }
         ensures ready { OnOk result (IsReadyJournal self.new) }
-        ensures first { IfOk result (λ first. first ≡ least_open_in 1 self.old.delivered) }
+        ensures first { IfOk result (λ first. first ≡ least_open 1 self.old.delivered) }
     {
         self.make_room()?;
         match self.delivered.least_open() {

@@ -1,7 +1,7 @@
 //! Which messages were delivered.
 
 ghost use Rattle.std.specs.Prelude.{◌≡◌, ◌+◌, ◌<◌, ◌^◌, ◌++◌, ◌∷◌, [], Bool, true, false, OnOk, OnErr, IfSome, IfNone, None, Some, length, slice_set, take, replicate, ◌≤◌};
-ghost use Rattle.tree_state.specs.Worlds.{least_open as least_open_in};
+ghost use Rattle.tree_state.specs.Worlds.{least_open};
 
 use std::alloc::{AllocError, Global};
 use std::marker::Model;
@@ -66,8 +66,8 @@ impl DeliveredMarks {
     pub(crate) fn least_open(&mut self) -> Option<usize>
         ensures marks { self.new ≡ self.old }
         ensures found { IfSome result (λ place. (place + 1 < 2 ^ 64)
-            × (least_open_in 1 self.old ≡ Some (place + 1))) }
-        ensures none { IfNone result (least_open_in 1 self.old ≡ None) }
+            × (least_open 1 self.old ≡ Some (place + 1))) }
+        ensures none { IfNone result (least_open 1 self.old ≡ None) }
     {
         match first_open(&self.marks, self.settled) {
             Some(place) => {
@@ -87,9 +87,9 @@ fn first_open(marks: &[bool], start: usize) -> Option<usize>
     requires range { start ≤ length marks.now }
     requires front { take start marks.now ≡ replicate start true }
     ensures found { IfSome result (λ p. (p < length marks.now) × (take p marks.now ≡ replicate p true)
-        × (least_open_in 1 marks.now ≡ Some (p + 1))) }
+        × (least_open 1 marks.now ≡ Some (p + 1))) }
     ensures none { IfNone result ((take (length marks.now) marks.now ≡ replicate (length marks.now) true)
-        × (least_open_in 1 marks.now ≡ None)) }
+        × (least_open 1 marks.now ≡ None)) }
 {
     for place in start..marks.len() {
         if !marks[place] {

@@ -2,7 +2,7 @@
 
 ghost use Rattle.std.specs.Prelude.{◌≡◌, ◌++◌, ◌<◌, length};
 ghost use Rattle.std.specs.Vec.{vec_capacity, vec_len};
-ghost use Rattle.tree_journal.specs.Steps.{act_by, aside_by, asides_by, cause_by, is_bare as is_bare_of, process_of};
+ghost use Rattle.tree_journal.specs.Steps.{act_by, aside_by, asides_by, cause_by, is_bare, process_of};
 
 use protocol::{Act, Envelopes, Happening, Input, ProcessId, Sequence, ShownRecord, Told, Txn};
 
@@ -102,7 +102,7 @@ pub(crate) fn keep_act(acts: &mut Vec<Act>, process: ProcessId, happening: Happe
 
 /// Whether a reaction has nothing of what few have.
 fn is_bare(aside: &Aside) -> bool
-    ensures { result ≡ is_bare_of aside.now.begun aside.now.told aside.now.kept }
+    ensures { result ≡ is_bare aside.now.begun aside.now.told aside.now.kept }
 {
     aside.begun.is_none() && aside.told.is_none() && aside.kept.is_none()
 }

@@ -3,7 +3,7 @@ use Rattle.std.proofs.Common.{◌≡◌, ◌∙◌, true, inl, inr, ℕ, Some, N
 use Rattle.protocol.specs.declared.names.Kind.TheVariants.{Manager}
 use Rattle.protocol.specs.declared.names.ProcessId.{ProcessId}
 use Rattle.protocol.specs.declared.events.StepError.{StepError}
-use Rattle.protocol.specs.declared.events.StepError.TheVariants as steps
+use Rattle.protocol_words.specs.step_error
 use Rattle.protocol.specs.declared.records.LogRecord.{LogRecord}
 use Rattle.protocol.specs.Store.{stored}
 use Rattle.protocol.specs.Records.{same_bytes}
@@ -70,8 +70,8 @@ pub coordinator_refused : {S : Type 0} (bytes : S → List ℕ) (failures : S �
     → opened.sight.failures ≡ failures old → left.sight.failures ≡ failures new
     → CoordinatorNotOpened opened left e
     → ProcessNotOpened bytes failures p (Some old) (error_of_step p e)
-coordinator_refused bytes failures p old new opened left steps.Memory empty at to h = tt
-coordinator_refused bytes failures p old new opened left steps.Device empty at to h =
+coordinator_refused bytes failures p old new opened left step_error.Memory empty at to h = tt
+coordinator_refused bytes failures p old new opened left step_error.Device empty at to h =
     (refl, record { empty = empty; left = new; more = omega (arith, at, to, h.cause) })
 coordinator_refused bytes failures p old new opened left e empty at to h = absurd h
 
@@ -81,9 +81,9 @@ pub coordinator_handed_back : {S : Type 0} (failures : S → ℕ) (p : ProcessId
     → opened.sight.failures ≡ failures old → left.sight.failures ≡ failures new
     → CoordinatorNotOpened opened left e
     → HandsStoreBack failures old new (error_of_step p e)
-coordinator_handed_back failures p old new opened left steps.Memory at to h =
+coordinator_handed_back failures p old new opened left step_error.Memory at to h =
     sym to ∙ ap (λ (s : LogSight). s.failures) h ∙ at
-coordinator_handed_back failures p old new opened left steps.Device at to h = omega (arith, at, to, h.cause)
+coordinator_handed_back failures p old new opened left step_error.Device at to h = omega (arith, at, to, h.cause)
 coordinator_handed_back failures p old new opened left e at to h = absurd h
 
 -- Managers.

@@ -14,24 +14,24 @@ use Rattle.process_state.specs.Makes.{IsBroken, NotMade}
 use Rattle.tree_state.specs.Steps.{KeepsSoundLog}
 use Rattle.tree_state.specs.Worlds.{AnswersData}
 use Rattle.tree_state.specs.Faults.{WritesBelow}
-use Rattle.coord_process.specs.States as coordinators
+use Rattle.coord_process.specs.States
 use Rattle.kv_manager.specs.Resources.{sight_of}
 use Rattle.kv_manager.specs.Sights.{are_ordered}
 use Rattle.resource_manager.specs.Data.{ManagerData, DataRests, no_data}
 use Rattle.resource_manager.specs.Sights.{manager_data}
-use Rattle.sub_process.specs.Steps as managers
+use Rattle.sub_process.specs.Steps
 use Rattle.tree_process.specs.declared.node.Process.{Process}
 use Rattle.tree_process.specs.declared.node.Process.TheVariants.{Coordinator, Manager}
 
 -- what a process keeps
 abbrev pub core_of : {L : Type 0} → Process L → CoreState
-core_of (Coordinator c) = coordinators.state c
-core_of (Manager m) = managers.state sight_of m
+core_of (Coordinator c) = States.state c
+core_of (Manager m) = Steps.state sight_of m
 
 -- where a case is at a process
 abbrev pub standing_at : {L : Type 0} → Process L → Case → Standing
-standing_at (Coordinator p) c = ((coordinators.state p).view_of c).standing
-standing_at (Manager p) c = ((managers.state sight_of p).branch_of c).standing
+standing_at (Coordinator p) c = ((States.state p).view_of c).standing
+standing_at (Manager p) c = ((Steps.state sight_of p).branch_of c).standing
 
 -- how many cases are live at a process
 abbrev pub live_at : {L : Type 0} → Process L → ℕ

@@ -2,7 +2,7 @@
 use Rattle.std.specs.Prelude.{◌≡◌, ◌≢◌, ⊤, ℕ, Option, Some, None, IsSomeAnd, List, []}
 use Rattle.protocol.specs.declared.names.ProcessId.{ProcessId}
 use Rattle.protocol.specs.declared.events.StepError.{StepError}
-use Rattle.protocol.specs.declared.events.StepError.TheVariants as steps
+use Rattle.protocol_words.specs.step_error
 use Rattle.protocol.specs.declared.trees.TreeProcess.{TreeProcess}
 use Rattle.protocol.specs.Nodes.{Place, role_by}
 use Rattle.log_store.specs.Stores.{MoreFailures}
@@ -68,7 +68,7 @@ error_of_log p logs.OldFormat = Store p
 
 -- likewise, where its first record was not written
 abbrev pub error_of_step : ProcessId → StepError → ProcessOpenError
-error_of_step p steps.Memory = Memory
+error_of_step p step_error.Memory = Memory
 error_of_step p e = Device p
 
 -- likewise, where its key store was not made

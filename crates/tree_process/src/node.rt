@@ -5,7 +5,7 @@ ghost use Rattle.case_table.specs.Known.{KnowsCases};
 ghost use Rattle.log_records.specs.Sights.{records_of};
 ghost use Rattle.process_state.specs.Inputs.{input_of};
 ghost use Rattle.process_state.specs.States.{HasNumbers};
-ghost use Rattle.coord_process.specs.States.{state as coordinator_state};
+ghost use Rattle.coord_process.specs.States.{state};
 ghost use Rattle.kv_manager.specs.Resources.{sight_of};
 ghost use Rattle.sub_process.specs.Steps.{state as manager_state};
 ghost use Rattle.tree_state.specs.Worlds.{HandlesInput};
@@ -175,7 +175,7 @@ impl Process<MemoryStore> {
 
 /// The store under a coordinator's log.
 fn coordinator_store<L: LogStore + Drop>(coordinator: Coordinator<L>) -> L
-    ensures { HoldsLog L.bytes L.forced L.failures (coordinator_state coordinator) result }
+    ensures { HoldsLog L.bytes L.forced L.failures (state coordinator) result }
 {
     coordinator.into_store()
 }
@@ -189,7 +189,7 @@ fn manager_store<L: LogStore + Drop>(manager: Subordinate<KvManager<L>>) -> L
 
 /// The store under a coordinator's log, to be read.
 fn store_of_coordinator<L: LogStore>(coordinator: &Coordinator<L>) -> &L
-    ensures { HoldsLog L.bytes L.forced L.failures (coordinator_state coordinator.now) result.now }
+    ensures { HoldsLog L.bytes L.forced L.failures (state coordinator.now) result.now }
 {
     coordinator.store()
 }
@@ -203,14 +203,14 @@ fn store_of_manager<L: LogStore>(manager: &Subordinate<KvManager<L>>) -> &L
 
 /// The bytes of a coordinator's log.
 fn coordinator_text<L: LogStore>(coordinator: &Coordinator<L>) -> Result<Vec<u8>, AllocError>
-    ensures { IfOk result (λ text. SpellsLog (coordinator_state coordinator.now) text.items) }
+    ensures { IfOk result (λ text. SpellsLog (state coordinator.now) text.items) }
 {
     coordinator.log_text()
 }
 
 /// For the proof: a coordinator has no data that answer.
 fn answer_nothing<L: LogStore>(coordinator: &Coordinator<L>, input: InputRef<'_>)
-    ensures { HasAnswer (coordinator_state coordinator.now) no_data (input_of input.entry) }
+    ensures { HasAnswer (state coordinator.now) no_data (input_of input.entry) }
 {
     let _coordinator = coordinator;
     let _input = input;
@@ -230,13 +230,13 @@ fn step_coordinator<L: LogStore>(
     coordinator: &mut Coordinator<L>,
     input: InputRef<'_>,
 ) -> Result<Reaction, StepError>
-    requires { HasNumbers (coordinator_state coordinator.old) }
-    ensures ok { IfOk result (HandlesInput (coordinator_state coordinator.old)
-        (coordinator_state coordinator.new) no_data no_data (input_of input.entry)) }
-    ensures err { IfErr result (NotHandled (coordinator_state coordinator.old)
-        (coordinator_state coordinator.new) no_data no_data (input_of input.entry)) }
-    ensures under { IfErr result (λ e. e ≡ Device → FailsUnder (coordinator_state coordinator.old)
-        (coordinator_state coordinator.new) no_data (input_of input.entry)) }
+    requires { HasNumbers (state coordinator.old) }
+    ensures ok { IfOk result (HandlesInput (state coordinator.old)
+        (state coordinator.new) no_data no_data (input_of input.entry)) }
+    ensures err { IfErr result (NotHandled (state coordinator.old)
+        (state coordinator.new) no_data no_data (input_of input.entry)) }
+    ensures under { IfErr result (λ e. e ≡ Device → FailsUnder (state coordinator.old)
+        (state coordinator.new) no_data (input_of input.entry)) }
 {
     coordinator.step(input)
 }

@@ -3,7 +3,7 @@
 ghost use Rattle.log_text.specs.Forms.{log_form};
 ghost use Rattle.std.specs.Prelude.{◌≡◌, [], false, IfErr, IfOk, Some};
 ghost use Rattle.log_records.specs.Sights.{records_of};
-ghost use Rattle.protocol.specs.declared.names.Kind.TheVariants as kind;
+ghost use Rattle.protocol_words.specs.kind;
 ghost use Rattle.protocol.specs.Nodes.{Role, role_by};
 ghost use Rattle.resource_manager.specs.Data.{DataRests, no_data};
 ghost use Rattle.tree_process.specs.Nodes.{core_of, data_of};

@@ -2,7 +2,7 @@
 
 ghost use Rattle.log_text.specs.Forms.{log_form};
 ghost use Rattle.std.specs.Prelude.{◌≡◌, IfErr, IfOk};
-ghost use Rattle.protocol.specs.declared.names.Kind.TheVariants as kind;
+ghost use Rattle.protocol_words.specs.kind;
 ghost use Rattle.protocol.specs.Nodes.{Role, role_by};
 ghost use Rattle.protocol.specs.Views.{leaf_place};
 ghost use Rattle.log_records.specs.Openings.{OpensLog};

@@ -5,7 +5,7 @@ ghost use Rattle.log_records.specs.Sights.{left_by, records_of};
 ghost use Rattle.process_state.specs.Restarting.{ProcessNotRestarted, ProcessNotTrimmed, ProcessRestarts, ProcessTrims};
 ghost use Rattle.tree_state.specs.Steps.{KeepsSoundLog, records_kept};
 ghost use Rattle.tree_state.specs.Worlds.{KeepsBytes, RestartsData, TrimsData};
-ghost use Rattle.coord_process.specs.States.{state as coordinator_state};
+ghost use Rattle.coord_process.specs.States.{state};
 ghost use Rattle.kv_manager.specs.Resources.{sight_of};
 ghost use Rattle.resource_manager.specs.Data.{no_data};
 ghost use Rattle.resource_manager.specs.Sights.{manager_data};
@@ -147,12 +147,12 @@ fn restart_coordinator<L: LogStore>(
     coordinator: &mut Coordinator<L>,
     keep: usize,
 ) -> Result<Reaction, StepError>
-    ensures ok { IfOk result (ProcessRestarts (coordinator_state coordinator.old) keep
-        (coordinator_state coordinator.new)) }
-    ensures holdings { OnOk result (RestartsData (coordinator_state coordinator.old).place.role
-        (left_by (coordinator_state coordinator.old).log keep) no_data) }
-    ensures err { IfErr result (ProcessNotRestarted (coordinator_state coordinator.old) keep
-        (coordinator_state coordinator.new)) }
+    ensures ok { IfOk result (ProcessRestarts (state coordinator.old) keep
+        (state coordinator.new)) }
+    ensures holdings { OnOk result (RestartsData (state coordinator.old).place.role
+        (left_by (state coordinator.old).log keep) no_data) }
+    ensures err { IfErr result (ProcessNotRestarted (state coordinator.old) keep
+        (state coordinator.new)) }
     ensures kept { IfErr result (KeepsDataUnlessFailed no_data no_data) }
 {
     coordinator.restart(keep)
@@ -178,10 +178,10 @@ fn restart_manager<L: LogStore>(
 
 /// The log of a coordinator is trimmed.
 fn trim_coordinator<L: LogStore>(coordinator: &mut Coordinator<L>) -> Result<u64, StepError>
-    ensures ok { IfOk result (ProcessTrims (coordinator_state coordinator.old) (coordinator_state coordinator.new)) }
-    ensures holdings { OnOk result (TrimsData (coordinator_state coordinator.old).place.role no_data no_data) }
-    ensures err { IfErr result (ProcessNotTrimmed (coordinator_state coordinator.old)
-        (coordinator_state coordinator.new)) }
+    ensures ok { IfOk result (ProcessTrims (state coordinator.old) (state coordinator.new)) }
+    ensures holdings { OnOk result (TrimsData (state coordinator.old).place.role no_data no_data) }
+    ensures err { IfErr result (ProcessNotTrimmed (state coordinator.old)
+        (state coordinator.new)) }
     ensures kept { IfErr result (KeepsDataUnlessFailed no_data no_data) }
 {
     coordinator.trim()

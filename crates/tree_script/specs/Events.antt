@@ -6,7 +6,8 @@ use Rattle.protocol.specs.declared.names.ProcessId.{ProcessId}
 use Rattle.protocol.specs.declared.names.Presumption.TheVariants.{PresumeAbort, PresumeCommit}
 use Rattle.protocol.specs.declared.events.Act.TheVariants.{Begin, Join, Work, Commit, Abort, Ask, Decide, Forget}
 use Rattle.protocol.specs.declared.events.Event.{Event}
-use Rattle.protocol.specs.declared.events.Event.TheVariants.{Act as ActOf, Deliver, Settle, Restart, Trim}
+use Rattle.protocol.specs.declared.events.Event.TheVariants.{Deliver, Settle, Restart, Trim}
+use Rattle.protocol_words.specs.Variants.{ActOf}
 use Rattle.protocol.specs.declared.names.Case.{Case}
 use Rattle.script_words.specs.declared.operation.Task.{Task}
 use Rattle.script_words.specs.Steps.{◌>>=◌, same}

@@ -14,7 +14,8 @@ use Rattle.protocol.specs.declared.messages.Op.TheVariants.{Put, Get, Delete}
 use Rattle.protocol.specs.declared.events.Act.{Act}
 use Rattle.protocol.specs.declared.events.Act.TheVariants.{Begin, Join, Work, Commit, Abort, Ask, Decide, Forget}
 use Rattle.protocol.specs.declared.events.Event.{Event}
-use Rattle.protocol.specs.declared.events.Event.TheVariants.{Act as ActOf, Deliver, Settle, Restart, Trim}
+use Rattle.protocol.specs.declared.events.Event.TheVariants.{Deliver, Settle, Restart, Trim}
+use Rattle.protocol_words.specs.Variants.{ActOf}
 use Rattle.protocol.specs.Texts.{txn_text, case_text, op_text}
 use Rattle.script_words.specs.Operations.{is_visible_word}
 

@@ -4,7 +4,7 @@ ghost use Rattle.std.specs.Prelude.{◌≡◌, ◌≢◌, ℕ, List, IfOk, IfErr
 ghost use Rattle.toml.specs.Data.{Data, string, member, no_members};
 ghost use Rattle.toml.specs.View.{view, items_view, table_view};
 ghost use Rattle.std.specs.BTreeMap.{keys};
-ghost use Rattle.protocol.specs.declared.names.ProcessId.{ProcessId as AnyProcess};
+ghost use Rattle.protocol_words.specs.Types.{AnyProcess};
 ghost use Rattle.protocol.specs.declared.trees.TreeProcess.{TreeProcess as AnyEntry};
 ghost use Rattle.std.specs.Char.{IsAsciiAlphabetic};
 ghost use Rattle.tree_script.specs.Documents.{

@@ -2,7 +2,7 @@
 
 ghost use Rattle.std.specs.Prelude.{◌≡◌, ◌+◌, ◌<◌, ◌≤◌, ◌^◌, IfOk, IfErr, MatchOption, List, ℕ, Some, None, Ok, length, map, slice_get};
 ghost use Rattle.std.specs.Str.Lines.{lines as lines_in, lines_of_parts};
-ghost use Rattle.tree_script.specs.Rules.{pieces, is_rule as is_rule_at, around_rule};
+ghost use Rattle.tree_script.specs.Rules.{pieces, is_rule, around_rule};
 ghost use Rattle.trace_lines.specs.Trace.{lines_text};
 ghost use Rattle.tree_script.specs.Inputs.{Asks, IsLineError, asked_by};
 
@@ -16,7 +16,7 @@ use std::marker::Model;
 
 /// Whether a line that ends in a line feed is just three dashes.
 fn is_rule(line: &str) -> bool
-    ensures { result ≡ is_rule_at line.now }
+    ensures { result ≡ is_rule line.now }
 {
     line == "---" || line == "---\r"
 }

@@ -7,7 +7,7 @@ use Rattle.protocol.specs.declared.names.Outcome.{Outcome}
 use Rattle.protocol.specs.declared.names.Presumption.{Presumption}
 use Rattle.protocol.specs.declared.names.Ticket.{Ticket}
 use Rattle.protocol.specs.declared.names.Txn.{Txn}
-use Rattle.protocol.specs.declared.records.BranchName.TheVariants.{Case as CaseBranch}
+use Rattle.protocol_words.specs.Variants.{CaseBranch}
 use Rattle.protocol.specs.declared.standings.Standing.TheVariants.{Prepared, Unknown}
 use Rattle.protocol.specs.Names.{root_case}
 use Rattle.protocol.specs.LogNames.{is_own_record}

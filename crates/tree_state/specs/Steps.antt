@@ -5,14 +5,15 @@ use Rattle.std.specs.List.{AllByRecursion}
 use Rattle.protocol.specs.declared.names.ProcessId.{ProcessId}
 use Rattle.protocol.specs.declared.events.Fault.{Fault}
 use Rattle.protocol.specs.declared.events.Happening.{Happening}
-use Rattle.protocol.specs.declared.events.Happening.TheVariants.{Input as Handles, Restart, Trim}
+use Rattle.protocol.specs.declared.events.Happening.TheVariants.{Restart, Trim}
+use Rattle.protocol_words.specs.Variants.{Handles}
 use Rattle.protocol.specs.declared.events.Input.{Input}
 use Rattle.protocol.specs.declared.events.Reaction.{Reaction}
 use Rattle.protocol.specs.declared.events.StepError.{StepError}
 use Rattle.protocol.specs.declared.events.StepError.TheVariants.{Device, Failed}
 use Rattle.protocol.specs.Nodes.{DataAnswer, Effect, Node, reaction_of}
 use Rattle.protocol.specs.Reactions.{is_passed_over}
-use Rattle.protocol.specs.World.{Makes as Leaves, Move, Refuses, node_makes}
+use Rattle.protocol.specs.World.{Makes, Move, Refuses, node_makes}
 use Rattle.log_rules.specs.sound.Sound.{IsSound}
 use Rattle.log_records.specs.Sights.{records_of, whole_within}
 use Rattle.process_state.specs.States.{CoreState, kind_of_role}
@@ -35,7 +36,7 @@ input_move q i fault a =
 pub record StepsAs (n : Node) (old new : CoreState) (m : Move) (reaction : Reaction) : Type 0 where
   pub effect : Effect
   pub left : Node
-  pub makes : node_makes old.place n m ≡ Leaves effect left
+  pub makes : node_makes old.place n m ≡ Makes effect left
   pub shown : reaction ≡ reaction_of effect
   pub stands : StandsFor left new
 
@@ -58,7 +59,7 @@ pub record FaultsAs (n : Node) (old new : CoreState) (q : ProcessId) (i : Input)
   pub fault : Fault
   pub effect : Effect
   pub left : Node
-  pub makes : node_makes old.place n (input_move q i (Some fault) a) ≡ Leaves effect left
+  pub makes : node_makes old.place n (input_move q i (Some fault) a) ≡ Makes effect left
   pub stands : StandsFor left new
 
 -- A device's failure in an input is a move of the model's process with a fault in it. Of an input that is
@@ -103,7 +104,7 @@ pub record BreaksAs (n : Node) (old new : CoreState) (happening : Happening) : T
   pub fault : Fault
   pub effect : Effect
   pub left : Node
-  pub makes : node_makes old.place n (quiet_move old.place.me happening (Some fault)) ≡ Leaves effect left
+  pub makes : node_makes old.place n (quiet_move old.place.me happening (Some fault)) ≡ Makes effect left
   pub stands : StandsFor left new
 
 -- a restart of a process that keeps records of its own alone is a move of the model's process

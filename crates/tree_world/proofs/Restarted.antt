@@ -2,7 +2,8 @@
 use Rattle.std.proofs.Common.{◌≡◌, ◌∙◌, sym, ap, subst, refl, ℕ, false, Option, Some, List, [], ◌∷◌, ◌++◌, Result, Ok, Err, IfOk, IfErr}
 use Rattle.protocol.specs.declared.names.ProcessId.{ProcessId}
 use Rattle.protocol.specs.declared.events.Happening.{Happening}
-use Rattle.protocol.specs.declared.events.Happening.TheVariants.{Restart, Trim as Trimming}
+use Rattle.protocol.specs.declared.events.Happening.TheVariants.{Restart}
+use Rattle.protocol_words.specs.Variants.{Trimming}
 use Rattle.protocol.specs.declared.events.Reaction.{Reaction}
 use Rattle.protocol.specs.declared.events.StepError.{StepError}
 use Rattle.protocol.specs.declared.events.StepError.TheVariants.{Memory, Device, UnknownTxn, NotAChild, Closed, Failed, NotInDoubt, NothingToForget, NoSuch, Exhausted}
@@ -10,7 +11,7 @@ use Rattle.protocol.specs.declared.trees.TreeProcess.{TreeProcess}
 use Rattle.protocol.specs.Names.{same_process}
 use Rattle.process_state.specs.States.{CoreState}
 use Rattle.tree_state.specs.Steps.{trim_reaction}
-use Rattle.tree_state.specs.Worlds as worlds
+use Rattle.tree_state.specs.Worlds
 use Rattle.tree_state.specs.Worlds.{CannotReopenAt, HasFailed, SameTree, WorldState, step_entry, undelivered}
 use Rattle.tree_process.specs.declared.node.Process.{Process}
 use Rattle.tree_process.specs.Nodes.{core_of, data_of}
@@ -133,7 +134,7 @@ pub record Entered (old new : WorldState) (q : ProcessId) (happening : Happening
 
 pub restarts_tree : (old new : WorldState) (q : ProcessId) (bytes : Option ℕ) (made : ℕ × Reaction)
     → RestartsAt (sight_in old) (sight_in new) q bytes made → Entered old new q (Restart made.0) made.1
-    → worlds.RestartsAt old new q bytes
+    → Worlds.RestartsAt old new q bytes
 restarts_tree old new q bytes made h entered = record {
   before = h.before;
   behind = h.behind;
@@ -159,7 +160,7 @@ restarts_tree old new q bytes made h entered = record {
 
 pub trims_tree : (old new : WorldState) (q : ProcessId) (remain : ℕ)
     → TrimsAt (sight_in old) (sight_in new) q remain
-    → Entered old new q Trimming (trim_reaction remain) → worlds.TrimsAt old new q
+    → Entered old new q Trimming (trim_reaction remain) → Worlds.TrimsAt old new q
 trims_tree old new q remain h entered = record {
   before = h.before;
   behind = h.behind;
@@ -200,7 +201,7 @@ same_tree old new nodes stays =
 
 pub no_restart_of_tree : (old new : WorldState) (q : ProcessId) (bytes : Option ℕ) (e : StepError)
     → NoRestartAt (sight_in old) (sight_in new) q bytes e → Unentered old new
-    → worlds.NotRestartedAt old new q bytes e
+    → Worlds.NotRestartedAt old new q bytes e
 no_restart_of_tree old new q bytes Memory h stays = same_tree old new h stays
 no_restart_of_tree old new q bytes Device h stays = record {
   before = h.before;
@@ -229,7 +230,7 @@ no_restart_of_tree old new q bytes NoSuch h stays = (same_tree old new h.0 stays
 no_restart_of_tree old new q bytes Exhausted h stays = (same_tree old new h.0 stays, h.1)
 
 pub no_trim_of_tree : (old new : WorldState) (q : ProcessId) (e : StepError)
-    → NoTrimAt (sight_in old) (sight_in new) q e → Unentered old new → worlds.NotTrimmedAt old new q e
+    → NoTrimAt (sight_in old) (sight_in new) q e → Unentered old new → Worlds.NotTrimmedAt old new q e
 no_trim_of_tree old new q Memory h stays = same_tree old new h stays
 no_trim_of_tree old new q Device h stays = record {
   before = h.before;
@@ -287,7 +288,7 @@ pub world_restarts : (tree : List TreeProcess) (ns ms : NodesSight)
     (bytes : Option ℕ) (made : ℕ × Reaction) → RestartsAt ns ms q bytes made → SameJournal j k
     → l.net ≡ k.net ++ made.1.messages → l.delivered ≡ k.delivered ++ undelivered made.1.messages
     → l.entries ≡ k.entries ++ step_entry q (Restart made.0) made.1 ∷ []
-    → worlds.RestartsAt (world tree ns j) (world tree ms l) q bytes
+    → Worlds.RestartsAt (world tree ns j) (world tree ms l) q bytes
 world_restarts tree ns ms j k l q bytes made h keeps net delivered entries =
     restarts_tree (world tree ns j) (world tree ms l) q bytes made h
     (entered tree ns ms j k l q (Restart made.0) made.1 keeps net delivered entries)
@@ -297,7 +298,7 @@ pub world_trims : (tree : List TreeProcess) (ns ms : NodesSight) (j k l : Journa
     (reaction : Reaction) → TrimsAt ns ms q remain → reaction ≡ trim_reaction remain → SameJournal j k
     → l.net ≡ k.net ++ reaction.messages → l.delivered ≡ k.delivered ++ undelivered reaction.messages
     → l.entries ≡ k.entries ++ step_entry q Trimming reaction ∷ []
-    → worlds.TrimsAt (world tree ns j) (world tree ms l) q
+    → Worlds.TrimsAt (world tree ns j) (world tree ms l) q
 world_trims tree ns ms j k l q remain reaction h is keeps net delivered entries =
     trims_tree (world tree ns j) (world tree ms l) q remain h
     (subst (Entered (world tree ns j) (world tree ms l) q Trimming) is
@@ -306,13 +307,13 @@ world_trims tree ns ms j k l q remain reaction h is keeps net delivered entries 
 pub world_not_restarted : (tree : List TreeProcess) (ns ms : NodesSight)
     (j k : JournalState) (q : ProcessId)
     (bytes : Option ℕ) (e : StepError) → NoRestartAt ns ms q bytes e → SameJournal j k
-    → worlds.NotRestartedAt (world tree ns j) (world tree ms k) q bytes e
+    → Worlds.NotRestartedAt (world tree ns j) (world tree ms k) q bytes e
 world_not_restarted tree ns ms j k q bytes e h keeps =
     no_restart_of_tree (world tree ns j) (world tree ms k) q bytes e h (unentered tree ns ms j k keeps)
 
 pub world_not_trimmed : (tree : List TreeProcess) (ns ms : NodesSight)
     (j k : JournalState) (q : ProcessId)
     (e : StepError) → NoTrimAt ns ms q e → SameJournal j k
-    → worlds.NotTrimmedAt (world tree ns j) (world tree ms k) q e
+    → Worlds.NotTrimmedAt (world tree ns j) (world tree ms k) q e
 world_not_trimmed tree ns ms j k q e h keeps =
     no_trim_of_tree (world tree ns j) (world tree ms k) q e h (unentered tree ns ms j k keeps)

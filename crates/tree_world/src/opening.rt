@@ -5,7 +5,7 @@ ghost use Rattle.std.specs.Vec.{vec_capacity, vec_len};
 ghost use Rattle.indexmap.specs.IndexMap.{spare};
 ghost use Rattle.std.specs.Map.{lookup};
 ghost use Rattle.protocol.specs.contracts.names.ProcessIdPartialEq.TheImpl as processes;
-ghost use Rattle.protocol.specs.declared.names.ProcessId.{ProcessId as AnyProcess};
+ghost use Rattle.protocol_words.specs.Types.{AnyProcess};
 ghost use Rattle.protocol.specs.Names.{same_process};
 ghost use Rattle.protocol.specs.Trees.{IsTree};
 ghost use Rattle.tree_state.specs.Runs.{IsOpenedTree};

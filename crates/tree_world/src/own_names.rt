@@ -2,25 +2,11 @@
 
 ghost use Rattle.std.specs.Prelude.{◌≡◌, IfNone, IfOk, IfSome, drop, false, true};
 ghost use Rattle.std.specs.List.{list_all};
-ghost use Rattle.coord_records.specs.Numbered.{is_reached as is_reached_in};
+ghost use Rattle.coord_records.specs.Numbered.{is_reached};
 ghost use Rattle.log_rules.specs.order.Logs.{read_log};
 ghost use Rattle.log_script.specs.Places.{placed_in};
 ghost use Rattle.protocol.specs.Records.{boot_after, record_case};
-ghost use Rattle.tree_world.specs.OwnNames.{
-  climbs_to as climbs_in,
-  damage_in as damage_read,
-  fault_of,
-  first_stranger,
-  has_own_names as are_own_names,
-  is_at_home as stands_at_home,
-  is_reached_by as is_reached_in_log,
-  sound_to,
-  is_of_child as is_childs,
-  is_of_one_below as is_of_one_under,
-  is_own_case,
-  lies_below as lies_under,
-  reports_those_below as reports_all_below,
-};
+ghost use Rattle.tree_world.specs.OwnNames.{climbs_to, damage_in, fault_of, first_stranger, has_own_names, is_at_home, is_reached_by, sound_to, is_of_child, is_of_one_below, is_own_case, lies_below, reports_those_below};
 
 use coord_records::is_own;
 use log_records::{LogOpenError, find};
@@ -34,7 +20,7 @@ const TOP: u64 = 1 << 62;
 /// Whether a climb to the parents from a process, of N steps at most, meets the first one.
 #[tactic(auto, unfolding(protocol::specs::Names::same_process))]
 fn climbs_to(tree: &Tree, top: ProcessId, process: ProcessId, steps: usize) -> bool
-    ensures { result ≡ climbs_in steps tree.now top process }
+    ensures { result ≡ climbs_to steps tree.now top process }
 {
     if steps == 0 {
         return false;
@@ -52,7 +38,7 @@ fn climbs_to(tree: &Tree, top: ProcessId, process: ProcessId, steps: usize) -> b
 
 /// Whether a process lies below the first one.
 fn lies_below(tree: &Tree, top: ProcessId, process: ProcessId) -> bool
-    ensures { result ≡ lies_under tree.now top process }
+    ensures { result ≡ lies_below tree.now top process }
 {
     climbs_to(tree, top, process, tree.entries().len())
 }
@@ -60,7 +46,7 @@ fn lies_below(tree: &Tree, top: ProcessId, process: ProcessId) -> bool
 /// Whether a ticket is of a child of this process.
 #[tactic(auto, unfolding(protocol::specs::Names::same_process))]
 fn is_of_child(tree: &Tree, me: ProcessId, ticket: &Ticket) -> bool
-    ensures { result ≡ is_childs tree.now me ticket.now }
+    ensures { result ≡ is_of_child tree.now me ticket.now }
 {
     match tree.parent(ticket.child) {
         None => false,
@@ -70,21 +56,21 @@ fn is_of_child(tree: &Tree, me: ProcessId, ticket: &Ticket) -> bool
 
 /// Whether a ticket is of a process below this one.
 fn is_of_one_below(tree: &Tree, me: ProcessId, ticket: &Ticket) -> bool
-    ensures { result ≡ is_of_one_under tree.now me ticket.now }
+    ensures { result ≡ is_of_one_below tree.now me ticket.now }
 {
     lies_below(tree, me, ticket.child)
 }
 
 /// Whether each ticket is of a child of this process.
 fn are_of_children(tree: &Tree, me: ProcessId, tickets: &[Ticket]) -> bool
-    ensures { result ≡ list_all (is_childs tree.now me) tickets.now }
+    ensures { result ≡ list_all (is_of_child tree.now me) tickets.now }
 {
     tickets.iter().all(|ticket| is_of_child(tree, me, ticket))
 }
 
 /// Whether each ticket is of a process below this one.
 fn are_of_those_below(tree: &Tree, me: ProcessId, tickets: &[Ticket]) -> bool
-    ensures { result ≡ list_all (is_of_one_under tree.now me) tickets.now }
+    ensures { result ≡ list_all (is_of_one_below tree.now me) tickets.now }
 {
     tickets
         .iter()
@@ -93,7 +79,7 @@ fn are_of_those_below(tree: &Tree, me: ProcessId, tickets: &[Ticket]) -> bool
 
 /// Whether all that is reported lies below this process.
 fn reports_those_below(tree: &Tree, me: ProcessId, reports: &Reports) -> bool
-    ensures { result ≡ reports_all_below tree.now me reports.now }
+    ensures { result ≡ reports_those_below tree.now me reports.now }
 {
     are_of_those_below(tree, me, reports.mixed.as_slice())
         && are_of_those_below(tree, me, reports.unreported.as_slice())
@@ -111,7 +97,7 @@ fn has_own_case(tree: &Tree, entry: &TreeProcess, record: &LogRecord) -> bool
 
 /// Whether the numbers and tickets of a record may be in the log of this process.
 fn has_own_names(tree: &Tree, me: ProcessId, record: &Record) -> bool
-    ensures { result ≡ are_own_names tree.now me record.now }
+    ensures { result ≡ has_own_names tree.now me record.now }
 {
     match record {
         Record::Opened(number) | Record::Base(number) => *number < TOP,
@@ -136,7 +122,7 @@ fn boot_after(boot: u64, record: &Record) -> u64
 
 /// Whether a case, if there is one, was numbered in this boot or an earlier one.
 fn is_reached(boot: u64, case: Option<Case>) -> bool
-    ensures { result ≡ is_reached_in boot case }
+    ensures { result ≡ is_reached boot case }
 {
     match case {
         None => true,
@@ -149,7 +135,7 @@ fn is_reached(boot: u64, case: Option<Case>) -> bool
 
 /// Whether a manager's record is of a case that was numbered in this boot or an earlier one; a coordinator's may be of any.
 fn is_reached_by(kind: Kind, boot: u64, record: &Record) -> bool
-    ensures { result ≡ is_reached_in_log kind boot record.now }
+    ensures { result ≡ is_reached_by kind boot record.now }
 {
     match kind {
         Kind::Coordinator => true,
@@ -159,7 +145,7 @@ fn is_reached_by(kind: Kind, boot: u64, record: &Record) -> bool
 
 /// Whether a record may be in the log of this process, if the log has reached this boot.
 fn is_at_home(tree: &Tree, entry: &TreeProcess, boot: u64, record: &LogRecord) -> bool
-    ensures { result ≡ stands_at_home tree.now entry.now boot record.now }
+    ensures { result ≡ is_at_home tree.now entry.now boot record.now }
 {
     has_own_case(tree, entry, record)
         && has_own_names(tree, entry.id, &record.entry)
@@ -168,9 +154,9 @@ fn is_at_home(tree: &Tree, entry: &TreeProcess, boot: u64, record: &LogRecord) -
 
 /// The boot that a log has reached after what was read, if that record may be there.
 fn passed(tree: &Tree, entry: &TreeProcess, boot: u64, read: LogRecord) -> Option<u64>
-    ensures some { IfSome result (λ next. (stands_at_home tree.now entry.now boot read ≡ true)
+    ensures some { IfSome result (λ next. (is_at_home tree.now entry.now boot read ≡ true)
         × (next ≡ boot_after boot read.entry)) }
-    ensures none { IfNone result (stands_at_home tree.now entry.now boot read ≡ false) }
+    ensures none { IfNone result (is_at_home tree.now entry.now boot read ≡ false) }
 {
     if is_at_home(tree, entry, boot, &read) {
         Some(boot_after(boot, &read.entry))
@@ -188,7 +174,7 @@ fn stranger_in(
     frames: &[u8],
 ) -> Result<Option<usize>, AllocError>
     ensures { IfOk result (λ found. found
-        ≡ first_stranger (stands_at_home tree.now entry.now) 0 (placed_in form 5 0 frames.now)) }
+        ≡ first_stranger (is_at_home tree.now entry.now) 0 (placed_in form 5 0 frames.now)) }
 {
     let mut boot = 0;
     let mut rest = frames;
@@ -220,7 +206,7 @@ fn frames_of(bytes: &[u8]) -> &[u8]
 
 /// The place where the log of this process is damaged, 0 for the header, if it is.
 fn damage_in(alloc: Global, form: LogForm, bytes: &[u8]) -> Result<Option<usize>, AllocError>
-    ensures { IfOk result (λ damage. damage ≡ damage_read (read_log form bytes.now)) }
+    ensures { IfOk result (λ damage. damage ≡ damage_in (read_log form bytes.now)) }
 {
     match find(form, bytes, alloc) {
         Ok(_) => Ok(None),

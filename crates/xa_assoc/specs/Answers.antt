@@ -2,13 +2,13 @@
 use Rattle.std.specs.Prelude.{◌≡◌, ℕ, Bool, true, false, ◌||◌, not, List, [], Some, Result, Ok, Err, MatchResult, is_some, length, nat_le, nat_lt, Contains, if◌then◌else◌}
 use Rattle.std.specs.Global.{Vec}
 use Rattle.xa_codes.specs.declared.code.Code.{Code}
-use Rattle.xa_codes.specs.declared.code.Code.TheVariants as code
+use Rattle.xa_words.specs.code
 use Rattle.xa_tables.specs.Calls.{legal}
 use Rattle.xa_tables.specs.Tables.{branch_rows}
 use Rattle.xa_tables.specs.declared.call.Call.{Call}
 use Rattle.xa_tables.specs.declared.call.Call.TheVariants as call
 use Rattle.xa_tables.specs.declared.call.Verb.{Verb}
-use Rattle.xa_tables.specs.declared.call.Verb.TheVariants as verb
+use Rattle.xa_words.specs.verb
 use Rattle.xa_tables.specs.declared.states.InitState.TheVariants.{R0, R1}
 use Rattle.xa_tables.specs.declared.states.BranchState.{BranchState}
 use Rattle.xa_tables.specs.declared.states.BranchState.TheVariants.{S0, S1, S2, S3, S4, S5}

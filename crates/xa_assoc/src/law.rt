@@ -2,7 +2,7 @@
 
 ghost use Rattle.std.specs.Prelude.{ℕ, Bool, if◌then◌else◌};
 ghost use Rattle.xa_xid.specs.declared.xid.Xid.{Xid as AnyXid};
-ghost use Rattle.xa_tables.specs.declared.call.Call.TheVariants as call;
+ghost use Rattle.xa_words.specs.call;
 ghost use Rattle.xa_assoc.specs.Associations.{AssocList, IsRowOf, start_plan, resume_plan, suspend_plan, end_plan};
 
 /// Whatever row a call makes is in the table of associations, at that call.

@@ -22,7 +22,7 @@ pub struct States {
 
 impl States {
     ghost use Rattle.std.specs.Prelude.{◌≡◌, ◌≢◌, ◌≤◌, ◌||◌, not, length, IfOk, IfErr, OnErr, MatchResult, Err, Some, None, true, false};
-    ghost use Rattle.xa_tables.specs.declared.call.Call.TheVariants as call;
+    ghost use Rattle.xa_words.specs.call;
     ghost use Rattle.xa_assoc.specs.Associations.{IsAssocList, active_of, start_plan, resume_plan, suspend_plan, end_plan};
     ghost use Rattle.xa_branch.specs.Branches.{AreBranchesListedOnce, FindsBranchAt, BranchStandsAt, in_doubt};
     ghost use Rattle.xa_xid.specs.declared.xid.Xid.{Xid as AnyXid};

@@ -4,7 +4,7 @@ use Rattle.std.specs.Prelude.{IfOk, MatchResult}
 use Rattle.std.specs.List.{flat_map}
 use Rattle.std.proofs.lemmas.List.{append-nil}
 use Rattle.xa_codes.specs.declared.code.Code.{Code}
-use Rattle.xa_tables.specs.declared.call.Verb.TheVariants as verb
+use Rattle.xa_words.specs.verb
 use Rattle.xa_xid.specs.declared.xid.Xid.{Xid}
 use Rattle.kv_manager.specs.Sights.{KvSight}
 use Rattle.xa_engine.specs.declared.script.request.BranchCall.{BranchCall}

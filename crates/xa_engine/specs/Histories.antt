@@ -1,7 +1,7 @@
 -- What the requests of a script do to the tables of XA.
 use Rattle.std.specs.Prelude.{◌≡◌, Bool, List, [], ◌∷◌, Ok, Err}
 use Rattle.xa_tables.specs.declared.call.Verb.{Verb}
-use Rattle.xa_tables.specs.declared.call.Verb.TheVariants as verb
+use Rattle.xa_words.specs.verb
 use Rattle.xa_xid.specs.declared.xid.Xid.{Xid}
 use Rattle.proof_xa.specs.Moves.{XaMove, Open as OpenMove, Close as CloseMove, Branch as BranchMove, Recover as RecoverMove, Work as WorkMove, Decide as DecideMove, Restart as RestartMove}
 use Rattle.proof_xa.specs.Histories.{IsLegalHistory}

@@ -1,9 +1,9 @@
 -- What a request makes of a key store with a log, and what it is answered.
 use Rattle.std.specs.Prelude.{◌≡◌, ℕ, ◌-◌, ◌^◌, List, Option, Some, None, Result, Ok, Err}
 use Rattle.xa_codes.specs.declared.code.Code.{Code}
-use Rattle.xa_codes.specs.declared.code.Code.TheVariants as code
+use Rattle.xa_words.specs.code
 use Rattle.xa_tables.specs.declared.call.Verb.{Verb}
-use Rattle.xa_tables.specs.declared.call.Verb.TheVariants as verb
+use Rattle.xa_words.specs.verb
 use Rattle.xa_xid.specs.declared.xid.Xid.{Xid}
 use Rattle.xa_assoc.specs.declared.states.States.{States}
 use Rattle.xa_assoc.specs.Answers.{AnswersCall, Closes, OpensManager, Recovers, Wanted}

@@ -5,7 +5,7 @@ use Rattle.xa_xid.specs.declared.xid.Xid.{Xid}
 use Rattle.protocol.specs.declared.names.Case.{Case}
 use Rattle.protocol.specs.declared.names.ProcessId.{ProcessId}
 use Rattle.protocol.specs.declared.records.BranchName.{BranchName}
-use Rattle.protocol.specs.declared.records.BranchName.TheVariants.{Case as CaseBranch}
+use Rattle.protocol_words.specs.Variants.{CaseBranch}
 use Rattle.protocol.specs.LogNames.{is_own, name_xid, parent_of, same_parent}
 use Rattle.protocol.specs.NameLaws.{same_case-refl, same_case_tells, same_process_tells}
 use Rattle.protocol.specs.Names.{same_case}

@@ -9,12 +9,12 @@ use Rattle.protocol.specs.declared.names.Presumption.{Presumption}
 use Rattle.protocol.specs.declared.names.Presumption.TheVariants.{PresumeAbort, PresumeCommit}
 use Rattle.protocol.specs.declared.names.ProcessId.{ProcessId}
 use Rattle.protocol.specs.declared.names.Ticket.{Ticket}
-use Rattle.protocol.specs.declared.records.BranchName.TheVariants.{Case as CaseBranch}
+use Rattle.protocol_words.specs.Variants.{CaseBranch, CollectingStanding}
 use Rattle.protocol.specs.declared.records.LogRecord.{LogRecord}
 use Rattle.protocol.specs.declared.records.Record.{Record}
 use Rattle.protocol.specs.declared.records.Record.TheVariants.{Opened, Collecting, Prepare, Commit, Abort, End, Prepared, Committed, RolledBack, Direct, HeurCommit, HeurRollback, Told, Forgot, Base, Pair, Cleared}
 use Rattle.protocol.specs.declared.standings.Standing.{Standing}
-use Rattle.protocol.specs.declared.standings.Standing.TheVariants.{Unknown, Active, Collecting as CollectingStanding, Prepared as PreparedStanding, Committing, Aborting, Heuristic}
+use Rattle.protocol.specs.declared.standings.Standing.TheVariants.{Unknown, Active, Prepared as PreparedStanding, Committing, Aborting, Heuristic}
 use Rattle.protocol.specs.LogNames.{foreign_to, is_own, name_xid, own_by, own_records}
 use Rattle.protocol.specs.Memory.{fresh_memory, Idle}
 use Rattle.protocol.specs.Names.{same_case}

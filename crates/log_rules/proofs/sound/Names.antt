@@ -13,7 +13,8 @@ use Rattle.protocol.specs.declared.names.ProcessId.{ProcessId}
 use Rattle.protocol.specs.declared.names.Ticket.{Ticket}
 use Rattle.protocol.specs.declared.names.Txn.{Txn}
 use Rattle.protocol.specs.declared.records.BranchName.{BranchName}
-use Rattle.protocol.specs.declared.records.BranchName.TheVariants.{Case as CaseBranch, Foreign}
+use Rattle.protocol.specs.declared.records.BranchName.TheVariants.{Foreign}
+use Rattle.protocol_words.specs.Variants.{CaseBranch}
 use Rattle.protocol.specs.Branches.{below_bytes, branch_format, branch_parts, ticket_bytes, txn_bytes}
 use Rattle.protocol.specs.LogNames.{below_of, name_xid}
 use Rattle.log_text.proofs.xids.BranchLaws.{length-ticket_bytes, length-txn_bytes}

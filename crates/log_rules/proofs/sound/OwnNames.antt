@@ -4,7 +4,8 @@ use Rattle.xa_xid.specs.Xids.{XidParts}
 use Rattle.protocol.specs.declared.names.ProcessId.{ProcessId}
 use Rattle.protocol.specs.declared.names.Ticket.{Ticket}
 use Rattle.protocol.specs.declared.names.Txn.{Txn}
-use Rattle.protocol.specs.declared.records.BranchName.TheVariants.{Case as CaseBranch, Foreign}
+use Rattle.protocol.specs.declared.records.BranchName.TheVariants.{Foreign}
+use Rattle.protocol_words.specs.Variants.{CaseBranch}
 use Rattle.protocol.specs.Branches.{FitsBelow, FitsTxn, branch_parts}
 use Rattle.protocol.specs.Records.{same_xid}
 use Rattle.log_text.specs.Parts.{Name, below_in, case_name, name_in, presumption_in, txn_in}

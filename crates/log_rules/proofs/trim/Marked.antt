@@ -5,7 +5,7 @@ use Rattle.xa_xid.specs.declared.xid.Xid.{Xid}
 use Rattle.protocol.specs.declared.names.Ticket.{Ticket}
 use Rattle.protocol.specs.declared.records.LogRecord.{LogRecord}
 use Rattle.protocol.specs.declared.records.Record.{Record}
-use Rattle.protocol.specs.declared.records.Record.TheVariants as entry
+use Rattle.protocol_words.specs.record_of
 use Rattle.protocol.specs.Records.{is_opened, none_of}
 use Rattle.log_rules.specs.declared.trim.lives.Life.{Life}
 use Rattle.log_rules.specs.declared.trim.lives.Said.{Said}
@@ -53,24 +53,24 @@ decided said.Waits ts = waits_choice (none_of ts)
 decided said.Settled ts = settled_choice (none_of ts)
 
 says : (s : Said) (r : Record) → said_by s (deed_of r) ≡ said_after s r
-says s (entry.Opened n) = refl
-says s (entry.Collecting c ts) = refl
-says s (entry.Prepare c ts) = refl
-says s (entry.Commit c ts) = decided s ts
-says s (entry.Abort c ts) = decided s ts
-says s (entry.End c None) = refl
-says s (entry.End c (Some r)) = refl
-says s (entry.Cleared c) = refl
-says s (entry.Prepared b ws) = refl
-says s (entry.Committed b) = refl
-says s (entry.RolledBack b) = refl
-says s (entry.Direct b ws) = refl
-says s (entry.HeurCommit b) = refl
-says s (entry.HeurRollback b) = refl
-says s (entry.Told b o) = refl
-says s (entry.Forgot b) = refl
-says s (entry.Base n) = refl
-says s (entry.Pair k v) = refl
+says s (record_of.Opened n) = refl
+says s (record_of.Collecting c ts) = refl
+says s (record_of.Prepare c ts) = refl
+says s (record_of.Commit c ts) = decided s ts
+says s (record_of.Abort c ts) = decided s ts
+says s (record_of.End c None) = refl
+says s (record_of.End c (Some r)) = refl
+says s (record_of.Cleared c) = refl
+says s (record_of.Prepared b ws) = refl
+says s (record_of.Committed b) = refl
+says s (record_of.RolledBack b) = refl
+says s (record_of.Direct b ws) = refl
+says s (record_of.HeurCommit b) = refl
+says s (record_of.HeurRollback b) = refl
+says s (record_of.Told b o) = refl
+says s (record_of.Forgot b) = refl
+says s (record_of.Base n) = refl
+says s (record_of.Pair k v) = refl
 
 no_promise : (ts : List Ticket) → promises (decision_by ts) ≡ false
 no_promise ts = by_test (none_of ts)
@@ -87,45 +87,45 @@ no_opening ts = by_test (none_of ts)
     by_test false = refl
 
 promised : (r : Record) → promises (deed_of r) ≡ is_prepared r
-promised (entry.Opened n) = refl
-promised (entry.Collecting c ts) = refl
-promised (entry.Prepare c ts) = refl
-promised (entry.Commit c ts) = no_promise ts
-promised (entry.Abort c ts) = no_promise ts
-promised (entry.End c None) = refl
-promised (entry.End c (Some r)) = refl
-promised (entry.Cleared c) = refl
-promised (entry.Prepared b ws) = refl
-promised (entry.Committed b) = refl
-promised (entry.RolledBack b) = refl
-promised (entry.Direct b ws) = refl
-promised (entry.HeurCommit b) = refl
-promised (entry.HeurRollback b) = refl
-promised (entry.Told b o) = refl
-promised (entry.Forgot b) = refl
-promised (entry.Base n) = refl
-promised (entry.Pair k v) = refl
+promised (record_of.Opened n) = refl
+promised (record_of.Collecting c ts) = refl
+promised (record_of.Prepare c ts) = refl
+promised (record_of.Commit c ts) = no_promise ts
+promised (record_of.Abort c ts) = no_promise ts
+promised (record_of.End c None) = refl
+promised (record_of.End c (Some r)) = refl
+promised (record_of.Cleared c) = refl
+promised (record_of.Prepared b ws) = refl
+promised (record_of.Committed b) = refl
+promised (record_of.RolledBack b) = refl
+promised (record_of.Direct b ws) = refl
+promised (record_of.HeurCommit b) = refl
+promised (record_of.HeurRollback b) = refl
+promised (record_of.Told b o) = refl
+promised (record_of.Forgot b) = refl
+promised (record_of.Base n) = refl
+promised (record_of.Pair k v) = refl
 
 -- an Opened is known by its mark
 pub opens_is : (r : Record) → opens (deed_of r) ≡ is_opened r
-opens_is (entry.Opened n) = refl
-opens_is (entry.Collecting c ts) = refl
-opens_is (entry.Prepare c ts) = refl
-opens_is (entry.Commit c ts) = no_opening ts
-opens_is (entry.Abort c ts) = no_opening ts
-opens_is (entry.End c None) = refl
-opens_is (entry.End c (Some r)) = refl
-opens_is (entry.Cleared c) = refl
-opens_is (entry.Prepared b ws) = refl
-opens_is (entry.Committed b) = refl
-opens_is (entry.RolledBack b) = refl
-opens_is (entry.Direct b ws) = refl
-opens_is (entry.HeurCommit b) = refl
-opens_is (entry.HeurRollback b) = refl
-opens_is (entry.Told b o) = refl
-opens_is (entry.Forgot b) = refl
-opens_is (entry.Base n) = refl
-opens_is (entry.Pair k v) = refl
+opens_is (record_of.Opened n) = refl
+opens_is (record_of.Collecting c ts) = refl
+opens_is (record_of.Prepare c ts) = refl
+opens_is (record_of.Commit c ts) = no_opening ts
+opens_is (record_of.Abort c ts) = no_opening ts
+opens_is (record_of.End c None) = refl
+opens_is (record_of.End c (Some r)) = refl
+opens_is (record_of.Cleared c) = refl
+opens_is (record_of.Prepared b ws) = refl
+opens_is (record_of.Committed b) = refl
+opens_is (record_of.RolledBack b) = refl
+opens_is (record_of.Direct b ws) = refl
+opens_is (record_of.HeurCommit b) = refl
+opens_is (record_of.HeurRollback b) = refl
+opens_is (record_of.Told b o) = refl
+opens_is (record_of.Forgot b) = refl
+opens_is (record_of.Base n) = refl
+opens_is (record_of.Pair k v) = refl
 
 -- The table.
 

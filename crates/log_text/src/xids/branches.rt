@@ -11,10 +11,8 @@ ghost use Rattle.protocol.specs.Branches.{
   FitsBelow,
   FitsBranchName,
 };
-ghost use Rattle.protocol.specs.declared.names.ProcessId.{ProcessId as AnyProcess};
+ghost use Rattle.protocol_words.specs.Types.{AnyProcess, AnyTicket, AnyTxn};
 ghost use Rattle.protocol.specs.declared.names.Presumption.{Presumption as AnyPresumption};
-ghost use Rattle.protocol.specs.declared.names.Ticket.{Ticket as AnyTicket};
-ghost use Rattle.protocol.specs.declared.names.Txn.{Txn as AnyTxn};
 
 use byteorder::{BigEndian, ByteOrder};
 use protocol::{Presumption, ProcessId, Ticket, Txn};

@@ -3,7 +3,7 @@ use Rattle.std.proofs.Common.{◌≡◌, ◌∙◌, inl, inr, ◌||◌, ℕ, zer
 use Rattle.std.specs.List.{list_any}
 use Rattle.protocol.specs.declared.names.Case.{Case}
 use Rattle.protocol.specs.declared.names.Outcome.{Outcome}
-use Rattle.protocol.specs.declared.names.Outcome.TheVariants.{Aborted as AbortedOutcome}
+use Rattle.protocol_words.specs.Variants.{AbortedOutcome}
 use Rattle.protocol.specs.declared.names.ProcessId.{ProcessId}
 use Rattle.protocol.specs.declared.names.Ticket.{Ticket}
 use Rattle.protocol.specs.declared.names.Txn.{Txn}
@@ -25,7 +25,7 @@ use Rattle.protocol.specs.World.{InputStands, IsRun, Made, Move, MayHappen, Worl
 use Rattle.protocol.proofs.RunLaws.{makes_at}
 use Rattle.proof_pairs.specs.readings.ReadingOf.{gives_case, is_born, is_root_ticket, parent_half}
 use Rattle.proof_pairs.proofs.readings.Inquiries.{quiet_restart}
-use Rattle.proof_pairs.specs.turns.LeafTurns as leaf
+use Rattle.proof_pairs.specs.turns.LeafTurns
 use Rattle.proof_pairs.specs.turns.LeafTurns.{Hears, LeafTurn}
 use Rattle.proof_pairs.specs.turns.Steps.{StepOf, TurnAt, heard_in, handled, failed_in, passed, failed_passing, reopened, failed_reopening, trims_log, failed_trimming}
 use Rattle.proof_pairs.specs.turns.Written.{MayWrite, for_act, for_child, for_parent, for_report, gives, presumes, writes_nothing}
@@ -38,7 +38,7 @@ use Rattle.proof_processes.proofs.RootHistories.{among}
 use Rattle.proof_processes.proofs.RootNumbered.{at_root}
 use Rattle.proof_processes.proofs.Tests.{right}
 use Rattle.proof_steps.specs.parents.ParentRows.{JoinedAreBorn}
-use Rattle.proof_steps.proofs.crashes.Resumed as resumed
+use Rattle.proof_steps.proofs.crashes.Resumed
 use Rattle.proof_headline.proofs.Grows.{sent_still, sent_then}
 use Rattle.proof_headline.proofs.runs.Born.{Known, KnownBy, child_known, given_known, is_join, standing_known}
 use Rattle.proof_headline.proofs.runs.NetsHold.{nets_hold}
@@ -118,53 +118,53 @@ module _ (tree : List TreeProcess) (es : List Made) (w : World) (run : IsRun tre
 
       leaf_answers : (c : Case) (t : Ticket) (e : Effect) → LeafTurn leaf_place p (w.at me) h e
           → sent (is_joined_message c t) e.messages ≡ true → Known w c
-      leaf_answers c t _ leaf.does_nothing g = none_at_all (is_joined_message c t) [] refl g
-      leaf_answers c t _ (leaf.gives_again d u i a) g =
+      leaf_answers c t _ LeafTurns.does_nothing g = none_at_all (is_joined_message c t) [] refl g
+      leaf_answers c t _ (LeafTurns.gives_again d u i a) g =
           subst (Known w) (first_case c d u t (one_alone (is_joined_message c t) _ _ refl g)) (heard_join d i)
-      leaf_answers c t _ (leaf.gives_fresh d i a s) g =
+      leaf_answers c t _ (LeafTurns.gives_fresh d i a s) g =
           subst (Known w) (first_case c d _ t (one_alone (is_joined_message c t) _ _ refl g)) (heard_join d i)
-      leaf_answers c t _ (leaf.votes_yes d k ws i a) g =
+      leaf_answers c t _ (LeafTurns.votes_yes d k ws i a) g =
           ends _ (one_alone (is_joined_message c t) _ _ refl g) refl
-      leaf_answers c t _ (leaf.votes_read d k i a) g =
+      leaf_answers c t _ (LeafTurns.votes_read d k i a) g =
           ends _ (one_alone (is_joined_message c t) _ _ refl g) refl
-      leaf_answers c t _ (leaf.votes_no d k i a) g =
+      leaf_answers c t _ (LeafTurns.votes_no d k i a) g =
           ends _ (one_alone (is_joined_message c t) _ _ refl g) refl
-      leaf_answers c t _ (leaf.repeats_yes d k i a) g =
+      leaf_answers c t _ (LeafTurns.repeats_yes d k i a) g =
           ends _ (one_alone (is_joined_message c t) _ _ refl g) refl
-      leaf_answers c t _ (leaf.refuses d k i a) g =
+      leaf_answers c t _ (LeafTurns.refuses d k i a) g =
           ends _ (one_alone (is_joined_message c t) _ _ refl g) refl
-      leaf_answers c t _ (leaf.obeys d o i e) g = ends _ g
+      leaf_answers c t _ (LeafTurns.obeys d o i e) g = ends _ g
           (quiet_ack (is_joined_message c t) d o _ (λ x u. refl))
-      leaf_answers c t _ (leaf.notes d o i e) g = ends _ g
+      leaf_answers c t _ (LeafTurns.notes d o i e) g = ends _ g
           (quiet_ack (is_joined_message c t) d o _ (λ x u. refl))
-      leaf_answers c t _ (leaf.acknowledges_told d o i e) g =
+      leaf_answers c t _ (LeafTurns.acknowledges_told d o i e) g =
           ends _ g (quiet_ack (is_joined_message c t) d o _ (λ x u. refl))
-      leaf_answers c t _ (leaf.acknowledges d o i e) g =
+      leaf_answers c t _ (LeafTurns.acknowledges d o i e) g =
           ends _ g (quiet_ack (is_joined_message c t) d o _ (λ x u. refl))
-      leaf_answers c t _ (leaf.drops d i a) g =
+      leaf_answers c t _ (LeafTurns.drops d i a) g =
           ends _ g (quiet_ack (is_joined_message c t) d AbortedOutcome _ (λ x u. refl))
-      leaf_answers c t _ (leaf.asks d i k) g = ends _ (one_alone (is_joined_message c t) _ _ refl g) refl
-      leaf_answers c t _ (leaf.decides d o i e) g = none_at_all (is_joined_message c t) [] refl g
-      leaf_answers c t _ (leaf.forgets d i k) g = none_at_all (is_joined_message c t) [] refl g
+      leaf_answers c t _ (LeafTurns.asks d i k) g = ends _ (one_alone (is_joined_message c t) _ _ refl g) refl
+      leaf_answers c t _ (LeafTurns.decides d o i e) g = none_at_all (is_joined_message c t) [] refl g
+      leaf_answers c t _ (LeafTurns.forgets d i k) g = none_at_all (is_joined_message c t) [] refl g
 
       leaf_joins : (c : Case) (e : Effect) → LeafTurn leaf_place p (w.at me) h e
           → sent (is_join c) e.messages ≡ true → Known w c
-      leaf_joins c _ leaf.does_nothing g = none_at_all (is_join c) [] refl g
-      leaf_joins c _ (leaf.gives_again d u i a) g = ends _ (one_alone (is_join c) _ _ refl g) refl
-      leaf_joins c _ (leaf.gives_fresh d i a s) g = ends _ (one_alone (is_join c) _ _ refl g) refl
-      leaf_joins c _ (leaf.votes_yes d k ws i a) g = ends _ (one_alone (is_join c) _ _ refl g) refl
-      leaf_joins c _ (leaf.votes_read d k i a) g = ends _ (one_alone (is_join c) _ _ refl g) refl
-      leaf_joins c _ (leaf.votes_no d k i a) g = ends _ (one_alone (is_join c) _ _ refl g) refl
-      leaf_joins c _ (leaf.repeats_yes d k i a) g = ends _ (one_alone (is_join c) _ _ refl g) refl
-      leaf_joins c _ (leaf.refuses d k i a) g = ends _ (one_alone (is_join c) _ _ refl g) refl
-      leaf_joins c _ (leaf.obeys d o i e) g = ends _ g (quiet_ack (is_join c) d o _ (λ x u. refl))
-      leaf_joins c _ (leaf.notes d o i e) g = ends _ g (quiet_ack (is_join c) d o _ (λ x u. refl))
-      leaf_joins c _ (leaf.acknowledges_told d o i e) g = ends _ g (quiet_ack (is_join c) d o _ (λ x u. refl))
-      leaf_joins c _ (leaf.acknowledges d o i e) g = ends _ g (quiet_ack (is_join c) d o _ (λ x u. refl))
-      leaf_joins c _ (leaf.drops d i a) g = ends _ g (quiet_ack (is_join c) d AbortedOutcome _ (λ x u. refl))
-      leaf_joins c _ (leaf.asks d i k) g = ends _ (one_alone (is_join c) _ _ refl g) refl
-      leaf_joins c _ (leaf.decides d o i e) g = none_at_all (is_join c) [] refl g
-      leaf_joins c _ (leaf.forgets d i k) g = none_at_all (is_join c) [] refl g
+      leaf_joins c _ LeafTurns.does_nothing g = none_at_all (is_join c) [] refl g
+      leaf_joins c _ (LeafTurns.gives_again d u i a) g = ends _ (one_alone (is_join c) _ _ refl g) refl
+      leaf_joins c _ (LeafTurns.gives_fresh d i a s) g = ends _ (one_alone (is_join c) _ _ refl g) refl
+      leaf_joins c _ (LeafTurns.votes_yes d k ws i a) g = ends _ (one_alone (is_join c) _ _ refl g) refl
+      leaf_joins c _ (LeafTurns.votes_read d k i a) g = ends _ (one_alone (is_join c) _ _ refl g) refl
+      leaf_joins c _ (LeafTurns.votes_no d k i a) g = ends _ (one_alone (is_join c) _ _ refl g) refl
+      leaf_joins c _ (LeafTurns.repeats_yes d k i a) g = ends _ (one_alone (is_join c) _ _ refl g) refl
+      leaf_joins c _ (LeafTurns.refuses d k i a) g = ends _ (one_alone (is_join c) _ _ refl g) refl
+      leaf_joins c _ (LeafTurns.obeys d o i e) g = ends _ g (quiet_ack (is_join c) d o _ (λ x u. refl))
+      leaf_joins c _ (LeafTurns.notes d o i e) g = ends _ g (quiet_ack (is_join c) d o _ (λ x u. refl))
+      leaf_joins c _ (LeafTurns.acknowledges_told d o i e) g = ends _ g (quiet_ack (is_join c) d o _ (λ x u. refl))
+      leaf_joins c _ (LeafTurns.acknowledges d o i e) g = ends _ g (quiet_ack (is_join c) d o _ (λ x u. refl))
+      leaf_joins c _ (LeafTurns.drops d i a) g = ends _ g (quiet_ack (is_join c) d AbortedOutcome _ (λ x u. refl))
+      leaf_joins c _ (LeafTurns.asks d i k) g = ends _ (one_alone (is_join c) _ _ refl g) refl
+      leaf_joins c _ (LeafTurns.decides d o i e) g = none_at_all (is_join c) [] refl g
+      leaf_joins c _ (LeafTurns.forgets d i k) g = none_at_all (is_join c) [] refl g
 
 -- Steps.
 
@@ -243,18 +243,18 @@ module _ (tree : List TreeProcess) (es : List Made) (w : World) (run : IsRun tre
             → JoinsKnown w (restart_effect (coordinator_place q o tree) (w.at q) j).messages
             × AnswersKnown w (restart_effect (coordinator_place q o tree) (w.at q) j).messages
         resumes None = (
-          λ c f. ends _ f (resumed.quiet q None
+          λ c f. ends _ f (Resumed.quiet q None
               (left_of (w.at q) j ++ coordinator_reopens (left_of (w.at q) j)) c nobody
               (is_join c) (λ x. refl) (λ x. refl) (λ x. refl)),
-          λ c t f. ends _ f (resumed.quiet q None
+          λ c t f. ends _ f (Resumed.quiet q None
               (left_of (w.at q) j ++ coordinator_reopens (left_of (w.at q) j)) c t
               (is_joined_message c t) (λ x. refl) (λ x. refl) (λ x. refl)),
         )
         resumes (Some p) = (
-          λ c f. ends _ f (resumed.quiet q (Some p)
+          λ c f. ends _ f (Resumed.quiet q (Some p)
               (left_of (w.at q) j ++ coordinator_reopens (left_of (w.at q) j)) c
               nobody (is_join c) (λ x. refl) (λ x. refl) (λ x. refl)),
-          λ c t f. ends _ f (resumed.quiet q (Some p)
+          λ c t f. ends _ f (Resumed.quiet q (Some p)
               (left_of (w.at q) j ++ coordinator_reopens (left_of (w.at q) j)) c t
               (is_joined_message c t) (λ x. refl) (λ x. refl) (λ x. refl)),
         )

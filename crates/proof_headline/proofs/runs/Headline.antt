@@ -2,7 +2,8 @@
 use Rattle.std.proofs.Common.{◌≡◌, Some, None, List, ◌∷◌, ◌++◌, refl, sym, ap, subst}
 use Rattle.protocol.specs.declared.names.ProcessId.{ProcessId}
 use Rattle.protocol.specs.declared.events.Happening.{Happening}
-use Rattle.protocol.specs.declared.events.Happening.TheVariants.{Input as Handles, Restart, Trim}
+use Rattle.protocol.specs.declared.events.Happening.TheVariants.{Restart, Trim}
+use Rattle.protocol_words.specs.Variants.{Handles}
 use Rattle.protocol.specs.declared.trees.TreeProcess.{TreeProcess}
 use Rattle.protocol.specs.Nodes.{AtRoot, Below, Effect, Role, place_of, role_of, IsCoordinator}
 use Rattle.protocol.specs.Outcomes.{Headline}

@@ -31,7 +31,7 @@ use Rattle.proof_processes.proofs.Tests.{case_is, either}
 use Rattle.proof_processes.proofs.Unlisted.{makes_listed}
 use Rattle.proof_headline.specs.CoordinatorLaws.{SendsWell}
 use Rattle.proof_headline.proofs.runs.CoordinatorMessages.{AllWell, Own, all_given, all_go}
-use Rattle.proof_headline.proofs.runs.TurnMessages as turns
+use Rattle.proof_headline.proofs.runs.TurnMessages
 
 -- a case without a ticket is given by no JOINED
 none_gives_now : (x : Txn) (m : Message) → gives_case (record { txn = x; ticket = None }) m ≡ true → ⊥
@@ -146,7 +146,7 @@ module _ (me : ProcessId) (parent : Option ProcessId) (tree : List TreeProcess) 
         → StepOf place n m e k
         → AllWell tree me net e.messages
     step_sends m stands _ _ (handled i g hp np r) =
-        turns.effect_sends me parent tree n net role listed goes given_before nested
+        TurnMessages.effect_sends me parent tree n net role listed goes given_before nested
         (coordinates parent holds)
         (remembered parent holds) (recorded parent holds) (invited parent role holds)
         (turn_of place n (heard_in m i) g r).up (heard_in m i)
@@ -157,7 +157,7 @@ module _ (me : ProcessId) (parent : Option ProcessId) (tree : List TreeProcess) 
     step_sends m stands _ _ (failed_passing i f fl hp r) = tt
     step_sends m stands _ _ (reopened j hp) =
         resumed parent j
-        (turns.resumes_well me parent tree n net role listed goes given_before nested
+        (TurnMessages.resumes_well me parent tree n net role listed goes given_before nested
         (coordinates parent holds)
         (remembered parent holds) (recorded parent holds) (invited parent role holds) j
         (cases_in (left_of n j ++ coordinator_reopens (left_of n j))))

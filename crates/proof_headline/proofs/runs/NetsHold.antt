@@ -16,7 +16,7 @@ use Rattle.proof_processes.specs.WorldHolds.{AboutGiven, AllGo, NodeHolds, RoleH
 use Rattle.proof_processes.proofs.RootsHold.{nodes_hold}
 use Rattle.proof_processes.proofs.Remembering.{role_below}
 use Rattle.proof_processes.proofs.Unlisted.{makes_listed}
-use Rattle.proof_headline.proofs.ManagerMessages as managers
+use Rattle.proof_headline.proofs.ManagerMessages
 use Rattle.proof_headline.proofs.runs.CoordinatorMessages.{all_given, all_go}
 use Rattle.proof_headline.proofs.runs.MessagesHold.{step_sends}
 
@@ -65,12 +65,12 @@ module _ (tree : List TreeProcess) (es : List Made) (w : World) (run : IsRun tre
     by_role (Below p) f = by_coordinator (Some p) f
     by_role (AtLeaf p) f =
         let listed = makes_listed tree w m e w' made in
-        let fits = managers.messages_fit tree q p f listed w.net h.go h.about_given (w.at q) node.lasts.nested
+        let fits = ManagerMessages.messages_fit tree q p f listed w.net h.go h.about_given (w.at q) node.lasts.nested
         (subst (λ r. RoleHolds r (at r) w.net (w.at q)) f node.role).1 m stands e
         (makes_at tree w m e w' made).node
         (here (AtLeaf p) f) in (
-          managers.all_go tree q p f listed w.net e.messages fits,
-          managers.about_given tree q p f listed w.net e.messages fits h.about_given,
+          ManagerMessages.all_go tree q p f listed w.net e.messages fits,
+          ManagerMessages.about_given tree q p f listed w.net e.messages fits h.about_given,
         )
 
     net_keeps : NetHolds tree (w.net ++ e.messages)

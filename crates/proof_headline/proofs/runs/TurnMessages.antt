@@ -4,7 +4,7 @@ use Rattle.std.proofs.Common.{◌≡◌, ◌≢◌, ◌∙◌, ◌⊎◌, inl, i
 use Rattle.std.specs.List.{flat_map}
 use Rattle.protocol.specs.declared.names.Case.{Case}
 use Rattle.protocol.specs.declared.names.Outcome.{Outcome}
-use Rattle.protocol.specs.declared.names.Outcome.TheVariants.{Committed as CommittedOutcome, Aborted as AbortedOutcome}
+use Rattle.protocol_words.specs.Variants.{AbortedOutcome, CommittedOutcome}
 use Rattle.protocol.specs.declared.names.Presumption.{Presumption}
 use Rattle.protocol.specs.declared.names.Presumption.TheVariants.{PresumeAbort, PresumeCommit}
 use Rattle.protocol.specs.declared.names.ProcessId.{ProcessId}
@@ -50,7 +50,7 @@ use Rattle.proof_steps.proofs.cascades.Standings.{aborting_facts, committing_fac
 use Rattle.proof_steps.proofs.crashes.CrashPairs.{is_active}
 use Rattle.proof_steps.proofs.crashes.Named.{all_owed, owing-by}
 use Rattle.proof_headline.proofs.ManagerMessages.{goes_at}
-use Rattle.proof_headline.proofs.runs.CoordinatorMessages as coordinators
+use Rattle.proof_headline.proofs.runs.CoordinatorMessages
 use Rattle.proof_headline.proofs.runs.CoordinatorMessages.{AllWell, Mine, Own, Well}
 use Rattle.proof_headline.proofs.runs.TreeChildren.{found_child, is_child_role, nobody_listed, promised_kept}
 use Rattle.protocol.specs.declared.messages.Finding.{Finding}
@@ -193,38 +193,38 @@ module _ (me : ProcessId) (parent : Option ProcessId) (tree : List TreeProcess) 
 
       yes_up : ((p : ProcessId) → parent ≡ Some p → Own tree me net goes c)
           → Sent (posted_up me parent (Yes c))
-      yes_up f = up_well parent (Yes c) (λ p e. coordinators.up_yes tree me net goes p (child_role p e) c (f p e))
+      yes_up f = up_well parent (Yes c) (λ p e. CoordinatorMessages.up_yes tree me net goes p (child_role p e) c (f p e))
 
       no_up : ((p : ProcessId) → parent ≡ Some p → Own tree me net goes c) → Sent (posted_up me parent (No c))
-      no_up f = up_well parent (No c) (λ p e. coordinators.up_no tree me net goes p (child_role p e) c (f p e))
+      no_up f = up_well parent (No c) (λ p e. CoordinatorMessages.up_no tree me net goes p (child_role p e) c (f p e))
 
       read_up : ((p : ProcessId) → parent ≡ Some p → Own tree me net goes c)
           → Sent (posted_up me parent (Read c))
       read_up f = up_well parent (Read c)
-          (λ p e. coordinators.up_read tree me net goes p (child_role p e) c (f p e))
+          (λ p e. CoordinatorMessages.up_read tree me net goes p (child_role p e) c (f p e))
 
       ack_up : (o : Outcome) (fs : List Finding) → ((p : ProcessId) → parent ≡ Some p → Own tree me net goes c)
           → Sent (posted_up me parent (Ack c o fs))
       ack_up o fs f = up_well parent (Ack c o fs)
-          (λ p e. coordinators.up_ack tree me net goes p (child_role p e) c (f p e) o fs)
+          (λ p e. CoordinatorMessages.up_ack tree me net goes p (child_role p e) c (f p e) o fs)
 
       inquire_up : ((p : ProcessId) → parent ≡ Some p → Own tree me net goes c)
           → Sent (posted_up me parent (Inquire c))
       inquire_up f =
-          up_well parent (Inquire c) (λ p e. coordinators.up_inquire tree me net goes p (child_role p e) c (f p e))
+          up_well parent (Inquire c) (λ p e. CoordinatorMessages.up_inquire tree me net goes p (child_role p e) c (f p e))
 
       -- Messages down.
 
       commits_to : (ts : List Ticket) → ((t : Ticket) → in_list ts t ≡ true → Mine tree me net c t)
           → Sent (each (seat_of place parent c) Commit ts)
-      commits_to ts f = coordinators.each_commit tree me net goes (seat_of place parent c) refl ts f
+      commits_to ts f = CoordinatorMessages.each_commit tree me net goes (seat_of place parent c) refl ts f
 
       aborts_to : (ts : List Ticket) → ((t : Ticket) → in_list ts t ≡ true → Mine tree me net c t)
           → Sent (each (seat_of place parent c) Abort ts)
-      aborts_to ts f = coordinators.each_abort tree me net goes (seat_of place parent c) refl ts f
+      aborts_to ts f = CoordinatorMessages.each_abort tree me net goes (seat_of place parent c) refl ts f
 
       both : (xs ys : List Envelope) → Sent xs → Sent ys → Sent (xs ++ ys)
-      both xs ys f g = coordinators.well_both tree me net xs ys f g
+      both xs ys f g = CoordinatorMessages.well_both tree me net xs ys f g
 
       undecided_is : (us : List Ticket) (vs : _) → undecided_of (coordinator_view place n c).accepted vs ≡ us
           → (t : Ticket) → in_list us t ≡ true → Mine tree me net c t
@@ -306,7 +306,7 @@ module _ (me : ProcessId) (parent : Option ProcessId) (tree : List TreeProcess) 
           → Sent (map (λ t. post me t.child (Prepare (child_case c.txn t) (works_of ws t)))
           (coordinator_view place n c).accepted)
       asks_all c ws =
-          coordinators.each_prepare tree me net goes c works_of ws (coordinator_view place n c).accepted
+          CoordinatorMessages.each_prepare tree me net goes c works_of ws (coordinator_view place n c).accepted
           (viewed_is c)
 
       turn_sends : (c : Case) (row : Row) → CaseTurn place parent n h c row → Sent row.messages
@@ -319,7 +319,7 @@ module _ (me : ProcessId) (parent : Option ProcessId) (tree : List TreeProcess) 
       turn_sends c _ (accepts t i e f) = tt
       turn_sends c _ (sends_work q t op i e f a) =
           let v = coordinator_view place n c in (
-            coordinators.down_work tree me net goes c t (viewed_is c t (found_child v.accepted q t f))
+            CoordinatorMessages.down_work tree me net goes c t (viewed_is c t (found_child v.accepted q t f))
                 (works_of v.works t + 1) op,
             tt,
           )
@@ -370,7 +370,7 @@ module _ (me : ProcessId) (parent : Option ProcessId) (tree : List TreeProcess) 
       turn_sends c _ (ends t o fs i e f a) = at_last up c h.version o (found_below place n c o fs) e
       turn_sends c _ (clears i e f a) = tt
       turn_sends c _ (answers t o i e) =
-          (coordinators.down_told tree me net goes c t (belongs_is i.txn t c i.belongs) o, tt)
+          (CoordinatorMessages.down_told tree me net goes c t (belongs_is i.txn t c i.belongs) o, tt)
 
       -- JOIN comes from the parent, and its answer goes there.
       joined_well : (p : ProcessId) (d : Case) (t : Ticket) → parent ≡ Some p → Hears h (Join d) → t.child
@@ -403,9 +403,9 @@ module _ (me : ProcessId) (parent : Option ProcessId) (tree : List TreeProcess) 
           → Well tree me net (post me t.child (tells_outcome o (child_case x t)))
           (tells_outcome o (child_case x t))
       presumed_well x t CommittedOutcome child g =
-          record { goes = (refl, child); given = λ e f. coordinators.of_same tree me net (child_case x t) e g f }
+          record { goes = (refl, child); given = λ e f. CoordinatorMessages.of_same tree me net (child_case x t) e g f }
       presumed_well x t AbortedOutcome child g =
-          record { goes = (refl, child); given = λ e f. coordinators.of_same tree me net (child_case x t) e g f }
+          record { goes = (refl, child); given = λ e f. CoordinatorMessages.of_same tree me net (child_case x t) e g f }
 
       pub effect_sends : (e : Effect) → CoordinatorTurn place parent n h e → Sent e.messages
       effect_sends _ (of_case c row r) = turn_sends c row r
@@ -478,13 +478,13 @@ module _ (me : ProcessId) (parent : Option ProcessId) (tree : List TreeProcess) 
       commits_to_owed : (c : Case)
           → Sent (each (record { me = me; parent = parent; own = c }) Commit (recorded_view rest_of c).owed)
       commits_to_owed c =
-          coordinators.each_commit tree me net goes (record { me = me; parent = parent; own = c }) refl
+          CoordinatorMessages.each_commit tree me net goes (record { me = me; parent = parent; own = c }) refl
           (recorded_view rest_of c).owed (owed_is c)
 
       aborts_to_owed : (c : Case)
           → Sent (each (record { me = me; parent = parent; own = c }) Abort (recorded_view rest_of c).owed)
       aborts_to_owed c =
-          coordinators.each_abort tree me net goes (record { me = me; parent = parent; own = c }) refl
+          CoordinatorMessages.each_abort tree me net goes (record { me = me; parent = parent; own = c }) refl
           (recorded_view rest_of c).owed (owed_is c)
 
       in_doubt : (c : Case) (p : ProcessId) → parent ≡ Some p → (recorded_view rest_of c).standing ≡ Prepared
@@ -514,7 +514,7 @@ module _ (me : ProcessId) (parent : Option ProcessId) (tree : List TreeProcess) 
       resumed_by c Aborting e = aborts_to_owed c
       resumed_by c Prepared e =
           up_well parent (Inquire c)
-          (λ p f. coordinators.up_inquire tree me net goes p (child_role p f) c (in_doubt c p f e))
+          (λ p f. CoordinatorMessages.up_inquire tree me net goes p (child_role p f) c (in_doubt c p f e))
       resumed_by c Unknown e = tt
       resumed_by c Active e = tt
       resumed_by c Collecting e = tt
@@ -523,5 +523,5 @@ module _ (me : ProcessId) (parent : Option ProcessId) (tree : List TreeProcess) 
       pub resumes_well : (cs : List Case) → Sent (flat_map (coordinator_resumes me parent rest_of) cs)
       resumes_well [] = tt
       resumes_well (c ∷ cs) =
-          coordinators.well_both tree me net (coordinator_resumes me parent rest_of c) _
+          CoordinatorMessages.well_both tree me net (coordinator_resumes me parent rest_of c) _
           (resumed_by c (recorded_view rest_of c).standing refl) (resumes_well cs)

@@ -6,10 +6,8 @@ use Rattle.protocol.specs.declared.names.Ticket.{Ticket}
 use Rattle.protocol.specs.declared.messages.Envelope.{Envelope}
 use Rattle.protocol.specs.declared.messages.Message.{Message}
 use Rattle.protocol.specs.declared.messages.Message.TheVariants.{Abort}
-use Rattle.protocol.specs.declared.names.Outcome.TheVariants.{Committed as CommittedOutcome, Aborted as AbortedOutcome}
-use Rattle.protocol.specs.declared.records.Record.TheVariants.{Abort as AbortRecord}
+use Rattle.protocol_words.specs.Variants.{AbortRecord, AbortedOutcome, CommittedOutcome, MessageInput}
 use Rattle.protocol.specs.declared.standings.Standing.TheVariants.{Prepared}
-use Rattle.protocol.specs.declared.events.Input.TheVariants.{Message as MessageInput}
 use Rattle.protocol.specs.declared.trees.TreeProcess.{TreeProcess}
 use Rattle.protocol.specs.Names.{child_case, process_of}
 use Rattle.protocol.specs.Records.{has, in_list, is_prepare, promised_by}
@@ -18,7 +16,7 @@ use Rattle.protocol.specs.CoordinatorRows.{Seat, plain, each}
 use Rattle.protocol.specs.Standings.{coordinator_view}
 use Rattle.protocol.specs.Outcomes.{sent, is_commit_outcome, is_joined_message, is_read_message, is_yes_message, is_outcome_message}
 use Rattle.protocol.specs.World.{World}
-use Rattle.proof_pairs.specs.CascadedMoves as move
+use Rattle.proof_pairs.specs.CascadedMoves
 use Rattle.proof_pairs.specs.readings.ReadingOf.{reading_of, reading_from, parent_half, child_half, wire, ParentHalf, ChildHalf, Wire, gives_case, is_prepare_message, is_no_message, is_ack_message, is_inquiry_message}
 use Rattle.proof_pairs.specs.readings.Halves.{aborts_promise}
 use Rattle.proof_pairs.specs.readings.Steps.{handled, IsCascadedPair}
@@ -63,7 +61,7 @@ moved manager outcome above p p' k v v' e f =
 
 reading-aborted : (manager outcome above : Bool) (p : ParentHalf) (k : ChildHalf) (v : Wire)
     → reading_from false manager outcome above (aborts_promise p) k
-    (record v { abort = p.names || v.abort }) ≡ move.passes_abort
+    (record v { abort = p.names || v.abort }) ≡ CascadedMoves.passes_abort
     (reading_from false manager outcome above p k v)
 reading-aborted manager outcome above p k v = refl
 
@@ -75,7 +73,7 @@ pub row_aborts : (tree : List TreeProcess) (w : World) (above : Bool) (c : Case)
     → (coordinator_view (record { me = process_of c; role = Below p; tree = tree }) (w.at (process_of c))
     c).standing ≡ Prepared
     → has (is_prepare c) (w.at (process_of c)).life ≡ true
-    → reading_of tree (handled w (process_of c) h e) above c t ≡ move.passes_abort
+    → reading_of tree (handled w (process_of c) h e) above c t ≡ CascadedMoves.passes_abort
     (reading_of tree w above c t)
 row_aborts tree w above c t p pair i h e s input one none_accepted none_counted none_told messages own
     stands promised =
@@ -92,4 +90,4 @@ row_aborts tree w above c t p pair i h e s input one none_accepted none_counted 
     ∙ (reading-aborted (is_leaf (role_of tree t.child)) (is_commit_outcome w c.txn) above
     (parent_half place n c t) (child_half (place_of tree t.child) (w.at t.child) (child_case c.txn t))
     (wire c t w.net)
-    ∙ ap move.passes_abort (before_cascaded tree w above c t p pair)))
+    ∙ ap CascadedMoves.passes_abort (before_cascaded tree w above c t p pair)))

@@ -5,7 +5,7 @@ use Rattle.protocol.specs.declared.names.Ticket.{Ticket}
 use Rattle.protocol.specs.declared.messages.Envelope.{Envelope}
 use Rattle.protocol.specs.declared.messages.Message.TheVariants.{Prepare}
 use Rattle.protocol.specs.declared.records.Record.{Record}
-use Rattle.protocol.specs.declared.events.Input.TheVariants.{Message as MessageInput}
+use Rattle.protocol_words.specs.Variants.{ActiveStanding, CaseBranch, MessageInput, PreparedRecord}
 use Rattle.protocol.specs.Names.{child_case, process_of}
 use Rattle.protocol.specs.Nodes.{First, Place, Role, AtLeaf, Node, Heard, Holds, Effect, fails_in, entries_written, place_of}
 use Rattle.protocol.specs.Standings.{manager_view}
@@ -14,7 +14,7 @@ use Rattle.protocol.specs.Reactions.{manager_hears, leaf_effect, leaf_of}
 use Rattle.protocol.specs.Outcomes.{is_commit_outcome}
 use Rattle.protocol.specs.World.{World, fault_effect}
 use Rattle.proof_pairs.specs.Reading.{Reading}
-use Rattle.proof_pairs.specs.ChildCrash as crash
+use Rattle.proof_pairs.specs.ChildCrash
 use Rattle.proof_pairs.specs.Invariant.{Common}
 use Rattle.proof_pairs.specs.readings.ReadingOf.{reading_of, reading_from, is_root_ticket, parent_half, child_half, wire}
 use Rattle.protocol.specs.Audits.{is_promise}
@@ -23,10 +23,7 @@ use Rattle.proof_pairs.specs.readings.StepLaws.{IsReady, ManagerFails, promise_f
 use Rattle.proof_pairs.specs.readings.Steps.{made_at, IsLeafPair}
 use Rattle.protocol.specs.declared.names.ProcessId.{ProcessId}
 use Rattle.protocol.specs.declared.trees.TreeProcess.{TreeProcess}
-use Rattle.protocol.specs.declared.records.Record.TheVariants.{Prepared as PreparedRecord}
-use Rattle.protocol.specs.declared.records.BranchName.TheVariants.{Case as CaseBranch}
 use Rattle.protocol.specs.declared.records.Write.{Write}
-use Rattle.protocol.specs.declared.standings.Standing.TheVariants.{Active as ActiveStanding}
 use Rattle.protocol.specs.CoordinatorRows.{forced}
 use Rattle.proof_pairs.proofs.readings.Lists.{sent-nil, has-nil_behind}
 use Rattle.proof_pairs.proofs.readings.Delivered.{failed_as}
@@ -47,9 +44,9 @@ fault_zero : (tree : List TreeProcess) (w : World) (above : Bool) (c : Case) (t 
     → IsLeafPair tree c t p → (h : Heard) (e e' : Effect) (f : ℕ)
     → Common (reading_of tree w above c t) → e'.messages ≡ []
     → reading_of tree (made_at w t.child (fails_in (w.at t.child) h e zero f) e') above c t
-    ≡ crash.hardens_failed_child (child_front (child_case c.txn t) ((w.at t.child).forced
+    ≡ ChildCrash.hardens_failed_child (child_front (child_case c.txn t) ((w.at t.child).forced
     ++ take f ((w.at t.child).unforced
-    ++ [])) (w.at t.child).durable) (crash.child_fails (reading_of tree w above c t))
+    ++ [])) (w.at t.child).durable) (ChildCrash.child_fails (reading_of tree w above c t))
 fault_zero tree w above c t p pair h e e' f inv none =
     let place : Place = record { me = t.child; role = AtLeaf p; tree = tree } in
     let k = w.at t.child in
@@ -72,8 +69,8 @@ fault_zero tree w above c t p pair h e e' f inv none =
     (child_front d (k.forced ++ take f (k.unforced ++ [])) k.durable) (quiet _ inv')
     (λ x. sym (has-nil_behind (is_promise d) k.forced k.unforced)
     ∙ front-kept (is_promise d) k.forced f (k.unforced ++ []) x)
-    ∙ ap (λ (r : Reading). crash.hardens_failed_child (child_front d (k.forced
-    ++ take f (k.unforced ++ [])) k.durable) (crash.child_fails r)) old))
+    ∙ ap (λ (r : Reading). ChildCrash.hardens_failed_child (child_front d (k.forced
+    ++ take f (k.unforced ++ [])) k.durable) (ChildCrash.child_fails r)) old))
 
 fault_more : (tree : List TreeProcess) (w : World) (above : Bool) (c : Case) (t : Ticket) (p : ProcessId)
     → IsLeafPair tree c t p → (h : Heard) (e e' : Effect) (a f : ℕ) (ws : List Write)
@@ -83,10 +80,10 @@ fault_more : (tree : List TreeProcess) (w : World) (above : Bool) (c : Case) (t 
     → (manager_view (record { me = t.child; role = AtLeaf p; tree = tree }) (w.at t.child)
     (child_case c.txn t)).standing ≡ ActiveStanding
     → reading_of tree (made_at w t.child (fails_in (w.at t.child) h e (suc a) f) e') above c t
-    ≡ crash.hardens_failed_child (child_front (child_case c.txn t) ((w.at t.child).forced
+    ≡ ChildCrash.hardens_failed_child (child_front (child_case c.txn t) ((w.at t.child).forced
     ++ take f ((w.at t.child).unforced
     ++ PreparedRecord (CaseBranch (child_case c.txn t)) ws ∷ [])) (w.at t.child).durable)
-    (crash.fails_to_promise (reading_of tree w above c t))
+    (ChildCrash.fails_to_promise (reading_of tree w above c t))
 fault_more tree w above c t p pair h e e' a f ws inv none one up stands =
     let place : Place = record { me = t.child; role = AtLeaf p; tree = tree } in
     let k = w.at t.child in
@@ -106,7 +103,7 @@ fault_more tree w above c t p pair h e e' a f ws inv none one up stands =
     (parent_half (place_of tree (process_of c)) (w.at (process_of c)) c t) (child_half place k d)
     (wire c t w.net)
     front (open_by k.failed (manager_view place k d).standing up stands)
-    ∙ ap (λ (r : Reading). crash.hardens_failed_child front (crash.fails_to_promise r)) old))
+    ∙ ap (λ (r : Reading). ChildCrash.hardens_failed_child front (ChildCrash.fails_to_promise r)) old))
 
 -- what is forced now at the process that stepped
 forced_at : (w : World) (q : ProcessId) (n : Node) (e : Effect) → ((made_at w q n e).at q).forced ≡ n.forced
@@ -135,18 +132,18 @@ fails_by : (a : ℕ) (tree : List TreeProcess) (w : World) (above : Bool) (c : C
     → (manager_view (record { me = t.child; role = AtLeaf p; tree = tree }) (w.at t.child)
     (child_case c.txn t)).standing ≡ ActiveStanding
     → reading_of tree (made_at w t.child (fails_in (w.at t.child) h e a f) e') above c t
-    ≡ crash.hardens_failed_child (child_front (child_case c.txn t)
+    ≡ ChildCrash.hardens_failed_child (child_front (child_case c.txn t)
     ((made_at w t.child (fails_in (w.at t.child) h e a f) e').at t.child).forced
     (w.at t.child).durable) (promise_fault a (reading_of tree w above c t))
 fails_by zero tree w above c t p pair h e e' f ws inv none one up stands =
     fault_zero tree w above c t p pair h e e' f inv none
-    ∙ ap (λ (x : crash.ChildFront). crash.hardens_failed_child x
-    (crash.child_fails (reading_of tree w above c t)))
+    ∙ ap (λ (x : ChildCrash.ChildFront). ChildCrash.hardens_failed_child x
+    (ChildCrash.child_fails (reading_of tree w above c t)))
     (sym (left_zero (child_case c.txn t) (w.at t.child) h e f w t.child e'))
 fails_by (suc a) tree w above c t p pair h e e' f ws inv none one up stands =
     fault_more tree w above c t p pair h e e' a f ws inv none one up stands
-    ∙ ap (λ (x : crash.ChildFront). crash.hardens_failed_child x
-    (crash.fails_to_promise (reading_of tree w above c t)))
+    ∙ ap (λ (x : ChildCrash.ChildFront). ChildCrash.hardens_failed_child x
+    (ChildCrash.fails_to_promise (reading_of tree w above c t)))
     (sym (left_more (child_case c.txn t) (w.at t.child) h e a f w t.child e'
     (PreparedRecord (CaseBranch (child_case c.txn t)) ws) one))
 
@@ -163,7 +160,7 @@ manager_fails tree w w' above c t p i n a ws f e pair inv ready made =
     let made' = manager_hears First place p k a (Prepare d n) in
     let same : made' ≡ leaf_effect (active_prepare_holding (leaf_of place p d) (Holds ws)) = effect_yes
     place p k a d n ws ready' in
-    subst (λ (x : World). reading_of tree x above c t ≡ crash.hardens_failed_child
+    subst (λ (x : World). reading_of tree x above c t ≡ ChildCrash.hardens_failed_child
     (child_front d (x.at t.child).forced k.durable)
     (promise_fault f.appended (reading_of tree w above c t))) (sym both.1)
     (fails_by f.appended tree w above c t p pair h made' (fault_effect made' f.appended) f.forced ws inv

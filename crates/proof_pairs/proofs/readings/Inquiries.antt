@@ -9,7 +9,8 @@ use Rattle.protocol.specs.declared.messages.Message.TheVariants.{Inquire}
 use Rattle.protocol.specs.declared.messages.Envelope.{Envelope}
 use Rattle.protocol.specs.declared.records.Record.{Record}
 use Rattle.protocol.specs.declared.records.Record.TheVariants.{Opened, Collecting, Prepare, Commit, Abort, End, Prepared, Committed, RolledBack, Direct, HeurCommit, HeurRollback, Told, Forgot, Base, Pair, Cleared}
-use Rattle.protocol.specs.declared.records.BranchName.TheVariants.{Case as CaseBranch, Foreign}
+use Rattle.protocol.specs.declared.records.BranchName.TheVariants.{Foreign}
+use Rattle.protocol_words.specs.Variants.{CaseBranch}
 use Rattle.protocol.specs.Names.{same_case}
 use Rattle.protocol.specs.NameLaws.{names}
 use Rattle.protocol.specs.Records.{has, has_case, with_case, with_record, cases_in, record_case}

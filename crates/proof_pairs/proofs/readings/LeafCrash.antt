@@ -4,10 +4,8 @@ use Rattle.std.proofs.lemmas.List.{take-append-drop}
 use Rattle.std.proofs.Math.Seq.{take-nil}
 use Rattle.std.proofs.lemmas.List.Folds.{list_any-append}
 use Rattle.protocol.specs.declared.names.Case.{Case}
-use Rattle.protocol.specs.declared.names.Outcome.TheVariants.{Committed as CommittedOutcome}
+use Rattle.protocol_words.specs.Variants.{CaseBranch, CommittedOutcome, PreparedRecord}
 use Rattle.protocol.specs.declared.records.Record.{Record}
-use Rattle.protocol.specs.declared.records.Record.TheVariants.{Prepared as PreparedRecord}
-use Rattle.protocol.specs.declared.records.BranchName.TheVariants.{Case as CaseBranch}
 use Rattle.protocol.specs.declared.records.Write.{Write}
 use Rattle.protocol.specs.declared.standings.Standing.{Standing}
 use Rattle.protocol.specs.NameLaws.{same_case-refl}
@@ -16,7 +14,7 @@ use Rattle.protocol.specs.Nodes.{Node, Heard, Effect, fails_in}
 use Rattle.protocol.specs.CoordinatorRows.{forced}
 use Rattle.proof_pairs.specs.readings.ReadingOf.{child_half_at, reading_from, ParentHalf, ChildHalf, Wire, is_dead}
 use Rattle.protocol.specs.Audits.{is_promise}
-use Rattle.proof_pairs.specs.ChildCrash as crash
+use Rattle.proof_pairs.specs.ChildCrash
 use Rattle.proof_pairs.specs.ChildCrash.{ChildFront}
 use Rattle.proof_pairs.proofs.readings.LeafRows.{and-false, dead-live, dead-promised}
 use Rattle.proof_pairs.specs.readings.Halves.{child_front, failed_half, failed_promise}
@@ -120,8 +118,8 @@ pub reading-fails : (root outcome above : Bool) (p : ParentHalf) (k : ChildHalf)
     (front : ChildFront)
     → QuietWhileOpen k.is_open v.issued k.prepared_kept k.prepared_ever v.read
     → (front.prepared ≡ true → k.prepared_kept ≡ true)
-    → reading_from root true outcome above p (failed_half front k) v ≡ crash.hardens_failed_child front
-    (crash.child_fails (reading_from root true outcome above p k v))
+    → reading_from root true outcome above p (failed_half front k) v ≡ ChildCrash.hardens_failed_child front
+    (ChildCrash.child_fails (reading_from root true outcome above p k v))
 reading-fails root outcome above p k v front quiet sub =
     rw (
       and-false v.issued,
@@ -131,8 +129,8 @@ reading-fails root outcome above p k v front quiet sub =
 
 pub reading-fails_to_promise : (root outcome above : Bool) (p : ParentHalf) (k : ChildHalf) (v : Wire)
     (front : ChildFront) → k.is_open ≡ true
-    → reading_from root true outcome above p (failed_promise front k) v ≡ crash.hardens_failed_child front
-    (crash.fails_to_promise (reading_from root true outcome above p k v))
+    → reading_from root true outcome above p (failed_promise front k) v ≡ ChildCrash.hardens_failed_child front
+    (ChildCrash.fails_to_promise (reading_from root true outcome above p k v))
 reading-fails_to_promise root outcome above p k v front e = rw e (simp (and-false, dead-live, dead-promised))
 
 -- what the new front holds was kept

@@ -5,11 +5,9 @@ use Rattle.protocol.specs.declared.names.ProcessId.{ProcessId}
 use Rattle.protocol.specs.declared.names.Ticket.{Ticket}
 use Rattle.protocol.specs.declared.messages.Envelope.{Envelope}
 use Rattle.protocol.specs.declared.messages.Message.TheVariants.{Yes}
-use Rattle.protocol.specs.declared.records.Record.TheVariants.{Prepared as PreparedRecord}
-use Rattle.protocol.specs.declared.records.BranchName.TheVariants.{Case as CaseBranch}
+use Rattle.protocol_words.specs.Variants.{ActiveStanding, CaseBranch, PreparedRecord}
 use Rattle.protocol.specs.declared.records.Write.{Write}
 use Rattle.protocol.specs.declared.standings.Standing.{Standing}
-use Rattle.protocol.specs.declared.standings.Standing.TheVariants.{Active as ActiveStanding}
 use Rattle.protocol.specs.declared.trees.TreeProcess.{TreeProcess}
 use Rattle.protocol.specs.Names.{child_case, process_of}
 use Rattle.protocol.specs.NameLaws.{same_case-refl}
@@ -19,7 +17,7 @@ use Rattle.protocol.specs.Standings.{manager_view}
 use Rattle.protocol.specs.Outcomes.{is_commit_outcome}
 use Rattle.protocol.specs.World.{World}
 use Rattle.proof_pairs.specs.Reading.{is_live}
-use Rattle.proof_pairs.specs.ChildMoves as move
+use Rattle.proof_pairs.specs.ChildMoves
 use Rattle.proof_pairs.specs.readings.ReadingOf.{reading_of, reading_from, is_root_ticket, parent_half, child_half, wire, ParentHalf, ChildHalf, Wire, is_dead, phase_by}
 use Rattle.proof_pairs.specs.readings.Halves.{promised}
 use Rattle.proof_pairs.specs.readings.Steps.{handled, IsLeafPair}
@@ -51,8 +49,8 @@ wire-yes c t q p net = simp (sent-push, same_case-refl)
 -- The reading.
 
 reading-promised : (root outcome above : Bool) (p : ParentHalf) (k : ChildHalf) (v : Wire) → k.is_open ≡ true
-    → reading_from root true outcome above p (promised k) (record v { yes = true }) ≡ move.votes_yes
-    (move.hardens_child (reading_from root true outcome above p k v))
+    → reading_from root true outcome above p (promised k) (record v { yes = true }) ≡ ChildMoves.votes_yes
+    (ChildMoves.hardens_child (reading_from root true outcome above p k v))
 reading-promised root outcome above p k v e = rw e (simp (and-false, dead-live, dead-promised))
 
 -- the child's half and the net were moved
@@ -69,8 +67,8 @@ pub row_yes : (tree : List TreeProcess) (w : World) (above : Bool) (c : Case) (t
     → (w.at t.child).failed ≡ false
     → (manager_view (record { me = t.child; role = AtLeaf p; tree = tree }) (w.at t.child)
     (child_case c.txn t)).standing ≡ ActiveStanding
-    → reading_of tree (handled w t.child h e) above c t ≡ move.votes_yes
-    (move.hardens_child (reading_of tree w above c t))
+    → reading_of tree (handled w t.child h e) above c t ≡ ChildMoves.votes_yes
+    (ChildMoves.hardens_child (reading_of tree w above c t))
 row_yes tree w above c t p pair h e ws one two up stands =
     let place : Place = record { me = t.child; role = AtLeaf p; tree = tree } in
     let d = child_case c.txn t in
@@ -82,4 +80,4 @@ row_yes tree w above c t p pair h e ws one two up stands =
     ∙ (reading-promised (is_root_ticket c.ticket) (is_commit_outcome w c.txn) above
     (parent_half (place_of tree (process_of c)) (w.at (process_of c)) c t)
     (child_half place (w.at t.child) d) (wire c t w.net) (open_by _ _ up stands)
-    ∙ ap (λ r. move.votes_yes (move.hardens_child r)) (before tree w above c t p pair)))
+    ∙ ap (λ r. ChildMoves.votes_yes (ChildMoves.hardens_child r)) (before tree w above c t p pair)))

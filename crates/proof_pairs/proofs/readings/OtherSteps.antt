@@ -5,11 +5,9 @@ use Rattle.protocol.specs.declared.names.ProcessId.{ProcessId}
 use Rattle.protocol.specs.declared.names.Ticket.{Ticket}
 use Rattle.protocol.specs.declared.messages.Envelope.{Envelope}
 use Rattle.protocol.specs.declared.messages.Message.TheVariants.{Prepare, Yes}
-use Rattle.protocol.specs.declared.records.Record.TheVariants.{Prepared as PreparedRecord}
-use Rattle.protocol.specs.declared.records.BranchName.TheVariants.{Case as CaseBranch}
+use Rattle.protocol_words.specs.Variants.{CaseBranch, MessageInput, PreparedRecord}
 use Rattle.protocol.specs.declared.records.Write.{Write}
 use Rattle.protocol.specs.declared.standings.Standing.{Standing}
-use Rattle.protocol.specs.declared.events.Input.TheVariants.{Message as MessageInput}
 use Rattle.protocol.specs.declared.trees.TreeProcess.{TreeProcess}
 use Rattle.protocol.specs.Names.{same_case, child_case, process_of}
 use Rattle.protocol.specs.Records.{same_branch}
@@ -21,7 +19,7 @@ use Rattle.protocol.specs.Reactions.{manager_hears, leaf_effect, leaf_of}
 use Rattle.protocol.specs.Standings.{Mark, Unmarked, Promised, Decided, ToldOf, Finished, manager_view, mark_of, marked_branch, heard_branch}
 use Rattle.protocol.specs.Outcomes.{is_commit_outcome}
 use Rattle.protocol.specs.World.{World, Move, Stepped, Makes, Refuses, world_makes, world_stepped, node_makes}
-use Rattle.proof_pairs.specs.ChildMoves as move
+use Rattle.proof_pairs.specs.ChildMoves
 use Rattle.proof_pairs.specs.readings.ReadingOf.{reading_of, reading_from, is_root_ticket, parent_half, child_half, child_half_at, wire, no_wire, ParentHalf, ChildHalf, Wire}
 use Rattle.proof_pairs.specs.readings.Halves.{hardened}
 use Rattle.proof_pairs.specs.readings.Steps.{made_at, IsElsewhere}
@@ -167,7 +165,7 @@ wire-other_yes : (c o : Case) (t : Ticket) (q p : ProcessId) (net : List Envelop
 wire-other_yes c o t q p net e = simp (sent-push, e)
 
 reading-hardened : (root outcome above : Bool) (p : ParentHalf) (k : ChildHalf) (v : Wire)
-    → reading_from root true outcome above p (hardened k) v ≡ move.hardens_child
+    → reading_from root true outcome above p (hardened k) v ≡ ChildMoves.hardens_child
     (reading_from root true outcome above p k v)
 reading-hardened root outcome above p k v = simp (or_twice)
 
@@ -194,4 +192,4 @@ manager_votes_elsewhere tree w w' above c t p o i n a ws e pair other ready made
     ∙ (reading-hardened (is_root_ticket c.ticket) (is_commit_outcome w c.txn) above
     (parent_half (place_of tree (process_of c)) (w.at (process_of c)) c t) (child_half place k d)
     (wire c t w.net)
-    ∙ ap move.hardens_child (before tree w above c t p pair))))
+    ∙ ap ChildMoves.hardens_child (before tree w above c t p pair))))

@@ -5,11 +5,10 @@ use Rattle.std.proofs.lemmas.Grind.{fold-append}
 use Rattle.protocol.specs.declared.names.Case.{Case}
 use Rattle.protocol.specs.declared.names.ProcessId.{ProcessId}
 use Rattle.protocol.specs.declared.names.Ticket.{Ticket}
-use Rattle.protocol.specs.declared.names.Outcome.TheVariants.{Committed as CommittedOutcome, Aborted as AbortedOutcome}
+use Rattle.protocol_words.specs.Variants.{AbortedOutcome, CaseBranch, CommittedOutcome}
 use Rattle.protocol.specs.declared.messages.Envelope.{Envelope}
 use Rattle.protocol.specs.declared.records.Record.{Record}
 use Rattle.protocol.specs.declared.records.Record.TheVariants.{Opened}
-use Rattle.protocol.specs.declared.records.BranchName.TheVariants.{Case as CaseBranch}
 use Rattle.protocol.specs.declared.standings.Standing.{Standing}
 use Rattle.protocol.specs.declared.trees.TreeProcess.{TreeProcess}
 use Rattle.protocol.specs.Names.{child_case, process_of}
@@ -21,7 +20,7 @@ use Rattle.protocol.specs.Restarts.{restarted, restart_effect, left_of, manager_
 use Rattle.protocol.specs.Outcomes.{sent, is_commit_outcome, is_joined_message, is_read_message, is_yes_message, is_outcome_message}
 use Rattle.protocol.specs.World.{World}
 use Rattle.proof_pairs.specs.Reading.{Reading, is_live}
-use Rattle.proof_pairs.specs.ChildCrash as crash
+use Rattle.proof_pairs.specs.ChildCrash
 use Rattle.proof_pairs.specs.ChildCrash.{ChildFront}
 use Rattle.proof_pairs.specs.Invariant.{Common}
 use Rattle.proof_pairs.specs.readings.ReadingOf.{reading_of, reading_from, is_root_ticket, parent_half, child_half, child_half_at, wire, ParentHalf, ChildHalf, Wire, phase_by, is_dead, gives_case, is_prepare_message, is_no_message, is_ack_message, is_inquiry_message}
@@ -83,7 +82,7 @@ pub reading-restarts : (root outcome above : Bool) (p : ParentHalf) (k : ChildHa
     → (k.prepared_kept ≡ true → (v.issued ≡ true) × (v.read ≡ false))
     → reading_from root true outcome above p (restarted_half front k)
     (record v { inquire = is_in_doubt front || v.inquire })
-    ≡ crash.child_restarts front (reading_from root true outcome above p k v)
+    ≡ ChildCrash.child_restarts front (reading_from root true outcome above p k v)
 reading-restarts root outcome above p k v front quiet sub once asked =
     rw (
       and-false v.issued,
@@ -172,4 +171,4 @@ manager_restarts tree w w' above c t p k a e pair inv ready made =
     (parent_half (place_of tree (process_of c)) (w.at (process_of c)) c t) (child_half place n d)
     (wire c t w.net) front
     said.quiet_open fronts.had_prepared (λ x y. fronts.holds_prepared (said.once x y)) said.asked
-    ∙ ap (λ (r : Reading). crash.child_restarts front r) old)))
+    ∙ ap (λ (r : Reading). ChildCrash.child_restarts front r) old)))

@@ -4,12 +4,9 @@ use Rattle.protocol.specs.declared.names.Case.{Case}
 use Rattle.protocol.specs.declared.names.ProcessId.{ProcessId}
 use Rattle.protocol.specs.declared.names.Ticket.{Ticket}
 use Rattle.protocol.specs.declared.messages.Message.TheVariants.{Yes}
-use Rattle.protocol.specs.declared.records.Record.TheVariants.{Commit as CommitRecord}
+use Rattle.protocol_words.specs.Variants.{CommitRecord, ConcludedCommitted, MessageInput, VoteYes}
 use Rattle.protocol.specs.declared.standings.Vote.{Vote}
-use Rattle.protocol.specs.declared.standings.Vote.TheVariants.{Yes as VoteYes}
 use Rattle.protocol.specs.declared.standings.Standing.{Standing}
-use Rattle.protocol.specs.declared.events.Input.TheVariants.{Message as MessageInput}
-use Rattle.protocol.specs.declared.events.Conclusion.TheVariants.{Committed as ConcludedCommitted}
 use Rattle.protocol.specs.declared.trees.TreeProcess.{TreeProcess}
 use Rattle.protocol.specs.Names.{child_case}
 use Rattle.protocol.specs.NameLaws.{same_case-refl, same_ticket-refl, same_txn-refl}

@@ -3,14 +3,10 @@ use Rattle.std.proofs.Common.{◌≡◌, ◌∙◌, ℕ, Bool, true, false, ◌|
 use Rattle.protocol.specs.declared.names.Case.{Case}
 use Rattle.protocol.specs.declared.names.Ticket.{Ticket}
 use Rattle.protocol.specs.declared.names.Txn.{Txn}
-use Rattle.protocol.specs.declared.names.Outcome.TheVariants.{Committed as CommittedOutcome, Aborted as AbortedOutcome}
+use Rattle.protocol_words.specs.Variants.{AbortedOutcome, CommitRecord, CommittedOutcome, ConcludedCommitted, MessageInput, VoteYes}
 use Rattle.protocol.specs.declared.messages.Envelope.{Envelope}
 use Rattle.protocol.specs.declared.messages.Message.{Message}
 use Rattle.protocol.specs.declared.messages.Message.TheVariants.{Yes, Commit}
-use Rattle.protocol.specs.declared.records.Record.TheVariants.{Commit as CommitRecord}
-use Rattle.protocol.specs.declared.standings.Vote.TheVariants.{Yes as VoteYes}
-use Rattle.protocol.specs.declared.events.Input.TheVariants.{Message as MessageInput}
-use Rattle.protocol.specs.declared.events.Conclusion.TheVariants.{Committed as ConcludedCommitted}
 use Rattle.protocol.specs.declared.trees.TreeProcess.{TreeProcess}
 use Rattle.protocol.specs.Names.{child_case, root_case}
 use Rattle.protocol.specs.NameLaws.{same_case-refl}
@@ -20,8 +16,8 @@ use Rattle.protocol.specs.CoordinatorRows.{Seat, forced, each}
 use Rattle.protocol.specs.Outcomes.{sent, is_commit_outcome, is_joined_message, is_read_message, is_yes_message, is_outcome_message}
 use Rattle.protocol.specs.World.{World}
 use Rattle.proof_pairs.specs.Reading.{Reading, Collecting}
-use Rattle.proof_pairs.specs.ParentMoves as parent
-use Rattle.proof_pairs.specs.RootMoves as root
+use Rattle.proof_pairs.specs.ParentMoves
+use Rattle.proof_pairs.specs.RootMoves
 use Rattle.proof_pairs.specs.readings.ReadingOf.{reading_of, reading_from, parent_half, child_half, wire, ParentHalf, ChildHalf, Wire, gives_case, is_prepare_message, is_no_message, is_ack_message, is_inquiry_message}
 use Rattle.proof_pairs.specs.readings.Halves.{commits_naming}
 use Rattle.proof_pairs.specs.readings.Steps.{handled, IsRootPair}
@@ -77,8 +73,8 @@ reading-committed : (manager outcome above : Bool) (p : ParentHalf) (k : ChildHa
     → p.phase ≡ Collecting → p.begun ≡ true → p.owed ≡ false
     → reading_from true manager true above (commits_naming p.accepted p) k
     (record v { commit = p.accepted || v.commit })
-    ≡ root.decides_naming (parent.hears_yes
-    (parent.hardens_parent (reading_from true manager outcome above p k v)))
+    ≡ RootMoves.decides_naming (ParentMoves.hears_yes
+    (ParentMoves.hardens_parent (reading_from true manager outcome above p k v)))
 reading-committed manager outcome above p k v phase begun owed = rw (phase, begun, owed)
     (simp (dead-live, dead-promised, and-true, or-false))
 
@@ -95,8 +91,8 @@ pub row_commits : (tree : List TreeProcess) (w : World) (above : Bool) (x : Txn)
     → e.messages ≡ each s Commit ys → s.own.txn ≡ x
     → (let r = reading_of tree w above (root_case x) t in (in_list ys t ≡ r.accepted)
     × (r.phase ≡ Collecting) × (r.born ≡ true) × (r.owed ≡ false))
-    → reading_of tree (handled w x.root h e) above (root_case x) t ≡ root.decides_naming
-    (parent.hears_yes (parent.hardens_parent (reading_of tree w above (root_case x) t)))
+    → reading_of tree (handled w x.root h e) above (root_case x) t ≡ RootMoves.decides_naming
+    (ParentMoves.hears_yes (ParentMoves.hardens_parent (reading_of tree w above (root_case x) t)))
 row_commits tree w above x t pair i h e s ys input one none_accepted counted told messages own facts =
     let place : Place = record { me = x.root; role = AtRoot; tree = tree } in
     let c = root_case x in
@@ -114,4 +110,4 @@ row_commits tree w above x t pair i h e s ys input one none_accepted counted tol
     ∙ (reading-committed (is_leaf (role_of tree t.child)) (is_commit_outcome w x) above p k (wire c t w.net)
     (ap (λ (r : Reading). r.phase) same ∙ facts.1) (ap (λ (r : Reading). r.born) same
     ∙ facts.2) (ap (λ (r : Reading). r.owed) same ∙ facts.3)
-    ∙ ap (λ (r : Reading). root.decides_naming (parent.hears_yes (parent.hardens_parent r))) same))
+    ∙ ap (λ (r : Reading). RootMoves.decides_naming (ParentMoves.hears_yes (ParentMoves.hardens_parent r))) same))

@@ -8,9 +8,7 @@ use Rattle.protocol.specs.declared.names.Presumption.TheVariants.{PresumeAbort}
 use Rattle.protocol.specs.declared.messages.Message.TheVariants.{Yes}
 use Rattle.protocol.specs.declared.records.Record.{Record}
 use Rattle.protocol.specs.declared.standings.Standing.{Standing}
-use Rattle.protocol.specs.declared.standings.Standing.TheVariants.{Collecting as CollectingStanding}
-use Rattle.protocol.specs.declared.standings.Vote.TheVariants.{Yes as VoteYes}
-use Rattle.protocol.specs.declared.events.Input.TheVariants.{Message as MessageInput}
+use Rattle.protocol_words.specs.Variants.{CollectingStanding, MessageInput, VoteYes}
 use Rattle.protocol.specs.Names.{child_case, root_case}
 use Rattle.protocol.specs.Records.{in_list, none_of}
 use Rattle.protocol.specs.Nodes.{First, Place, Role, AtRoot, Node, kept, Heard, Effect}

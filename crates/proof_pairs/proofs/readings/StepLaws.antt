@@ -10,7 +10,7 @@ use Rattle.protocol.specs.declared.records.Record.{Record}
 use Rattle.protocol.specs.declared.records.Write.{Write}
 use Rattle.protocol.specs.declared.standings.Standing.{Standing}
 use Rattle.protocol.specs.declared.standings.Standing.TheVariants.{Prepared}
-use Rattle.protocol.specs.declared.events.Input.TheVariants.{Message as MessageInput}
+use Rattle.protocol_words.specs.Variants.{MessageInput}
 use Rattle.protocol.specs.Names.{child_case, process_of}
 use Rattle.protocol.specs.Records.{promised_by}
 use Rattle.protocol.specs.Nodes.{First, Place, Role, AtLeaf, Below, Node, kept, Heard, DataAnswer, Holds, Effect}

@@ -16,7 +16,7 @@ use Rattle.protocol.specs.Restarts.{trims, trim_effect, trimmed}
 use Rattle.protocol.specs.Outcomes.{is_commit_outcome}
 use Rattle.protocol.specs.World.{World}
 use Rattle.proof_pairs.specs.Reading.{Reading}
-use Rattle.proof_pairs.specs.ParentMoves as parent
+use Rattle.proof_pairs.specs.ParentMoves
 use Rattle.proof_pairs.specs.Invariant.{Common}
 use Rattle.proof_pairs.specs.readings.ReadingOf.{reading_of, reading_from, parent_half, parent_half_at, child_half, wire, ParentHalf, ChildHalf, Wire, phase_by}
 use Rattle.proof_pairs.specs.readings.Halves.{trimmed_parent}
@@ -85,7 +85,7 @@ kept-outcome a b f = grind arith
 
 reading-trims : (manager outcome above : Bool) (p : ParentHalf) (k : ChildHalf) (v : Wire)
     → (p.commit_kept ≡ true → outcome ≡ true)
-    → reading_from true manager outcome above (trimmed_parent p) k v ≡ parent.trims_parent
+    → reading_from true manager outcome above (trimmed_parent p) k v ≡ ParentMoves.trims_parent
     (reading_from true manager outcome above p k v)
 reading-trims manager outcome above p k v f = rw (sym (kept-outcome p.commit_kept outcome f))
 
@@ -144,4 +144,4 @@ root_trims tree w w' above x t a e pair inv unknown agrees made =
     (parent_half place n c t) (child_half (place_of tree t.child) (w.at t.child) (child_case x t))
     (wire c t w.net)
     (kept_commit (reading_of tree w above c t) inv refl both.0)
-    ∙ ap (λ (r : Reading). parent.trims_parent r) old)))
+    ∙ ap (λ (r : Reading). ParentMoves.trims_parent r) old)))

@@ -4,15 +4,13 @@ use Rattle.protocol.specs.declared.names.Case.{Case}
 use Rattle.protocol.specs.declared.names.ProcessId.{ProcessId}
 use Rattle.protocol.specs.declared.names.Ticket.{Ticket}
 use Rattle.protocol.specs.declared.names.Outcome.{Outcome}
-use Rattle.protocol.specs.declared.names.Outcome.TheVariants.{Committed as CommittedOutcome, Aborted as AbortedOutcome}
+use Rattle.protocol_words.specs.Variants.{AbortAct, AbortedOutcome, ActInput, CaseBranch, CommitAct, CommittedOutcome, JoinAct, MessageInput, WorkAct}
 use Rattle.protocol.specs.declared.messages.Message.{Message}
 use Rattle.protocol.specs.declared.messages.Message.TheVariants.{Join, Joined, Work, Prepare, Yes, No, Read, Commit, Abort, Ack, Inquire}
-use Rattle.protocol.specs.declared.records.BranchName.TheVariants.{Case as CaseBranch}
 use Rattle.protocol.specs.declared.standings.Standing.{Standing}
 use Rattle.protocol.specs.declared.standings.Standing.TheVariants.{Unknown, Active, Collecting, Prepared, Committing, Aborting, Heuristic}
 use Rattle.protocol.specs.declared.events.Act.{Act}
-use Rattle.protocol.specs.declared.events.Act.TheVariants.{Begin, Join as JoinAct, Work as WorkAct, Commit as CommitAct, Abort as AbortAct, Ask, Decide, Forget}
-use Rattle.protocol.specs.declared.events.Input.TheVariants.{Act as ActInput, Message as MessageInput}
+use Rattle.protocol.specs.declared.events.Act.TheVariants.{Begin, Ask, Decide, Forget}
 use Rattle.protocol.specs.Names.{same_outcome}
 use Rattle.protocol.specs.NameLaws.{same_outcome_tells}
 use Rattle.protocol.specs.Nodes.{Place, Node, kept, Heard, Effect, Holding, ReadsOnly, Holds}
@@ -20,7 +18,7 @@ use Rattle.protocol.specs.Memory.{Memory, memory_of, active_ticket, Phase, Idle,
 use Rattle.protocol.specs.Standings.{ManagerView, unknown_branch, manager_view, marked_branch, heard_branch, Mark, Unmarked, Promised, Decided, ToldOf, Finished, mark_of, decided_findings}
 use Rattle.protocol.specs.CoordinatorRows.{tells_outcome}
 use Rattle.protocol.specs.ManagerRows.{Leaf, LeafRow, on_work, on_prepare, on_commit, on_abort, active_prepare_holding, replies, acknowledgement}
-use Rattle.protocol.specs.ManagerRows as leaf
+use Rattle.protocol.specs.ManagerRows
 use Rattle.protocol.specs.Reactions.{Reacts, Refused, Does, leaf_effect, leaf_of, manager_acts, manager_hears, leaf_joins, childless_by, leaf_ask_by, decide_by, forget_by}
 use Rattle.proof_pairs.specs.turns.LeafTurns.{LeafTurn, IsActive, IsUnknown, IsOpenBranch, waits, by_operator, IsDecided, untold, told, Waits, promised, decided, Hears, mark_at, does_nothing, gives_again, gives_fresh, votes_yes, votes_read, votes_no, repeats_yes, refuses, obeys, notes, acknowledges_told, acknowledges, drops, asks, decides, forgets}
 
@@ -102,7 +100,7 @@ module _ (place : Place) (p : ProcessId) (n : Node) (h : Heard) where
           messages = acknowledgement here o (decided_findings h.version (kept n) d o);
           view = marked_branch m (ToldOf u);
         }
-        else leaf.unmoved (marked_branch m (ToldOf u))))
+        else ManagerRows.unmoved (marked_branch m (ToldOf u))))
     heard_again o u i s true e =
         acknowledges_told d o i
         (s ∙ ap (λ x. ToldOf x) (let t = same_outcome_tells u o in grind (arith, t, e)))
@@ -142,7 +140,7 @@ module _ (place : Place) (p : ProcessId) (n : Node) (h : Heard) where
     -- WORK says nothing.
 
     works_by : (b c : Bool) (v w x : ManagerView)
-        → T (leaf_effect (if b then leaf.unmoved (if c then v else w) else leaf.unmoved x))
+        → T (leaf_effect (if b then ManagerRows.unmoved (if c then v else w) else ManagerRows.unmoved x))
     works_by true c v w x = does_nothing
     works_by false c v w x = does_nothing
 

@@ -5,25 +5,22 @@ use Rattle.protocol.specs.declared.names.Case.{Case}
 use Rattle.protocol.specs.declared.names.Ticket.{Ticket}
 use Rattle.protocol.specs.declared.names.Txn.{Txn}
 use Rattle.protocol.specs.declared.names.Outcome.{Outcome}
-use Rattle.protocol.specs.declared.names.Outcome.TheVariants.{Committed as CommittedOutcome, Aborted as AbortedOutcome}
+use Rattle.protocol_words.specs.Variants.{AbortRecord, AbortedOutcome, ActiveStanding, CollectingRecord, CollectingStanding, CommitRecord, CommittedOutcome, ConcludedCommitted, PrepareRecord, ToldRecord, VoteNo, VoteRead, VoteYes}
 use Rattle.protocol.specs.declared.messages.Message.{Message}
 use Rattle.protocol.specs.declared.messages.Message.TheVariants.{Joined, Prepare, No, Ack, Inquire}
 use Rattle.protocol.specs.declared.messages.Envelope.{Envelope}
 use Rattle.protocol.specs.declared.records.Record.{Record}
-use Rattle.protocol.specs.declared.records.Record.TheVariants.{Collecting as CollectingRecord, Prepare as PrepareRecord, Commit as CommitRecord, Abort as AbortRecord, Told as ToldRecord}
 use Rattle.protocol.specs.declared.standings.Standing.{Standing}
-use Rattle.protocol.specs.declared.standings.Standing.TheVariants.{Unknown, Active as ActiveStanding, Collecting as CollectingStanding, Prepared, Committing, Aborting, Heuristic}
-use Rattle.protocol.specs.declared.standings.Vote.TheVariants.{Yes as VoteYes, No as VoteNo, Read as VoteRead}
+use Rattle.protocol.specs.declared.standings.Standing.TheVariants.{Unknown, Prepared, Committing, Aborting, Heuristic}
 use Rattle.protocol.specs.declared.events.Told.{Told}
 use Rattle.protocol.specs.declared.events.Conclusion.{Conclusion}
-use Rattle.protocol.specs.declared.events.Conclusion.TheVariants.{Committed as ConcludedCommitted}
 use Rattle.protocol.specs.declared.names.Presumption.{Presumption}
 use Rattle.protocol.specs.declared.names.Presumption.TheVariants.{PresumeAbort, PresumeCommit}
 use Rattle.protocol.specs.declared.trees.TreeProcess.{TreeProcess}
 use Rattle.protocol.specs.Names.{same_txn, same_case, child_case, process_of}
 use Rattle.protocol.specs.Records.{has, in_list, is_branch, is_collecting, is_prepare, is_commit, is_abort, is_end, is_prepared, is_committed, is_rolled_back, is_heuristic, is_decided, is_forgot}
 use Rattle.protocol.specs.Nodes.{Place, place_of, role_of, is_leaf, Node, kept}
-use Rattle.protocol.specs.Memory.{Memory, Phase as MemoryPhase, Idle, Open, Asked, Over, memory_of, has_acked, same_vote}
+use Rattle.protocol.specs.Memory.{Memory, Phase, Idle, Open, Asked, Over, memory_of, has_acked, same_vote}
 use Rattle.protocol.specs.Standings.{standing_of}
 use Rattle.protocol.specs.World.{World}
 use Rattle.protocol.specs.Outcomes.{sent, has_accepted, has_heard_vote, is_commit_outcome, is_yes_message, is_read_message, is_outcome_message, is_joined_message, is_told_aborted, follows}
@@ -100,7 +97,7 @@ abbrev pub is_told_of_txn : Txn → Told → Bool
 is_told_of_txn x a = same_txn a.txn x
 
 -- in memory the case was begun since the last restart
-abbrev pub is_begun : MemoryPhase → Bool
+abbrev pub is_begun : Phase → Bool
 is_begun Idle = false
 is_begun Open = true
 is_begun Asked = true

@@ -5,7 +5,7 @@ use Rattle.protocol.specs.declared.names.ProcessId.{ProcessId}
 use Rattle.protocol.specs.declared.names.Ticket.{Ticket}
 use Rattle.protocol.specs.declared.names.Presumption.TheVariants.{PresumeAbort}
 use Rattle.protocol.specs.declared.names.Txn.{Txn}
-use Rattle.protocol.specs.declared.standings.Vote.TheVariants.{Yes as VoteYes}
+use Rattle.protocol_words.specs.Variants.{CaseBranch, VoteYes}
 use Rattle.protocol.specs.Memory.{is_counted, all_voted, memory_of}
 use Rattle.protocol.specs.declared.messages.Message.TheVariants.{Prepare, Abort, Yes}
 use Rattle.protocol.specs.declared.records.Write.{Write}
@@ -16,7 +16,6 @@ use Rattle.protocol.specs.Records.{has, is_prepare}
 use Rattle.protocol.specs.Nodes.{place_of, kept, DataAnswer, Holds, Effect}
 use Rattle.protocol.specs.Standings.{CoordinatorView, ManagerView, manager_view, coordinator_view, case_of_child, phase_standing, mark_of}
 use Rattle.protocol.specs.declared.records.Record.{Record}
-use Rattle.protocol.specs.declared.records.BranchName.TheVariants.{Case as CaseBranch}
 use Rattle.protocol.specs.Restarts.{left_of, case_stays}
 use Rattle.protocol.specs.World.{World, world_makes, Move}
 use Rattle.proof_pairs.specs.ChildMoves.{votes_yes, hardens_child}

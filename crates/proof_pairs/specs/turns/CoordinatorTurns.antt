@@ -6,7 +6,7 @@ use Rattle.protocol.specs.declared.names.ProcessId.{ProcessId}
 use Rattle.protocol.specs.declared.names.Ticket.{Ticket}
 use Rattle.protocol.specs.declared.names.Txn.{Txn}
 use Rattle.protocol.specs.declared.names.Outcome.{Outcome}
-use Rattle.protocol.specs.declared.names.Outcome.TheVariants.{Committed as CommittedOutcome, Aborted as AbortedOutcome}
+use Rattle.protocol_words.specs.Variants.{AbortAct, AbortedOutcome, ActInput, CommitAct, CommittedOutcome, JoinAct, VoteNo, VoteRead, VoteYes, WorkAct}
 use Rattle.protocol.specs.declared.names.Presumption.{Presumption}
 use Rattle.protocol.specs.declared.names.Presumption.TheVariants.{PresumeAbort, PresumeCommit}
 use Rattle.protocol.specs.declared.messages.Op.{Op}
@@ -15,9 +15,7 @@ use Rattle.protocol.specs.declared.messages.Message.TheVariants.{Join, Joined, W
 use Rattle.protocol.specs.declared.standings.Standing.{Standing}
 use Rattle.protocol.specs.declared.standings.Standing.TheVariants.{Unknown, Active, Collecting, Prepared, Committing, Aborting}
 use Rattle.protocol.specs.declared.standings.Vote.{Vote}
-use Rattle.protocol.specs.declared.standings.Vote.TheVariants.{Yes as VoteYes, No as VoteNo, Read as VoteRead}
-use Rattle.protocol.specs.declared.events.Act.TheVariants.{Begin, Join as JoinAct, Work as WorkAct, Commit as CommitAct, Abort as AbortAct, Ask, Forget}
-use Rattle.protocol.specs.declared.events.Input.TheVariants.{Act as ActInput}
+use Rattle.protocol.specs.declared.events.Act.TheVariants.{Begin, Ask, Forget}
 use Rattle.protocol.specs.Names.{root_case, child_case, presumed}
 use Rattle.protocol.specs.Records.{boot_of, in_list, is_reported, none_of}
 use Rattle.protocol.specs.Nodes.{Version, First, Second, Place, Node, kept, Heard, Effect, no_effect, is_child, is_leaf, role_of}

@@ -4,16 +4,14 @@ use Rattle.protocol.specs.declared.names.Case.{Case}
 use Rattle.protocol.specs.declared.names.ProcessId.{ProcessId}
 use Rattle.protocol.specs.declared.names.Ticket.{Ticket}
 use Rattle.protocol.specs.declared.names.Outcome.{Outcome}
-use Rattle.protocol.specs.declared.names.Outcome.TheVariants.{Aborted as AbortedOutcome}
+use Rattle.protocol_words.specs.Variants.{AbortedOutcome, ActInput, CaseBranch, MessageInput, PreparedRecord, ToldRecord}
 use Rattle.protocol.specs.declared.messages.Message.{Message}
 use Rattle.protocol.specs.declared.messages.Message.TheVariants.{Join, Joined, Prepare, Yes, No, Read, Abort, Inquire}
 use Rattle.protocol.specs.declared.messages.Envelope.{Envelope}
-use Rattle.protocol.specs.declared.records.BranchName.TheVariants.{Case as CaseBranch}
-use Rattle.protocol.specs.declared.records.Record.TheVariants.{Prepared as PreparedRecord, Told as ToldRecord, Forgot as ForgotRecord}
+use Rattle.protocol.specs.declared.records.Record.TheVariants.{Forgot as ForgotRecord}
 use Rattle.protocol.specs.declared.records.Write.{Write}
 use Rattle.protocol.specs.declared.standings.Standing.TheVariants.{Unknown}
 use Rattle.protocol.specs.declared.events.Act.TheVariants.{Ask, Decide, Forget}
-use Rattle.protocol.specs.declared.events.Input.TheVariants.{Act as ActInput, Message as MessageInput}
 use Rattle.protocol.specs.Records.{boot_of}
 use Rattle.protocol.specs.Nodes.{Place, Node, kept, Heard, Effect, Written, no_effect}
 use Rattle.protocol.specs.Memory.{memory_of, active_ticket, next_ticket, Open}

@@ -2,7 +2,8 @@
 use Rattle.std.specs.Prelude.{◌≡◌, ℕ, true, false, None, Some}
 use Rattle.protocol.specs.declared.events.Fault.{Fault}
 use Rattle.protocol.specs.declared.events.Input.{Input}
-use Rattle.protocol.specs.declared.events.Happening.TheVariants.{Input as Handles, Restart, Trim}
+use Rattle.protocol.specs.declared.events.Happening.TheVariants.{Restart, Trim}
+use Rattle.protocol_words.specs.Variants.{Handles}
 use Rattle.protocol.specs.Nodes.{Role, AtLeaf, Place, Node, Heard, Effect, no_effect, after, fails_in, AtRoot, Below}
 use Rattle.protocol.specs.Reactions.{reacts, Does, is_passed_over}
 use Rattle.protocol.specs.Restarts.{restart_effect, restarted, restart_fails, trim_effect, trims, trim_fails}

@@ -9,12 +9,12 @@ use Rattle.protocol.specs.declared.messages.Message.{Message}
 use Rattle.protocol.specs.declared.messages.Message.TheVariants.{Join, Joined, Work, Prepare, Yes, No, Read, Commit, Abort, Ack, Inquire}
 use Rattle.protocol.specs.declared.messages.Envelope.{Envelope}
 use Rattle.protocol.specs.declared.records.Record.{Record}
-use Rattle.protocol.specs.declared.records.Record.TheVariants.{Collecting, Prepare as PrepareRecord, Commit as CommitRecord, Abort as AbortRecord, End, Cleared}
+use Rattle.protocol.specs.declared.records.Record.TheVariants.{Collecting, End, Cleared}
+use Rattle.protocol_words.specs.Variants.{AbortRecord, ActInput, CommitRecord, MessageInput, PrepareRecord}
 use Rattle.protocol.specs.declared.standings.Standing.TheVariants.{Unknown}
 use Rattle.protocol.specs.declared.events.Act.{Act}
 use Rattle.protocol.specs.declared.events.Act.TheVariants.{Forget}
 use Rattle.protocol.specs.declared.events.Input.{Input}
-use Rattle.protocol.specs.declared.events.Input.TheVariants.{Act as ActInput, Message as MessageInput}
 use Rattle.protocol.specs.Names.{child_case}
 use Rattle.protocol.specs.Records.{record_case, boot_of, is_reported}
 use Rattle.protocol.specs.Nodes.{Place, Node, kept, Written}

@@ -15,13 +15,13 @@ use Rattle.protocol.specs.declared.messages.Message.{Message}
 use Rattle.protocol.specs.declared.messages.Message.TheVariants.{Join, Work, Prepare}
 use Rattle.protocol.specs.declared.messages.Op.{Op}
 use Rattle.protocol.specs.declared.events.Input.{Input}
-use Rattle.protocol.specs.declared.events.Input.TheVariants.{Act as ActInput, Message as MessageInput}
+use Rattle.protocol_words.specs.Variants.{ActInput, MessageInput}
 use Rattle.protocol.specs.declared.records.LogRecord.{LogRecord}
 use Rattle.protocol.specs.declared.records.Write.{Write}
 use Rattle.protocol.specs.Nodes.{DataAnswer, ReadsOnly}
 use Rattle.protocol.specs.Plays.{held_writes, op_writes}
 use Rattle.process_state.specs.States.{CoreState}
-use Rattle.resource_manager.specs.Data as model_data
+use Rattle.resource_manager.specs.Data
 use Rattle.resource_manager.specs.Data.{CanBegin, HoldWrites, Holdings, IsFull, KeepsHolds, KnowsBranch, LetsHoldsGo, Locks, ManagerData, Wrote, key_of, mode_of, refusal_of}
 use Rattle.resource_manager.specs.Restarting.{writes_left}
 use Rattle.resource_manager.specs.Turns.{AnswersInput, Begins, DataTurn, Ends, LetsBegin, MovesData, Operates, Releases, Rests, answer_of, next_case}
@@ -37,7 +37,7 @@ one_key a b h = (bytes_eq-Decides a b).0 h
 -- Data that are alike: nothing is written, held or known at the one that is not at the other.
 
 abbrev pub AreAlike : ManagerData → ManagerData → Type 0
-AreAlike d e = model_data.DataRests d e
+AreAlike d e = Data.DataRests d e
 
 -- Answers.
 
@@ -130,7 +130,7 @@ module _ (d d' e e' : ManagerData) (alike : AreAlike d e) where
       by_name true here = subst (λ (z : Xid). e'.known z ≡ d'.known z) (one_name x y here) (q.own ∙ sym p.own)
       by_name false there = q.others y there ∙ alike.known y ∙ sym (p.others y there)
 
-  stay_alike : model_data.StayKnown d d' → model_data.StayKnown e e' → (y : Xid) → e'.known y ≡ d'.known y
+  stay_alike : Data.StayKnown d d' → Data.StayKnown e e' → (y : Xid) → e'.known y ≡ d'.known y
   stay_alike p q y = q y ∙ alike.known y ∙ sym (p y)
 
   keeps_alike : KeepsHolds d d' → KeepsHolds e e' → KeepsHolds d' e'

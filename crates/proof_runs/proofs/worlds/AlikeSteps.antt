@@ -11,7 +11,7 @@ use Rattle.protocol.specs.declared.events.Act.TheVariants.{Decide, Forget}
 use Rattle.protocol.specs.declared.events.StepError.TheVariants.{Failed, NoSuch}
 use Rattle.protocol.specs.declared.records.ShownRecord.{ShownRecord}
 use Rattle.protocol.specs.declared.events.Input.{Input}
-use Rattle.protocol.specs.declared.events.Input.TheVariants.{Act as ActInput, Message as MessageInput}
+use Rattle.protocol_words.specs.Variants.{ActInput, MessageInput}
 use Rattle.protocol.specs.declared.events.Reaction.{Reaction}
 use Rattle.protocol.specs.Nodes.{DataAnswer, Effect, Node, Place, Written, is_any_forced, logged_of, reaction_of}
 use Rattle.protocol.specs.LogNames.{in_log, parent_of}

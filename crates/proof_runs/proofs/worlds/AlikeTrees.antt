@@ -4,11 +4,10 @@ use Rattle.std.specs.Prelude.{⊤}
 use Rattle.protocol.specs.declared.names.ProcessId.{ProcessId}
 use Rattle.protocol.specs.declared.messages.Envelope.{Envelope}
 use Rattle.protocol.specs.declared.events.Event.{Event}
-use Rattle.protocol.specs.declared.events.Event.TheVariants.{Act as ActOf, Deliver, Settle, Restart, Trim}
+use Rattle.protocol.specs.declared.events.Event.TheVariants.{Deliver, Settle, Restart, Trim}
+use Rattle.protocol_words.specs.Variants.{ActInput, ActOf, Handles, MessageInput, Restarting, Trimming}
 use Rattle.protocol.specs.declared.events.Happening.{Happening}
-use Rattle.protocol.specs.declared.events.Happening.TheVariants.{Input as Handles, Restart as Restarting, Trim as Trimming}
 use Rattle.protocol.specs.declared.events.Input.{Input}
-use Rattle.protocol.specs.declared.events.Input.TheVariants.{Act as ActInput, Message as MessageInput}
 use Rattle.protocol.specs.declared.events.Reaction.{Reaction}
 use Rattle.protocol.specs.declared.records.LogRecord.{LogRecord}
 use Rattle.protocol.specs.declared.trees.TreeProcess.{TreeProcess}
@@ -20,7 +19,7 @@ use Rattle.protocol.specs.World.{InputStands, Made, Move, World, journal_of, ope
 use Rattle.log_records.specs.Sights.{LogSight, left_by, records_of, whole_within}
 use Rattle.process_state.specs.States.{CoreState}
 use Rattle.resource_manager.specs.Data.{ManagerData, DataRests, no_data}
-use Rattle.resource_manager.specs.Turns.{MovesData, Rests as Resting, case_xid, data_turn}
+use Rattle.resource_manager.specs.Turns.{MovesData, Rests, case_xid, data_turn}
 use Rattle.tree_state.specs.Steps.{input_move, quiet_move, records_kept, restart_of, trim_reaction}
 use Rattle.tree_state.specs.Worlds.{Applies, Delivers, Enters, HandlesData, HoldsPromises, KeepsBytes, MovesNode, RestartsAt, RestartsData, Settles, TreeSteps, TrimsAt, TrimsData, WorldState, least_open, marks, settles_by, undelivered}
 use Rattle.tree_state.specs.Runs.{IsOpenedTree, EventsLead}
@@ -287,7 +286,7 @@ restarted_at (Below p) ls ks d e is h k = tt
 
 trimmed_at : (r : Role) (d d' e e' : ManagerData) → AlikeAt r d e → TrimsData r d d' → TrimsData r e e'
     → AlikeAt r d' e'
-trimmed_at (AtLeaf p) d d' e e' alike h k = moves_alike d d' e e' alike (case_xid p) Resting h k
+trimmed_at (AtLeaf p) d d' e e' alike h k = moves_alike d d' e e' alike (case_xid p) Rests h k
 trimmed_at AtRoot d d' e e' alike h k = tt
 trimmed_at (Below p) d d' e e' alike h k = tt
 
@@ -352,7 +351,7 @@ leads_alike s s' t t' (e ∷ es) alike h k =
     leads_alike h.0 s' k.0 t' es (event_alike s h.0 t k.0 e alike h.1 k.1) h.2 k.2
 
 opened_at : (r : Role) (n d e : ManagerData) → DataRests n d → DataRests n e → AlikeAt r d e
-opened_at (AtLeaf p) n d e h k = moves_alike n d n e (itself n) (case_xid p) Resting h k
+opened_at (AtLeaf p) n d e h k = moves_alike n d n e (itself n) (case_xid p) Rests h k
 opened_at AtRoot n d e h k = tt
 opened_at (Below p) n d e h k = tt
 

@@ -8,7 +8,7 @@ use Rattle.protocol.specs.declared.names.Ticket.{Ticket}
 use Rattle.protocol.specs.declared.records.Record.{Record}
 use Rattle.protocol.specs.declared.records.Record.TheVariants.{Collecting, Prepare, Commit, Abort}
 use Rattle.protocol.specs.declared.standings.Standing.{Standing}
-use Rattle.protocol.specs.declared.standings.Standing.TheVariants as standing
+use Rattle.protocol_words.specs.standing
 use Rattle.protocol.specs.Names.{same_case, same_txn}
 use Rattle.protocol.specs.NameLaws.{same_case-refl, same_txn-refl}
 use Rattle.protocol.specs.Records.{cases_in, has, has_case, named_by, named_in, owing_by, owing_in, promised_by, promised_in, record_case, with_case, with_record}

@@ -10,11 +10,11 @@ use Rattle.protocol.specs.declared.names.Ticket.{Ticket}
 use Rattle.protocol.specs.declared.names.Txn.{Txn}
 use Rattle.protocol.specs.declared.messages.Message.TheVariants.{Ack}
 use Rattle.protocol.specs.declared.messages.Envelope.{Envelope}
-use Rattle.protocol.specs.declared.events.Input.TheVariants.{Message as MessageInput}
+use Rattle.protocol_words.specs.Variants.{MessageInput, PrepareRecord}
 use Rattle.protocol.specs.declared.records.Record.{Record}
-use Rattle.protocol.specs.declared.records.Record.TheVariants.{Prepare as PrepareRecord, Opened}
+use Rattle.protocol.specs.declared.records.Record.TheVariants.{Opened}
 use Rattle.protocol.specs.declared.standings.Standing.{Standing}
-use Rattle.protocol.specs.declared.standings.Standing.TheVariants as standing
+use Rattle.protocol_words.specs.standing
 use Rattle.protocol.specs.declared.trees.TreeProcess.{TreeProcess}
 use Rattle.protocol.specs.Names.{child_case, same_case, same_outcome, same_ticket, same_txn}
 use Rattle.protocol.specs.Records.{boot_of, has, has_case, in_list, is_abort, is_commit, is_end, is_prepare, named_by, named_in, promised_by, promised_in, record_case}

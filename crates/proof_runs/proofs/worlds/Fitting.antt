@@ -5,7 +5,7 @@ use Rattle.protocol.specs.declared.names.Outcome.{Outcome}
 use Rattle.protocol.specs.declared.names.ProcessId.{ProcessId}
 use Rattle.protocol.specs.declared.names.Ticket.{Ticket}
 use Rattle.protocol.specs.declared.messages.Envelope.{Envelope}
-use Rattle.protocol.specs.declared.standings.Standing.TheVariants as standing
+use Rattle.protocol_words.specs.standing
 use Rattle.protocol.specs.declared.trees.TreeProcess.{TreeProcess}
 use Rattle.protocol.specs.Records.{has, in_list, is_abort, is_collecting, is_commit, is_end, is_prepare, none_of, owing_by, promised_by}
 use Rattle.protocol.specs.Restarts.{trim_fails}

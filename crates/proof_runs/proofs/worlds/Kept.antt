@@ -14,7 +14,7 @@ use Rattle.protocol.specs.Names.{process_of, same_process}
 use Rattle.protocol.specs.Nodes.{AtLeaf, AtRoot, Below, Effect, Node, Place, Role, entries_written, is_any_forced, is_listed, kept, place_of, role_of}
 use Rattle.protocol.specs.Outcomes.{sent}
 use Rattle.protocol.specs.Records.{has, is_opened, record_case}
-use Rattle.protocol.specs.Restarts.{trim_fails, trimmed as trimmed_log}
+use Rattle.protocol.specs.Restarts.{trim_fails, trimmed}
 use Rattle.protocol.specs.Trees.{IsTree, root_of}
 use Rattle.protocol.specs.World.{IsRun, Made, Move, World, makes, opens}
 use Rattle.protocol.proofs.RunLaws.{makes_at}
@@ -163,8 +163,8 @@ open_fits tree es w run q up = by_role (role_of tree q) refl
 abbrev Opens : Node → Type 0
 Opens n = has is_opened n.forced ≡ true
 
-trims_open : (role : Role) (rs : List Record) → has is_opened (trimmed_log role rs) ≡ true
-unfolding has trimmed_log
+trims_open : (role : Role) (rs : List Record) → has is_opened (trimmed role rs) ≡ true
+unfolding has trimmed
 trims_open role rs = refl
 
 front_opened : (xs ys : List Record) → has is_opened xs ≡ true → has is_opened (xs ++ ys) ≡ true

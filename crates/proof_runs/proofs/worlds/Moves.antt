@@ -8,7 +8,7 @@ use Rattle.protocol.specs.declared.events.StepError.{StepError}
 use Rattle.protocol.specs.declared.trees.TreeProcess.{TreeProcess}
 use Rattle.protocol.specs.Nodes.{DataAnswer, Place, is_listed, place_of}
 use Rattle.protocol.specs.Reactions.{is_passed_over}
-use Rattle.protocol.specs.World.{IsRun, Made, Makes as Leaves, Refuses as StepRefuses, Stepped, World, node_makes, world_makes, world_stepped}
+use Rattle.protocol.specs.World.{IsRun, Made, Makes, Refuses, Stepped, World, node_makes, world_makes, world_stepped}
 use Rattle.process_state.specs.States.{CoreState}
 use Rattle.process_state.specs.Makes.{IsBroken, IsRefusedInput, ProcessMakes}
 use Rattle.tree_state.specs.Fits.{NodeFits}
@@ -45,8 +45,8 @@ module _ (tree : List TreeProcess) (es : List Made) (w : World) (run : IsRun tre
       record {
         effect = step.effect;
         left = step.left;
-        makes = in_world true listed None (Leaves step.effect step.left)
-            (placed None (Leaves step.effect step.left) step.makes);
+        makes = in_world true listed None (Makes step.effect step.left)
+            (placed None (Makes step.effect step.left) step.makes);
         shown = step.shown;
         stands = step.stands;
       }
@@ -55,12 +55,12 @@ module _ (tree : List TreeProcess) (es : List Made) (w : World) (run : IsRun tre
       → (world_makes tree w (input_move q i None a) ≡ None) × StandsFor (w.at q) new
   refusals_move e refused =
       let so = refusals_so (w.at q) old new a i stands fits e refused in (
-        in_world (is_listed tree q) refl None (StepRefuses e) (placed None (StepRefuses e) so.0)
+        in_world (is_listed tree q) refl None (Refuses e) (placed None (Refuses e) so.0)
             ∙ either (is_listed tree q),
         so.1,
       )
     where
-      either : (b : Bool) → (if b then world_stepped w q (StepRefuses e) else None) ≡ None
+      either : (b : Bool) → (if b then world_stepped w q (Refuses e) else None) ≡ None
       either true = refl
       either false = refl
 
@@ -74,7 +74,7 @@ module _ (tree : List TreeProcess) (es : List Made) (w : World) (run : IsRun tre
         fault = step.fault;
         effect = step.effect;
         left = step.left;
-        makes = in_world true listed (Some step.fault) (Leaves step.effect step.left)
-            (placed (Some step.fault) (Leaves step.effect step.left) step.makes);
+        makes = in_world true listed (Some step.fault) (Makes step.effect step.left)
+            (placed (Some step.fault) (Makes step.effect step.left) step.makes);
         stands = step.stands;
       }

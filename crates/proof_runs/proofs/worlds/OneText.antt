@@ -5,12 +5,11 @@ use Rattle.std.specs.Prelude.{slice_get}
 use Rattle.protocol.specs.declared.names.ProcessId.{ProcessId}
 use Rattle.protocol.specs.declared.messages.Envelope.{Envelope}
 use Rattle.protocol.specs.declared.events.Event.{Event}
-use Rattle.protocol.specs.declared.events.Event.TheVariants.{Act as ActOf, Deliver, Settle, Restart, Trim}
-use Rattle.protocol.specs.declared.events.Happening.TheVariants.{Restart as Restarting, Trim as Trimming}
+use Rattle.protocol.specs.declared.events.Event.TheVariants.{Deliver, Settle, Restart, Trim}
+use Rattle.protocol_words.specs.Variants.{ActInput, ActOf, MessageInput, Restarting, Trimming}
 use Rattle.protocol.specs.declared.events.Input.{Input}
-use Rattle.protocol.specs.declared.events.Input.TheVariants.{Act as ActInput, Message as MessageInput}
 use Rattle.protocol.specs.declared.events.StepError.{StepError}
-use Rattle.protocol.specs.declared.events.StepError.TheVariants as step_error
+use Rattle.protocol_words.specs.step_error
 use Rattle.protocol.specs.declared.trees.TreeProcess.{TreeProcess}
 use Rattle.protocol.specs.Nodes.{AtLeaf, AtRoot, Below, Effect, Role, is_listed, place_of}
 use Rattle.protocol.specs.Plays.{process_of_act, sent_as}

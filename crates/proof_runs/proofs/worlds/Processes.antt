@@ -4,7 +4,7 @@ use Rattle.std.proofs.Common.{◌≡◌, ◌∙◌, ap, sym, subst, refl, Bool, 
 use Rattle.std.specs.Prelude.{if◌then◌else◌}
 use Rattle.protocol.specs.declared.names.ProcessId.{ProcessId}
 use Rattle.protocol.specs.declared.events.Input.{Input}
-use Rattle.protocol.specs.declared.events.Input.TheVariants.{Act as ActInput, Message as MessageInput}
+use Rattle.protocol_words.specs.Variants.{ActInput, MessageInput}
 use Rattle.protocol.specs.declared.events.StepError.{StepError}
 use Rattle.protocol.specs.declared.events.StepError.TheVariants.{Failed}
 use Rattle.protocol.specs.declared.trees.TreeProcess.{TreeProcess}
@@ -12,7 +12,7 @@ use Rattle.protocol.specs.Nodes.{DataAnswer, Effect, Node, Place, is_listed, pla
 use Rattle.protocol.specs.Trees.{IsTree}
 use Rattle.protocol.specs.Reactions.{Does, Reacts, Refused, hears, is_passed_over, reacts}
 use Rattle.protocol.specs.World.{IsRun, Made, World, input_makes, node_makes, passes_over}
-use Rattle.protocol.specs.World.{Makes as Leaves, Refuses as RefusesMove}
+use Rattle.protocol.specs.World.{Makes, Refuses}
 use Rattle.process_state.specs.States.{CoreState, SameCore}
 use Rattle.process_state.specs.Turns.{turn_of, heard_now, this_version}
 use Rattle.process_state.proofs.Alike.{same_view}
@@ -39,7 +39,7 @@ as_the_model tree is_tree es w q old new a i reaction run listed stands place ke
       effect = step.effect;
       node = step.left;
       makes = subst (λ p. node_makes p (w.at q) (input_move p.me i None a)
-          ≡ Leaves step.effect step.left) place step.makes;
+          ≡ Makes step.effect step.left) place step.makes;
       shown = step.shown;
       place = place_stays old new i (turn_of old a made.found i) made.moves ∙ place;
       stands = step.stands;
@@ -49,17 +49,17 @@ as_the_model tree is_tree es w q old new a i reaction run listed stands place ke
 
 -- a process refuses an input whatever its manager's data answer
 refuses_any : (place : Place) (n : Node) (q : ProcessId) (i : Input) (a d : DataAnswer) (e : StepError)
-    → node_makes place n (input_move q i None a) ≡ RefusesMove e
-    → node_makes place n (input_move q i None d) ≡ RefusesMove e
+    → node_makes place n (input_move q i None a) ≡ Refuses e
+    → node_makes place n (input_move q i None d) ≡ Refuses e
 unfolding node_makes reacts
 refuses_any place n q (ActInput x) a d e h = by_test (is_passed_over place n (ActInput x))
     (reacts place n (heard_now a (ActInput x))) h
   where
     by_test : (b : Bool) (r : Reacts)
         → (if b then passes_over n None else input_makes n
-        (heard_now a (ActInput x)) None r) ≡ RefusesMove e
+        (heard_now a (ActInput x)) None r) ≡ Refuses e
         → (if b then passes_over n None else input_makes n
-        (heard_now d (ActInput x)) None r) ≡ RefusesMove e
+        (heard_now d (ActInput x)) None r) ≡ Refuses e
     by_test true r h = h
     by_test false (Refused f) h = h
     by_test false (Does f) h = absurd (cc)
@@ -69,10 +69,10 @@ refuses_any place n q (MessageInput k m) a d e h = by_test (is_passed_over place
     by_test : (b f : Bool) (x y : Effect)
         → (if b then passes_over n None
         else input_makes n (heard_now a (MessageInput k m)) None
-        (if f then Refused Failed else Does x)) ≡ RefusesMove e
+        (if f then Refused Failed else Does x)) ≡ Refuses e
         → (if b then passes_over n None
         else input_makes n (heard_now d (MessageInput k m)) None
-        (if f then Refused Failed else Does y)) ≡ RefusesMove e
+        (if f then Refused Failed else Does y)) ≡ Refuses e
     by_test true f x y h = h
     by_test false true x y h = h
     by_test false false x y h = absurd (cc)
@@ -105,8 +105,8 @@ refused_by es w s q (Some c) i e f there why d =
     let is = refusals_so (w.at q) c c why.0 i here.stands
     (fits_at s.tree es w q c.place f.is_run here.place) e
     (record { same = same_core c; found = why.1; finds = why.2; refuses = why.3 }) in
-    let made : node_makes (place_of s.tree q) (w.at q) (input_move q i None why.0) ≡ RefusesMove e =
-    subst (λ p. node_makes p (w.at q) (input_move p.me i None why.0) ≡ RefusesMove e) here.place is.0 in
+    let made : node_makes (place_of s.tree q) (w.at q) (input_move q i None why.0) ≡ Refuses e =
+    subst (λ p. node_makes p (w.at q) (input_move p.me i None why.0) ≡ Refuses e) here.place is.0 in
     rw listed (ap refusal_in (refuses_any (place_of s.tree q) (w.at q) q i why.0 d e made))
 
 -- what a process of a tree that runs refuses, the model refuses so

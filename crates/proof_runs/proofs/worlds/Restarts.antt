@@ -3,7 +3,7 @@
 use Rattle.std.proofs.Common.{◌≡◌, ◌∙◌, ap, sym, refl, ℕ, true, false, None, Option, Some, is_some, List}
 use Rattle.protocol.specs.declared.names.ProcessId.{ProcessId}
 use Rattle.protocol.specs.declared.events.JournalEntry.{JournalEntry}
-use Rattle.protocol.specs.declared.events.Happening.TheVariants.{Restart as Restarting, Trim as Trimming}
+use Rattle.protocol_words.specs.Variants.{Restarting, Trimming}
 use Rattle.protocol.specs.declared.events.StepError.TheVariants.{Failed, NoSuch}
 use Rattle.protocol.specs.Nodes.{is_listed, place_of}
 use Rattle.protocol.specs.Trees.{IsTree}

@@ -8,7 +8,7 @@ use Rattle.protocol.specs.declared.events.Reaction.{Reaction}
 use Rattle.protocol.specs.declared.events.StepError.TheVariants.{Device, Failed}
 use Rattle.protocol.specs.declared.trees.TreeProcess.{TreeProcess}
 use Rattle.protocol.specs.Nodes.{Place, is_listed, place_of}
-use Rattle.protocol.specs.World.{Makes as Leaves, Refuses as StepRefuses, Stepped, World, node_makes, world_makes, world_stepped}
+use Rattle.protocol.specs.World.{Makes, Refuses, Stepped, World, node_makes, world_makes, world_stepped}
 use Rattle.process_state.specs.Restarting.{ProcessNotRestarted, ProcessNotTrimmed, ProcessRestarts, ProcessTrims}
 use Rattle.process_state.specs.States.{CoreState}
 use Rattle.tree_state.specs.Fits.{HasOpened, KeepsOwn, OpenFits}
@@ -37,13 +37,13 @@ module _ (tree : List TreeProcess) (w : World) (q : ProcessId) (old new : CoreSt
       → (world_makes tree w (quiet_move q Trim None) ≡ None) × StandsFor (w.at q) new
   trim_refusals_move refused =
       let so = trim_refused (w.at q) old new stands refused in (
-        in_world (is_listed tree q) refl Trim None (StepRefuses Failed)
-            (placed Trim None (StepRefuses Failed) so.0)
+        in_world (is_listed tree q) refl Trim None (Refuses Failed)
+            (placed Trim None (Refuses Failed) so.0)
             ∙ either (is_listed tree q),
         so.1,
       )
     where
-      either : (b : Bool) → (if b then world_stepped w q (StepRefuses Failed) else None) ≡ None
+      either : (b : Bool) → (if b then world_stepped w q (Refuses Failed) else None) ≡ None
       either true = refl
       either false = refl
 
@@ -55,8 +55,8 @@ module _ (tree : List TreeProcess) (w : World) (q : ProcessId) (old new : CoreSt
         record {
           effect = step.effect;
           left = step.left;
-          makes = in_world true listed h None (Leaves step.effect step.left)
-              (placed h None (Leaves step.effect step.left) step.makes);
+          makes = in_world true listed h None (Makes step.effect step.left)
+              (placed h None (Makes step.effect step.left) step.makes);
           shown = step.shown;
           stands = step.stands;
         }
@@ -67,8 +67,8 @@ module _ (tree : List TreeProcess) (w : World) (q : ProcessId) (old new : CoreSt
           fault = step.fault;
           effect = step.effect;
           left = step.left;
-          makes = in_world true listed h (Some step.fault) (Leaves step.effect step.left)
-              (placed h (Some step.fault) (Leaves step.effect step.left) step.makes);
+          makes = in_world true listed h (Some step.fault) (Makes step.effect step.left)
+              (placed h (Some step.fault) (Makes step.effect step.left) step.makes);
           stands = step.stands;
         }
 

@@ -7,7 +7,7 @@ use Rattle.protocol.specs.declared.events.Input.{Input}
 use Rattle.protocol.specs.declared.events.JournalEntry.{JournalEntry}
 use Rattle.protocol.specs.declared.events.Fault.{Fault}
 use Rattle.protocol.specs.declared.events.Happening.{Happening}
-use Rattle.protocol.specs.declared.events.Happening.TheVariants.{Input as Handles}
+use Rattle.protocol_words.specs.Variants.{Handles}
 use Rattle.protocol.specs.declared.events.Reaction.{Reaction}
 use Rattle.protocol.specs.declared.trees.TreeProcess.{TreeProcess}
 use Rattle.protocol.specs.Names.{same_process}
@@ -17,7 +17,7 @@ use Rattle.protocol.specs.Plays.{sent_as}
 use Rattle.protocol.specs.Trees.{IsTree}
 use Rattle.protocol.specs.World.{Continues, InputStands, IsRun, IsSent, Made, Move, World, goes_on, journal_of, makes, node_makes, put_at, stays, world_makes, world_stepped}
 use Rattle.protocol.specs.World.{MayHappen}
-use Rattle.protocol.specs.World.{Makes as Leaves}
+use Rattle.protocol.specs.World.{Makes}
 use Rattle.process_state.specs.States.{CoreState}
 use Rattle.process_state.specs.Makes.{ProcessMakes}
 use Rattle.tree_state.specs.StandsFor.{StandsFor}
@@ -31,7 +31,7 @@ pub record MadeSo (tree : List TreeProcess) (w : World) (q : ProcessId) (a : Dat
     (new : CoreState) (reaction : Reaction) : Type 0 where
   pub effect : Effect
   pub node : Node
-  pub makes : node_makes (place_of tree q) (w.at q) (input_move q i None a) ≡ Leaves effect node
+  pub makes : node_makes (place_of tree q) (w.at q) (input_move q i None a) ≡ Makes effect node
   pub shown : reaction ≡ reaction_of effect
   pub place : new.place ≡ place_of tree q
   pub stands : StandsFor node new
@@ -63,7 +63,7 @@ world_after w q n e = record { at = put_at q n w.at; net = w.net ++ e.messages }
 
 pub made_at : (tree : List TreeProcess) (w : World) (m : Move) (e : Effect) (n : Node)
     → is_listed tree m.step.process ≡ true
-    → node_makes (place_of tree m.step.process) (w.at m.step.process) m ≡ Leaves e n
+    → node_makes (place_of tree m.step.process) (w.at m.step.process) m ≡ Makes e n
     → world_makes tree w m ≡ Some (e, world_after w m.step.process n e)
 unfolding world_makes
 made_at tree w m e n listed done = rw listed (ap (λ s. world_stepped w m.step.process s) done)

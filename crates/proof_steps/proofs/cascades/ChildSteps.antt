@@ -8,7 +8,7 @@ use Rattle.protocol.specs.declared.names.Ticket.{Ticket}
 use Rattle.protocol.specs.declared.messages.Envelope.{Envelope}
 use Rattle.protocol.specs.declared.events.Happening.{Happening}
 use Rattle.protocol.specs.declared.events.Input.{Input}
-use Rattle.protocol.specs.declared.events.Input.TheVariants.{Act as ActInput, Message as MessageInput}
+use Rattle.protocol_words.specs.Variants.{ActInput, MessageInput}
 use Rattle.protocol.specs.declared.records.Record.{Record}
 use Rattle.protocol.specs.declared.trees.TreeProcess.{TreeProcess}
 use Rattle.protocol.specs.Names.{child_case}
@@ -28,7 +28,7 @@ use Rattle.proof_pairs.specs.turns.Steps.{StepOf, failed_in, failed_passing, fai
 use Rattle.proof_pairs.proofs.turns.CoordinatorReactions.{coordinator_turn_of}
 use Rattle.proof_pairs.proofs.turns.Steps.{step_of, turn_of}
 use Rattle.proof_processes.specs.CaseOrder.{CaseInOrder}
-use Rattle.proof_processes.specs.Lasts.{Coordinates as CoordinatorLogs, Lasts, Logs, Nested, logs_of}
+use Rattle.proof_processes.specs.Lasts.{Coordinates, Lasts, Logs, Nested, logs_of}
 use Rattle.proof_processes.specs.Numbers.{IsIssuer, TicketNumbers}
 use Rattle.proof_processes.specs.ProcessSteps.{ChildStep, seen_above}
 use Rattle.proof_processes.specs.WorldHolds.{AllGo, InvariantOf, IsChildRole, IsFree, IsPair, RoleHolds, gives_other, is_record_of}
@@ -46,7 +46,7 @@ use Rattle.proof_processes.proofs.Unlisted.{makes_listed}
 use Rattle.proof_processes.proofs.Worlds.{all_last}
 use Rattle.proof_pairs.proofs.readings.Lists.{sent-append}
 use Rattle.proof_pairs.proofs.readings.ReadingSteps.{same_process-refl}
-use Rattle.proof_steps.proofs.children.Moves as moves
+use Rattle.proof_steps.proofs.children.Moves
 use Rattle.proof_steps.proofs.children.Moves.{Fits}
 use Rattle.proof_steps.proofs.children.Wires.{wire-none}
 use Rattle.proof_steps.specs.cascades.CascadedSteps.{CascadedChildSteps}
@@ -54,18 +54,18 @@ use Rattle.proof_steps.specs.cascades.Messages.{AllSentBy}
 use Rattle.proof_steps.proofs.cascades.Ends.{EndsDecided}
 use Rattle.proof_steps.proofs.cascades.EndsHold.{all_end}
 use Rattle.proof_steps.proofs.cascades.Fails.{own_breaks}
-use Rattle.proof_steps.proofs.cascades.Faults as faults
-use Rattle.proof_steps.proofs.cascades.FaultRows as fault_rows
+use Rattle.proof_steps.proofs.cascades.Faults
+use Rattle.proof_steps.proofs.cascades.FaultRows
 use Rattle.proof_steps.proofs.cascades.Halves.{OwnHalf, as_child, half_above, own_half_at}
 use Rattle.proof_steps.proofs.cascades.Joins.{join_fits, joined_silent}
 use Rattle.proof_steps.proofs.cascades.Opens.{IsRow, input_is}
 use Rattle.proof_steps.proofs.cascades.AllRead.{all_read}
 use Rattle.proof_steps.proofs.cascades.ReadCases.{Reads}
 use Rattle.proof_steps.proofs.cascades.ReadSteps.{Keeps}
-use Rattle.proof_steps.proofs.cascades.Restarts as restarts
+use Rattle.proof_steps.proofs.cascades.Restarts
 use Rattle.proof_steps.proofs.cascades.Rows.{turn_fits}
 use Rattle.proof_steps.proofs.cascades.Senders.{step_sent}
-use Rattle.proof_steps.proofs.cascades.Trims as trims_of
+use Rattle.proof_steps.proofs.cascades.Trims
 use Rattle.proof_steps.proofs.cascades.Turns.{Turn, opens}
 
 -- What is known of the process.
@@ -73,7 +73,7 @@ pub record Known (tree : List TreeProcess) (net : List Envelope) (me p : Process
   pub below : role_of tree me ≡ Below p
   pub apart : p ≡ me → ⊥
   pub nested : Nested (logs_of n)
-  pub logs : CoordinatorLogs (logs_of n)
+  pub logs : Coordinates (logs_of n)
   pub alike : n.failed ≡ false → (c : Case) → IsOpenAlike
       (record { me = me; role = Below p; tree = tree }) n c
   pub asked : n.failed ≡ false → (c : Case)
@@ -90,7 +90,7 @@ pub record Known (tree : List TreeProcess) (net : List Envelope) (me p : Process
 -- and of what a step leaves of it
 pub record Behind (tree : List TreeProcess) (me p : ProcessId) (e : Effect) (k : Node) : Type 0 where
   pub nested : Nested (logs_of k)
-  pub logs : CoordinatorLogs (logs_of k)
+  pub logs : Coordinates (logs_of k)
   pub alike : k.failed ≡ false → (c : Case) → IsOpenAlike
       (record { me = me; role = Below p; tree = tree }) k c
   pub fit : AllFit [] (kept k)
@@ -152,7 +152,7 @@ module _ (c : Case) (t : Ticket) (p : ProcessId) (tree : List TreeProcess) (n : 
       (has_other f (is_record_of d) (kept n) g e)) in
       let y = given net c.txn t a.1 in
       subst (λ (x : Case). sent (is_joined_message x t) net ≡ true)
-      (restarts.joined_to net c y.of t free y.joined) y.joined
+      (Restarts.joined_to net c y.of t free y.joined) y.joined
 
   commit_of : (r : Record) → is_commit d r ≡ true → is_record_of d r ≡ true
   commit_of r e = grind arith
@@ -213,31 +213,31 @@ module _ (c : Case) (t : Ticket) (p : ProcessId) (tree : List TreeProcess) (n : 
       let up = (turn_of place n h g r).up in
       let here : InputStands net t.child i = subst (λ (x : Happening). MayHappen net t.child x) hp stands in
       silent (fails_in n h g f.appended f.forced) (elim (input_is i) [
-        | inl join ↦ fault_rows.writes_none d n h v pr root outcome above half (opens place n d) inv up g
+        | inl join ↦ FaultRows.writes_none d n h v pr root outcome above half (opens place n d) inv up g
             (joined_silent t.child p tree n h up join.number join.parents join.is g r) f.appended
             f.forced b.fit
-        | inr row ↦ fault_rows.turn_fails (row_turn inv h up here row) g (coordinator_turn_of place n h g r)
+        | inr row ↦ FaultRows.turn_fails (row_turn inv h up here row) g (coordinator_turn_of place n h g r)
             f.appended f.forced b.fit
       ])
-  own_steps inv m stands _ _ (passed i hp r) b = silent n (moves.unmoved pr (R q v) inv)
+  own_steps inv m stands _ _ (passed i hp r) b = silent n (Moves.unmoved pr (R q v) inv)
   own_steps inv m stands _ _ (failed_passing i f fl hp r) b =
       silent (record n { failed = true })
-      (faults.fails_quietly d n v pr root outcome above half (opens place n d) inv
+      (Faults.fails_quietly d n v pr root outcome above half (opens place n d) inv
       (record n { failed = true }) b.fit
       (λ x y. y) (early_up place n i p r)
-      (own_breaks (opens place n d) n d (λ x. ((moves.common_of pr (R q v) inv).child_forced_promise x).1)))
+      (own_breaks (opens place n d) n d (λ x. ((Moves.common_of pr (R q v) inv).child_forced_promise x).1)))
   own_steps inv m stands _ _ (reopened j hp) b =
-      restarts.restart_fits c t p tree n net known.fit known.ends known.keeps known.reads known.went free
+      Restarts.restart_fits c t p tree n net known.fit known.ends known.keeps known.reads known.went free
       pr root outcome
       above half (opens place n d) j inv known.below known.apart pair (b.alike refl d) b.sent_here b.go
   own_steps inv m stands _ _ (failed_reopening j f fl hp) b =
       silent (restart_fails place n j f.appended f.forced)
-      (restarts.restart_breaks c t p tree n net known.fit known.ends known.keeps known.reads known.went
+      (Restarts.restart_breaks c t p tree n net known.fit known.ends known.keeps known.reads known.went
       free pr root
       outcome above half (opens place n d) j inv f.appended f.forced b.fit)
   own_steps inv m stands _ _ (trims_log hp up) b =
       silent (trims place n)
-      (trims_of.trim_fits t.child p tree n d v up (known.alike up d) known.ends pr root outcome above half inv
+      (Trims.trim_fits t.child p tree n d v up (known.alike up d) known.ends pr root outcome above half inv
       (b.alike up d))
   own_steps inv m stands _ _ (failed_trimming f fl hp up) b =
       silent (trim_fails place n f.appended) (by_log f.appended b.fit)
@@ -245,17 +245,17 @@ module _ (c : Case) (t : Ticket) (p : ProcessId) (tree : List TreeProcess) (n : 
       by_log : (a : ℕ) → AllFit [] (kept (trim_fails place n a))
           → Fits pr (R q v) (R (own_half_at (opens place (trim_fails place n a) d)
           (trim_fails place n a) d) v)
-      by_log zero fit = trims_of.trim_breaks t.child p tree n d v up
+      by_log zero fit = Trims.trim_breaks t.child p tree n d v up
           (known.alike up d) known.ends pr root outcome above
           half inv zero fit
-      by_log (suc a) fit = trims_of.trim_breaks t.child p tree n d v up
+      by_log (suc a) fit = Trims.trim_breaks t.child p tree n d v up
           (known.alike up d) known.ends pr root outcome
           above half inv (suc a) fit
 
-  branchless : (k : Node) → Nested (logs_of k) → CoordinatorLogs (logs_of k) → NoBranch (child_case c.txn t) k
+  branchless : (k : Node) → Nested (logs_of k) → Coordinates (logs_of k) → NoBranch (child_case c.txn t) k
   branchless k h l = no_branch d k h l
 
-  seen : (k : Node) (w : Wire) → Nested (logs_of k) → CoordinatorLogs (logs_of k)
+  seen : (k : Node) (w : Wire) → Nested (logs_of k) → Coordinates (logs_of k)
       → reading_from root false outcome above half (child_half place k d) w
       ≡ R (own_half_at (opens place k d) k d) w
   seen k w h l =

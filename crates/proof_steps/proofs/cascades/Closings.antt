@@ -9,9 +9,8 @@ use Rattle.protocol.specs.declared.messages.Message.TheVariants.{Prepare}
 use Rattle.protocol.specs.declared.standings.Standing.{Standing}
 use Rattle.protocol.specs.declared.standings.Standing.TheVariants.{Unknown, Active, Collecting}
 use Rattle.protocol.specs.declared.standings.Vote.{Vote}
-use Rattle.protocol.specs.declared.standings.Vote.TheVariants.{No as VoteNo}
+use Rattle.protocol_words.specs.Variants.{MessageInput, VoteNo}
 use Rattle.protocol.specs.declared.events.Input.{Input}
-use Rattle.protocol.specs.declared.events.Input.TheVariants.{Message as MessageInput}
 use Rattle.protocol.specs.declared.trees.TreeProcess.{TreeProcess}
 use Rattle.protocol.specs.Names.{same_txn}
 use Rattle.protocol.specs.NameLaws.{same_txn-refl, same_txn_tells}
@@ -22,7 +21,7 @@ use Rattle.protocol.specs.Standings.{case_of_child, coordinator_view, some_case}
 use Rattle.protocol.specs.Views.{IsOpenAlike}
 use Rattle.proof_pairs.specs.turns.CoordinatorTurns.{CountsLast, CountsVote}
 use Rattle.proof_processes.proofs.Cases.{viewed}
-use Rattle.proof_steps.proofs.cascades.Opens as opens
+use Rattle.proof_steps.proofs.cascades.Opens
 use Rattle.proof_steps.proofs.cascades.Opens.{live}
 
 -- a ticket belongs to a case of its transaction
@@ -52,7 +51,7 @@ module _ (me p : ProcessId) (tree : List TreeProcess) (n : Node) (h : Heard) (d 
   phase_asked e = alike.collecting_is_asked e
 
   pub phase_open : (coordinator_view place n d).standing ≡ Active → (memory_of place n d).phase ≡ Open
-  phase_open e = opens.active_is_open (kept n) d (memory_of place n d).phase (sym (viewed place n d) ∙ e)
+  phase_open e = Opens.active_is_open (kept n) d (memory_of place n d).phase (sym (viewed place n d) ∙ e)
 
   not_unknown : (s : Standing) → (coordinator_view place n d).standing ≡ s → (s ≡ Unknown → ⊥)
       → (coordinator_view place n d).standing ≡ Unknown → ⊥
@@ -62,9 +61,9 @@ module _ (me p : ProcessId) (tree : List TreeProcess) (n : Node) (h : Heard) (d 
       → (coordinator_view place n d).standing ≡ Active → none_of (coordinator_view place n d).accepted ≡ true
       → live Remembered.phase ≡ false
   nobody_closes j k i e none =
-      let lists = opens.lists_seen place n d (not_unknown Active e (λ x. cc)) in
+      let lists = Opens.lists_seen place n d (not_unknown Active e (λ x. cc)) in
       ap (λ (x : Input). live (cascaded_remembers me (boot_of (kept n)) d (memory_of place n d) x).phase) i
-      ∙ opens.prepare_closes me (boot_of (kept n)) d (memory_of place n d) j k (phase_open e)
+      ∙ Opens.prepare_closes me (boot_of (kept n)) d (memory_of place n d) j k (phase_open e)
       (ap none_of (sym lists.0) ∙ none)
 
   same_own : (x : Txn) (u : Ticket) → case_of_child place n x u ≡ Some d → same_txn x d.txn ≡ true
@@ -80,7 +79,7 @@ module _ (me p : ProcessId) (tree : List TreeProcess) (n : Node) (h : Heard) (d 
   counted : (w : Vote) (u : Ticket) → CountsVote place n h d u w
       → is_counted (memory_of place n d).accepted (memory_of place n d).votes u ≡ true
   counted w u k =
-      let lists = opens.lists_seen place n d (not_unknown Collecting k.stands (λ x. cc)) in
+      let lists = Opens.lists_seen place n d (not_unknown Collecting k.stands (λ x. cc)) in
       ap (λ (ts : List Ticket). is_counted ts (memory_of place n d).votes u) (sym lists.0)
       ∙ (ap (λ (vs : List (Ticket × Vote)). is_counted (coordinator_view place n d).accepted vs u)
       (sym lists.1) ∙ k.counts)
@@ -88,11 +87,11 @@ module _ (me p : ProcessId) (tree : List TreeProcess) (n : Node) (h : Heard) (d 
   pub last_closes : (w : Vote) (u : Ticket) (ys : List Ticket) → CountsLast place n h d u w ys
       → live Remembered.phase ≡ false
   last_closes w u ys k =
-      let lists = opens.lists_seen place n d (not_unknown Collecting k.vote.stands (λ x. cc)) in
+      let lists = Opens.lists_seen place n d (not_unknown Collecting k.vote.stands (λ x. cc)) in
       let heard = k.vote.hears in
       ap (λ (x : Input). live (cascaded_remembers me (boot_of (kept n)) d (memory_of place n d) x).phase)
       heard.hears.1
-      ∙ opens.vote_closes me (boot_of (kept n)) d (memory_of place n d) heard.hears.0 w heard.txn u
+      ∙ Opens.vote_closes me (boot_of (kept n)) d (memory_of place n d) heard.hears.0 w heard.txn u
       (same_own heard.txn u heard.belongs) (phase_asked k.vote.stands) (counted w u k.vote) k.consents
       (ap (λ (ts : List Ticket). all_voted ts ((memory_of place n d).votes ++ (u, w) ∷ [])) (sym lists.0)
       ∙ (ap (λ (vs : List (Ticket × Vote)). all_voted (coordinator_view place n d).accepted
@@ -104,5 +103,5 @@ module _ (me p : ProcessId) (tree : List TreeProcess) (n : Node) (h : Heard) (d 
       let heard = k.hears in
       ap (λ (x : Input). live (cascaded_remembers me (boot_of (kept n)) d (memory_of place n d) x).phase)
       heard.hears.1
-      ∙ opens.no_closes me (boot_of (kept n)) d (memory_of place n d) heard.hears.0 heard.txn u
+      ∙ Opens.no_closes me (boot_of (kept n)) d (memory_of place n d) heard.hears.0 heard.txn u
       (same_own heard.txn u heard.belongs) (phase_asked k.stands) (counted VoteNo u k)

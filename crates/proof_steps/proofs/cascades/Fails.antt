@@ -6,7 +6,7 @@ use Rattle.protocol.specs.declared.names.Case.{Case}
 use Rattle.protocol.specs.declared.records.Record.{Record}
 use Rattle.protocol.specs.Records.{has, is_abort, is_commit, is_prepare}
 use Rattle.protocol.specs.Nodes.{Effect, Heard, Node, fails_in}
-use Rattle.proof_pairs.specs.ChildCrash as crash
+use Rattle.proof_pairs.specs.ChildCrash
 use Rattle.proof_pairs.specs.ChildCrash.{ChildFront}
 use Rattle.proof_pairs.specs.Reading.{Reading}
 use Rattle.proof_pairs.specs.readings.ReadingOf.{ParentHalf, Wire, is_dead, reading_from}
@@ -121,7 +121,7 @@ module _ (root outcome above : Bool) (p : ParentHalf) (q : OwnHalf) (v : Wire) (
 
   pub reading-fails : QuietWhileOpen q.is_open v.issued q.prepare_kept q.prepare_ever v.read
       → (front.prepare ≡ true → q.prepare_kept ≡ true)
-      → R (failed_own front q) ≡ crash.hardens_failed_child (as_front front) (crash.child_fails (R q))
+      → R (failed_own front q) ≡ ChildCrash.hardens_failed_child (as_front front) (ChildCrash.child_fails (R q))
   reading-fails quiet sub =
       rw (
         and-false v.issued,
@@ -131,13 +131,13 @@ module _ (root outcome above : Bool) (p : ParentHalf) (q : OwnHalf) (v : Wire) (
 
   pub reading-fails_to_promise : q.is_open ≡ true → q.abort_kept ≡ false
       → R (failed_own front (promises q))
-      ≡ crash.hardens_failed_child (as_front front) (crash.fails_to_promise (R q))
+      ≡ ChildCrash.hardens_failed_child (as_front front) (ChildCrash.fails_to_promise (R q))
   reading-fails_to_promise e f = rw (e, f) (simp (and-false, dead-live, dead-promised))
 
   pub reading-fails_aborting : (b : Bool) → q.is_open ≡ true → v.issued ≡ true → q.prepare_kept ≡ false
       → q.prepare_ever ≡ false → v.read ≡ false → (front.prepare ≡ true → q.prepare_kept ≡ true)
       → R (failed_own front (aborts b q))
-      ≡ crash.hardens_failed_child (as_front front) (crash.child_fails (R q))
+      ≡ ChildCrash.hardens_failed_child (as_front front) (ChildCrash.child_fails (R q))
   reading-fails_aborting b g h j k l sub =
       rw (
         and-false v.issued,
@@ -149,9 +149,9 @@ module _ (root outcome above : Bool) (p : ParentHalf) (q : OwnHalf) (v : Wire) (
 
   module _ (closed : q.is_open ≡ false) (kept : q.prepare_kept ≡ true) where
     pub reading-fails_to_commit : R (failed_own front (commits q))
-        ≡ crash.hardens_failed_child (as_front front) (crash.fails_to_commit (R q))
+        ≡ ChildCrash.hardens_failed_child (as_front front) (ChildCrash.fails_to_commit (R q))
     reading-fails_to_commit = rw (closed, kept) (simp (and-false, dead-promised))
 
     pub reading-fails_to_roll_back : R (failed_own front (aborts true q))
-        ≡ crash.hardens_failed_child (as_front front) (crash.fails_to_roll_back (R q))
+        ≡ ChildCrash.hardens_failed_child (as_front front) (ChildCrash.fails_to_roll_back (R q))
     reading-fails_to_roll_back = rw (closed, kept) (simp (and-false))

@@ -6,9 +6,8 @@ use Rattle.protocol.specs.declared.names.Presumption.TheVariants.{PresumeAbort, 
 use Rattle.protocol.specs.declared.names.Ticket.{Ticket}
 use Rattle.protocol.specs.declared.messages.Message.TheVariants.{Abort, Commit}
 use Rattle.protocol.specs.declared.records.Record.{Record}
-use Rattle.protocol.specs.declared.records.Record.TheVariants.{Collecting as CollectingRecord, Prepare as PrepareRecord, Commit as CommitRecord, Abort as AbortRecord, End as EndRecord}
+use Rattle.protocol_words.specs.Variants.{AbortRecord, CollectingRecord, CommitRecord, EndRecord, MessageInput, PrepareRecord}
 use Rattle.protocol.specs.declared.standings.Standing.TheVariants.{Collecting, Prepared}
-use Rattle.protocol.specs.declared.events.Input.TheVariants.{Message as MessageInput}
 use Rattle.protocol.specs.Names.{same_case}
 use Rattle.protocol.specs.NameLaws.{same_case_tells}
 use Rattle.protocol.specs.Records.{has, is_prepare}
@@ -17,7 +16,7 @@ use Rattle.protocol.specs.Memory.{memory_of}
 use Rattle.protocol.specs.Nodes.{Effect, Heard, Node, Place, fails_in, kept}
 use Rattle.protocol.specs.Reactions.{row_effect}
 use Rattle.protocol.specs.Standings.{CoordinatorView, coordinator_view, found_below}
-use Rattle.proof_pairs.specs.ChildCrash as crash
+use Rattle.proof_pairs.specs.ChildCrash
 use Rattle.proof_pairs.specs.Reading.{Reading}
 use Rattle.proof_pairs.specs.readings.ReadingOf.{ParentHalf, Wire, reading_from}
 use Rattle.proof_pairs.specs.turns.CoordinatorTurns.{CaseTurn, CoordinatorTurn, accepts, acknowledges, clears, answers, asks, asks_for_votes, aborts, begins, commits, counts_vote, does_nothing, ends, finds_nobody, gives_again, gives_fresh, gives_up, hears_no, invites, of_case, passes_abort, passes_commit, presumes, promises, reads_only, refuses, repeats_yes, rests, sends_work, waits_for_acks}
@@ -26,13 +25,13 @@ use Rattle.proof_processes.proofs.Cases.{viewed}
 use Rattle.proof_processes.proofs.CaseOrders.{AllFit}
 use Rattle.proof_processes.proofs.Phases.{collecting_undecided}
 use Rattle.proof_processes.proofs.Tests.{in_first}
-use Rattle.proof_steps.proofs.children.FailMoves as fail
-use Rattle.proof_steps.proofs.children.Moves as moves
+use Rattle.proof_steps.proofs.children.FailMoves
+use Rattle.proof_steps.proofs.children.Moves
 use Rattle.proof_steps.proofs.children.Moves.{Fits}
 use Rattle.proof_steps.proofs.cascades.Fails.{IsOld, OwnFront, as_front, failed_own, fails_none, front_of, own_fails, own_fails_behind, reading-fails_aborting, reading-fails_to_commit, reading-fails_to_promise, reading-fails_to_roll_back}
-use Rattle.proof_steps.proofs.cascades.Faults as faults
+use Rattle.proof_steps.proofs.cascades.Faults
 use Rattle.proof_steps.proofs.cascades.Faults.{Unforced}
-use Rattle.proof_steps.proofs.cascades.Halves as halves
+use Rattle.proof_steps.proofs.cascades.Halves
 use Rattle.proof_steps.proofs.cascades.Halves.{IsAside, OwnHalf, aborts_record, as_child, aside, commits_record, own_half_at, promises_record, wrote, plain_end}
 use Rattle.proof_steps.proofs.cascades.Turns.{R, Turn, own_case, opens, place_in, half_in, r0, wire_in}
 use Rattle.proof_steps.proofs.cascades.TurnsDecided.{commit_sent, doubt_at, prepared_closed}
@@ -52,9 +51,9 @@ module _ (d : Case) (n : Node) (h : Heard) (v : Wire) (pr : Presumption) (root o
   -- nothing was appended
   pub none_appended : (f : ℕ) → Left (fails_in n h e zero f)
   none_appended f fit =
-      faults.fails_quietly d n v pr root outcome above half o inv (fails_in n h e zero f) fit
+      Faults.fails_quietly d n v pr root outcome above half o inv (fails_in n h e zero f) fit
       (λ x y. in_first x n.forced _ y) up
-      (own_fails o n h e f d (λ x. ((moves.common_of pr _ inv).child_forced_promise x).1))
+      (own_fails o n h e f d (λ x. ((Moves.common_of pr _ inv).child_forced_promise x).1))
 
   pub writes_none : e.written ≡ [] → (a f : ℕ) → Left (fails_in n h e a f)
   writes_none none a f =
@@ -85,7 +84,7 @@ module _ (turn : Turn) where
   Fails e = (a f : ℕ) → AllFit [] (kept (fails_in n h e a f)) → Ok (fails_in n h e a f)
 
   old : IsOld (is_prepare (own_case turn)) n
-  old x = ((moves.common_of pr (r0 turn) inv).child_forced_promise x).1
+  old x = ((Moves.common_of pr (r0 turn) inv).child_forced_promise x).1
 
   holds : (e : Effect) (a f : ℕ) (x : Record → Bool) → has x n.forced ≡ true
       → has x (fails_in n h e a f).forced ≡ true
@@ -110,7 +109,7 @@ module _ (turn : Turn) where
     pub aside_fails : IsAside (own_case turn) r → Fails e
     aside_fails x zero f fit = quiet_zero e f fit
     aside_fails x (suc a) f fit =
-        faults.fails_quietly d n v pr root outcome above half (opens place n d) inv
+        Faults.fails_quietly d n v pr root outcome above half (opens place n d) inv
         (fails_in n h e (suc a) f) fit
         (holds e (suc a) f) up
         (behind a f ∙ ap (λ (z : OwnHalf). failed_own (front_of d (fails_in n h e (suc a) f).forced) z)
@@ -121,13 +120,13 @@ module _ (turn : Turn) where
         (half_in turn) ≡ x
         → (s : Reading)
         → ((front : OwnFront) → (front.prepare ≡ true → x.prepare_kept ≡ true)
-        → R turn (failed_own front x) v ≡ crash.hardens_failed_child (as_front front) s)
+        → R turn (failed_own front x) v ≡ ChildCrash.hardens_failed_child (as_front front) s)
         → Fits pr (r0 turn) s → Unforced s (r0 turn) → Fails e
     own_fails_as x w s same fits u zero f fit = quiet_zero e f fit
     own_fails_as x w s same fits u (suc a) f fit =
         let front = front_of d (fails_in n h e (suc a) f).forced in
         let half_then = behind a f ∙ ap (λ (z : OwnHalf). failed_own front z) w in
-        faults.fails_as d n v pr root outcome above half (opens place n d) inv (fails_in n h e (suc a) f) fit
+        Faults.fails_as d n v pr root outcome above half (opens place n d) inv (fails_in n h e (suc a) f) fit
         (holds e (suc a) f) s
         (ap (λ (z : OwnHalf). R turn z v) half_then
         ∙ same front (λ y. sym (ap (λ (z : OwnHalf). z.prepare_kept) half_then)
@@ -143,11 +142,11 @@ module _ (turn : Turn) where
       let none = collecting_undecided (kept n) d (memory_of place n d).phase
       (sym (viewed place n d) ∙ stands) in
       let may = may_vote turn (asked_for turn stands) (at_collecting turn stands) in
-      own_fails_as e (PrepareRecord d ts) is_forced one (halves.promises q) (promises_record d ts b q)
-      (crash.fails_to_promise (r0 turn))
+      own_fails_as e (PrepareRecord d ts) is_forced one (Halves.promises q) (promises_record d ts b q)
+      (ChildCrash.fails_to_promise (r0 turn))
       (λ front x. reading-fails_to_promise root outcome above half q v front
       (at_collecting turn stands) none.no_abort)
-      (fail.fails_to_promise pr (r0 turn) inv (record { asked = may.asked; is_open = may.is_open }))
+      (FailMoves.fails_to_promise pr (r0 turn) inv (record { asked = may.asked; is_open = may.is_open }))
       (record {
         failed = refl;
         prepared = refl;
@@ -164,12 +163,12 @@ module _ (turn : Turn) where
       → (coordinator_view place n d).standing ≡ Collecting → Fails e
   abort_fails e ts is_forced one stands =
       let s = silent_at turn stands in
-      own_fails_as e (AbortRecord d ts) is_forced one (halves.aborts b q) (aborts_record d ts b q)
-      (crash.child_fails (r0 turn))
+      own_fails_as e (AbortRecord d ts) is_forced one (Halves.aborts b q) (aborts_record d ts b q)
+      (ChildCrash.child_fails (r0 turn))
       (λ front x. reading-fails_aborting root outcome above half q v front b
       (at_collecting turn stands) s.issued
       s.none_kept s.none_ever s.no_read x)
-      (fail.child_fails pr (r0 turn) inv (record { up = up }))
+      (FailMoves.child_fails pr (r0 turn) inv (record { up = up }))
       (record {
         failed = refl;
         prepared = refl;
@@ -187,11 +186,11 @@ module _ (turn : Turn) where
       → Fails e
   commit_fails e ts is_forced one j i stands =
       let doubt = doubt_at turn stands in
-      own_fails_as e (CommitRecord d ts) is_forced one (halves.commits q) (commits_record d ts b q)
-      (crash.fails_to_commit (r0 turn))
+      own_fails_as e (CommitRecord d ts) is_forced one (Halves.commits q) (commits_record d ts b q)
+      (ChildCrash.fails_to_commit (r0 turn))
       (λ front x. reading-fails_to_commit root outcome above half q v front
       (prepared_closed turn stands) doubt.prepared)
-      (fail.fails_to_commit pr (r0 turn) inv (record
+      (FailMoves.fails_to_commit pr (r0 turn) inv (record
       { up = up; told = commit_sent turn j i; in_doubt = doubt }))
       (record {
         failed = refl;
@@ -209,12 +208,12 @@ module _ (turn : Turn) where
       → Fails e
   roll_back_fails e ts is_forced one j i stands =
       let doubt = doubt_at turn stands in
-      own_fails_as e (AbortRecord d ts) is_forced one (halves.aborts true q)
-      (aborts_record d ts b q ∙ ap (λ x. halves.aborts x q) (promise_written doubt.prepared))
-      (crash.fails_to_roll_back (r0 turn))
+      own_fails_as e (AbortRecord d ts) is_forced one (Halves.aborts true q)
+      (aborts_record d ts b q ∙ ap (λ x. Halves.aborts x q) (promise_written doubt.prepared))
+      (ChildCrash.fails_to_roll_back (r0 turn))
       (λ front x. reading-fails_to_roll_back root outcome above half q v front (prepared_closed turn stands)
       doubt.prepared)
-      (fail.fails_to_roll_back pr (r0 turn) inv
+      (FailMoves.fails_to_roll_back pr (r0 turn) inv
       (record { up = up; told = abort_sent turn j i; in_doubt = doubt }))
       (record {
         failed = refl;

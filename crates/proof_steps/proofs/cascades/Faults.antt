@@ -6,7 +6,7 @@ use Rattle.protocol.specs.declared.names.Presumption.{Presumption}
 use Rattle.protocol.specs.declared.records.Record.{Record}
 use Rattle.protocol.specs.Records.{has, is_abort, is_commit, is_prepare}
 use Rattle.protocol.specs.Nodes.{Node, kept}
-use Rattle.proof_pairs.specs.ChildCrash as crash
+use Rattle.proof_pairs.specs.ChildCrash
 use Rattle.proof_pairs.specs.Invariant.{Common}
 use Rattle.proof_pairs.specs.Reading.{Reading}
 use Rattle.proof_pairs.specs.readings.ReadingOf.{ParentHalf, Wire, reading_from}
@@ -15,8 +15,8 @@ use Rattle.proof_processes.specs.WorldHolds.{InvariantOf}
 use Rattle.proof_processes.proofs.CaseFronts.{commit_behind_promise}
 use Rattle.proof_processes.proofs.CaseOrders.{AllFit}
 use Rattle.proof_processes.proofs.Tests.{in_first}
-use Rattle.proof_steps.proofs.children.FailMoves as fail
-use Rattle.proof_steps.proofs.children.Moves as moves
+use Rattle.proof_steps.proofs.children.FailMoves
+use Rattle.proof_steps.proofs.children.Moves
 use Rattle.proof_steps.proofs.children.Moves.{Fits}
 use Rattle.proof_steps.proofs.cascades.Fails.{OwnFront, as_front, failed_own, front_of, reading-fails}
 use Rattle.proof_steps.proofs.cascades.Halves.{OwnHalf, as_child, own_half_at}
@@ -51,7 +51,7 @@ module _ (d : Case) (n : Node) (v : Wire) (pr : Presumption) (root outcome above
 
   module _ (inv : InvariantOf pr r0) where
     common : Common r0
-    common = moves.common_of pr r0 inv
+    common = Moves.common_of pr r0 inv
 
     -- The process as the fault left it.
 
@@ -66,13 +66,13 @@ module _ (d : Case) (n : Node) (v : Wire) (pr : Presumption) (root outcome above
       stays : (x : Record → Bool) → has x n'.forced ≡ true → has x (kept n') ≡ true
       stays x e = in_first x n'.forced n'.unforced e
 
-      module _ (s : Reading) (e : R q' ≡ crash.hardens_failed_child (as_front front) s)
+      module _ (s : Reading) (e : R q' ≡ ChildCrash.hardens_failed_child (as_front front) s)
           (f : Fits pr r0 s) where
         promised_before : has (is_commit d) n'.forced ≡ true → has (is_prepare d) n'.forced ≡ true
         promised_before x =
             commit_behind_promise d n'.forced n'.unforced fit x
             (ap (λ (z : Reading). z.prepared_kept) e
-            ∙ ((moves.common_of pr s f.invariant).learnt_commit_stands_behind
+            ∙ ((Moves.common_of pr s f.invariant).learnt_commit_stands_behind
             (sym (ap (λ (z : Reading). z.learnt_commit_kept) e) ∙ stays (is_commit d) x)).0)
 
         no_decision : {A : Type 0} → s.heuristic_kept ≡ true → A
@@ -84,7 +84,7 @@ module _ (d : Case) (n : Node) (v : Wire) (pr : Presumption) (root outcome above
         same_decision u (inl x) = absurd (cc)
         same_decision u (inr x) = absurd (let y = sym u.never_heuristic ∙ x in cc)
 
-        is_front : Unforced s r0 → crash.IsChildFront (as_front (front_of d n'.forced)) s
+        is_front : Unforced s r0 → ChildCrash.IsChildFront (as_front (front_of d n'.forced)) s
         is_front u = record {
           holds_prepared = λ x. holds (is_prepare d) (sym u.prepared ∙ x);
           holds_learnt_commit = λ x. holds (is_commit d) (sym u.learnt_commit ∙ x);
@@ -115,8 +115,8 @@ module _ (d : Case) (n : Node) (v : Wire) (pr : Presumption) (root outcome above
         fails_as u =
             let to = as_front front in
             subst (λ (z : Reading). Fits pr r0 z) (sym e)
-            (moves.onward pr r0 s (crash.hardens_failed_child to s) f
-            (fail.hardens_failed pr to s f.invariant (record { failed = u.failed; front_of = is_front u })))
+            (Moves.onward pr r0 s (ChildCrash.hardens_failed_child to s) f
+            (FailMoves.hardens_failed pr to s f.invariant (record { failed = u.failed; front_of = is_front u })))
 
       pub quiet_open : QuietWhileOpen q.is_open v.issued q.prepare_kept q.prepare_ever v.read
       quiet_open x = let w = common.not_voted x in (w.no_prepared.0, w.no_prepared.1, w.said_nothing.0)
@@ -124,11 +124,11 @@ module _ (d : Case) (n : Node) (v : Wire) (pr : Presumption) (root outcome above
       -- nothing was appended of the case
       pub fails_quietly : n.failed ≡ false → q' ≡ failed_own front q → Fits pr r0 (R q')
       fails_quietly up e =
-          fails_as (crash.child_fails r0)
+          fails_as (ChildCrash.child_fails r0)
           (ap (λ (z : OwnHalf). R z) e
           ∙ reading-fails root outcome above half q v front quiet_open
           (λ x. sym (ap (λ (z : OwnHalf). z.prepare_kept) e) ∙ stays (is_prepare d) x))
-          (fail.child_fails pr r0 inv (record { up = up }))
+          (FailMoves.child_fails pr r0 inv (record { up = up }))
           (record {
             failed = refl;
             prepared = refl;

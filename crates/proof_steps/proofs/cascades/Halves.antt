@@ -3,7 +3,7 @@ use Rattle.std.proofs.Common.{◌≡◌, Bool, true, false, ◌||◌, ◌&&◌, 
 use Rattle.protocol.specs.declared.names.Case.{Case}
 use Rattle.protocol.specs.declared.names.Ticket.{Ticket}
 use Rattle.protocol.specs.declared.records.Record.{Record}
-use Rattle.protocol.specs.declared.records.Record.TheVariants.{Prepare as PrepareRecord, Commit as CommitRecord, Abort as AbortRecord, End as EndRecord}
+use Rattle.protocol_words.specs.Variants.{AbortRecord, CommitRecord, EndRecord, PrepareRecord}
 use Rattle.protocol.specs.declared.standings.Standing.{Standing}
 use Rattle.protocol.specs.NameLaws.{same_case-refl}
 use Rattle.protocol.specs.Records.{has, is_commit, is_abort, is_prepare}

@@ -8,7 +8,7 @@ use Rattle.protocol.specs.declared.names.Ticket.{Ticket}
 use Rattle.protocol.specs.declared.messages.Envelope.{Envelope}
 use Rattle.protocol.specs.declared.messages.Message.TheVariants.{Join, Joined}
 use Rattle.protocol.specs.declared.events.Input.{Input}
-use Rattle.protocol.specs.declared.events.Input.TheVariants.{Message as MessageInput}
+use Rattle.protocol_words.specs.Variants.{MessageInput}
 use Rattle.protocol.specs.declared.trees.TreeProcess.{TreeProcess}
 use Rattle.protocol.specs.Names.{child_case, same_case, same_ticket}
 use Rattle.protocol.specs.NameLaws.{same_case-refl, same_ticket_tells, names}
@@ -27,14 +27,14 @@ use Rattle.proof_processes.specs.Numbers.{TicketNumbers}
 use Rattle.proof_processes.specs.WorldHolds.{AllGo, InvariantOf, IsGivenOut, IsPair}
 use Rattle.proof_processes.proofs.GivenCases.{same_of}
 use Rattle.proof_processes.proofs.Selves.{Self, self_same}
-use Rattle.proof_steps.proofs.children.Moves as moves
+use Rattle.proof_steps.proofs.children.Moves
 use Rattle.proof_steps.proofs.children.Moves.{Fits}
 use Rattle.proof_steps.specs.cascades.Messages.{AllSentBy}
 use Rattle.proof_steps.proofs.cascades.Halves.{OwnHalf, as_child, own_half_at, own_silent, stands_so}
-use Rattle.proof_steps.proofs.cascades.Messages as words
+use Rattle.proof_steps.proofs.cascades.Messages
 use Rattle.proof_steps.proofs.cascades.Messages.{hears, nothing, said_by, wire_behind}
 use Rattle.proof_steps.proofs.cascades.Opens.{live, open_by_phase}
-use Rattle.proof_steps.proofs.cascades.Readings as readings
+use Rattle.proof_steps.proofs.cascades.Readings
 use Rattle.proof_steps.proofs.cascades.Turns.{opens}
 
 ticket_is : (t u : Ticket) → same_ticket t u ≡ true → t ≡ u
@@ -149,8 +149,8 @@ module _ (c : Case) (t : Ticket) (p : ProcessId) (tree : List TreeProcess) (n : 
         ≡ hears (said_by c t (post t.child p (Joined x u) ∷ [])) v
         → wire c t (net ++ post t.child p (Joined x u) ∷ [])
         ≡ record v { issued = (same_case x c && same_ticket u t) || v.issued }
-    said u e = e ∙ ap (λ s. hears s v) (words.said_first c t (post t.child p (Joined x u)) []
-        (words.none_silent c t))
+    said u e = e ∙ ap (λ s. hears s v) (Messages.said_first c t (post t.child p (Joined x u)) []
+        (Messages.none_silent c t))
 
     record Known (e : Effect) : Type 0 where
       alike_then : IsOpenAlike place (after n h e) d
@@ -179,7 +179,7 @@ module _ (c : Case) (t : Ticket) (p : ProcessId) (tree : List TreeProcess) (n : 
     stays : (u : Ticket) → Known (says x u) → Then.phase ≡ m.phase
         → ((same_case x c && same_ticket u t) || v.issued) ≡ v.issued → Fine (says x u)
     stays u k same e =
-        fine u k (opens place n d) v.issued (ap live same ∙ sym was_open) e (moves.unmoved pr r0 inv)
+        fine u k (opens place n d) v.issued (ap live same ∙ sym was_open) e (Moves.unmoved pr r0 inv)
 
     -- what it remembers of itself is the same in each of its cases
     active_same : (memory_of place n x).active ≡ m.active
@@ -264,13 +264,13 @@ module _ (c : Case) (t : Ticket) (p : ProcessId) (tree : List TreeProcess) (n : 
             fine new k true true (opened e)
             (rw (f, ap (λ (u : Ticket). same_ticket u t) (sym (this e)) ∙ ticket_itself t) refl)
             (subst (λ (z : Reading). Fits pr r0 z)
-            (sym (readings.reading-issued root outcome above half q v (not_issued e)))
-            (moves.issues pr r0 inv (record { fresh = not_issued e; up = up })))
+            (sym (Readings.reading-issued root outcome above half q v (not_issued e)))
+            (Moves.issues pr r0 inv (record { fresh = not_issued e; up = up })))
         gives_it e false f =
             fine new k true v.issued (opened e) (ap (λ (b : Bool). (b && same_ticket new t) || v.issued) f)
             (subst (λ (z : Reading). Fits pr r0 z)
-            (sym (readings.reading-unissued root outcome above half q v true (not_issued e)))
-            (moves.unmoved pr r0 inv))
+            (sym (Readings.reading-unissued root outcome above half q v true (not_issued e)))
+            (Moves.unmoved pr r0 inv))
 
         by_case : (b : Bool) → same_case d (child_case x.txn next) ≡ b → Fine (says x new)
         by_case false e = stays new k (joins_phase t.child boot d x m (active_ticket m.active x) e) (other e)

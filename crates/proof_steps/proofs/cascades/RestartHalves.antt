@@ -18,7 +18,7 @@ use Rattle.protocol.specs.Nodes.{Below, Node, Place, kept}
 use Rattle.protocol.specs.Outcomes.{follows}
 use Rattle.protocol.specs.Restarts.{aborts_collecting, coordinator_reopens, left_of, recorded_view, restart_abort, restart_fails, restarted}
 use Rattle.protocol.specs.Standings.{CoordinatorView}
-use Rattle.proof_pairs.specs.ChildCrash as crash
+use Rattle.proof_pairs.specs.ChildCrash
 use Rattle.proof_pairs.specs.Reading.{Reading}
 use Rattle.proof_pairs.specs.readings.ReadingOf.{ParentHalf, Wire, is_dead, reading_from}
 use Rattle.proof_pairs.proofs.readings.LeafCrash.{QuietWhileOpen}
@@ -251,7 +251,7 @@ module _ (root outcome above : Bool) (h : ParentHalf) (q : OwnHalf) (v : Wire) (
         inquire = (left.prepare && not left.commit && not
             (left.abort && left.prepare) && not false) || v.inquire;
       })
-      ≡ crash.child_restarts (as_front left) (R q v)
+      ≡ ChildCrash.child_restarts (as_front left) (R q v)
   reading-restarts =
       rw (
         and-false v.issued,
@@ -263,7 +263,7 @@ module _ (root outcome above : Bool) (h : ParentHalf) (q : OwnHalf) (v : Wire) (
 
   pub reading-loses : (forced.prepare ≡ true → left.prepare ≡ true)
       → R (restarted_own true left forced aborted promised q) v
-      ≡ crash.hardens_failed_child (as_front forced) (crash.child_loses (as_front left) (R q v))
+      ≡ ChildCrash.hardens_failed_child (as_front forced) (ChildCrash.child_loses (as_front left) (R q v))
   reading-loses within =
       rw (
         and-false v.issued,

@@ -20,7 +20,7 @@ use Rattle.protocol.specs.Outcomes.{is_joined_message, is_read_message, sent}
 use Rattle.protocol.specs.Reactions.{is_prepared_standing}
 use Rattle.protocol.specs.Restarts.{coordinator_reopens, left_of, recorded_view, restart_fails, restarted, resumes}
 use Rattle.protocol.specs.Views.{IsOpenAlike}
-use Rattle.proof_pairs.specs.ChildCrash as crash
+use Rattle.proof_pairs.specs.ChildCrash
 use Rattle.proof_pairs.specs.Invariant.{Common}
 use Rattle.proof_pairs.specs.Reading.{Reading}
 use Rattle.proof_pairs.specs.readings.ReadingOf.{ParentHalf, Wire, reading_from, wire}
@@ -33,15 +33,15 @@ use Rattle.proof_processes.proofs.GivenCases.{same_of, sent_other}
 use Rattle.proof_processes.proofs.PairOf.{given}
 use Rattle.proof_processes.proofs.Phases.{collecting_undecided, standing_at}
 use Rattle.proof_processes.proofs.RootLogs.{idle_standing, recorded_stands}
-use Rattle.proof_processes.proofs.Tests.{both, either, has-append, in_first, in_front, left as on_left, not_both, right as on_right}
+use Rattle.proof_processes.proofs.Tests.{both, either, has-append, in_first, in_front, left, not_both, right}
 use Rattle.proof_processes.proofs.Worlds.{has_other}
-use Rattle.proof_steps.proofs.children.FailMoves as fail
-use Rattle.proof_steps.proofs.children.Moves as moves
+use Rattle.proof_steps.proofs.children.FailMoves
+use Rattle.proof_steps.proofs.children.Moves
 use Rattle.proof_steps.proofs.children.Moves.{Fits}
 use Rattle.proof_steps.specs.cascades.Messages.{AllSentBy}
 use Rattle.proof_steps.proofs.cascades.Ends.{EndsDecided, ends_front, ends_more, none_reopens}
 use Rattle.proof_steps.proofs.cascades.Fails.{OwnFront, as_front, front_of}
-use Rattle.proof_steps.proofs.cascades.Faults as faults
+use Rattle.proof_steps.proofs.cascades.Faults
 use Rattle.proof_steps.proofs.cascades.Halves.{OwnHalf, as_child, own_half_at}
 use Rattle.proof_steps.proofs.cascades.Messages.{hears, wire_behind}
 use Rattle.proof_steps.proofs.cascades.Opens.{live, open_by_phase}
@@ -66,10 +66,10 @@ said_by_owner : (tree : List TreeProcess) (d : Case) (net : List Envelope) → A
 unfolding sent
 said_by_owner tree d [] g e = e
 said_by_owner tree d (l ∷ ls) g e = elim (either (is_read_message d l.message) _ e) [
-  | inl now ↦ on_left (same_process l.from (process_of d) && is_read_message d l.message)
+  | inl now ↦ left (same_process l.from (process_of d) && is_read_message d l.message)
       (said_read (process_of d) d ls)
       (by_message l.message refl now)
-  | inr rest ↦ on_right (same_process l.from (process_of d) && is_read_message d l.message)
+  | inr rest ↦ right (same_process l.from (process_of d) && is_read_message d l.message)
       (said_read (process_of d) d ls) (said_by_owner tree d ls g.1 rest)
 ]
   where
@@ -198,9 +198,9 @@ module _ (c : Case) (t : Ticket) (p : ProcessId) (tree : List TreeProcess) (n : 
 
   module _ (inv : InvariantOf pr r0) where
     common : Common r0
-    common = moves.common_of pr r0 inv
+    common = Moves.common_of pr r0 inv
 
-    is_front : crash.IsChildFront (as_front front) r0
+    is_front : ChildCrash.IsChildFront (as_front front) r0
     is_front = record {
       holds_prepared = holds (is_prepare d);
       holds_learnt_commit = holds (is_commit d);
@@ -294,7 +294,7 @@ module _ (c : Case) (t : Ticket) (p : ProcessId) (tree : List TreeProcess) (n : 
         (has (is_prepare d) n.life)
         said.quiet_open (had (is_prepare d)) (λ y z. holds (is_prepare d) (said.once y z)) said.asked
         (lost_so (has (is_abort d) new) (λ y. y)) unpromised))
-        (fail.restarts pr (as_front front) r0 inv is_front)))
+        (FailMoves.restarts pr (as_front front) r0 inv is_front)))
 
     -- The device fails in it.
 
@@ -302,11 +302,11 @@ module _ (c : Case) (t : Ticket) (p : ProcessId) (tree : List TreeProcess) (n : 
         → Fits pr r0 (R (own_half_at false (restart_fails place n j a f) d) v)
     restart_breaks a f fit_then =
         let k = restart_fails place n j a f in
-        let s = crash.child_loses (as_front front) r0 in
+        let s = ChildCrash.child_loses (as_front front) r0 in
         let said = promises r0 common in
         let some = λ (y : has (is_abort d) (take a new) ≡ true). in_front (is_abort d) a new y in
         let same = half_breaks t.child p tree n j d a f o (λ y. (common.child_forced_promise y).1) in
-        faults.fails_as d n v pr root outcome above half o inv k fit_then
+        Faults.fails_as d n v pr root outcome above half o inv k fit_then
         (λ x y. in_first x n.forced (take f (take j n.unforced ++ take a new)) y) s
         (ap (λ (z : OwnHalf). R z v) same
         ∙ reading-loses root outcome above half q v front (front_of d k.forced)
@@ -317,7 +317,7 @@ module _ (c : Case) (t : Ticket) (p : ProcessId) (tree : List TreeProcess) (n : 
         (λ y. unpromised (some y))
         (λ y. sym (ap (λ (z : OwnHalf). z.prepare_kept) same)
         ∙ in_first (is_prepare d) k.forced k.unforced y))
-        (fail.loses pr (as_front front) r0 inv is_front)
+        (FailMoves.loses pr (as_front front) r0 inv is_front)
         (record {
           failed = refl;
           prepared = refl;

@@ -4,7 +4,7 @@
 use Rattle.std.proofs.Common.{◌≡◌, ◌∙◌, inl, inr, Bool, true, false, Some, None, List, [], ◌∷◌, ◌++◌, map, refl, sym, ap, subst, if◌then◌else◌}
 use Rattle.protocol.specs.declared.names.Case.{Case}
 use Rattle.protocol.specs.declared.names.Outcome.{Outcome}
-use Rattle.protocol.specs.declared.names.Outcome.TheVariants.{Committed as CommittedOutcome, Aborted as AbortedOutcome}
+use Rattle.protocol_words.specs.Variants.{AbortedOutcome, CommittedOutcome, PrepareRecord}
 use Rattle.protocol.specs.declared.names.Presumption.{Presumption}
 use Rattle.protocol.specs.declared.names.Presumption.TheVariants.{PresumeAbort, PresumeCommit}
 use Rattle.protocol.specs.declared.names.ProcessId.{ProcessId}
@@ -13,7 +13,6 @@ use Rattle.protocol.specs.declared.names.Txn.{Txn}
 use Rattle.protocol.specs.declared.messages.Envelope.{Envelope}
 use Rattle.protocol.specs.declared.messages.Message.{Message}
 use Rattle.protocol.specs.declared.messages.Message.TheVariants.{Ack, Commit, Abort, Joined, No, Prepare}
-use Rattle.protocol.specs.declared.records.Record.TheVariants.{Prepare as PrepareRecord}
 use Rattle.protocol.specs.declared.standings.Standing.TheVariants.{Active}
 use Rattle.protocol.specs.declared.standings.Vote.{Vote}
 use Rattle.protocol.specs.declared.trees.TreeProcess.{TreeProcess}
@@ -31,7 +30,7 @@ use Rattle.proof_pairs.specs.readings.ReadingOf.{gives_case}
 use Rattle.proof_pairs.specs.turns.CoordinatorTurns.{CaseTurn, CoordinatorTurn, CountsLast, IsToCommit, counting, voted, accepts, acknowledges, clears, answers, asks, asks_for_votes, aborts, begins, commit_act, commits, counts_vote, does_nothing, ends, finds_nobody, gives_again, gives_fresh, gives_up, hears_no, invites, of_case, passes_abort, passes_commit, prepare_comes, presumes, promises, reads_only, refuses, repeats_yes, rests, sends_work, waits_for_acks}
 use Rattle.proof_processes.proofs.GivenCases.{same_of}
 use Rattle.proof_processes.proofs.Tests.{either}
-use Rattle.proof_steps.proofs.cascades.Closings as closings
+use Rattle.proof_steps.proofs.cascades.Closings
 use Rattle.proof_steps.proofs.cascades.Opens.{live}
 use Rattle.protocol.specs.declared.messages.Finding.{Finding}
 
@@ -177,10 +176,10 @@ module _ (me p : ProcessId) (tree : List TreeProcess) (n : Node) (h : Heard) (ne
   unfolding has
   own_nobody (commit_act y z i) f g =
       root_given y net (subst (λ (w : Case). sent (gives_case w) net ≡ true) z
-      (given c (λ k. let o = sym k ∙ closings.phase_open me p tree n h c (alike c) f in cc)))
+      (given c (λ k. let o = sym k ∙ Closings.phase_open me p tree n h c (alike c) f in cc)))
   own_nobody (prepare_comes q j k i) f g =
-      reads_now (ap live (closings.phase_open me p tree n h c (alike c) f))
-      (closings.nobody_closes me p tree n h c (alike c) i.0 j i.1 f g) refl refl
+      reads_now (ap live (Closings.phase_open me p tree n h c (alike c) f))
+      (Closings.nobody_closes me p tree n h c (alike c) i.0 j i.1 f g) refl refl
 
   other_nobody : (x : Case) → same_case x c ≡ false → Says (Alone x)
   unfolding has sent
@@ -205,11 +204,11 @@ module _ (me p : ProcessId) (tree : List TreeProcess) (n : Node) (h : Heard) (ne
       → Says (ReadOnly c u w q)
   unfolding has
   own_read u w ys PresumeAbort i =
-      reads_now (ap live (closings.phase_asked me p tree n h c (alike c) i.vote.stands))
-      (closings.last_closes me p tree n h c (alike c) w u ys i) refl refl
+      reads_now (ap live (Closings.phase_asked me p tree n h c (alike c) i.vote.stands))
+      (Closings.last_closes me p tree n h c (alike c) w u ys i) refl refl
   own_read u w ys PresumeCommit i =
-      reads_now (ap live (closings.phase_asked me p tree n h c (alike c) i.vote.stands))
-      (closings.last_closes me p tree n h c (alike c) w u ys i) refl refl
+      reads_now (ap live (Closings.phase_asked me p tree n h c (alike c) i.vote.stands))
+      (Closings.last_closes me p tree n h c (alike c) w u ys i) refl refl
 
   other_read : (x : Case) (u : Ticket) (w : Vote) (q : Presumption) → same_case x c ≡ false
       → Says (ReadOnly x u w q)
@@ -235,8 +234,8 @@ module _ (me p : ProcessId) (tree : List TreeProcess) (n : Node) (h : Heard) (ne
       → Says (Promises c u w ys)
   unfolding sent
   own_promise u w ys i =
-      promises_now ys (ap live (closings.phase_asked me p tree n h c (alike c) i.vote.stands))
-      (closings.last_closes me p tree n h c (alike c) w u ys i) refl refl
+      promises_now ys (ap live (Closings.phase_asked me p tree n h c (alike c) i.vote.stands))
+      (Closings.last_closes me p tree n h c (alike c) w u ys i) refl refl
 
   other_promise : (x : Case) (u : Ticket) (w : Vote) (ys : List Ticket) → same_case x c ≡ false
       → Says (Promises x u w ys)
@@ -259,7 +258,7 @@ module _ (me p : ProcessId) (tree : List TreeProcess) (n : Node) (h : Heard) (ne
   own_collect : (view c).standing ≡ Active → Says (Collects c)
   unfolding has
   own_collect e =
-      collects_now (ap live (closings.phase_open me p tree n h c (alike c) e))
+      collects_now (ap live (Closings.phase_open me p tree n h c (alike c) e))
       (prepares_unread c (seat c) (view c) (view c).accepted) refl
 
   other_collect : (x : Case) → same_case x c ≡ false → Says (Collects x)

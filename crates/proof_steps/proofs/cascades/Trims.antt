@@ -13,7 +13,7 @@ use Rattle.protocol.specs.Nodes.{Below, Node, Place, kept}
 use Rattle.protocol.specs.Restarts.{case_stays, is_known, recorded_view, trim_fails, trimmed, trims}
 use Rattle.protocol.specs.Standings.{coordinator_view, phase_standing}
 use Rattle.protocol.specs.Views.{IsOpenAlike}
-use Rattle.proof_pairs.specs.ChildMoves as move
+use Rattle.proof_pairs.specs.ChildMoves
 use Rattle.proof_pairs.specs.Reading.{Reading, is_live}
 use Rattle.proof_pairs.specs.Standing.{IsForgotten}
 use Rattle.proof_pairs.specs.readings.ReadingOf.{ParentHalf, Wire, phase_by, reading_from}
@@ -25,14 +25,14 @@ use Rattle.proof_processes.proofs.CaseOrders.{AllFit}
 use Rattle.proof_processes.proofs.Phases.{active_unrecorded, collecting_undecided}
 use Rattle.proof_processes.proofs.RootLogs.{recorded_stands}
 use Rattle.proof_processes.proofs.Tests.{first_false, has-append}
-use Rattle.proof_steps.proofs.children.Moves as moves
+use Rattle.proof_steps.proofs.children.Moves
 use Rattle.proof_steps.proofs.children.Moves.{Fits}
 use Rattle.proof_steps.proofs.cascades.Ends.{EndsDecided}
-use Rattle.proof_steps.proofs.cascades.Faults as faults
+use Rattle.proof_steps.proofs.cascades.Faults
 use Rattle.proof_steps.proofs.cascades.Fails.{own_breaks}
 use Rattle.proof_steps.proofs.cascades.Halves.{OwnHalf, as_child, hardens, own_half_at}
 use Rattle.proof_steps.proofs.cascades.Opens.{open_by_phase, live}
-use Rattle.proof_steps.proofs.cascades.Readings as readings
+use Rattle.proof_steps.proofs.cascades.Readings
 use Rattle.proof_steps.proofs.cascades.Standings.{IsOver, unknown_by}
 use Rattle.proof_steps.proofs.cascades.Trimmed.{of_abort, of_commit, of_prepare, trimmed_has}
 use Rattle.proof_steps.proofs.cascades.Turns.{opens}
@@ -67,7 +67,7 @@ trimmed_own stays q = record q {
 reading-trimmed : (root outcome above : Bool) (p : ParentHalf) (q : OwnHalf) (v : Wire)
     → (q.prepare_kept || q.prepare_ever) ≡ q.prepare_ever
     → reading_from root false outcome above p (as_child (trimmed_own false q)) v
-    ≡ move.trims_child (reading_from root false outcome above p (as_child q) v)
+    ≡ ChildMoves.trims_child (reading_from root false outcome above p (as_child q) v)
 reading-trimmed root outcome above p q v e = rw e refl
 
 module _ (me p : ProcessId) (tree : List TreeProcess) (n : Node) (d : Case) (v : Wire) (up : n.failed ≡ false)
@@ -113,10 +113,10 @@ module _ (me p : ProcessId) (tree : List TreeProcess) (n : Node) (d : Case) (v :
   KnownThen = IsOpenAlike place (trims place n) d
 
   -- all records of the case stay, forced
-  keeps_all : Fits pr r0 (move.hardens_child r0) → (x : OwnHalf) → x ≡ hardens q → Fits pr r0 (R x)
+  keeps_all : Fits pr r0 (ChildMoves.hardens_child r0) → (x : OwnHalf) → x ≡ hardens q → Fits pr r0 (R x)
   keeps_all f x e =
       subst (λ (z : OwnHalf). Fits pr r0 (R z)) (sym e)
-      (subst (λ (z : Reading). Fits pr r0 z) (sym (readings.reading-hardened root outcome above half q v)) f)
+      (subst (λ (z : Reading). Fits pr r0 z) (sym (Readings.reading-hardened root outcome above half q v)) f)
 
   -- an open case has no record of a promise or a decision
   record Unpromised : Type 0 where
@@ -161,13 +161,13 @@ module _ (me p : ProcessId) (tree : List TreeProcess) (n : Node) (d : Case) (v :
   nothing_left true e o = inr (inr (refl, decided e ends o))
 
   module _ (inv : InvariantOf pr r0) where
-    hard : Fits pr r0 (move.hardens_child r0)
-    hard = moves.hardens pr r0 inv up
+    hard : Fits pr r0 (ChildMoves.hardens_child r0)
+    hard = Moves.hardens pr r0 inv up
 
     ever : (q.prepare_kept || q.prepare_ever) ≡ q.prepare_ever
     ever =
         absorbed q.prepare_kept q.prepare_ever
-        (λ x. let c = moves.common_of pr r0 inv in
+        (λ x. let c = Moves.common_of pr r0 inv in
         (c.child_forced_promise (c.child_promise_is_forced x up)).1)
       where
         absorbed : (a b : Bool) → (a ≡ true → b ≡ true) → (a || b) ≡ b
@@ -199,7 +199,7 @@ module _ (me p : ProcessId) (tree : List TreeProcess) (n : Node) (d : Case) (v :
     by_stay false false e f =
         subst (λ (z : Reading). Fits pr r0 z)
         (sym (ap (λ x. R (trimmed_own x q)) e ∙ reading-trimmed root outcome above half q v ever))
-        (moves.trims_child pr r0 inv (record { up = up; forgotten = forgets_it e f }))
+        (Moves.trims_child pr r0 inv (record { up = up; forgotten = forgets_it e f }))
 
     pub trim_fits : IsOpenAlike place (trims place n) d
         → Fits pr r0 (R (own_half_at (opens place (trims place n) d) (trims place n) d))
@@ -212,10 +212,10 @@ module _ (me p : ProcessId) (tree : List TreeProcess) (n : Node) (d : Case) (v :
 
     old_log : AllFit [] (kept n) → Fits pr r0 (R (own_half_at false (record n { failed = true }) d))
     old_log fit =
-        faults.fails_quietly d n v pr root outcome above half (opens place n d) inv
+        Faults.fails_quietly d n v pr root outcome above half (opens place n d) inv
         (record n { failed = true }) fit
         (λ x e. e) up
-        (own_breaks (opens place n d) n d (λ x. ((moves.common_of pr r0 inv).child_forced_promise x).1))
+        (own_breaks (opens place n d) n d (λ x. ((Moves.common_of pr r0 inv).child_forced_promise x).1))
 
     pub breaks_quietly : AllFit [] (kept n) → Fits pr r0
         (R (own_half_at false (record n { failed = true }) d))
@@ -227,12 +227,12 @@ module _ (me p : ProcessId) (tree : List TreeProcess) (n : Node) (d : Case) (v :
         let same = half_trimmed (opens place n d) refl in
         let first = subst (λ (z : OwnHalf). Fits pr r0 (R z)) (sym same) (by_stay K q.is_open refl refl) in
         let then_inv = first.invariant in
-        moves.onward pr r0 (R (own_half_at (opens place n d) (trims place n) d))
+        Moves.onward pr r0 (R (own_half_at (opens place n d) (trims place n) d))
         (R (own_half_at false (record (trims place n) { failed = true }) d)) first
-        (faults.fails_quietly d (trims place n) v pr root outcome above half (opens place n d) then_inv
+        (Faults.fails_quietly d (trims place n) v pr root outcome above half (opens place n d) then_inv
         (record (trims place n) { failed = true }) fit (λ x e. e) up
         (own_breaks (opens place n d) (trims place n) d
-        (λ x. ((moves.common_of pr (R (own_half_at (opens place n d)
+        (λ x. ((Moves.common_of pr (R (own_half_at (opens place n d)
         (trims place n) d)) then_inv).child_forced_promise
         x).1)))
 

@@ -16,7 +16,7 @@ use Rattle.protocol.specs.Outcomes.{sent}
 use Rattle.protocol.specs.Standings.{coordinator_view}
 use Rattle.protocol.specs.Views.{IsOpenAlike}
 use Rattle.protocol.specs.World.{InputStands}
-use Rattle.proof_pairs.specs.ChildMoves as move
+use Rattle.proof_pairs.specs.ChildMoves
 use Rattle.proof_pairs.specs.Reading.{Reading, is_live}
 use Rattle.proof_pairs.specs.readings.ReadingOf.{ParentHalf, Wire, is_prepare_message, phase_by, reading_from, wire}
 use Rattle.proof_pairs.proofs.readings.Memories.{memory_of-nothing, memory_of-forced, memory_of-plain}
@@ -24,13 +24,13 @@ use Rattle.proof_processes.specs.CaseOrder.{CaseInOrder}
 use Rattle.proof_processes.specs.Lasts.{Logs}
 use Rattle.proof_processes.specs.WorldHolds.{AllGo, InvariantOf, IsPair}
 use Rattle.proof_processes.proofs.Appends.{either_logs}
-use Rattle.proof_steps.proofs.children.Moves as moves
+use Rattle.proof_steps.proofs.children.Moves
 use Rattle.proof_steps.proofs.children.Moves.{Fits}
 use Rattle.proof_steps.specs.cascades.Messages.{AllSentBy}
 use Rattle.proof_steps.proofs.cascades.Halves.{IsAside, OwnHalf, as_child, aside, hardens, own_forced, own_half_at, own_plain, own_silent, stands_so, wrote}
 use Rattle.proof_steps.proofs.cascades.Messages.{Said, hears, nothing, said_by, wire_behind}
 use Rattle.proof_steps.proofs.cascades.Opens.{IsRow, falls, live, open_by_phase}
-use Rattle.proof_steps.proofs.cascades.Readings as readings
+use Rattle.proof_steps.proofs.cascades.Readings
 
 -- A case that is closed without a word is dropped, if it was open.
 
@@ -40,21 +40,21 @@ module _ (pr : Presumption) (root outcome above : Bool) (half : ParentHalf) (hal
   R0 x = reading_from root false outcome above half (as_child x) wire_in
 
   same : (x : OwnHalf) → R0 x ≡ R0 half_in → Fits pr (R0 half_in) (R0 x)
-  same x e = subst (λ (z : Reading). Fits pr (R0 half_in) z) (sym e) (moves.unmoved pr (R0 half_in) inv)
+  same x e = subst (λ (z : Reading). Fits pr (R0 half_in) z) (sym e) (Moves.unmoved pr (R0 half_in) inv)
 
   may_fall : (o b i : Bool) → half_in.is_open ≡ b → wire_in.issued ≡ i → o ≡ false → Fits pr (R0 half_in) (R0 (stands_so o half_in))
   may_fall o true true e i f =
-      let silent = (moves.common_of pr (R0 half_in) inv).not_voted (rw (i, e) refl) in
+      let silent = (Moves.common_of pr (R0 half_in) inv).not_voted (rw (i, e) refl) in
       subst (λ (z : Reading). Fits pr (R0 half_in) z)
       (sym (ap (λ b. R0 (stands_so b half_in)) f
-      ∙ readings.reading-dropped root outcome above half half_in wire_in e i silent.no_prepared.0 silent.no_prepared.1
+      ∙ Readings.reading-dropped root outcome above half half_in wire_in e i silent.no_prepared.0 silent.no_prepared.1
       silent.said_nothing.0))
-      (moves.drops pr (R0 half_in) inv (record { is_open = rw (i, e) refl }))
+      (Moves.drops pr (R0 half_in) inv (record { is_open = rw (i, e) refl }))
   may_fall o true false e i f = same (stands_so o half_in)
-      (readings.reading-unissued root outcome above half half_in wire_in o i)
+      (Readings.reading-unissued root outcome above half half_in wire_in o i)
   may_fall o false b e i f =
       same (stands_so o half_in) (ap (λ x. R0 (stands_so x half_in)) f
-      ∙ readings.reading-closed root outcome above half half_in wire_in e)
+      ∙ Readings.reading-closed root outcome above half half_in wire_in e)
 
   pub falls_so : (o : Bool) → (o ≡ half_in.is_open) ⊎ (o ≡ false) → Fits pr (R0 half_in) (R0 (stands_so o half_in))
   falls_so o (inl e) = same (stands_so o half_in) (ap (λ b. R0 (stands_so b half_in)) e)
@@ -220,11 +220,11 @@ module _ (turn : Turn) where
       (f (opens place_in (after n h e) own_case) (opens_then e k (memory_of-plain place_in n h e own_case r one boots)))
 
   -- all that stood before was forced
-  pub hard : Fits pr r0 (move.hardens_child r0)
-  hard = moves.hardens pr r0 inv up
+  pub hard : Fits pr r0 (ChildMoves.hardens_child r0)
+  hard = Moves.hardens pr r0 inv up
 
-  pub onward : (s : Reading) → Fits pr (move.hardens_child r0) s → Fits pr r0 s
-  onward s f = moves.onward pr r0 (move.hardens_child r0) s hard f
+  pub onward : (s : Reading) → Fits pr (ChildMoves.hardens_child r0) s → Fits pr r0 s
+  onward s f = Moves.onward pr r0 (ChildMoves.hardens_child r0) s hard f
 
   -- Nothing of the case was written, and nothing was said of it.
 
@@ -235,10 +235,10 @@ module _ (turn : Turn) where
   hardened_falls : (o : Bool) → o ≡ live Remembered.phase → Fits pr r0 (R (stands_so o (hardens half_in)) wire_in)
   hardened_falls o f =
       let same : R (hardens half_in) wire_in
-      ≡ move.hardens_child r0 = readings.reading-hardened root outcome above half half_in wire_in in
+      ≡ ChildMoves.hardens_child r0 = Readings.reading-hardened root outcome above half half_in wire_in in
       let inv' = subst (λ (z : Reading). InvariantOf pr z) (sym same) hard.invariant in
       let first = subst (λ (z : Reading). Fits pr r0 z) (sym same) hard in
-      moves.onward pr r0 (R (hardens half_in) wire_in) (R (stands_so o (hardens half_in)) wire_in) first
+      Moves.onward pr r0 (R (hardens half_in) wire_in) (R (stands_so o (hardens half_in)) wire_in) first
       (falls_so pr root outcome above half (hardens half_in) wire_in inv' o (fallen o f))
 
   pub forced_aside : (e : Effect) → Then e → (r : Record) → e.written ≡ forced r

@@ -2,15 +2,13 @@
 use Rattle.std.proofs.Common.{◌≡◌, ◌∙◌, ◌⊎◌, inl, inr, ◌&&◌, ℕ, Bool, true, false, Some, List, [], ◌∷◌, refl, sym, ap, subst, arith, None}
 use Rattle.protocol.specs.declared.names.Case.{Case}
 use Rattle.protocol.specs.declared.names.Outcome.{Outcome}
-use Rattle.protocol.specs.declared.names.Outcome.TheVariants.{Committed as CommittedOutcome, Aborted as AbortedOutcome}
+use Rattle.protocol_words.specs.Variants.{AbortRecord, AbortedOutcome, CommitRecord, CommittedOutcome, EndRecord, MessageInput}
 use Rattle.protocol.specs.declared.names.Presumption.{Presumption}
 use Rattle.protocol.specs.declared.names.Presumption.TheVariants.{PresumeAbort, PresumeCommit}
 use Rattle.protocol.specs.declared.names.Ticket.{Ticket}
 use Rattle.protocol.specs.declared.messages.Message.TheVariants.{Prepare, Yes, No, Commit, Abort, Ack, Inquire}
-use Rattle.protocol.specs.declared.records.Record.TheVariants.{Commit as CommitRecord, Abort as AbortRecord, End as EndRecord}
 use Rattle.protocol.specs.declared.standings.Standing.{Standing}
 use Rattle.protocol.specs.declared.standings.Standing.TheVariants.{Unknown, Prepared, Committing, Aborting}
-use Rattle.protocol.specs.declared.events.Input.TheVariants.{Message as MessageInput}
 use Rattle.protocol.specs.NameLaws.{same_case-refl}
 use Rattle.protocol.specs.Records.{has, is_abort, is_commit, is_end, is_prepare, in_order}
 use Rattle.protocol.specs.CoordinatorRows.{Row, acknowledges_at_last, acknowledges_at_once, plain, quiet, Seat, each, post, prepared_abort_by, prepared_commit_by, sends, tells_outcome, up as up_message, ends_with}
@@ -18,20 +16,20 @@ use Rattle.protocol.specs.Nodes.{Version, First, Second, Effect, Place, kept}
 use Rattle.protocol.specs.Outcomes.{is_outcome_message}
 use Rattle.protocol.specs.Reactions.{row_effect, seat_of}
 use Rattle.protocol.specs.Standings.{coordinator_view, unknown_view}
-use Rattle.proof_pairs.specs.ChildMoves as move
+use Rattle.proof_pairs.specs.ChildMoves
 use Rattle.proof_pairs.specs.Reading.{Reading, is_live}
 use Rattle.proof_pairs.specs.Standing.{IsForgotten, IsInDoubt, IsSettled}
 use Rattle.proof_pairs.specs.readings.ReadingOf.{Wire, phase_by}
 use Rattle.proof_pairs.specs.turns.CoordinatorTurns.{Acknowledges, HasDecided, by_abort, by_commit, PromisesNoMore, abort_again, abort_presumed_commit, aborting_refuses, commit_again, commit_presumed_abort, unknown_refuses}
 use Rattle.proof_processes.specs.WorldHolds.{InvariantOf, NamesBy}
 use Rattle.proof_processes.proofs.Deliveries.{was_sent}
-use Rattle.proof_steps.proofs.children.Moves as moves
+use Rattle.proof_steps.proofs.children.Moves
 use Rattle.proof_steps.proofs.children.Moves.{Fits}
 use Rattle.proof_steps.proofs.cascades.Halves.{IsAside, OwnHalf, aside, wrote, aborts, aborts_record, commits, commits_record, hardens, stands_so}
-use Rattle.proof_steps.proofs.cascades.Messages as words
+use Rattle.proof_steps.proofs.cascades.Messages
 use Rattle.proof_steps.proofs.cascades.Messages.{Said, hears, nothing, said_by}
 use Rattle.proof_steps.proofs.cascades.Opens.{live}
-use Rattle.proof_steps.proofs.cascades.Readings as readings
+use Rattle.proof_steps.proofs.cascades.Readings
 use Rattle.proof_steps.proofs.cascades.Standings.{IsOver, aborting_facts, committing_facts, prepared_facts, unknown_facts}
 use Rattle.proof_steps.proofs.cascades.Turns.{Fine, R, Remembered, Then, Turn, own_case, fallen, forced_fine, plain_aside, hard, onward, place_in, plain_fine, half_in, r0, silent_fine, wire_in}
 use Rattle.proof_steps.proofs.cascades.TurnsVotes.{abort_sent, prepare_sent}
@@ -141,10 +139,10 @@ module _ (turn : Turn) where
   repeats_yes_own j k i e next =
       closed_says (row_effect d (sends (up_message seat (Yes d)) (coordinator_view place n d))) next refl
       (prepared_closed e) (record nothing { yes = true })
-      (words.said_first c t (post t.child p (Yes d)) [] (words.none_silent c t)
+      (Messages.said_first c t (post t.child p (Yes d)) [] (Messages.none_silent c t)
       ∙ rw (same_case-refl d) refl)
-      (move.repeats_yes (r0 turn)) refl
-      (moves.repeats_yes pr (r0 turn) inv
+      (ChildMoves.repeats_yes (r0 turn)) refl
+      (Moves.repeats_yes pr (r0 turn) inv
       (record { asked = prepare_sent turn j k i; up = up; promised = (prepared_facts place n d e).promised }))
 
   pub asks_own : (coordinator_view place n d).standing ≡ Prepared
@@ -153,16 +151,16 @@ module _ (turn : Turn) where
   asks_own e next =
       closed_says (row_effect d (sends (up_message seat (Inquire d)) (coordinator_view place n d))) next refl
       (prepared_closed e) (record nothing { inquire = true })
-      (words.said_first c t (post t.child p (Inquire d)) [] (words.none_silent c t)
+      (Messages.said_first c t (post t.child p (Inquire d)) [] (Messages.none_silent c t)
       ∙ rw (same_case-refl d) refl)
-      (move.asks (r0 turn)) refl
-      (moves.asks pr (r0 turn) inv (record { up = up; in_doubt = doubt_at e }))
+      (ChildMoves.asks (r0 turn)) refl
+      (Moves.asks pr (r0 turn) inv (record { up = up; in_doubt = doubt_at e }))
 
   ack_said : (o x : Outcome) (fs : List Finding) (us : List Ticket)
       → said_by c t (post t.child p (Ack (own_case turn) o fs) ∷ each seat (tells_outcome x) us)
       ≡ record nothing { ack = true }
-  ack_said o x fs us = words.said_first c t (post t.child p (Ack d o fs)) (each seat (tells_outcome x) us)
-      (words.each_silent c t seat x us)
+  ack_said o x fs us = Messages.said_first c t (post t.child p (Ack d o fs)) (each seat (tells_outcome x) us)
+      (Messages.each_silent c t seat x us)
       ∙ rw (same_case-refl d) refl
 
   -- COMMIT comes.
@@ -182,9 +180,9 @@ module _ (turn : Turn) where
       (commits_record d ts b q)
       ∙ (ap (λ x. R turn (stands_so x (hardens (commits q))) (record v { ack = true }))
       (g ∙ stays_closed closed)
-      ∙ readings.reading-commit_forced root outcome above half q v closed doubt.prepared)))
-      (onward turn (move.commits_forced (move.hardens_child (r0 turn)))
-      (moves.commits_forced pr (sym of ∙ f) (move.hardens_child (r0 turn)) (hard turn).invariant
+      ∙ Readings.reading-commit_forced root outcome above half q v closed doubt.prepared)))
+      (onward turn (ChildMoves.commits_forced (ChildMoves.hardens_child (r0 turn)))
+      (Moves.commits_forced pr (sym of ∙ f) (ChildMoves.hardens_child (r0 turn)) (hard turn).invariant
       (record {
         up = up;
         told = commit_sent j i;
@@ -200,12 +198,12 @@ module _ (turn : Turn) where
       let closed = prepared_closed e in
       let doubt = doubt_at e in
       plain_fine turn (row_effect d (prepared_commit_by First seat (coordinator_view place n d) PresumeCommit)) next
-      (CommitRecord d []) refl (λ x. refl) nothing (words.each_silent c t seat CommittedOutcome ts)
+      (CommitRecord d []) refl (λ x. refl) nothing (Messages.each_silent c t seat CommittedOutcome ts)
       (λ o g. subst (λ (z : Reading). Fits pr (r0 turn) z)
       (sym (ap (λ (x : OwnHalf). R turn (stands_so o x) v) (commits_record d [] b q)
       ∙ (ap (λ x. R turn (stands_so x (commits q)) v) (g ∙ stays_closed closed)
-      ∙ readings.reading-commit_plain root outcome above half q v closed doubt.prepared)))
-      (moves.commits pr (sym of ∙ f) (r0 turn) inv
+      ∙ Readings.reading-commit_plain root outcome above half q v closed doubt.prepared)))
+      (Moves.commits pr (sym of ∙ f) (r0 turn) inv
       (record { up = up; told = commit_sent j i; in_doubt = doubt })))
 
   commit_second : (j : ℕ) → h.input ≡ MessageInput j (Commit d) → (x : Presumption)
@@ -217,15 +215,15 @@ module _ (turn : Turn) where
       let closed = prepared_closed e in
       let doubt = doubt_at e in
       forced_fine turn (row_effect d (prepared_commit_by Second seat (coordinator_view place n d) PresumeAbort)) next
-      (CommitRecord d ts) refl (λ x. refl) nothing (words.each_silent c t seat CommittedOutcome ts)
+      (CommitRecord d ts) refl (λ x. refl) nothing (Messages.each_silent c t seat CommittedOutcome ts)
       (λ o g. subst (λ (z : Reading). Fits pr (r0 turn) z)
       (sym (ap (λ (x : OwnHalf). R turn (stands_so o (hardens x)) v)
       (commits_record d ts b q)
       ∙ (ap (λ x. R turn (stands_so x (hardens (commits q))) v)
       (g ∙ stays_closed closed)
-      ∙ readings.reading-commit_waits root outcome above half q v closed doubt.prepared)))
-      (onward turn (move.learns_commit_forced (move.hardens_child (r0 turn)))
-      (moves.learns_commit pr (sym of ∙ f) (move.hardens_child (r0 turn)) (hard turn).invariant
+      ∙ Readings.reading-commit_waits root outcome above half q v closed doubt.prepared)))
+      (onward turn (ChildMoves.learns_commit_forced (ChildMoves.hardens_child (r0 turn)))
+      (Moves.learns_commit pr (sym of ∙ f) (ChildMoves.hardens_child (r0 turn)) (hard turn).invariant
       (record {
         up = up;
         told = commit_sent j i;
@@ -241,12 +239,12 @@ module _ (turn : Turn) where
       let closed = prepared_closed e in
       let doubt = doubt_at e in
       plain_fine turn (row_effect d (prepared_commit_by Second seat (coordinator_view place n d) PresumeCommit)) next
-      (CommitRecord d []) refl (λ x. refl) nothing (words.each_silent c t seat CommittedOutcome ts)
+      (CommitRecord d []) refl (λ x. refl) nothing (Messages.each_silent c t seat CommittedOutcome ts)
       (λ o g. subst (λ (z : Reading). Fits pr (r0 turn) z)
       (sym (ap (λ (x : OwnHalf). R turn (stands_so o x) v) (commits_record d [] b q)
       ∙ (ap (λ x. R turn (stands_so x (commits q)) v) (g ∙ stays_closed closed)
-      ∙ readings.reading-commit_plain root outcome above half q v closed doubt.prepared)))
-      (moves.commits pr (sym of ∙ f) (r0 turn) inv
+      ∙ Readings.reading-commit_plain root outcome above half q v closed doubt.prepared)))
+      (Moves.commits pr (sym of ∙ f) (r0 turn) inv
       (record { up = up; told = commit_sent j i; in_doubt = doubt })))
 
   pub passes_commit_own : (ver : Version) (j : ℕ) → h.input ≡ MessageInput j (Commit d) → (x : Presumption)
@@ -266,13 +264,13 @@ module _ (turn : Turn) where
       let closed = prepared_closed e in
       let doubt = doubt_at e in
       plain_fine turn (row_effect d (prepared_abort_by First seat (coordinator_view place n d) PresumeAbort)) next
-      (AbortRecord d []) refl (λ x. refl) nothing (words.each_silent c t seat AbortedOutcome ts)
+      (AbortRecord d []) refl (λ x. refl) nothing (Messages.each_silent c t seat AbortedOutcome ts)
       (λ o g. subst (λ (z : Reading). Fits pr (r0 turn) z)
       (sym (ap (λ (x : OwnHalf). R turn (stands_so o x) v) (aborts_record d [] b q)
       ∙ (ap (λ x. R turn (stands_so o (aborts x q)) v) (promise_written doubt.prepared)
       ∙ (ap (λ x. R turn (stands_so x (aborts true q)) v) (g ∙ stays_closed closed)
-      ∙ readings.reading-abort_plain root outcome above half q v closed doubt.prepared))))
-      (moves.rolls_back pr (sym of ∙ f) (r0 turn) inv
+      ∙ Readings.reading-abort_plain root outcome above half q v closed doubt.prepared))))
+      (Moves.rolls_back pr (sym of ∙ f) (r0 turn) inv
       (record { up = up; told = abort_sent turn j i; in_doubt = doubt })))
   abort_first j i PresumeCommit f e next =
       let ts = (coordinator_view place n d).promised in
@@ -288,9 +286,9 @@ module _ (turn : Turn) where
       (promise_written doubt.prepared)
       ∙ (ap (λ x. R turn (stands_so x (hardens (aborts true q))) (record v { ack = true }))
       (g ∙ stays_closed closed)
-      ∙ readings.reading-abort_forced root outcome above half q v closed doubt.prepared))))
-      (onward turn (move.rolls_back_forced (move.hardens_child (r0 turn)))
-      (moves.rolls_back_forced pr (sym of ∙ f) (move.hardens_child (r0 turn)) (hard turn).invariant
+      ∙ Readings.reading-abort_forced root outcome above half q v closed doubt.prepared))))
+      (onward turn (ChildMoves.rolls_back_forced (ChildMoves.hardens_child (r0 turn)))
+      (Moves.rolls_back_forced pr (sym of ∙ f) (ChildMoves.hardens_child (r0 turn)) (hard turn).invariant
       (record {
         up = up;
         told = abort_sent turn j i;
@@ -311,20 +309,20 @@ module _ (turn : Turn) where
       let closed = prepared_closed e in
       let doubt = doubt_at e in
       plain_fine turn (row_effect d (prepared_abort_by Second seat (coordinator_view place n d) PresumeAbort)) next
-      (AbortRecord d []) refl (λ x. refl) nothing (words.each_silent c t seat AbortedOutcome ts)
+      (AbortRecord d []) refl (λ x. refl) nothing (Messages.each_silent c t seat AbortedOutcome ts)
       (λ o g. subst (λ (z : Reading). Fits pr (r0 turn) z)
       (sym (ap (λ (x : OwnHalf). R turn (stands_so o x) v) (aborts_record d [] b q)
       ∙ (ap (λ x. R turn (stands_so o (aborts x q)) v) (promise_written doubt.prepared)
       ∙ (ap (λ x. R turn (stands_so x (aborts true q)) v) (g ∙ stays_closed closed)
-      ∙ readings.reading-abort_plain root outcome above half q v closed doubt.prepared))))
-      (moves.rolls_back pr (sym of ∙ f) (r0 turn) inv
+      ∙ Readings.reading-abort_plain root outcome above half q v closed doubt.prepared))))
+      (Moves.rolls_back pr (sym of ∙ f) (r0 turn) inv
       (record { up = up; told = abort_sent turn j i; in_doubt = doubt })))
   abort_second j i PresumeCommit f e next =
       let ts = (coordinator_view place n d).promised in
       let closed = prepared_closed e in
       let doubt = doubt_at e in
       forced_fine turn (row_effect d (prepared_abort_by Second seat (coordinator_view place n d) PresumeCommit)) next
-      (AbortRecord d ts) refl (λ x. refl) nothing (words.each_silent c t seat AbortedOutcome ts)
+      (AbortRecord d ts) refl (λ x. refl) nothing (Messages.each_silent c t seat AbortedOutcome ts)
       (λ o g. subst (λ (z : Reading). Fits pr (r0 turn) z)
       (sym (ap (λ (x : OwnHalf). R turn (stands_so o (hardens x)) v)
       (aborts_record d ts b q)
@@ -332,9 +330,9 @@ module _ (turn : Turn) where
       (promise_written doubt.prepared)
       ∙ (ap (λ x. R turn (stands_so x (hardens (aborts true q))) v)
       (g ∙ stays_closed closed)
-      ∙ readings.reading-abort_waits root outcome above half q v closed doubt.prepared))))
-      (onward turn (move.learns_abort_forced (move.hardens_child (r0 turn)))
-      (moves.learns_abort pr (sym of ∙ f) (move.hardens_child (r0 turn)) (hard turn).invariant
+      ∙ Readings.reading-abort_waits root outcome above half q v closed doubt.prepared))))
+      (onward turn (ChildMoves.learns_abort_forced (ChildMoves.hardens_child (r0 turn)))
+      (Moves.learns_abort pr (sym of ∙ f) (ChildMoves.hardens_child (r0 turn)) (hard turn).invariant
       (record {
         up = up;
         told = abort_sent turn j i;
@@ -398,24 +396,24 @@ module _ (turn : Turn) where
       let over = refused_over (coordinator_view place n d).standing refl e in
       closed_says (row_effect d (sends (up_message seat (No d)) (coordinator_view place n d))) next refl over.0
       (record nothing { no = true })
-      (words.said_first c t (post t.child p (No d)) [] (words.none_silent c t)
+      (Messages.said_first c t (post t.child p (No d)) [] (Messages.none_silent c t)
       ∙ rw (same_case-refl d) refl)
-      (move.refuses (r0 turn)) refl
-      (moves.refuses pr (r0 turn) inv
+      (ChildMoves.refuses (r0 turn)) refl
+      (Moves.refuses pr (r0 turn) inv
       (record { asked = prepare_sent turn j k i; up = up; forgotten = over.1 }))
 
   -- An outcome that it knows, or of which nothing is known, is acknowledged.
 
-  acks : (o : Outcome) (fs : List Finding) → q.is_open ≡ false → Fits pr (r0 turn) (move.acknowledges (r0 turn))
+  acks : (o : Outcome) (fs : List Finding) → q.is_open ≡ false → Fits pr (r0 turn) (ChildMoves.acknowledges (r0 turn))
       → Then turn (row_effect d (sends (up_message seat (Ack d o fs)) (coordinator_view place n d)))
       → Fine turn (row_effect d (sends (up_message seat (Ack d o fs)) (coordinator_view place n d)))
   acks o fs closed fits next =
       closed_says (row_effect d (sends (up_message seat (Ack d o fs))
       (coordinator_view place n d))) next refl closed
       (record nothing { ack = true })
-      (words.said_first c t (post t.child p (Ack d o fs)) [] (words.none_silent c t)
+      (Messages.said_first c t (post t.child p (Ack d o fs)) [] (Messages.none_silent c t)
       ∙ rw (same_case-refl d) refl)
-      (move.acknowledges (r0 turn)) refl fits
+      (ChildMoves.acknowledges (r0 turn)) refl fits
 
   -- a case that commits does so under Presumed Abort, one that aborts under Presumed Commit
   commits_by : (x : Presumption) → d.txn.presumption ≡ x → (coordinator_view place n d).standing ≡ Committing
@@ -436,11 +434,11 @@ module _ (turn : Turn) where
   acknowledges_by : (ver : Version) (j : ℕ) (o : Outcome) (fs : List Finding) → h.input ≡ MessageInput j (tells_outcome o d) → (x : Presumption)
       → d.txn.presumption ≡ x → (s : Standing) → (coordinator_view place n d).standing ≡ s
       → Acknowledges ver d o x s fs
-      → (q.is_open ≡ false) × Fits pr (r0 turn) (move.acknowledges (r0 turn))
+      → (q.is_open ≡ false) × Fits pr (r0 turn) (ChildMoves.acknowledges (r0 turn))
   acknowledges_by _ j CommittedOutcome _ i _ f _ e (commit_presumed_abort w _) =
       let closed = closed_by Unknown e refl in (
         closed,
-        moves.acknowledges_commit pr (sym of ∙ f) (r0 turn) inv (record {
+        Moves.acknowledges_commit pr (sym of ∙ f) (r0 turn) inv (record {
           up = up;
           told = commit_sent j i;
           known = inl (forgotten closed (unknown_facts place n d e));
@@ -449,7 +447,7 @@ module _ (turn : Turn) where
   acknowledges_by _ j CommittedOutcome _ i x f _ e (commit_again _ _) =
       let closed = closed_by Committing e refl in (
         closed,
-        moves.acknowledges_commit pr (sym of ∙ (f ∙ commits_by x f e)) (r0 turn) inv (record {
+        Moves.acknowledges_commit pr (sym of ∙ (f ∙ commits_by x f e)) (r0 turn) inv (record {
           up = up;
           told = commit_sent j i;
           known = inr (committing_facts place n d e).0;
@@ -458,7 +456,7 @@ module _ (turn : Turn) where
   acknowledges_by _ j AbortedOutcome _ i _ f _ e (abort_presumed_commit w _) =
       let closed = closed_by Unknown e refl in (
         closed,
-        moves.acknowledges_abort pr (sym of ∙ f) (r0 turn) inv (record {
+        Moves.acknowledges_abort pr (sym of ∙ f) (r0 turn) inv (record {
           up = up;
           told = abort_sent turn j i;
           known = inl (forgotten closed (unknown_facts place n d e));
@@ -467,7 +465,7 @@ module _ (turn : Turn) where
   acknowledges_by _ j AbortedOutcome _ i x f _ e (abort_again _ _) =
       let closed = closed_by Aborting e refl in (
         closed,
-        moves.acknowledges_abort pr (sym of ∙ (f ∙ aborts_by x f e)) (r0 turn) inv (record {
+        Moves.acknowledges_abort pr (sym of ∙ (f ∙ aborts_by x f e)) (r0 turn) inv (record {
           up = up;
           told = abort_sent turn j i;
           known = inl (forgotten closed (inr (inr (inl (aborting_facts place n d e).0))));
@@ -533,15 +531,15 @@ module _ (turn : Turn) where
   pub ends_own : (ver : Version) (o : Outcome) (fs : List Finding) → HasDecided o (coordinator_view place n d).standing
       → Then turn (row_effect d (ends_row ver o fs)) → Fine turn (row_effect d (ends_row ver o fs))
   ends_own First o fs i next =
-      plain_aside turn _ next (EndRecord d None) refl (λ x. refl) aside_end (words.none_silent c t)
+      plain_aside turn _ next (EndRecord d None) refl (λ x. refl) aside_end (Messages.none_silent c t)
   ends_own Second o fs i next =
       let closed = over_by o (coordinator_view place n d).standing refl i in
       let s : Said = record nothing { ack = true } in
       plain_fine turn (row_effect d (ends_row Second o fs)) next (EndRecord d None) refl (λ x. refl) s
-      (words.said_first c t (post t.child p (Ack d o (in_order fs))) [] (words.none_silent c t)
+      (Messages.said_first c t (post t.child p (Ack d o (in_order fs))) [] (Messages.none_silent c t)
       ∙ rw (same_case-refl d) refl)
       (λ k f. subst (λ (z : Reading). Fits pr (r0 turn) z)
       (sym (ap (λ (x : OwnHalf). R turn (stands_so k x) (hears s v)) (aside d (EndRecord d None) b q aside_end)
       ∙ ap (λ x. R turn (stands_so x q) (hears s v)) (f ∙ (stays_closed closed ∙ sym closed))))
-      (moves.acknowledges_settled pr (r0 turn) inv
+      (Moves.acknowledges_settled pr (r0 turn) inv
       (record { up = up; settled = settled_by closed o (coordinator_view place n d).standing refl i })))

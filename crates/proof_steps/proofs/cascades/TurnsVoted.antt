@@ -2,17 +2,14 @@
 -- invariant.
 use Rattle.std.proofs.Common.{◌≡◌, ◌∙◌, inl, ℕ, Bool, true, false, Some, List, [], ◌∷◌, ◌++◌, refl, sym, ap, subst, if◌then◌else◌, None}
 use Rattle.protocol.specs.declared.names.Case.{Case}
-use Rattle.protocol.specs.declared.names.Outcome.TheVariants.{Aborted as AbortedOutcome}
+use Rattle.protocol_words.specs.Variants.{AbortRecord, AbortedOutcome, EndRecord, MessageInput, PrepareRecord, VoteNo}
 use Rattle.protocol.specs.declared.names.Presumption.{Presumption}
 use Rattle.protocol.specs.declared.names.Presumption.TheVariants.{PresumeAbort, PresumeCommit}
 use Rattle.protocol.specs.declared.names.Ticket.{Ticket}
 use Rattle.protocol.specs.declared.messages.Message.TheVariants.{Yes, No, Abort, Ack}
-use Rattle.protocol.specs.declared.records.Record.TheVariants.{Prepare as PrepareRecord, Abort as AbortRecord, End as EndRecord}
 use Rattle.protocol.specs.declared.standings.Standing.TheVariants.{Active, Collecting}
 use Rattle.protocol.specs.declared.standings.Vote.{Vote}
-use Rattle.protocol.specs.declared.standings.Vote.TheVariants.{No as VoteNo}
 use Rattle.protocol.specs.declared.events.Input.{Input}
-use Rattle.protocol.specs.declared.events.Input.TheVariants.{Message as MessageInput}
 use Rattle.protocol.specs.NameLaws.{same_case-refl}
 use Rattle.protocol.specs.Records.{boot_of, has, is_prepare, none_of}
 use Rattle.protocol.specs.CoordinatorRows.{Row, ByAbort, ByVote, Seat, acknowledges_abort, active_abort, cascaded_prepares, collecting_abort_by, collecting_read_only, each, post, read_only_end}
@@ -20,21 +17,21 @@ use Rattle.protocol.specs.Memory.{cascaded_remembers, memory_of}
 use Rattle.protocol.specs.Nodes.{Version, First, Second, Effect, Place, kept}
 use Rattle.protocol.specs.Reactions.{row_effect, seat_of}
 use Rattle.protocol.specs.Standings.{coordinator_view}
-use Rattle.proof_pairs.specs.ChildMoves as move
+use Rattle.proof_pairs.specs.ChildMoves
 use Rattle.proof_pairs.specs.Reading.{Reading}
 use Rattle.proof_pairs.specs.readings.ReadingOf.{Wire}
 use Rattle.proof_pairs.specs.turns.CoordinatorTurns.{CountsLast, CountsVote, counting, voted}
 use Rattle.proof_processes.proofs.Cases.{viewed}
 use Rattle.proof_processes.proofs.Phases.{collecting_undecided}
-use Rattle.proof_steps.proofs.children.Moves as moves
+use Rattle.proof_steps.proofs.children.Moves
 use Rattle.proof_steps.proofs.children.Moves.{Fits}
 use Rattle.proof_steps.proofs.cascades.Closings.{first_closes, last_closes, phase_asked}
 use Rattle.proof_steps.proofs.cascades.Halves.{OwnHalf, aborts, aborts_record, aside, hardens, promises, promises_record, stands_so}
-use Rattle.proof_steps.proofs.cascades.Messages as words
+use Rattle.proof_steps.proofs.cascades.Messages
 use Rattle.proof_steps.proofs.cascades.Messages.{Said, hears, nothing, said_by}
-use Rattle.proof_steps.proofs.cascades.Opens as opens
+use Rattle.proof_steps.proofs.cascades.Opens
 use Rattle.proof_steps.proofs.cascades.Opens.{live}
-use Rattle.proof_steps.proofs.cascades.Readings as readings
+use Rattle.proof_steps.proofs.cascades.Readings
 use Rattle.proof_steps.proofs.cascades.Turns.{Fine, R, Remembered, Then, Turn, own_case, forced_fine, hard, onward, plain_fine, place_in, half_in, r0, silent_fine, wire_in}
 use Rattle.proof_steps.proofs.cascades.TurnsVotes.{IsSilent, abort_sent, aborted_issued, asked_issued, at_collecting, may_vote, open_at, read_moves, read_said, said_read, silent_if}
 
@@ -94,7 +91,7 @@ module _ (turn : Turn) where
   -- The promise.
 
   yes_said : said_by c t (post t.child p (Yes (own_case turn)) ∷ []) ≡ record nothing { yes = true }
-  yes_said = words.said_first c t (post t.child p (Yes d)) [] (words.none_silent c t)
+  yes_said = Messages.said_first c t (post t.child p (Yes d)) [] (Messages.none_silent c t)
       ∙ rw (same_case-refl d) refl
 
   pub promises_own : (u : Ticket) (w : Vote) (ys : List Ticket) → CountsLast place n h d u w ys
@@ -115,9 +112,9 @@ module _ (turn : Turn) where
       (promises_record d ys b q)
       ∙ (ap (λ x. R turn (stands_so x (hardens (promises q))) (record v { yes = true }))
       (f ∙ last_closes t.child p tree n h d alike w u ys k)
-      ∙ readings.reading-yes root outcome above half q v (at_collecting turn stands) none.no_abort)))
-      (onward turn (move.votes_yes (move.hardens_child (r0 turn)))
-      (moves.votes_yes pr (move.hardens_child (r0 turn)) (hard turn).invariant
+      ∙ Readings.reading-yes root outcome above half q v (at_collecting turn stands) none.no_abort)))
+      (onward turn (ChildMoves.votes_yes (ChildMoves.hardens_child (r0 turn)))
+      (Moves.votes_yes pr (ChildMoves.hardens_child (r0 turn)) (hard turn).invariant
       (record { asked = may.asked; is_open = may.is_open }))))
 
   -- An Abort before the promise.
@@ -145,15 +142,15 @@ module _ (turn : Turn) where
 
   no_said : (us : List Ticket) → said_by c t (post t.child p (No (own_case turn)) ∷ each seat Abort us)
       ≡ record nothing { no = true }
-  no_said us = words.said_first c t (post t.child p (No d)) (each seat Abort us)
-      (words.each_silent c t seat AbortedOutcome us)
+  no_said us = Messages.said_first c t (post t.child p (No d)) (each seat Abort us)
+      (Messages.each_silent c t seat AbortedOutcome us)
       ∙ rw (same_case-refl d) refl
 
   ack_said : (us : List Ticket) → said_by c t (post t.child p
       (Ack (own_case turn) AbortedOutcome []) ∷ each seat Abort us)
       ≡ record nothing { ack = true }
-  ack_said us = words.said_first c t (post t.child p (Ack d AbortedOutcome [])) (each seat Abort us)
-      (words.each_silent c t seat AbortedOutcome us)
+  ack_said us = Messages.said_first c t (post t.child p (Ack d AbortedOutcome [])) (each seat Abort us)
+      (Messages.each_silent c t seat AbortedOutcome us)
       ∙ rw (same_case-refl d) refl
 
   -- the first NO
@@ -168,9 +165,9 @@ module _ (turn : Turn) where
       abort_plain (row_effect d (counting u VoteNo
       (collecting_abort_by seat ByVote (voted (coordinator_view place n d) u VoteNo) us PresumeAbort)))
       next [] refl (first_closes t.child p tree n h d alike u k) (record nothing { no = true })
-      (no_said us) (move.votes_no (r0 turn))
-      (readings.reading-no root outcome above half q v is_open s.issued s.none_kept s.none_ever s.no_read b)
-      (moves.votes_no pr (r0 turn) inv (may_vote turn (asked_for k.stands) is_open))
+      (no_said us) (ChildMoves.votes_no (r0 turn))
+      (Readings.reading-no root outcome above half q v is_open s.issued s.none_kept s.none_ever s.no_read b)
+      (Moves.votes_no pr (r0 turn) inv (may_vote turn (asked_for k.stands) is_open))
   hears_no_own u us PresumeCommit k next =
       let s = silent_at k.stands in
       let is_open = at_collecting turn k.stands in
@@ -178,11 +175,11 @@ module _ (turn : Turn) where
       abort_forced (row_effect d (counting u VoteNo
       (collecting_abort_by seat ByVote (voted (coordinator_view place n d) u VoteNo) us PresumeCommit)))
       next us refl (first_closes t.child p tree n h d alike u k) (record nothing { no = true }) (no_said us)
-      (move.votes_no (move.hardens_child (r0 turn)))
-      (readings.reading-no_forced root outcome above half q v is_open s.issued s.none_kept s.none_ever
+      (ChildMoves.votes_no (ChildMoves.hardens_child (r0 turn)))
+      (Readings.reading-no_forced root outcome above half q v is_open s.issued s.none_kept s.none_ever
       s.no_read b)
-      (onward turn (move.votes_no (move.hardens_child (r0 turn)))
-      (moves.votes_no pr (move.hardens_child (r0 turn)) (hard turn).invariant
+      (onward turn (ChildMoves.votes_no (ChildMoves.hardens_child (r0 turn)))
+      (Moves.votes_no pr (ChildMoves.hardens_child (r0 turn)) (hard turn).invariant
       (record { asked = may.asked; is_open = may.is_open })))
 
   -- ABORT comes.
@@ -191,7 +188,7 @@ module _ (turn : Turn) where
   abort_heard j i =
       ap (λ (x : Input). live (cascaded_remembers t.child (boot_of (kept n)) d
       (memory_of place n d) x).phase) i
-      ∙ opens.abort_closes t.child (boot_of (kept n)) d (memory_of place n d) j
+      ∙ Opens.abort_closes t.child (boot_of (kept n)) d (memory_of place n d) j
 
   pub silent_aborted : (j : ℕ) → h.input ≡ MessageInput j (Abort d) → q.is_open ≡ true → IsSilent turn
   silent_aborted j i e = silent_if turn (aborted_issued turn (abort_sent turn j i)) e
@@ -207,10 +204,10 @@ module _ (turn : Turn) where
       (coordinator_view place n d) us PresumeAbort))
       next [] refl (abort_heard j i) nothing
       (ap (λ (y : Presumption). said_by c t (acknowledges_abort seat y ++ each seat Abort us)) f
-      ∙ words.each_silent c t seat AbortedOutcome us) (move.drops (r0 turn))
-      (readings.reading-aborted root outcome above half q v is_open s.issued s.none_kept s.none_ever
+      ∙ Messages.each_silent c t seat AbortedOutcome us) (ChildMoves.drops (r0 turn))
+      (Readings.reading-aborted root outcome above half q v is_open s.issued s.none_kept s.none_ever
       s.no_read b)
-      (moves.drops pr (r0 turn) inv (record { is_open = rw (s.issued, is_open) refl }))
+      (Moves.drops pr (r0 turn) inv (record { is_open = rw (s.issued, is_open) refl }))
   aborts_first j i us PresumeCommit f e next =
       let is_open = at_collecting turn e in
       let s = silent_aborted j i is_open in
@@ -219,11 +216,11 @@ module _ (turn : Turn) where
       next us refl (abort_heard j i) (record nothing { ack = true })
       (ap (λ (y : Presumption). said_by c t (acknowledges_abort seat y ++ each seat Abort us)) f
       ∙ ack_said us)
-      (move.drops_and_acknowledges (move.hardens_child (r0 turn)))
-      (readings.reading-aborted_acknowledged root outcome above half q v is_open s.issued s.none_kept
+      (ChildMoves.drops_and_acknowledges (ChildMoves.hardens_child (r0 turn)))
+      (Readings.reading-aborted_acknowledged root outcome above half q v is_open s.issued s.none_kept
       s.none_ever s.no_read b)
-      (onward turn (move.drops_and_acknowledges (move.hardens_child (r0 turn)))
-      (moves.drops_and_acknowledges pr (sym of ∙ f) (move.hardens_child (r0 turn)) (hard turn).invariant
+      (onward turn (ChildMoves.drops_and_acknowledges (ChildMoves.hardens_child (r0 turn)))
+      (Moves.drops_and_acknowledges pr (sym of ∙ f) (ChildMoves.hardens_child (r0 turn)) (hard turn).invariant
       (record { is_open = rw (s.issued, is_open) refl; aborted = abort_sent turn j i })))
 
   -- by the second version nothing is said where somebody is named
@@ -240,14 +237,14 @@ module _ (turn : Turn) where
       (ap (λ (y : Presumption). said_by c t
       ((if none_of us then acknowledges_abort seat y else []) ++ each seat Abort us)) f
       ∙ (ap (λ (z : Bool). said_by c t ((if z then [] else []) ++ each seat Abort us)) g
-      ∙ by_test w)) (move.drops (r0 turn))
-      (readings.reading-aborted root outcome above half q v is_open s.issued s.none_kept s.none_ever
+      ∙ by_test w)) (ChildMoves.drops (r0 turn))
+      (Readings.reading-aborted root outcome above half q v is_open s.issued s.none_kept s.none_ever
       s.no_read b)
-      (moves.drops pr (r0 turn) inv (record { is_open = rw (s.issued, is_open) refl }))
+      (Moves.drops pr (r0 turn) inv (record { is_open = rw (s.issued, is_open) refl }))
     where
       by_test : (z : Bool) → said_by c t ((if z then [] else []) ++ each seat Abort us) ≡ nothing
-      by_test true = words.each_silent c t seat AbortedOutcome us
-      by_test false = words.each_silent c t seat AbortedOutcome us
+      by_test true = Messages.each_silent c t seat AbortedOutcome us
+      by_test false = Messages.each_silent c t seat AbortedOutcome us
   aborts_second j i us PresumeCommit f e true g next =
       let is_open = at_collecting turn e in
       let s = silent_aborted j i is_open in
@@ -259,11 +256,11 @@ module _ (turn : Turn) where
       ∙ (ap (λ (z : Bool). said_by c t
       ((if z then acknowledges_abort seat PresumeCommit else []) ++ each seat Abort us)) g
       ∙ ack_said us))
-      (move.drops_and_acknowledges (move.hardens_child (r0 turn)))
-      (readings.reading-aborted_acknowledged root outcome above half q v is_open s.issued s.none_kept
+      (ChildMoves.drops_and_acknowledges (ChildMoves.hardens_child (r0 turn)))
+      (Readings.reading-aborted_acknowledged root outcome above half q v is_open s.issued s.none_kept
       s.none_ever s.no_read b)
-      (onward turn (move.drops_and_acknowledges (move.hardens_child (r0 turn)))
-      (moves.drops_and_acknowledges pr (sym of ∙ f) (move.hardens_child (r0 turn)) (hard turn).invariant
+      (onward turn (ChildMoves.drops_and_acknowledges (ChildMoves.hardens_child (r0 turn)))
+      (Moves.drops_and_acknowledges pr (sym of ∙ f) (ChildMoves.hardens_child (r0 turn)) (hard turn).invariant
       (record { is_open = rw (s.issued, is_open) refl; aborted = abort_sent turn j i })))
   aborts_second j i us PresumeCommit f e false g next =
       let is_open = at_collecting turn e in
@@ -273,12 +270,12 @@ module _ (turn : Turn) where
       next us refl (abort_heard j i) nothing
       (ap (λ (z : Bool). said_by c t
       ((if z then acknowledges_abort seat d.txn.presumption else []) ++ each seat Abort us)) g
-      ∙ words.each_silent c t seat AbortedOutcome us)
-      (move.drops (move.hardens_child (r0 turn)))
-      (readings.reading-aborted_waits root outcome above half q v is_open s.issued s.none_kept
+      ∙ Messages.each_silent c t seat AbortedOutcome us)
+      (ChildMoves.drops (ChildMoves.hardens_child (r0 turn)))
+      (Readings.reading-aborted_waits root outcome above half q v is_open s.issued s.none_kept
       s.none_ever s.no_read b)
-      (onward turn (move.drops (move.hardens_child (r0 turn)))
-      (moves.drops pr (move.hardens_child (r0 turn)) (hard turn).invariant
+      (onward turn (ChildMoves.drops (ChildMoves.hardens_child (r0 turn)))
+      (Moves.drops pr (ChildMoves.hardens_child (r0 turn)) (hard turn).invariant
       (record { is_open = rw (s.issued, is_open) refl })))
 
   pub aborts_own : (ver : Version) (j : ℕ) → h.input ≡ MessageInput j (Abort d) → (us : List Ticket)
@@ -300,12 +297,12 @@ module _ (turn : Turn) where
       let is_open = open_at turn Active e (inl refl) in
       let s = silent_aborted j i is_open in
       silent_fine turn (row_effect d (GivesUp PresumeAbort)) next refl nothing
-      (words.each_silent c t seat AbortedOutcome (coordinator_view place n d).accepted)
+      (Messages.each_silent c t seat AbortedOutcome (coordinator_view place n d).accepted)
       (λ o g. subst (λ (z : Reading). Fits pr (r0 turn) z)
       (sym (ap (λ x. R turn (stands_so x q) v) (g ∙ abort_heard j i)
-      ∙ readings.reading-dropped root outcome above half q v is_open s.issued s.none_kept s.none_ever
+      ∙ Readings.reading-dropped root outcome above half q v is_open s.issued s.none_kept s.none_ever
       s.no_read))
-      (moves.drops pr (r0 turn) inv (record { is_open = rw (s.issued, is_open) refl })))
+      (Moves.drops pr (r0 turn) inv (record { is_open = rw (s.issued, is_open) refl })))
   gives_up_own j i PresumeCommit f e next =
       let is_open = open_at turn Active e (inl refl) in
       let s = silent_aborted j i is_open in
@@ -313,7 +310,7 @@ module _ (turn : Turn) where
       (ack_said (coordinator_view place n d).accepted)
       (λ o g. subst (λ (z : Reading). Fits pr (r0 turn) z)
       (sym (ap (λ x. R turn (stands_so x q) (record v { ack = true })) (g ∙ abort_heard j i)
-      ∙ readings.reading-dropped_acknowledged root outcome above half q v is_open s.issued s.none_kept
+      ∙ Readings.reading-dropped_acknowledged root outcome above half q v is_open s.issued s.none_kept
       s.none_ever s.no_read))
-      (moves.drops_and_acknowledges pr (sym of ∙ f) (r0 turn) inv
+      (Moves.drops_and_acknowledges pr (sym of ∙ f) (r0 turn) inv
       (record { is_open = rw (s.issued, is_open) refl; aborted = abort_sent turn j i })))

@@ -2,13 +2,12 @@
 -- invariant.
 use Rattle.std.proofs.Common.{◌≡◌, ◌∙◌, ◌⊎◌, inl, inr, ℕ, Bool, true, false, Some, None, [], ◌∷◌, refl, sym, ap, subst}
 use Rattle.protocol.specs.declared.names.Case.{Case}
-use Rattle.protocol.specs.declared.names.Outcome.TheVariants.{Aborted as AbortedOutcome}
+use Rattle.protocol_words.specs.Variants.{AbortedOutcome, MessageInput}
 use Rattle.protocol.specs.declared.names.Ticket.{Ticket}
 use Rattle.protocol.specs.declared.names.Txn.{Txn}
 use Rattle.protocol.specs.declared.messages.Message.TheVariants.{Prepare, Read, Abort}
 use Rattle.protocol.specs.declared.standings.Standing.{Standing}
 use Rattle.protocol.specs.declared.standings.Standing.TheVariants.{Active, Collecting}
-use Rattle.protocol.specs.declared.events.Input.TheVariants.{Message as MessageInput}
 use Rattle.protocol.specs.Names.{child_case}
 use Rattle.protocol.specs.NameLaws.{same_case-refl}
 use Rattle.protocol.specs.Records.{none_of}
@@ -17,17 +16,17 @@ use Rattle.protocol.specs.Nodes.{Place}
 use Rattle.protocol.specs.Outcomes.{is_outcome_message}
 use Rattle.protocol.specs.Reactions.{row_effect, seat_of}
 use Rattle.protocol.specs.Standings.{coordinator_view}
-use Rattle.proof_pairs.specs.ChildMoves as move
+use Rattle.proof_pairs.specs.ChildMoves
 use Rattle.proof_pairs.specs.Reading.{Reading, is_live}
 use Rattle.proof_pairs.specs.readings.ReadingOf.{Wire, is_prepare_message, phase_by}
 use Rattle.proof_processes.proofs.Deliveries.{was_sent}
-use Rattle.proof_steps.proofs.children.Moves as moves
+use Rattle.proof_steps.proofs.children.Moves
 use Rattle.proof_steps.proofs.children.Moves.{Fits}
-use Rattle.proof_steps.proofs.cascades.Closings as closings
+use Rattle.proof_steps.proofs.cascades.Closings
 use Rattle.proof_steps.proofs.cascades.Halves.{OwnHalf, stands_so}
-use Rattle.proof_steps.proofs.cascades.Messages as words
+use Rattle.proof_steps.proofs.cascades.Messages
 use Rattle.proof_steps.proofs.cascades.Messages.{Said, nothing, said_by}
-use Rattle.proof_steps.proofs.cascades.Readings as readings
+use Rattle.proof_steps.proofs.cascades.Readings
 use Rattle.proof_steps.proofs.cascades.Turns.{Fine, R, Then, Turn, own_case, place_in, half_in, r0, silent_fine, wire_in}
 
 live_at : (f : Bool) (s u : Standing) → f ≡ false → s ≡ u → (u ≡ Active) ⊎ (u ≡ Collecting)
@@ -68,10 +67,10 @@ module _ (turn : Turn) where
   at_collecting e = open_at Collecting e (inr refl)
 
   -- it may vote
-  pub may_vote : v.prepare ≡ true → q.is_open ≡ true → move.MayVote (r0 turn)
+  pub may_vote : v.prepare ≡ true → q.is_open ≡ true → ChildMoves.MayVote (r0 turn)
   may_vote a e = record {
     asked = a;
-    is_open = rw (moves.asked_is_issued (r0 turn) (moves.common_of pr (r0 turn) inv) a, e) refl;
+    is_open = rw (Moves.asked_is_issued (r0 turn) (Moves.common_of pr (r0 turn) inv) a, e) refl;
   }
 
   pub prepare_sent : (j k : ℕ) → h.input ≡ MessageInput j (Prepare d k) → v.prepare ≡ true
@@ -91,7 +90,7 @@ module _ (turn : Turn) where
 
   pub silent_if : v.issued ≡ true → q.is_open ≡ true → IsSilent
   silent_if a e =
-      let s = (moves.common_of pr (r0 turn) inv).not_voted (rw (a, e) refl) in
+      let s = (Moves.common_of pr (r0 turn) inv).not_voted (rw (a, e) refl) in
       record {
         issued = a;
         none_kept = s.no_prepared.0;
@@ -100,10 +99,10 @@ module _ (turn : Turn) where
       }
 
   pub asked_issued : v.prepare ≡ true → v.issued ≡ true
-  asked_issued a = moves.asked_is_issued (r0 turn) (moves.common_of pr (r0 turn) inv) a
+  asked_issued a = Moves.asked_is_issued (r0 turn) (Moves.common_of pr (r0 turn) inv) a
 
   pub aborted_issued : v.abort ≡ true → v.issued ≡ true
-  aborted_issued a = moves.told_is_issued (r0 turn) (moves.common_of pr (r0 turn) inv) (inr a)
+  aborted_issued a = Moves.told_is_issued (r0 turn) (Moves.common_of pr (r0 turn) inv) (inr a)
 
   -- READ.
 
@@ -111,7 +110,7 @@ module _ (turn : Turn) where
   said_read = record nothing { read = true }
 
   pub read_said : said_by c t (post t.child p (Read (child_case c.txn t)) ∷ []) ≡ said_read
-  read_said = words.said_first c t (post t.child p (Read d)) [] (words.none_silent c t)
+  read_said = Messages.said_first c t (post t.child p (Read d)) [] (Messages.none_silent c t)
       ∙ rw (same_case-refl d) refl
 
   pub read_moves : v.prepare ≡ true → q.is_open ≡ true → (o : Bool) → o ≡ false
@@ -119,14 +118,14 @@ module _ (turn : Turn) where
   read_moves a e o f =
       subst (λ (z : Reading). Fits pr (r0 turn) z)
       (sym (ap (λ b. R turn (stands_so b q) (record v { read = true })) f
-      ∙ readings.reading-read root outcome above half q v e))
-      (moves.votes_read pr (r0 turn) inv (may_vote a e))
+      ∙ Readings.reading-read root outcome above half q v e))
+      (Moves.votes_read pr (r0 turn) inv (may_vote a e))
 
   pub finds_nobody_own : (j k : ℕ) → h.input ≡ MessageInput j (Prepare d k)
       → (coordinator_view place n d).standing ≡ Active → none_of (coordinator_view place n d).accepted ≡ true
       → Then turn (row_effect d (active_commit_alone seat))
       → Fine turn (row_effect d (active_commit_alone seat))
   finds_nobody_own j k i e none next =
-      let closes = closings.nobody_closes t.child p tree n h d alike j k i e none in
+      let closes = Closings.nobody_closes t.child p tree n h d alike j k i e none in
       silent_fine turn (row_effect d (active_commit_alone seat)) next refl said_read read_said
       (λ o f. read_moves (prepare_sent j k i) (open_at Active e (inl refl)) o (f ∙ closes))

@@ -1,7 +1,7 @@
 -- What the last record of a branch says in a reading: in doubt, decided by an operator, or forgotten.
 use Rattle.std.proofs.Common.{◌≡◌, ◌∙◌, ◌||◌, ◌&&◌, ◌⊎◌, inl, inr, Bool, true, false, List, [], ◌∷◌, refl, sym, ap, subst, arith}
 use Rattle.protocol.specs.declared.names.Case.{Case}
-use Rattle.protocol.specs.declared.names.Outcome.TheVariants.{Committed as CommittedOutcome, Aborted as AbortedOutcome}
+use Rattle.protocol_words.specs.Variants.{AbortedOutcome, CommittedOutcome}
 use Rattle.protocol.specs.declared.records.Record.{Record}
 use Rattle.protocol.specs.declared.standings.Standing.TheVariants.{Unknown}
 use Rattle.protocol.specs.Records.{has, is_abort, is_prepare, is_prepared, is_heuristic, is_decided, is_forgot, is_committed, is_rolled_back}

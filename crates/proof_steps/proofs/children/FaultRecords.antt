@@ -6,15 +6,13 @@ use Rattle.protocol.specs.declared.names.Case.{Case}
 use Rattle.protocol.specs.declared.names.ProcessId.{ProcessId}
 use Rattle.protocol.specs.declared.names.Ticket.{Ticket}
 use Rattle.protocol.specs.declared.names.Outcome.{Outcome}
-use Rattle.protocol.specs.declared.names.Outcome.TheVariants.{Committed as CommittedOutcome, Aborted as AbortedOutcome}
+use Rattle.protocol_words.specs.Variants.{AbortedOutcome, CaseBranch, CommittedOutcome, MessageInput, PreparedRecord}
 use Rattle.protocol.specs.declared.names.Presumption.{Presumption}
 use Rattle.protocol.specs.declared.messages.Message.TheVariants.{Prepare, Commit, Abort}
 use Rattle.protocol.specs.declared.messages.Envelope.{Envelope}
-use Rattle.protocol.specs.declared.records.BranchName.TheVariants.{Case as CaseBranch}
 use Rattle.protocol.specs.declared.records.Record.{Record}
-use Rattle.protocol.specs.declared.records.Record.TheVariants.{Prepared as PreparedRecord, Committed, RolledBack}
+use Rattle.protocol.specs.declared.records.Record.TheVariants.{Committed, RolledBack}
 use Rattle.protocol.specs.declared.records.Write.{Write}
-use Rattle.protocol.specs.declared.events.Input.TheVariants.{Message as MessageInput}
 use Rattle.protocol.specs.declared.trees.TreeProcess.{TreeProcess}
 use Rattle.protocol.specs.Names.{child_case}
 use Rattle.protocol.specs.NameLaws.{same_case-refl}
@@ -24,7 +22,7 @@ use Rattle.protocol.specs.Standings.{manager_view}
 use Rattle.protocol.specs.Outcomes.{is_outcome_message}
 use Rattle.protocol.specs.World.{InputStands}
 use Rattle.proof_pairs.specs.Reading.{Reading}
-use Rattle.proof_pairs.specs.ChildCrash as crash
+use Rattle.proof_pairs.specs.ChildCrash
 use Rattle.proof_pairs.specs.Standing.{IsInDoubt}
 use Rattle.proof_pairs.specs.Invariant.{Common}
 use Rattle.proof_pairs.specs.readings.ReadingOf.{reading_from, ParentHalf, ChildHalf, Wire, child_half, wire, is_prepare_message}
@@ -39,12 +37,12 @@ use Rattle.proof_processes.specs.WorldHolds.{InvariantOf}
 use Rattle.proof_processes.proofs.Tests.{in_first}
 use Rattle.proof_processes.proofs.Orders.{IsMarked}
 use Rattle.proof_steps.proofs.children.LeafWrites.{wrote, IsBranchs, unrelated}
-use Rattle.proof_steps.proofs.children.LeafFaults as halves
+use Rattle.proof_steps.proofs.children.LeafFaults
 use Rattle.proof_steps.proofs.children.LeafFaults.{front_of, half_fails_behind, fails_none}
-use Rattle.proof_steps.proofs.children.Faults as faults
+use Rattle.proof_steps.proofs.children.Faults
 use Rattle.proof_steps.proofs.children.Faults.{Unforced}
-use Rattle.proof_steps.proofs.children.FailMoves as fail
-use Rattle.proof_steps.proofs.children.Moves as moves
+use Rattle.proof_steps.proofs.children.FailMoves
+use Rattle.proof_steps.proofs.children.Moves
 use Rattle.proof_steps.proofs.children.Moves.{Fits}
 use Rattle.proof_steps.proofs.children.Opens.{closed_where_marked, open_where_active}
 use Rattle.proof_steps.proofs.children.Doubts.{doubt, promised_so}
@@ -114,7 +112,7 @@ module _ (turn : Broken) where
   ended AbortedOutcome = RolledBack (CaseBranch branch)
 
   pub common : Common r0
-  common = moves.common_of pr r0 inv
+  common = Moves.common_of pr r0 inv
 
   holds : (e : Effect) (a f : ℕ) (q : Record → Bool) → has q n.forced ≡ true
       → has q (Failed e a f).forced ≡ true
@@ -132,7 +130,7 @@ module _ (turn : Broken) where
   -- nothing was appended
   fails_first : (e : Effect) (f : ℕ) → Left e zero f → Ok e zero f
   fails_first e f last =
-      faults.fails_quietly c t p tree n wire_in pr root outcome above half inv (Failed e zero f) last
+      Faults.fails_quietly c t p tree n wire_in pr root outcome above half inv (Failed e zero f) last
       (holds e zero f) up
       (half_fails (manager_view place_in n branch).standing (manager_view place_in (Failed e zero f) branch).standing n h e
       f branch old_promise old_decision old_forgot)
@@ -156,7 +154,7 @@ module _ (turn : Broken) where
         → Ok e a f
     fails_other other plain zero f last = fails_first e f last
     fails_other other plain (suc a) f last =
-        faults.fails_quietly c t p tree n wire_in pr root outcome above half inv (Failed e (suc a) f) last
+        Faults.fails_quietly c t p tree n wire_in pr root outcome above half inv (Failed e (suc a) f) last
         (holds e (suc a) f) up
         (half_so a f half_in.heuristic_commits
         ∙ ap (λ (z : ChildHalf). failed_half (front_of branch half_in.heuristic_commits (Failed e (suc a) f).forced) z)
@@ -165,11 +163,11 @@ module _ (turn : Broken) where
     -- it is the branch's, and failing after it is this move
     pub fails_own : (s : Reading)
         → ((rs : List Record) → R (failed_half (front_of branch s.heuristic_commits rs) (wrote r branch half_in))
-        ≡ crash.hardens_failed_child (front_of branch s.heuristic_commits rs) s)
+        ≡ ChildCrash.hardens_failed_child (front_of branch s.heuristic_commits rs) s)
         → Unforced s r0 → Fits pr r0 s → (a f : ℕ) → Left e a f → Ok e a f
     fails_own s same u g zero f last = fails_first e f last
     fails_own s same u g (suc a) f last =
-        faults.fails_as c t p tree n wire_in pr root outcome above half inv (Failed e (suc a) f) last
+        Faults.fails_as c t p tree n wire_in pr root outcome above half inv (Failed e (suc a) f) last
         (holds e (suc a) f) s
         (ap (λ (z : ChildHalf). R z) (half_so a f s.heuristic_commits) ∙ same (Failed e (suc a) f).forced)
         u g
@@ -205,8 +203,8 @@ module _ (turn : Broken) where
       let asked = prepared_sent i.0 x i.1 in
       let opened = open_where_active place_in n branch up act.unmarked act.is_open in
       let own = same_case-refl branch in
-      fails_own e r b one (record { no_abort = refl; no_prepare = refl }) (crash.fails_to_promise r0)
-      (λ rs. halves.reading-fails_to_promise root outcome above half half_in wire_in
+      fails_own e r b one (record { no_abort = refl; no_prepare = refl }) (ChildCrash.fails_to_promise r0)
+      (λ rs. LeafFaults.reading-fails_to_promise root outcome above half half_in wire_in
       (front_of branch r0.heuristic_commits rs) branch r opened (rw own refl) refl refl refl refl refl refl)
       (record {
         failed = refl;
@@ -216,8 +214,8 @@ module _ (turn : Broken) where
         heuristic = refl;
         forgot = refl;
       })
-      (fail.fails_to_promise pr r0 inv
-      (record { asked = asked; is_open = rw (moves.asked_is_issued r0 common asked, opened) refl }))
+      (FailMoves.fails_to_promise pr r0 inv
+      (record { asked = asked; is_open = rw (Moves.asked_is_issued r0 common asked, opened) refl }))
 
   -- a record that tells of the outcome
   module _ (e : Effect) (r : Record) (b : Bool) (one : One e r b) (none : IsBranchs branch r)
@@ -234,8 +232,8 @@ module _ (turn : Broken) where
         → is_committing branch r ≡ not half_in.heuristic_kept → wire_in.commit ≡ true
         → (a f : ℕ) → Left e a f → Ok e a f
     commits_own commit abort ends sent_so =
-        fails_own e r b one none (crash.fails_to_commit r0)
-        (λ rs. halves.reading-fails_to_commit root outcome above half half_in wire_in
+        fails_own e r b one none (ChildCrash.fails_to_commit r0)
+        (λ rs. LeafFaults.reading-fails_to_commit root outcome above half half_in wire_in
         (front_of branch r0.heuristic_commits rs) branch r closed kept_so plain commit abort undecided decides_none
         forgets_none ends)
         (record {
@@ -246,14 +244,14 @@ module _ (turn : Broken) where
           heuristic = refl;
           forgot = refl;
         })
-        (fail.fails_to_commit pr r0 inv (record { up = up; told = sent_so; in_doubt = in_doubt w op }))
+        (FailMoves.fails_to_commit pr r0 inv (record { up = up; told = sent_so; in_doubt = in_doubt w op }))
 
     pub aborts_own : is_learnt_commit branch r ≡ false → is_learnt_abort branch r ≡ true
         → is_committing branch r ≡ false → wire_in.abort ≡ true
         → (a f : ℕ) → Left e a f → Ok e a f
     aborts_own commit abort ends sent_so =
-        fails_own e r b one none (crash.fails_to_roll_back r0)
-        (λ rs. halves.reading-fails_to_roll_back root outcome above half half_in wire_in
+        fails_own e r b one none (ChildCrash.fails_to_roll_back r0)
+        (λ rs. LeafFaults.reading-fails_to_roll_back root outcome above half half_in wire_in
         (front_of branch r0.heuristic_commits rs) branch r closed kept_so plain commit abort undecided decides_none
         forgets_none ends)
         (record {
@@ -264,4 +262,4 @@ module _ (turn : Broken) where
           heuristic = refl;
           forgot = refl;
         })
-        (fail.fails_to_roll_back pr r0 inv (record { up = up; told = sent_so; in_doubt = in_doubt w op }))
+        (FailMoves.fails_to_roll_back pr r0 inv (record { up = up; told = sent_so; in_doubt = in_doubt w op }))

@@ -3,8 +3,7 @@ use Rattle.std.proofs.Common.{◌≡◌, ℕ, Bool, true, false, refl, sym, subs
 use Rattle.std.specs.Prelude.{not}
 use Rattle.protocol.specs.declared.names.Case.{Case}
 use Rattle.protocol.specs.declared.names.Outcome.{Outcome}
-use Rattle.protocol.specs.declared.names.Outcome.TheVariants.{Committed as CommittedOutcome, Aborted as AbortedOutcome}
-use Rattle.protocol.specs.declared.records.BranchName.TheVariants.{Case as CaseBranch}
+use Rattle.protocol_words.specs.Variants.{AbortedOutcome, CaseBranch, CommittedOutcome}
 use Rattle.protocol.specs.declared.records.Record.{Record}
 use Rattle.protocol.specs.declared.records.Record.TheVariants.{Committed, RolledBack, Told, Forgot}
 use Rattle.protocol.specs.Names.{same_case}
@@ -13,17 +12,17 @@ use Rattle.protocol.specs.Records.{is_heuristic, is_decided, is_forgot}
 use Rattle.protocol.specs.Nodes.{Place, Effect}
 use Rattle.protocol.specs.CoordinatorRows.{tells_outcome}
 use Rattle.protocol.specs.Standings.{Promised, Decided, Mark}
-use Rattle.proof_pairs.specs.ChildCrash as crash
+use Rattle.proof_pairs.specs.ChildCrash
 use Rattle.proof_pairs.specs.Standing.{IsInDoubt}
 use Rattle.proof_pairs.specs.readings.ReadingOf.{ChildHalf, Wire}
 use Rattle.protocol.specs.Audits.{is_promise, is_learnt_commit, is_learnt_abort, is_committing}
 use Rattle.proof_pairs.specs.turns.LeafTurns.{Hears, mark_at, IsOpenBranch, Waits, promised, decided, waits, by_operator, IsDecided, untold, told}
 use Rattle.proof_processes.proofs.Orders.{IsMarked}
 use Rattle.proof_steps.proofs.children.LeafWrites.{IsBranchs}
-use Rattle.proof_steps.proofs.children.LeafFaults as halves
+use Rattle.proof_steps.proofs.children.LeafFaults
 use Rattle.proof_steps.proofs.children.LeafFaults.{front_of, half_fails_behind, fails_none}
-use Rattle.proof_steps.proofs.children.FailMoves as fail
-use Rattle.proof_steps.proofs.children.Moves as moves
+use Rattle.proof_steps.proofs.children.FailMoves
+use Rattle.proof_steps.proofs.children.Moves
 use Rattle.proof_steps.proofs.children.Moves.{Fits}
 use Rattle.proof_steps.proofs.children.Opens.{closed_where_marked}
 use Rattle.proof_steps.proofs.children.Doubts.{promised_so, plain_so, heuristic_so, unforgotten_so, none_ever}
@@ -108,8 +107,8 @@ module _ (turn : Broken) where
       let r = Forgot (CaseBranch d) in
       let op : IsOpenBranch (mark_at n d) = by_operator (mark_at n d) q in
       fails_own turn e r b one (record { no_abort = refl; no_prepare = refl })
-      (crash.fails_to_forget (r0 turn))
-      (λ rs. halves.reading-fails_to_forget root outcome above half k v
+      (ChildCrash.fails_to_forget (r0 turn))
+      (λ rs. LeafFaults.reading-fails_to_forget root outcome above half k v
       (front_of d (r0 turn).heuristic_commits rs) d r
       (closed_where_marked place n d (is_marked (mark_at n d) q))
       (promised_so n nested m d op) refl refl refl refl refl (same_case-refl d) refl)
@@ -121,7 +120,7 @@ module _ (turn : Broken) where
         heuristic = refl;
         forgot = refl;
       })
-      (fail.fails_to_forget pr (r0 turn) inv
+      (FailMoves.fails_to_forget pr (r0 turn) inv
       (record {
         manager = refl;
         up = up;
@@ -142,8 +141,8 @@ module _ (turn : Broken) where
       → is_committing d r ≡ false
       → (a f : ℕ) → Left turn e a f → Ok turn e a f
   decides_own e b r o one none q plain commit abort decision says forgot ends =
-      fails_own turn e r b one none (crash.fails_to_decide_alone o (r0 turn))
-      (λ rs. halves.reading-fails_to_decide root outcome above half k v (front_of d o rs) d r
+      fails_own turn e r b one none (ChildCrash.fails_to_decide_alone o (r0 turn))
+      (λ rs. LeafFaults.reading-fails_to_decide root outcome above half k v (front_of d o rs) d r
       (closed_where_marked place n d (subst IsMarked (sym q) tt)) (promised_so n nested m d op) plain o
       commit abort decision says forgot ends never)
       (record {
@@ -154,7 +153,7 @@ module _ (turn : Broken) where
         heuristic = refl;
         forgot = refl;
       })
-      (fail.fails_to_decide_alone pr o (r0 turn) inv
+      (FailMoves.fails_to_decide_alone pr o (r0 turn) inv
       (record { manager = refl; up = up; in_doubt = doubts; undecided = plain_so_far }))
     where
       op : IsOpenBranch (mark_at n d)
@@ -167,4 +166,4 @@ module _ (turn : Broken) where
       doubts = in_doubt turn (subst Waits (sym q) promised) op
 
       never : k.heuristic_commits ≡ false
-      never = none_ever n d plain_so_far (moves.never_decided (r0 turn) (common turn) plain_so_far doubts)
+      never = none_ever n d plain_so_far (Moves.never_decided (r0 turn) (common turn) plain_so_far doubts)

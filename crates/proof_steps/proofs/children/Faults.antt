@@ -11,7 +11,7 @@ use Rattle.protocol.specs.Records.{has, is_abort, is_prepare, is_heuristic, is_f
 use Rattle.protocol.specs.Nodes.{Place, AtLeaf, Node, kept}
 use Rattle.protocol.specs.Standings.{Unmarked}
 use Rattle.proof_pairs.specs.Reading.{Reading}
-use Rattle.proof_pairs.specs.ChildCrash as crash
+use Rattle.proof_pairs.specs.ChildCrash
 use Rattle.proof_pairs.specs.ChildCrash.{ChildFront}
 use Rattle.proof_pairs.specs.Invariant.{Common}
 use Rattle.proof_pairs.specs.readings.ReadingOf.{reading_from, ParentHalf, ChildHalf, Wire, child_half}
@@ -25,9 +25,9 @@ use Rattle.proof_processes.specs.WorldHolds.{InvariantOf}
 use Rattle.proof_processes.proofs.Tests.{in_first, not_both}
 use Rattle.proof_processes.proofs.Worlds.{has_other}
 use Rattle.proof_steps.proofs.children.LeafFaults.{front_of}
-use Rattle.proof_steps.proofs.children.Fronts as fronts
-use Rattle.proof_steps.proofs.children.FailMoves as fail
-use Rattle.proof_steps.proofs.children.Moves as moves
+use Rattle.proof_steps.proofs.children.Fronts
+use Rattle.proof_steps.proofs.children.FailMoves
+use Rattle.proof_steps.proofs.children.Moves
 use Rattle.proof_steps.proofs.children.Moves.{Fits}
 
 more : (a b c a' b' c' : Bool) → (a ≡ true → a' ≡ true) → (b ≡ true → b' ≡ true) → (c ≡ true → c' ≡ true)
@@ -68,7 +68,7 @@ module _ (c : Case) (t : Ticket) (p : ProcessId) (tree : List TreeProcess) (n : 
 
   module _ (inv : InvariantOf pr r0) where
     common : Common r0
-    common = moves.common_of pr r0 inv
+    common = Moves.common_of pr r0 inv
 
     -- The process as the fault left it.
 
@@ -117,8 +117,8 @@ module _ (c : Case) (t : Ticket) (p : ProcessId) (tree : List TreeProcess) (n : 
       stays : (q : Record → Bool) → has q n'.forced ≡ true → has q (kept n') ≡ true
       stays q e = in_first q n'.forced n'.unforced e
 
-      module _ (s : Reading) (e : R k' ≡ crash.hardens_failed_child (front s.heuristic_commits) s) where
-        is_front : Unforced s r0 → crash.IsChildFront (front s.heuristic_commits) s
+      module _ (s : Reading) (e : R k' ≡ ChildCrash.hardens_failed_child (front s.heuristic_commits) s) where
+        is_front : Unforced s r0 → ChildCrash.IsChildFront (front s.heuristic_commits) s
         is_front u = record {
           holds_prepared = λ x. holds (is_promise d) (sym u.prepared ∙ x);
           holds_learnt_commit = λ x. holds (is_learnt_commit d) (sym u.learnt_commit ∙ x);
@@ -132,14 +132,14 @@ module _ (c : Case) (t : Ticket) (p : ProcessId) (tree : List TreeProcess) (n : 
               ∙ more_learnt n'.forced (kept n') stays x;
           had_heuristic = λ x. sym (ap (λ (z : Reading). z.heuristic_kept) e) ∙ stays (is_heuristic d) x;
           had_forgot = λ x. sym (ap (λ (z : Reading). z.forgot_kept) e) ∙ stays (is_forgot d) x;
-          heuristic_behind_prepared = fronts.heuristic_behind d n'.forced n'.unforced order none;
-          commit_behind_prepared = fronts.commit_behind d n'.forced n'.unforced order none;
-          abort_behind_prepared = λ x. fronts.abort_behind d n'.forced n'.unforced order none (learnt x);
-          commit_behind_heuristic = λ x y. fronts.commit_ends d n'.forced n'.unforced order none x
+          heuristic_behind_prepared = Fronts.heuristic_behind d n'.forced n'.unforced order none;
+          commit_behind_prepared = Fronts.commit_behind d n'.forced n'.unforced order none;
+          abort_behind_prepared = λ x. Fronts.abort_behind d n'.forced n'.unforced order none (learnt x);
+          commit_behind_heuristic = λ x y. Fronts.commit_ends d n'.forced n'.unforced order none x
               (decided_kept y);
-          abort_behind_heuristic = λ x y. fronts.abort_ends d n'.forced n'.unforced order none (learnt x)
+          abort_behind_heuristic = λ x y. Fronts.abort_ends d n'.forced n'.unforced order none (learnt x)
               (decided_kept y);
-          forgot_behind_heuristic = fronts.forgot_behind d n'.forced n'.unforced order none;
+          forgot_behind_heuristic = Fronts.forgot_behind d n'.forced n'.unforced order none;
           same_decision = λ x. refl;
         }
           where
@@ -153,14 +153,14 @@ module _ (c : Case) (t : Ticket) (p : ProcessId) (tree : List TreeProcess) (n : 
         fails_as u f =
             let to = front s.heuristic_commits in
             subst (λ (z : Reading). Fits pr r0 z) (sym e)
-            (moves.onward pr r0 s (crash.hardens_failed_child to s) f
-            (fail.hardens_failed pr to s f.invariant (record { failed = u.failed; front_of = is_front u })))
+            (Moves.onward pr r0 s (ChildCrash.hardens_failed_child to s) f
+            (FailMoves.hardens_failed pr to s f.invariant (record { failed = u.failed; front_of = is_front u })))
 
       -- nothing was appended of the branch
       pub fails_quietly : n.failed ≡ false → k' ≡ failed_half (front k.heuristic_commits) k
           → Fits pr r0 (R k')
       fails_quietly up e =
-          fails_as (crash.child_fails r0)
+          fails_as (ChildCrash.child_fails r0)
           (ap (λ (z : ChildHalf). R z) e
           ∙ reading-fails root outcome above half k v (front k.heuristic_commits) quiet
           (λ x. sym (ap (λ (z : ChildHalf). z.prepared_kept) e) ∙ stays (is_promise d) x))
@@ -172,7 +172,7 @@ module _ (c : Case) (t : Ticket) (p : ProcessId) (tree : List TreeProcess) (n : 
             heuristic = refl;
             forgot = refl;
           })
-          (fail.child_fails pr r0 inv (record { up = up }))
+          (FailMoves.child_fails pr r0 inv (record { up = up }))
         where
           quiet : QuietWhileOpen k.is_open v.issued k.prepared_kept k.prepared_ever v.read
           quiet x = let w = common.not_voted x in (w.no_prepared.0, w.no_prepared.1, w.said_nothing.0)

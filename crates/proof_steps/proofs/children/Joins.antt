@@ -4,13 +4,11 @@ use Rattle.protocol.specs.declared.names.Case.{Case}
 use Rattle.protocol.specs.declared.names.ProcessId.{ProcessId}
 use Rattle.protocol.specs.declared.names.Ticket.{Ticket}
 use Rattle.protocol.specs.declared.names.Outcome.{Outcome}
-use Rattle.protocol.specs.declared.names.Outcome.TheVariants.{Committed as CommittedOutcome, Aborted as AbortedOutcome}
+use Rattle.protocol_words.specs.Variants.{AbortedOutcome, CaseBranch, CommittedOutcome, MessageInput}
 use Rattle.protocol.specs.declared.names.Presumption.{Presumption}
 use Rattle.protocol.specs.declared.messages.Message.TheVariants.{Join, Joined}
 use Rattle.protocol.specs.declared.messages.Envelope.{Envelope}
-use Rattle.protocol.specs.declared.records.BranchName.TheVariants.{Case as CaseBranch}
 use Rattle.protocol.specs.declared.events.Input.{Input}
-use Rattle.protocol.specs.declared.events.Input.TheVariants.{Message as MessageInput}
 use Rattle.protocol.specs.declared.trees.TreeProcess.{TreeProcess}
 use Rattle.protocol.specs.Names.{child_case, process_of, same_case, same_process, same_ticket}
 use Rattle.protocol.specs.NameLaws.{same_case_tells, same_process_tells, same_case-refl, names}
@@ -33,11 +31,11 @@ use Rattle.proof_processes.proofs.Selves.{Self, self_same}
 use Rattle.proof_processes.proofs.ManagerPhases.{Wakes, join_left}
 use Rattle.proof_processes.proofs.Tickets.{active_found, active_is_own, join_said}
 use Rattle.proof_steps.proofs.children.LeafWrites.{stands_so, half_silent}
-use Rattle.proof_steps.proofs.children.Moves as moves
+use Rattle.proof_steps.proofs.children.Moves
 use Rattle.proof_steps.proofs.children.Moves.{Fits}
 use Rattle.proof_steps.proofs.children.Opens.{opens, alike, open_where_active}
-use Rattle.proof_steps.proofs.children.Readings as readings
-use Rattle.proof_steps.proofs.children.Wires as wires
+use Rattle.proof_steps.proofs.children.Readings
+use Rattle.proof_steps.proofs.children.Wires
 
 same_of : (d c : Case) → same_case d c ≡ true → d ≡ c
 same_of d c e = elim (same_case_tells d c) [ inl t ↦ t.1 | inr g ↦ absurd (let k = g.0 in cc) ]
@@ -148,7 +146,7 @@ module _ (c : Case) (t : Ticket) (p : ProcessId) (tree : List TreeProcess) (n : 
         let e = writes_and_sends [] ls in
         subst (λ (z : ChildHalf). Fits pr r0 (R z (wire c t (net ++ ls))))
         (sym (half_then e refl ∙ ap (λ b. stands_so b k) (still_open e refl f)))
-        (subst (λ (z : Wire). Fits pr r0 (R k z)) (sym w) (moves.unmoved pr r0 inv))
+        (subst (λ (z : Wire). Fits pr r0 (R k z)) (sym w) (Moves.unmoved pr r0 inv))
 
     -- JOIN came.
     module _ (j : ℕ) (x : Case) (i : h.input ≡ MessageInput j (Join x)) where
@@ -301,14 +299,14 @@ module _ (c : Case) (t : Ticket) (p : ProcessId) (tree : List TreeProcess) (n : 
               subst (λ (b : Bool). Fits pr r0 (R (stands_so true k) (record v { issued = b })))
               (sym (now_issued e f))
               (subst (λ (z : Reading). Fits pr r0 z)
-              (sym (readings.reading-issued root outcome above half k v (not_issued e)))
-              (moves.issues pr r0 inv (record { fresh = not_issued e; up = up })))
+              (sym (Readings.reading-issued root outcome above half k v (not_issued e)))
+              (Moves.issues pr r0 inv (record { fresh = not_issued e; up = up })))
           gives_it e false f =
               subst (λ (b : Bool). Fits pr r0 (R (stands_so true k) (record v { issued = b || v.issued })))
               (sym (ap (λ (b : Bool). b && same_ticket new t) f))
               (subst (λ (z : Reading). Fits pr r0 z)
-              (sym (readings.reading-unissued root outcome above half k v true (not_issued e)))
-              (moves.unmoved pr r0 inv))
+              (sym (Readings.reading-unissued root outcome above half k v true (not_issued e)))
+              (Moves.unmoved pr r0 inv))
 
           by_case : (b : Bool) → same_case d (child_case x.txn next) ≡ b → Fine (said x new)
           by_case false e = stays_closed e
@@ -326,7 +324,7 @@ module _ (c : Case) (t : Ticket) (p : ProcessId) (tree : List TreeProcess) (n : 
           → mark_of (CaseBranch d) (kept (after n h e)) ≡ Unmarked)
           → Fits pr r0 (R (child_half place (after n h e) d) (wire c t (net ++ e.messages)))
       join_fits _ r does_nothing unmarked = elim moves_so [
-        | inl same ↦ stays [] (wires.wire-none c t t.child p net) same
+        | inl same ↦ stays [] (Wires.wire-none c t t.child p net) same
         | inr w ↦ nothing_said x new
             (join_said place n h no_effect x j tt i up r (none_active w) w.starts)
       ]

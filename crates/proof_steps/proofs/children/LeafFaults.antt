@@ -3,13 +3,13 @@ use Rattle.std.proofs.Common.{◌≡◌, ◌∙◌, ℕ, zero, suc, Bool, true, 
 use Rattle.std.proofs.lemmas.List.{take-append-drop}
 use Rattle.std.proofs.Math.Seq.{take-nil}
 use Rattle.protocol.specs.declared.names.Case.{Case}
-use Rattle.protocol.specs.declared.names.Outcome.TheVariants.{Committed as CommittedOutcome}
+use Rattle.protocol_words.specs.Variants.{CommittedOutcome}
 use Rattle.protocol.specs.declared.records.Record.{Record}
 use Rattle.protocol.specs.declared.standings.Standing.{Standing}
 use Rattle.protocol.specs.Records.{has, is_abort, is_prepare, is_heuristic, is_decided, is_forgot}
 use Rattle.protocol.specs.Nodes.{Node, Heard, Effect, fails_in}
 use Rattle.proof_pairs.specs.Reading.{Reading}
-use Rattle.proof_pairs.specs.ChildCrash as crash
+use Rattle.proof_pairs.specs.ChildCrash
 use Rattle.proof_pairs.specs.ChildCrash.{ChildFront}
 use Rattle.proof_pairs.specs.readings.ReadingOf.{child_half_at, reading_from, ParentHalf, ChildHalf, Wire}
 use Rattle.protocol.specs.Audits.{is_promise, is_learnt_commit, is_learnt_abort, is_committing}
@@ -116,7 +116,7 @@ module _ (root outcome above : Bool) (p : ParentHalf) (k : ChildHalf) (v : Wire)
       → is_learnt_abort d r ≡ false → is_heuristic d r ≡ false
       → is_decided d CommittedOutcome r ≡ false → is_forgot d r ≡ false → is_committing d r ≡ false
       → R (failed_half front (wrote r d k))
-      ≡ crash.hardens_failed_child front (crash.fails_to_promise (R k))
+      ≡ ChildCrash.hardens_failed_child front (ChildCrash.fails_to_promise (R k))
   reading-fails_to_promise o a b c e f g h = rw (o, a, b, c, e, f, g, h)
       (simp (and-false, dead-live, dead-promised))
 
@@ -126,7 +126,7 @@ module _ (root outcome above : Bool) (p : ParentHalf) (k : ChildHalf) (v : Wire)
         → is_decided d CommittedOutcome r ≡ false → is_forgot d r ≡ false
         → is_committing d r ≡ not k.heuristic_kept
         → R (failed_half front (wrote r d k))
-        ≡ crash.hardens_failed_child front (crash.fails_to_commit (R k))
+        ≡ ChildCrash.hardens_failed_child front (ChildCrash.fails_to_commit (R k))
     reading-fails_to_commit commit abort h x f b = rw (closed, kept, plain, commit, abort, h, x, f, b)
         (simp (and-false, dead-promised))
 
@@ -134,7 +134,7 @@ module _ (root outcome above : Bool) (p : ParentHalf) (k : ChildHalf) (v : Wire)
         → is_heuristic d r ≡ false
         → is_decided d CommittedOutcome r ≡ false → is_forgot d r ≡ false → is_committing d r ≡ false
         → R (failed_half front (wrote r d k))
-        ≡ crash.hardens_failed_child front (crash.fails_to_roll_back (R k))
+        ≡ ChildCrash.hardens_failed_child front (ChildCrash.fails_to_roll_back (R k))
     reading-fails_to_roll_back commit abort h x f b = rw (closed, kept, plain, commit, abort, h, x, f, b)
         (simp (and-false, dead-promised))
 
@@ -143,7 +143,7 @@ module _ (root outcome above : Bool) (p : ParentHalf) (k : ChildHalf) (v : Wire)
         → is_decided d CommittedOutcome r ≡ o → is_forgot d r ≡ false → is_committing d r ≡ false
         → k.heuristic_commits ≡ false
         → R (failed_half front (wrote r d k))
-        ≡ crash.hardens_failed_child front (crash.fails_to_decide_alone o (R k))
+        ≡ ChildCrash.hardens_failed_child front (ChildCrash.fails_to_decide_alone o (R k))
     reading-fails_to_decide o a b h x f g e = rw (closed, kept, plain, a, b, h, x, f, g, e)
         (simp (or-false, and-false, dead-promised))
 
@@ -151,6 +151,6 @@ module _ (root outcome above : Bool) (p : ParentHalf) (k : ChildHalf) (v : Wire)
         → is_heuristic d r ≡ false
         → is_decided d CommittedOutcome r ≡ false → is_forgot d r ≡ true → is_committing d r ≡ false
         → R (failed_half front (wrote r d k))
-        ≡ crash.hardens_failed_child front (crash.fails_to_forget (R k))
+        ≡ ChildCrash.hardens_failed_child front (ChildCrash.fails_to_forget (R k))
     reading-fails_to_forget a b h x f g = rw (closed, kept, plain, a, b, h, x, f, g)
         (simp (and-false, dead-promised))

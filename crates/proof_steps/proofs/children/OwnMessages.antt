@@ -5,7 +5,7 @@ use Rattle.protocol.specs.declared.names.Case.{Case}
 use Rattle.protocol.specs.declared.names.ProcessId.{ProcessId}
 use Rattle.protocol.specs.declared.names.Ticket.{Ticket}
 use Rattle.protocol.specs.declared.names.Outcome.{Outcome}
-use Rattle.protocol.specs.declared.names.Outcome.TheVariants.{Committed as CommittedOutcome, Aborted as AbortedOutcome}
+use Rattle.protocol_words.specs.Variants.{AbortedOutcome, CaseBranch, CommittedOutcome}
 use Rattle.protocol.specs.declared.messages.Message.{Message}
 use Rattle.protocol.specs.declared.messages.Message.TheVariants.{Join, Joined, Work, Prepare, Yes, No, Read, Commit, Abort, Ack, Inquire}
 use Rattle.protocol.specs.declared.messages.Envelope.{Envelope}
@@ -21,7 +21,6 @@ use Rattle.protocol.specs.Reactions.{leaf_of}
 use Rattle.protocol.specs.Restarts.{is_open, manager_resumes, inquires_by, untold_inquiry, recorded_branch}
 use Rattle.protocol.specs.Standings.{Mark, Unmarked, Promised, Decided, ToldOf, Finished, mark_of, marked_branch}
 use Rattle.protocol.specs.Memory.{fresh_memory}
-use Rattle.protocol.specs.declared.records.BranchName.TheVariants.{Case as CaseBranch}
 use Rattle.protocol.specs.World.{InputStands}
 use Rattle.protocol.specs.Outcomes.{sent, is_joined_message, is_yes_message, is_read_message, is_outcome_message}
 use Rattle.proof_pairs.specs.readings.ReadingOf.{wire, no_wire, gives_case, is_prepare_message, is_no_message, is_ack_message, is_inquiry_message}

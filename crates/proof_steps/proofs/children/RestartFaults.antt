@@ -15,7 +15,7 @@ use Rattle.protocol.specs.CoordinatorRows.{forced}
 use Rattle.protocol.specs.Restarts.{left_of, crashed, restart_fails}
 use Rattle.protocol.specs.Standings.{manager_view}
 use Rattle.proof_pairs.specs.Reading.{Reading}
-use Rattle.proof_pairs.specs.ChildCrash as crash
+use Rattle.proof_pairs.specs.ChildCrash
 use Rattle.proof_pairs.specs.ChildCrash.{ChildFront}
 use Rattle.proof_pairs.specs.Invariant.{Common}
 use Rattle.proof_pairs.specs.readings.Halves.{child_front, failed_half}
@@ -28,10 +28,10 @@ use Rattle.proof_pairs.specs.turns.LeafTurns.{writes_and_sends}
 use Rattle.proof_processes.specs.Lasts.{logs_of, Lasts}
 use Rattle.proof_processes.specs.WorldHolds.{InvariantOf}
 use Rattle.proof_processes.proofs.Tests.{in_first}
-use Rattle.proof_steps.proofs.children.FailMoves as fail
-use Rattle.proof_steps.proofs.children.Faults as faults
+use Rattle.proof_steps.proofs.children.FailMoves
+use Rattle.proof_steps.proofs.children.Faults
 use Rattle.proof_steps.proofs.children.LeafFaults.{front_of, half_fails_behind}
-use Rattle.proof_steps.proofs.children.Moves as moves
+use Rattle.proof_steps.proofs.children.Moves
 use Rattle.proof_steps.proofs.children.Moves.{Fits}
 use Rattle.proof_steps.proofs.children.Restarts.{is_front}
 
@@ -62,8 +62,8 @@ reading-loses : (root outcome above : Bool) (p : ParentHalf) (k : ChildHalf) (v 
     → (k.prepared_kept ≡ true → (v.issued ≡ true) × (v.read ≡ false))
     → (forced_front.prepared ≡ true → front.prepared ≡ true)
     → reading_from root true outcome above p (failed_half forced_front (lost front k)) v
-    ≡ crash.hardens_failed_child forced_front
-    (crash.child_loses front (reading_from root true outcome above p k v))
+    ≡ ChildCrash.hardens_failed_child forced_front
+    (ChildCrash.child_loses front (reading_from root true outcome above p k v))
 reading-loses root outcome above p k v front forced_front quiet sub once asked within =
     rw (
       and-false v.issued,
@@ -104,7 +104,7 @@ module _ (c : Case) (t : Ticket) (p : ProcessId) (tree : List TreeProcess) (n : 
 
   module _ (inv : InvariantOf pr r0) where
     common : Common r0
-    common = moves.common_of pr r0 inv
+    common = Moves.common_of pr r0 inv
 
     old_promise : has (is_promise d) n.forced ≡ true → has (is_promise d) n.durable ≡ true
     old_promise x = (common.child_forced_promise x).1
@@ -126,7 +126,7 @@ module _ (c : Case) (t : Ticket) (p : ProcessId) (tree : List TreeProcess) (n : 
         opens true
         refl (record { no_abort = refl; no_prepare = refl }) old_promise old_decision old_forgot
 
-    fronts : crash.IsChildFront front r0
+    fronts : ChildCrash.IsChildFront front r0
     fronts = is_front t.child p n last k d tree root outcome above half v common
 
     holds : (a f : ℕ) (q : Record → Bool) → has q n.forced ≡ true → has q (left a f).forced ≡ true
@@ -135,10 +135,10 @@ module _ (c : Case) (t : Ticket) (p : ProcessId) (tree : List TreeProcess) (n : 
     pub restart_breaks : (a f : ℕ) → Lasts (AtLeaf p) (logs_of (left a f))
         → Fits pr r0 (R (child_half place (left a f) d))
     restart_breaks a f stays =
-        let s = crash.child_loses front r0 in
+        let s = ChildCrash.child_loses front r0 in
         let said = promises r0 common in
         let same = half_left a f s.heuristic_commits in
-        faults.fails_as c t p tree n v pr root outcome above half inv (left a f) stays (holds a f) s
+        Faults.fails_as c t p tree n v pr root outcome above half inv (left a f) stays (holds a f) s
         (ap (λ (z : ChildHalf). R z) same
         ∙ reading-loses root outcome above half (child_half place n d) v front
         (front_of d s.heuristic_commits (left a f).forced) said.quiet_open fronts.had_prepared
@@ -153,4 +153,4 @@ module _ (c : Case) (t : Ticket) (p : ProcessId) (tree : List TreeProcess) (n : 
           heuristic = refl;
           forgot = refl;
         })
-        (fail.loses pr front r0 inv fronts)
+        (FailMoves.loses pr front r0 inv fronts)

@@ -9,7 +9,7 @@ use Rattle.protocol.specs.declared.messages.Envelope.{Envelope}
 use Rattle.protocol.specs.declared.records.Record.TheVariants.{Opened}
 use Rattle.protocol.specs.Names.{child_case}
 use Rattle.protocol.specs.declared.names.ProcessId.{ProcessId}
-use Rattle.protocol.specs.declared.names.Outcome.TheVariants.{Committed as CommittedOutcome}
+use Rattle.protocol_words.specs.Variants.{CommittedOutcome}
 use Rattle.protocol.specs.declared.records.Record.{Record}
 use Rattle.protocol.specs.declared.trees.TreeProcess.{TreeProcess}
 use Rattle.protocol.specs.Records.{has, boot_of, is_abort, is_prepare, is_heuristic, is_decided, is_forgot}
@@ -17,7 +17,7 @@ use Rattle.protocol.specs.Nodes.{Place, AtLeaf, Node, kept}
 use Rattle.protocol.specs.Restarts.{left_of, restarted, restart_effect}
 use Rattle.protocol.specs.Standings.{Unmarked, manager_view}
 use Rattle.proof_pairs.specs.Reading.{Reading}
-use Rattle.proof_pairs.specs.ChildCrash as crash
+use Rattle.proof_pairs.specs.ChildCrash
 use Rattle.proof_pairs.specs.ChildCrash.{ChildFront}
 use Rattle.proof_pairs.specs.Invariant.{Common}
 use Rattle.proof_pairs.proofs.readings.RestartStep.{half_restarts, wire-restarts, inquires, reading-restarts, promises}
@@ -32,8 +32,8 @@ use Rattle.proof_processes.proofs.Tests.{in_first, not_both}
 use Rattle.proof_processes.proofs.Orders.{order_front}
 use Rattle.proof_processes.proofs.Worlds.{has_other}
 use Rattle.proof_processes.specs.WorldHolds.{InvariantOf}
-use Rattle.proof_steps.proofs.children.FailMoves as fail
-use Rattle.proof_steps.proofs.children.Moves as moves
+use Rattle.proof_steps.proofs.children.FailMoves
+use Rattle.proof_steps.proofs.children.Moves
 use Rattle.proof_steps.proofs.children.Moves.{Fits}
 use Rattle.proof_steps.proofs.children.Fronts as fronts
 use Rattle.proof_steps.proofs.children.LastRecords.{last_tells, decided_in_front}
@@ -163,7 +163,7 @@ module _ (me p : ProcessId) (n : Node) (last : Lasts (AtLeaf p) (logs_of n)) (k 
         | inr forgot ↦ by_forgot forgot (has (is_promise d) (kept n)) refl
       ]
 
-      pub is_front : crash.IsChildFront front r0
+      pub is_front : ChildCrash.IsChildFront front r0
       is_front = record {
         holds_prepared = holds (is_promise d);
         holds_learnt_commit = holds (is_learnt_commit d);
@@ -217,7 +217,7 @@ module _ (c : Case) (t : Ticket) (p : ProcessId) (tree : List TreeProcess) (n : 
       → Fits pr before (reading_from root true outcome above half (child_half place (restarted place n k) d')
       (wire c t (net ++ (restart_effect place n k).messages)))
   restart_fits inv =
-      let common = moves.common_of pr before inv in
+      let common = Moves.common_of pr before inv in
       let said = promises before common in
       let fronts = is_front t.child p n last k d' tree root outcome above half (wire c t net) common in
       subst (λ (z : Reading). Fits pr before z)
@@ -226,4 +226,4 @@ module _ (c : Case) (t : Ticket) (p : ProcessId) (tree : List TreeProcess) (n : 
       (inquires t.child p d' (left_of n k) n.durable boot (tells_left t.child p n last k d')))
       ∙ reading-restarts root outcome above half (child_half place n d') (wire c t net) kept_front
       said.quiet_open fronts.had_prepared (λ x y. fronts.holds_prepared (said.once x y)) said.asked))
-      (fail.restarts pr kept_front before inv fronts)
+      (FailMoves.restarts pr kept_front before inv fronts)

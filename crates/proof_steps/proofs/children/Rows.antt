@@ -4,12 +4,10 @@ use Rattle.protocol.specs.ManagerRows.{is_acknowledged, ends_record, acknowledge
 use Rattle.std.proofs.Common.{◌≡◌, inl, inr, ℕ, [], ◌∷◌, ◌++◌, refl, sym, subst, if◌then◌else◌, List}
 use Rattle.protocol.specs.declared.names.Case.{Case}
 use Rattle.protocol.specs.declared.names.Outcome.{Outcome}
-use Rattle.protocol.specs.declared.names.Outcome.TheVariants.{Committed as CommittedOutcome, Aborted as AbortedOutcome}
+use Rattle.protocol_words.specs.Variants.{AbortedOutcome, CaseBranch, CommittedOutcome, MessageInput, PreparedRecord}
 use Rattle.protocol.specs.declared.names.Presumption.{Presumption}
 use Rattle.protocol.specs.declared.messages.Message.TheVariants.{Join, Prepare, Yes, No, Read, Commit, Abort, Inquire}
-use Rattle.protocol.specs.declared.records.BranchName.TheVariants.{Case as CaseBranch}
-use Rattle.protocol.specs.declared.records.Record.TheVariants.{Prepared as PreparedRecord, Committed, RolledBack, HeurCommit, HeurRollback, Told, Forgot}
-use Rattle.protocol.specs.declared.events.Input.TheVariants.{Message as MessageInput}
+use Rattle.protocol.specs.declared.records.Record.TheVariants.{Committed, RolledBack, HeurCommit, HeurRollback, Told, Forgot}
 use Rattle.protocol.specs.NameLaws.{same_case_tells}
 use Rattle.protocol.specs.Nodes.{Place, Effect, after, kept}
 use Rattle.protocol.specs.CoordinatorRows.{post, forced, tells_outcome}
@@ -19,7 +17,7 @@ use Rattle.proof_pairs.specs.turns.LeafTurns.{LeafTurn, Hears, mark_at, IsActive
 use Rattle.proof_processes.proofs.Orders.{IsMarked}
 use Rattle.proof_steps.proofs.children.Moves.{Fits}
 use Rattle.proof_steps.proofs.children.Opens.{IsRow}
-use Rattle.proof_steps.proofs.children.Wires as wires
+use Rattle.proof_steps.proofs.children.Wires
 use Rattle.proof_steps.proofs.children.Turns.{Turn, branch, place_in, half_in, wire_in, R, r0, Fine, ack, Acked}
 use Rattle.proof_steps.proofs.children.TurnsQuiet.{nothing_said, yes_again, no_again, says_read, says_no}
 use Rattle.proof_steps.proofs.children.TurnsWritten.{says_yes}
@@ -101,7 +99,7 @@ module _ (turn : Turn) where
   open_marked _ (by_operator _ (told o)) = tt
 
   pub turn_fits : (e : Effect) → LeafTurn place p n h e → Ok e
-  turn_fits _ does_nothing = nothing_said turn [] (wires.wire-none c t t.child p net)
+  turn_fits _ does_nothing = nothing_said turn [] (Wires.wire-none c t t.child p net)
   turn_fits _ (gives_again x u i a) = no_join x i.0 i.1
   turn_fits _ (gives_fresh x i a s) = no_join x i.0 i.1
   turn_fits _ (votes_yes x y ws i a) = elim (same_case_tells x d) [
@@ -110,32 +108,32 @@ module _ (turn : Turn) where
         (λ i' a'. (says_yes turn) y i'.0 ws i'.1 a') i a
     | inr f ↦ forced_other turn (PreparedRecord (CaseBranch x) ws)
         (record { no_abort = refl; no_prepare = refl }) f.0 refl (λ b. refl)
-        (post t.child p (Yes x) ∷ []) (wires.other-yes c t t.child p net x f.0)
+        (post t.child p (Yes x) ∷ []) (Wires.other-yes c t t.child p net x f.0)
   ]
   turn_fits _ (votes_read x y i a) = elim (same_case_tells x d) [
     | inl s ↦ subst (λ (z : Case). Hears h (Prepare z y) → IsActive place n z → Fine turn []
         (post t.child p (Read z) ∷ [])) (sym s.1)
         (λ i' a'. (says_read turn) y i'.0 i'.1 a') i a
     | inr f ↦ nothing_said turn (post t.child p (Read x) ∷ [])
-        (wires.other-read c t t.child p net x f.0 (own x i.0 y i.1))
+        (Wires.other-read c t t.child p net x f.0 (own x i.0 y i.1))
   ]
   turn_fits _ (votes_no x y i a) = elim (same_case_tells x d) [
     | inl s ↦ subst (λ (z : Case). Hears h (Prepare z y) → IsActive place n z → Fine turn []
         (post t.child p (No z) ∷ [])) (sym s.1)
         (λ i' a'. (says_no turn) y i'.0 i'.1 a') i a
-    | inr f ↦ nothing_said turn (post t.child p (No x) ∷ []) (wires.other-no c t t.child p net x f.0)
+    | inr f ↦ nothing_said turn (post t.child p (No x) ∷ []) (Wires.other-no c t t.child p net x f.0)
   ]
   turn_fits _ (repeats_yes x y i a) = elim (same_case_tells x d) [
     | inl s ↦ subst (λ (z : Case). Hears h (Prepare z y) → IsOpenBranch (mark_at n z) → Fine turn []
         (post t.child p (Yes z) ∷ [])) (sym s.1)
         (λ i' a'. (yes_again turn) y i'.0 i'.1 a' (open_marked (mark_at n d) a')) i a
-    | inr f ↦ nothing_said turn (post t.child p (Yes x) ∷ []) (wires.other-yes c t t.child p net x f.0)
+    | inr f ↦ nothing_said turn (post t.child p (Yes x) ∷ []) (Wires.other-yes c t t.child p net x f.0)
   ]
   turn_fits _ (refuses x y i a) = elim (same_case_tells x d) [
     | inl s ↦ subst (λ (z : Case). Hears h (Prepare z y) → IsUnknown place n z → Fine turn []
         (post t.child p (No z) ∷ [])) (sym s.1)
         (λ i' a'. (no_again turn) y i'.0 i'.1 a') i a
-    | inr f ↦ nothing_said turn (post t.child p (No x) ∷ []) (wires.other-no c t t.child p net x f.0)
+    | inr f ↦ nothing_said turn (post t.child p (No x) ∷ []) (Wires.other-no c t t.child p net x f.0)
   ]
   turn_fits _ (obeys x CommittedOutcome i a) = elim (same_case_tells x d) [
     | inl s ↦ subst (λ (z : Case). Hears h (Commit z) → mark_at n z ≡ Promised
@@ -191,7 +189,7 @@ module _ (turn : Turn) where
     | inl s ↦ subst (λ (z : Case). Waits (mark_at n z) → Fine turn [] (post t.child p (Inquire z) ∷ []))
         (sym s.1) (λ a'. (asks_own turn) a') a
     | inr f ↦ nothing_said turn (post t.child p (Inquire x) ∷ [])
-        (wires.other-inquire c t t.child p net x f.0)
+        (Wires.other-inquire c t t.child p net x f.0)
   ]
   turn_fits _ (decides x CommittedOutcome i a) = elim (same_case_tells x d) [
     | inl s ↦ subst (λ (z : Case). mark_at n z ≡ Promised → Fine turn (forced (HeurCommit (CaseBranch z))) [])
@@ -200,7 +198,7 @@ module _ (turn : Turn) where
     | inr f ↦ forced_other turn (HeurCommit (CaseBranch x))
         (record { no_abort = refl; no_prepare = refl }) f.0
         refl (λ b. refl) []
-        (wires.wire-none c t t.child p net)
+        (Wires.wire-none c t t.child p net)
   ]
   turn_fits _ (decides x AbortedOutcome i a) = elim (same_case_tells x d) [
     | inl s ↦ subst (λ (z : Case). mark_at n z ≡ Promised → Fine turn (forced (HeurRollback (CaseBranch z)))
@@ -208,12 +206,12 @@ module _ (turn : Turn) where
         (λ a'. (decides_own turn) AbortedOutcome a') a
     | inr f ↦ forced_other turn (HeurRollback (CaseBranch x)) (record { no_abort = refl; no_prepare = refl })
         f.0 refl (λ b. refl) []
-        (wires.wire-none c t t.child p net)
+        (Wires.wire-none c t t.child p net)
   ]
   turn_fits _ (forgets x i a) = elim (same_case_tells x d) [
     | inl s ↦ subst (λ (z : Case). IsDecided (mark_at n z) → Fine turn (forced (Forgot (CaseBranch z))) [])
         (sym s.1) (λ a'. (forgets_own turn) a') a
     | inr f ↦ forced_other turn (Forgot (CaseBranch x)) (record { no_abort = refl; no_prepare = refl }) f.0
         refl (λ b. refl) []
-        (wires.wire-none c t t.child p net)
+        (Wires.wire-none c t t.child p net)
   ]

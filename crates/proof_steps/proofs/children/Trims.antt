@@ -4,9 +4,8 @@ use Rattle.std.proofs.lemmas.List.{append-nil}
 use Rattle.protocol.specs.declared.names.Case.{Case}
 use Rattle.protocol.specs.declared.names.ProcessId.{ProcessId}
 use Rattle.protocol.specs.declared.names.Ticket.{Ticket}
-use Rattle.protocol.specs.declared.names.Outcome.TheVariants.{Committed as CommittedOutcome}
+use Rattle.protocol_words.specs.Variants.{CaseBranch, CommittedOutcome}
 use Rattle.protocol.specs.declared.names.Presumption.{Presumption}
-use Rattle.protocol.specs.declared.records.BranchName.TheVariants.{Case as CaseBranch}
 use Rattle.protocol.specs.declared.records.Record.{Record}
 use Rattle.protocol.specs.declared.standings.Standing.{Standing}
 use Rattle.protocol.specs.declared.trees.TreeProcess.{TreeProcess}
@@ -17,8 +16,8 @@ use Rattle.protocol.specs.Memory.{Memory, Open, memory_of}
 use Rattle.protocol.specs.Standings.{ManagerView, Mark, Unmarked, Promised, Decided, ToldOf, Finished, manager_view, marked_branch, mark_of}
 use Rattle.protocol.specs.Restarts.{is_open, trimmed, trims, trim_fails}
 use Rattle.proof_pairs.specs.Reading.{Reading, is_live}
-use Rattle.proof_pairs.specs.ChildMoves as move
-use Rattle.proof_pairs.specs.ChildCrash as crash
+use Rattle.proof_pairs.specs.ChildMoves
+use Rattle.proof_pairs.specs.ChildCrash
 use Rattle.proof_pairs.specs.Invariant.{Common}
 use Rattle.proof_pairs.specs.Standing.{IsForgotten}
 use Rattle.proof_pairs.specs.readings.ReadingOf.{reading_from, ParentHalf, ChildHalf, Wire, child_half, child_half_at, is_dead, phase_by}
@@ -34,14 +33,14 @@ use Rattle.proof_processes.proofs.Worlds.{has_other}
 use Rattle.proof_steps.proofs.children.LastRecords.{decided_in_front}
 use Rattle.proof_steps.proofs.children.LeafWrites.{hardens, stands_so}
 use Rattle.proof_steps.proofs.children.Doubts.{nothing_known}
-use Rattle.proof_steps.proofs.children.FailMoves as fail
-use Rattle.proof_steps.proofs.children.Moves as moves
+use Rattle.proof_steps.proofs.children.FailMoves
+use Rattle.proof_steps.proofs.children.Moves
 use Rattle.proof_steps.proofs.children.Moves.{Fits}
 use Rattle.proof_processes.proofs.Boots.{trims_memory}
 use Rattle.proof_processes.proofs.GivenCases.{unmarked_so}
 use Rattle.proof_processes.proofs.TrimmedBranches.{trim_forgets}
 use Rattle.proof_steps.proofs.children.Opens.{opens, closed_where_marked, closed_unless_open, is_phase_open}
-use Rattle.proof_steps.proofs.children.Readings as readings
+use Rattle.proof_steps.proofs.children.Readings
 use Rattle.proof_steps.proofs.children.TrimHalves.{cleared, keeps_open, keeps_unmarked, forgets_over, half_keeps, half_cleared}
 
 -- the device failed, and nothing else changed
@@ -62,7 +61,7 @@ ever-or a b f = grind arith
 reading-falls : (root outcome above : Bool) (p : ParentHalf) (k : ChildHalf) (v : Wire)
     → QuietWhileOpen k.is_open v.issued k.prepared_kept k.prepared_ever v.read
     → reading_from root true outcome above p (fallen k) v
-    ≡ crash.child_fails (reading_from root true outcome above p k v)
+    ≡ ChildCrash.child_fails (reading_from root true outcome above p k v)
 reading-falls root outcome above p k v quiet =
     rw (
       and-false v.issued,
@@ -72,7 +71,7 @@ reading-falls root outcome above p k v quiet =
 reading-cleared : (root outcome above : Bool) (p : ParentHalf) (k : ChildHalf) (v : Wire) → k.is_open ≡ false
     → (k.prepared_kept ≡ true → k.prepared_ever ≡ true)
     → reading_from root true outcome above p (stands_so false (cleared k)) v
-    ≡ move.trims_child (reading_from root true outcome above p k v)
+    ≡ ChildMoves.trims_child (reading_from root true outcome above p k v)
 reading-cleared root outcome above p k v e f = rw (e, ever-or k.prepared_kept k.prepared_ever f) refl
 
 decided_is : (d : Case) (x : Record) → is_decided d CommittedOutcome x ≡ true → is_heuristic d x ≡ true
@@ -116,7 +115,7 @@ module _ (c : Case) (t : Ticket) (p : ProcessId) (tree : List TreeProcess) (n : 
 
   module _ (inv : InvariantOf pr r0) where
     common : Common r0
-    common = moves.common_of pr r0 inv
+    common = Moves.common_of pr r0 inv
 
     abbrev decided : List Record → Bool
     decided rs = has (is_decided d CommittedOutcome) rs
@@ -177,26 +176,26 @@ module _ (c : Case) (t : Ticket) (p : ProcessId) (tree : List TreeProcess) (n : 
 
     hardened : Fits pr r0 (R (hardens k))
     hardened = subst (λ (z : Reading). Fits pr r0 z)
-        (sym (readings.reading-hardened root outcome above half k v)) (moves.hardens pr r0 inv up)
+        (sym (Readings.reading-hardened root outcome above half k v)) (Moves.hardens pr r0 inv up)
 
     clears : mark_at n d ≡ Finished → Fits pr r0 (R (stands_so false (cleared k)))
     clears e = subst (λ (z : Reading). Fits pr r0 z)
         (sym (reading-cleared root outcome above half k v (over_is_closed e) promised_ever))
-        (moves.trims_child pr r0 inv (record { up = up; forgotten = forgotten e }))
+        (Moves.trims_child pr r0 inv (record { up = up; forgotten = forgotten e }))
 
     -- and then the device fails
     falls : (x : ChildHalf) → x.failed ≡ false → Fits pr r0 (R x) → Fits pr r0 (R (fallen x))
     falls x still f =
         subst (λ (z : Reading). Fits pr r0 z) (sym (reading-falls root outcome above half x v quiet))
-        (moves.onward pr r0 (R x) (crash.child_fails (R x)) f
-        (fail.child_fails pr (R x) f.invariant (record { up = still })))
+        (Moves.onward pr r0 (R x) (ChildCrash.child_fails (R x)) f
+        (FailMoves.child_fails pr (R x) f.invariant (record { up = still })))
       where
         quiet : QuietWhileOpen x.is_open v.issued x.prepared_kept x.prepared_ever v.read
-        quiet e = let w = (moves.common_of pr (R x) f.invariant).not_voted e in
+        quiet e = let w = (Moves.common_of pr (R x) f.invariant).not_voted e in
             (w.no_prepared.0, w.no_prepared.1, w.said_nothing.0)
 
     pub trim_breaks : (a : ℕ) → Fits pr r0 (R (child_half place (trim_fails place n a) d))
-    trim_breaks zero = falls k up (moves.unmoved pr r0 inv)
+    trim_breaks zero = falls k up (Moves.unmoved pr r0 inv)
     trim_breaks (suc a) =
         let s = (manager_view place (trim_fails place n (suc a)) d).standing in
         elim (trimmed_half s) [

@@ -9,7 +9,7 @@ use Rattle.protocol.specs.declared.names.Presumption.{Presumption}
 use Rattle.protocol.specs.declared.messages.Message.TheVariants.{Prepare, Ack}
 use Rattle.protocol.specs.declared.messages.Envelope.{Envelope}
 use Rattle.protocol.specs.declared.records.Record.{Record}
-use Rattle.protocol.specs.declared.events.Input.TheVariants.{Message as MessageInput}
+use Rattle.protocol_words.specs.Variants.{MessageInput}
 use Rattle.protocol.specs.declared.trees.TreeProcess.{TreeProcess}
 use Rattle.protocol.specs.Names.{child_case, same_case}
 use Rattle.protocol.specs.Nodes.{Place, AtLeaf, Node, Heard, Effect, after, Written}

@@ -3,28 +3,27 @@ use Rattle.protocol.specs.ManagerRows.{is_acknowledged}
 use Rattle.std.proofs.Common.{◌≡◌, ◌⊎◌, inl, inr, ℕ, true, false, List, [], refl, sym, subst, if◌then◌else◌}
 use Rattle.protocol.specs.declared.names.Case.{Case}
 use Rattle.protocol.specs.declared.names.Outcome.{Outcome}
-use Rattle.protocol.specs.declared.names.Outcome.TheVariants.{Committed as CommittedOutcome, Aborted as AbortedOutcome}
+use Rattle.protocol_words.specs.Variants.{AbortedOutcome, CommittedOutcome, MessageInput}
 use Rattle.protocol.specs.declared.names.Presumption.{Presumption}
 use Rattle.protocol.specs.declared.names.Presumption.TheVariants.{PresumeAbort, PresumeCommit}
 use Rattle.protocol.specs.declared.messages.Message.TheVariants.{Commit, Abort}
 use Rattle.protocol.specs.declared.messages.Envelope.{Envelope}
-use Rattle.protocol.specs.declared.events.Input.TheVariants.{Message as MessageInput}
 use Rattle.protocol.specs.Nodes.{Place}
 use Rattle.protocol.specs.CoordinatorRows.{tells_outcome}
 use Rattle.protocol.specs.Standings.{ToldOf}
 use Rattle.proof_pairs.specs.Reading.{Reading}
-use Rattle.proof_pairs.specs.ChildMoves as move
+use Rattle.proof_pairs.specs.ChildMoves
 use Rattle.proof_pairs.specs.Standing.{IsForgotten}
 use Rattle.proof_pairs.specs.readings.ReadingOf.{ChildHalf, Wire}
 use Rattle.proof_pairs.proofs.readings.Memories.{memory_of-nothing}
 use Rattle.proof_pairs.specs.turns.LeafTurns.{mark_at, IsActive, IsUnknown, writes_and_sends}
 use Rattle.proof_processes.proofs.Orders.{IsMarked}
-use Rattle.proof_steps.proofs.children.Moves as moves
+use Rattle.proof_steps.proofs.children.Moves
 use Rattle.proof_steps.proofs.children.Moves.{Fits}
 use Rattle.proof_steps.proofs.children.Opens.{closes_aborted, closed_where_marked, closed_where_unknown}
 use Rattle.proof_steps.proofs.children.Doubts.{told_commit_so, told_abort_so}
-use Rattle.proof_steps.proofs.children.Readings as readings
-use Rattle.proof_steps.proofs.children.Wires as wires
+use Rattle.proof_steps.proofs.children.Readings
+use Rattle.proof_steps.proofs.children.Wires
 use Rattle.proof_steps.proofs.children.Turns.{Turn, branch, place_in, half_in, wire_in, r0, O, Fine, ack, Acked}
 use Rattle.proof_steps.proofs.children.TurnsQuiet.{quiet, nothing_said, closed_says, forgets_it, active_open}
 use Rattle.proof_steps.proofs.children.TurnsWritten.{commit_sent, abort_sent}
@@ -79,14 +78,14 @@ module _ (turn : Turn) where
           subst (λ (x : Presumption). (Fine turn) []
           (if is_acknowledged x CommittedOutcome then (ack turn) CommittedOutcome fs else [])) f
           (closed_says turn (ack turn CommittedOutcome fs) (record v { ack = true })
-          (move.acknowledges (r0 turn)) closed
-          (wires.wire-ack c t t.child p net CommittedOutcome fs) refl
-          (moves.acknowledges_commit pr (sym f) (r0 turn) inv
+          (ChildMoves.acknowledges (r0 turn)) closed
+          (Wires.wire-ack c t t.child p net CommittedOutcome fs) refl
+          (Moves.acknowledges_commit pr (sym f) (r0 turn) inv
           (record { up = up; told = commit_sent turn j i; known = known })))
       by_presumption PresumeCommit f =
           subst (λ (x : Presumption). (Fine turn) []
           (if is_acknowledged x CommittedOutcome then (ack turn) CommittedOutcome fs else [])) f
-          (nothing_said turn [] (wires.wire-none c t t.child p net))
+          (nothing_said turn [] (Wires.wire-none c t t.child p net))
 
   acks_abort : (fs : List Finding) (j : ℕ) → h.input ≡ MessageInput j (Abort d) → k.is_open ≡ false
       → IsForgotten (r0 turn) ⊎ ((r0 turn).learnt_abort_kept ≡ true)
@@ -99,14 +98,14 @@ module _ (turn : Turn) where
           subst (λ (x : Presumption). (Fine turn) []
           (if is_acknowledged x AbortedOutcome then (ack turn) AbortedOutcome fs else [])) f
           (closed_says turn (ack turn AbortedOutcome fs) (record v { ack = true })
-          (move.acknowledges (r0 turn)) closed
-          (wires.wire-ack c t t.child p net AbortedOutcome fs) refl
-          (moves.acknowledges_abort pr (sym f) (r0 turn) inv
+          (ChildMoves.acknowledges (r0 turn)) closed
+          (Wires.wire-ack c t t.child p net AbortedOutcome fs) refl
+          (Moves.acknowledges_abort pr (sym f) (r0 turn) inv
           (record { up = up; told = abort_sent turn j i; known = known })))
       by_presumption PresumeAbort f =
           subst (λ (x : Presumption). (Fine turn) []
           (if is_acknowledged x AbortedOutcome then (ack turn) AbortedOutcome fs else [])) f
-          (nothing_said turn [] (wires.wire-none c t t.child p net))
+          (nothing_said turn [] (Wires.wire-none c t t.child p net))
 
   pub acks_unknown : (o : Outcome) (fs : List Finding) (j : ℕ) → h.input ≡ MessageInput j (tells_outcome o d)
       → IsUnknown place n d → Fine turn [] (Acked turn o fs)
@@ -132,7 +131,7 @@ module _ (turn : Turn) where
       told_it = abort_sent turn j i
 
       is_issued : v.issued ≡ true
-      is_issued = moves.told_is_issued (r0 turn) (moves.common_of pr (r0 turn) inv) (inr told_it)
+      is_issued = Moves.told_is_issued (r0 turn) (Moves.common_of pr (r0 turn) inv) (inr told_it)
 
       is_there : (r0 turn).ticket_open ≡ true
       is_there = rw (is_issued, active_open turn a) refl
@@ -145,19 +144,19 @@ module _ (turn : Turn) where
       by_presumption : (q : Presumption) → q ≡ pr
           → Fine turn [] (if is_acknowledged pr AbortedOutcome then (ack turn) AbortedOutcome fs else [])
       by_presumption PresumeCommit f =
-          let silent = (moves.common_of pr (r0 turn) inv).not_voted is_there in
+          let silent = (Moves.common_of pr (r0 turn) inv).not_voted is_there in
           subst (λ (x : Presumption). (Fine turn) []
           (if is_acknowledged x AbortedOutcome then (ack turn) AbortedOutcome fs else [])) f
           (quiet turn (ack turn AbortedOutcome fs) (record v { ack = true }) false
-          (wires.wire-ack c t t.child p net AbortedOutcome fs)
+          (Wires.wire-ack c t t.child p net AbortedOutcome fs)
           (closes_so (ack turn AbortedOutcome fs))
           (subst (λ (z : Reading). Fits pr (r0 turn) z)
-          (sym (readings.reading-dropped_acknowledged root outcome above half k v (active_open turn a)
+          (sym (Readings.reading-dropped_acknowledged root outcome above half k v (active_open turn a)
           is_issued silent.no_prepared.0
           silent.no_prepared.1 silent.said_nothing.0))
-          (moves.drops_and_acknowledges pr (sym f) (r0 turn) inv
+          (Moves.drops_and_acknowledges pr (sym f) (r0 turn) inv
           (record { is_open = is_there; aborted = told_it }))))
       by_presumption PresumeAbort f =
           subst (λ (x : Presumption). (Fine turn) []
           (if is_acknowledged x AbortedOutcome then (ack turn) AbortedOutcome fs else [])) f
-          (nothing_said turn [] (wires.wire-none c t t.child p net))
+          (nothing_said turn [] (Wires.wire-none c t t.child p net))

@@ -6,7 +6,7 @@ use Rattle.protocol.specs.declared.names.Case.{Case}
 use Rattle.protocol.specs.declared.names.Outcome.{Outcome}
 use Rattle.protocol.specs.declared.messages.Message.TheVariants.{Ack}
 use Rattle.protocol.specs.declared.messages.Envelope.{Envelope}
-use Rattle.protocol.specs.declared.records.BranchName.TheVariants.{Case as CaseBranch}
+use Rattle.protocol_words.specs.Variants.{CaseBranch}
 use Rattle.protocol.specs.declared.records.Record.{Record}
 use Rattle.protocol.specs.Names.{same_case}
 use Rattle.protocol.specs.Records.{boot_after}
@@ -14,7 +14,7 @@ use Rattle.protocol.specs.Nodes.{Place, kept, after}
 use Rattle.protocol.specs.CoordinatorRows.{post, forced, plain}
 use Rattle.protocol.specs.Standings.{manager_view, mark_of}
 use Rattle.proof_pairs.specs.Reading.{Reading}
-use Rattle.proof_pairs.specs.ChildMoves as move
+use Rattle.proof_pairs.specs.ChildMoves
 use Rattle.proof_pairs.specs.readings.ReadingOf.{ChildHalf, Wire, wire}
 use Rattle.proof_pairs.proofs.readings.Lists.{mark_of-push, mark_of-push_behind}
 use Rattle.proof_pairs.proofs.readings.Memories.{memory_of-forced, memory_of-plain}
@@ -22,11 +22,11 @@ use Rattle.proof_pairs.specs.turns.LeafTurns.{writes_and_sends}
 use Rattle.proof_processes.specs.WorldHolds.{InvariantOf}
 use Rattle.proof_processes.proofs.Orders.{other_leaves}
 use Rattle.proof_steps.proofs.children.LeafWrites.{hardens, stands_so, half_forced, half_plain, IsBranchs, unrelated}
-use Rattle.proof_steps.proofs.children.Moves as moves
+use Rattle.proof_steps.proofs.children.Moves
 use Rattle.proof_steps.proofs.children.Moves.{Fits}
 use Rattle.proof_steps.proofs.children.Opens.{fall}
-use Rattle.proof_steps.proofs.children.Readings as readings
-use Rattle.proof_steps.proofs.children.Wires as wires
+use Rattle.proof_steps.proofs.children.Readings
+use Rattle.proof_steps.proofs.children.Wires
 use Rattle.proof_steps.proofs.children.Turns.{Turn, branch, place_in, half_in, wire_in, R, r0, O, Fine}
 use Rattle.proof_steps.proofs.children.TurnsQuiet.{nothing_said, falls_so}
 use Rattle.proof_steps.proofs.children.TurnsWritten.{hard}
@@ -95,7 +95,7 @@ module _ (turn : Turn) where
     forced_other ls e =
         let x = writes_and_sends (forced r) ls in
         let same : R turn (hardens k) v
-        ≡ move.hardens_child (r0 turn) = readings.reading-hardened root outcome above
+        ≡ ChildMoves.hardens_child (r0 turn) = Readings.reading-hardened root outcome above
         half k v in
         let inv' = subst (λ (z : Reading). InvariantOf pr z) (sym same) (hard turn).invariant in
         let first = subst (λ (z : Reading). Fits pr (r0 turn) z) (sym same) (hard turn) in
@@ -104,7 +104,7 @@ module _ (turn : Turn) where
         n h x d r refl b
         ∙ ap (λ (y : ChildHalf). stands_so (O turn x) (hardens y)) (unrelated d r k other none)))
         (subst (λ (z : Wire). Fits pr (r0 turn) (R turn (stands_so (O turn x) (hardens k)) z)) (sym e)
-        (moves.onward pr (r0 turn) (R turn (hardens k) v) (R turn (stands_so (O turn x) (hardens k)) v) first
+        (Moves.onward pr (r0 turn) (R turn (hardens k) v) (R turn (stands_so (O turn x) (hardens k)) v) first
         (falls_so pr root outcome above half (hardens k) v inv' (O turn x) (forced_falls ls))))
 
     plain_other : (ls : List Envelope) → wire c t (net ++ ls) ≡ v → Fine turn (plain r) ls
@@ -121,11 +121,11 @@ module _ (turn : Turn) where
         → Fine turn (record { entry = r; is_forced = f } ∷ [])
         (if f then post t.child p (Ack x o fs) ∷ [] else [])
     written_other x o fs e true = forced_other (post t.child p (Ack x o fs) ∷ [])
-        (wires.other-ack c t t.child p net x e o fs)
-    written_other x o fs e false = plain_other [] (wires.wire-none c t t.child p net)
+        (Wires.other-ack c t t.child p net x e o fs)
+    written_other x o fs e false = plain_other [] (Wires.wire-none c t t.child p net)
 
   pub acks_other : (x : Case) (o : Outcome) (fs : List Finding) → same_case x d ≡ false → (f : Bool)
       → Fine turn [] (if f then post t.child p (Ack x o fs) ∷ [] else [])
   acks_other x o fs e true = nothing_said turn (post t.child p (Ack x o fs) ∷ [])
-      (wires.other-ack c t t.child p net x e o fs)
-  acks_other x o fs e false = nothing_said turn [] (wires.wire-none c t t.child p net)
+      (Wires.other-ack c t t.child p net x e o fs)
+  acks_other x o fs e false = nothing_said turn [] (Wires.wire-none c t t.child p net)

@@ -5,14 +5,13 @@ use Rattle.protocol.specs.declared.names.Case.{Case}
 use Rattle.protocol.specs.declared.names.Presumption.{Presumption}
 use Rattle.protocol.specs.declared.messages.Message.TheVariants.{Prepare, Yes, No, Read}
 use Rattle.protocol.specs.declared.messages.Envelope.{Envelope}
-use Rattle.protocol.specs.declared.records.BranchName.TheVariants.{Case as CaseBranch}
-use Rattle.protocol.specs.declared.events.Input.TheVariants.{Message as MessageInput}
+use Rattle.protocol_words.specs.Variants.{CaseBranch, MessageInput}
 use Rattle.protocol.specs.NameLaws.{same_case-refl}
 use Rattle.protocol.specs.Nodes.{Place, after}
 use Rattle.protocol.specs.CoordinatorRows.{post}
 use Rattle.protocol.specs.Standings.{manager_view}
 use Rattle.proof_pairs.specs.Reading.{Reading}
-use Rattle.proof_pairs.specs.ChildMoves as move
+use Rattle.proof_pairs.specs.ChildMoves
 use Rattle.proof_pairs.specs.Standing.{IsForgotten}
 use Rattle.proof_pairs.specs.readings.ReadingOf.{reading_from, ParentHalf, ChildHalf, Wire, wire, is_prepare_message}
 use Rattle.proof_pairs.proofs.readings.Lists.{mark_of-nil_behind}
@@ -22,12 +21,12 @@ use Rattle.proof_processes.specs.WorldHolds.{InvariantOf}
 use Rattle.proof_processes.proofs.Deliveries.{was_sent}
 use Rattle.proof_processes.proofs.Orders.{IsMarked}
 use Rattle.proof_steps.proofs.children.LeafWrites.{stands_so, half_silent}
-use Rattle.proof_steps.proofs.children.Moves as moves
+use Rattle.proof_steps.proofs.children.Moves
 use Rattle.proof_steps.proofs.children.Moves.{Fits}
 use Rattle.proof_steps.proofs.children.Opens.{fall, closes_prepared, closed_where_marked, closed_where_unknown, open_where_active}
 use Rattle.proof_steps.proofs.children.Doubts.{promised_so, nothing_known}
-use Rattle.proof_steps.proofs.children.Readings as readings
-use Rattle.proof_steps.proofs.children.Wires as wires
+use Rattle.proof_steps.proofs.children.Readings
+use Rattle.proof_steps.proofs.children.Wires
 use Rattle.proof_steps.proofs.children.Turns.{Turn, branch, place_in, half_in, wire_in, R, r0, O, Fine}
 
 -- A branch that is closed without a word is dropped, if it was open.
@@ -38,20 +37,20 @@ module _ (pr : Presumption) (root outcome above : Bool) (half : ParentHalf) (k :
   R0 x = reading_from root true outcome above half x v
 
   same : (x : ChildHalf) → R0 x ≡ R0 k → Fits pr (R0 k) (R0 x)
-  same x e = subst (λ (z : Reading). Fits pr (R0 k) z) (sym e) (moves.unmoved pr (R0 k) inv)
+  same x e = subst (λ (z : Reading). Fits pr (R0 k) z) (sym e) (Moves.unmoved pr (R0 k) inv)
 
   may_fall : (o b i : Bool) → k.is_open ≡ b → v.issued ≡ i → o ≡ false → Fits pr (R0 k) (R0 (stands_so o k))
   may_fall o true true e i f =
-      let silent = (moves.common_of pr (R0 k) inv).not_voted (rw (i, e) refl) in
+      let silent = (Moves.common_of pr (R0 k) inv).not_voted (rw (i, e) refl) in
       subst (λ (z : Reading). Fits pr (R0 k) z)
       (sym (ap (λ b. R0 (stands_so b k)) f
-      ∙ readings.reading-dropped root outcome above half k v e i silent.no_prepared.0 silent.no_prepared.1
+      ∙ Readings.reading-dropped root outcome above half k v e i silent.no_prepared.0 silent.no_prepared.1
       silent.said_nothing.0))
-      (moves.drops pr (R0 k) inv (record { is_open = rw (i, e) refl }))
+      (Moves.drops pr (R0 k) inv (record { is_open = rw (i, e) refl }))
   may_fall o true false e i f = same (stands_so o k)
-      (readings.reading-unissued root outcome above half k v o i)
+      (Readings.reading-unissued root outcome above half k v o i)
   may_fall o false b e i f =
-      same (stands_so o k) (ap (λ x. R0 (stands_so x k)) f ∙ readings.reading-closed root outcome above half
+      same (stands_so o k) (ap (λ x. R0 (stands_so x k)) f ∙ Readings.reading-closed root outcome above half
       k v e)
 
   pub falls_so : (o : Bool) → (o ≡ k.is_open) ⊎ (o ≡ false) → Fits pr (R0 k) (R0 (stands_so o k))
@@ -140,10 +139,10 @@ module _ (turn : Turn) where
       → IsMarked (mark_at n d)
       → Fine turn [] (post t.child p (Yes d) ∷ [])
   yes_again x j i o mk =
-      closed_says (post t.child p (Yes d) ∷ []) (record v { yes = true }) (move.repeats_yes (r0 turn))
+      closed_says (post t.child p (Yes d) ∷ []) (record v { yes = true }) (ChildMoves.repeats_yes (r0 turn))
       (closed_where_marked place n d mk)
-      (wires.wire-yes c t t.child p net) refl
-      (moves.repeats_yes pr (r0 turn) inv
+      (Wires.wire-yes c t t.child p net) refl
+      (Moves.repeats_yes pr (r0 turn) inv
       (record { asked = prepared_sent j x i; up = up; promised = promised_so n nested m d o }))
 
   pub forgets_it : IsUnknown place n d → IsForgotten (r0 turn)
@@ -160,10 +159,10 @@ module _ (turn : Turn) where
   pub no_again : (x j : ℕ) → h.input ≡ MessageInput j (Prepare d x) → IsUnknown place n d
       → Fine turn [] (post t.child p (No d) ∷ [])
   no_again x j i u =
-      closed_says (post t.child p (No d) ∷ []) (record v { no = true }) (move.refuses (r0 turn))
+      closed_says (post t.child p (No d) ∷ []) (record v { no = true }) (ChildMoves.refuses (r0 turn))
       (closed_where_unknown place n d u)
-      (wires.wire-no c t t.child p net) refl
-      (moves.refuses pr (r0 turn) inv
+      (Wires.wire-no c t t.child p net) refl
+      (Moves.refuses pr (r0 turn) inv
       (record { asked = prepared_sent j x i; up = up; forgotten = forgets_it u }))
 
   -- PREPARE finds the branch open.
@@ -172,13 +171,13 @@ module _ (turn : Turn) where
   active_open a = open_where_active place n d up a.unmarked a.is_open
 
   pub may_vote : (x j : ℕ) → h.input ≡ MessageInput j (Prepare d x) → IsActive place n d
-      → move.MayVote (r0 turn)
+      → ChildMoves.MayVote (r0 turn)
   may_vote x j i a =
       let asked = prepared_sent j x i in
       record {
         asked = asked;
         is_open = rw
-            (moves.asked_is_issued (r0 turn) (moves.common_of pr (r0 turn) inv) asked, active_open a) refl;
+            (Moves.asked_is_issued (r0 turn) (Moves.common_of pr (r0 turn) inv) asked, active_open a) refl;
       }
 
   closes : (x j : ℕ) (ls : List Envelope) → h.input ≡ MessageInput j (Prepare d x) → IsActive place n d
@@ -191,21 +190,21 @@ module _ (turn : Turn) where
       → Fine turn [] (post t.child p (Read d) ∷ [])
   says_read x j i a =
       let ls = post t.child p (Read d) ∷ [] in
-      quiet ls (record v { read = true }) false (wires.wire-read c t t.child p net (own d j x i))
+      quiet ls (record v { read = true }) false (Wires.wire-read c t t.child p net (own d j x i))
       (closes x j ls i a)
       (subst (λ (z : Reading). Fits pr (r0 turn) z)
-      (sym (readings.reading-read root outcome above half k v (active_open a)))
-      (moves.votes_read pr (r0 turn) inv (may_vote x j i a)))
+      (sym (Readings.reading-read root outcome above half k v (active_open a)))
+      (Moves.votes_read pr (r0 turn) inv (may_vote x j i a)))
 
   pub says_no : (x j : ℕ) → h.input ≡ MessageInput j (Prepare d x) → IsActive place n d
       → Fine turn [] (post t.child p (No d) ∷ [])
   says_no x j i a =
       let ls = post t.child p (No d) ∷ [] in
       let may = may_vote x j i a in
-      let silent = (moves.common_of pr (r0 turn) inv).not_voted may.is_open in
-      quiet ls (record v { no = true }) false (wires.wire-no c t t.child p net) (closes x j ls i a)
+      let silent = (Moves.common_of pr (r0 turn) inv).not_voted may.is_open in
+      quiet ls (record v { no = true }) false (Wires.wire-no c t t.child p net) (closes x j ls i a)
       (subst (λ (z : Reading). Fits pr (r0 turn) z)
-      (sym (readings.reading-no root outcome above half k v (active_open a) silent.issued
+      (sym (Readings.reading-no root outcome above half k v (active_open a) silent.issued
       silent.no_prepared.0 silent.no_prepared.1
       silent.said_nothing.0))
-      (moves.votes_no pr (r0 turn) inv may))
+      (Moves.votes_no pr (r0 turn) inv may))

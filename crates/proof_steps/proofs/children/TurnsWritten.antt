@@ -3,15 +3,12 @@ use Rattle.proof_processes.specs.Marks.{is_branch_record}
 use Rattle.std.proofs.Common.{◌≡◌, ℕ, Bool, true, false, List, [], ◌∷◌, ◌++◌, refl, sym, subst}
 use Rattle.std.specs.Prelude.{not}
 use Rattle.protocol.specs.declared.names.Case.{Case}
-use Rattle.protocol.specs.declared.names.Outcome.TheVariants.{Committed as CommittedOutcome, Aborted as AbortedOutcome}
+use Rattle.protocol_words.specs.Variants.{AbortedOutcome, CaseBranch, CommittedOutcome, MessageInput, PreparedRecord}
 use Rattle.protocol.specs.declared.names.Presumption.TheVariants.{PresumeAbort, PresumeCommit}
 use Rattle.protocol.specs.declared.messages.Message.TheVariants.{Prepare, Yes, Commit, Abort}
 use Rattle.protocol.specs.declared.messages.Envelope.{Envelope}
-use Rattle.protocol.specs.declared.records.BranchName.TheVariants.{Case as CaseBranch}
 use Rattle.protocol.specs.declared.records.Record.{Record}
-use Rattle.protocol.specs.declared.records.Record.TheVariants.{Prepared as PreparedRecord}
 use Rattle.protocol.specs.declared.records.Write.{Write}
-use Rattle.protocol.specs.declared.events.Input.TheVariants.{Message as MessageInput}
 use Rattle.protocol.specs.NameLaws.{same_case-refl}
 use Rattle.protocol.specs.Records.{is_heuristic, is_decided, is_forgot}
 use Rattle.protocol.specs.Nodes.{Place, kept, after}
@@ -19,7 +16,7 @@ use Rattle.protocol.specs.CoordinatorRows.{post, forced, plain}
 use Rattle.protocol.specs.Standings.{manager_view, mark_of}
 use Rattle.protocol.specs.Outcomes.{is_outcome_message}
 use Rattle.proof_pairs.specs.Reading.{Reading}
-use Rattle.proof_pairs.specs.ChildMoves as move
+use Rattle.proof_pairs.specs.ChildMoves
 use Rattle.proof_pairs.specs.Standing.{IsInDoubt}
 use Rattle.proof_pairs.specs.readings.ReadingOf.{ChildHalf, Wire, wire}
 use Rattle.protocol.specs.Audits.{is_promise, is_learnt_commit, is_learnt_abort, is_committing}
@@ -28,12 +25,12 @@ use Rattle.proof_pairs.specs.turns.LeafTurns.{mark_at, IsActive, IsOpenBranch, w
 use Rattle.proof_processes.proofs.Deliveries.{was_sent}
 use Rattle.proof_processes.proofs.Orders.{IsMarked, marks}
 use Rattle.proof_steps.proofs.children.LeafWrites.{wrote, hardens, stands_so, half_forced, half_plain, IsBranchs}
-use Rattle.proof_steps.proofs.children.Moves as moves
+use Rattle.proof_steps.proofs.children.Moves
 use Rattle.proof_steps.proofs.children.Moves.{Fits}
 use Rattle.proof_steps.proofs.children.Opens.{closed_where_marked, marked_is_closed}
 use Rattle.proof_steps.proofs.children.Doubts.{doubt, promised_so}
-use Rattle.proof_steps.proofs.children.Readings as readings
-use Rattle.proof_steps.proofs.children.Wires as wires
+use Rattle.proof_steps.proofs.children.Readings
+use Rattle.proof_steps.proofs.children.Wires
 use Rattle.proof_steps.proofs.children.Turns.{Turn, branch, place_in, half_in, wire_in, R, r0, O, Fine, ack}
 use Rattle.proof_steps.proofs.children.TurnsQuiet.{active_open, may_vote}
 use Rattle.protocol.specs.declared.messages.Finding.{Finding}
@@ -117,11 +114,11 @@ module _ (turn : Turn) where
       (subst (λ (z : Reading). Fits pr (r0 turn) z) (sym f) g)))
 
   -- all that stood before was forced
-  pub hard : Fits pr (r0 turn) (move.hardens_child (r0 turn))
-  hard = moves.hardens pr (r0 turn) inv up
+  pub hard : Fits pr (r0 turn) (ChildMoves.hardens_child (r0 turn))
+  hard = Moves.hardens pr (r0 turn) inv up
 
-  pub onward : (s : Reading) → Fits pr (move.hardens_child (r0 turn)) s → Fits pr (r0 turn) s
-  onward s f = moves.onward pr (r0 turn) (move.hardens_child (r0 turn)) s hard f
+  pub onward : (s : Reading) → Fits pr (ChildMoves.hardens_child (r0 turn)) s → Fits pr (r0 turn) s
+  onward s f = Moves.onward pr (r0 turn) (ChildMoves.hardens_child (r0 turn)) s hard f
 
   pub says_yes : (x j : ℕ) (ws : List Write) → h.input ≡ MessageInput j (Prepare d x) → IsActive place n d
       → Fine turn (forced (PreparedRecord (CaseBranch d) ws)) (post t.child p (Yes d) ∷ [])
@@ -130,12 +127,12 @@ module _ (turn : Turn) where
       let may = may_vote turn x j i a in
       let mine = same_case-refl d in
       forced_own r (post t.child p (Yes d) ∷ []) (record v { yes = true })
-      (move.votes_yes (move.hardens_child (r0 turn)))
-      (record { no_abort = refl; no_prepare = refl }) mine (wires.wire-yes c t t.child p net)
-      (readings.reading-yes root outcome above half k v d r (active_open turn a) (rw mine refl) refl refl refl
+      (ChildMoves.votes_yes (ChildMoves.hardens_child (r0 turn)))
+      (record { no_abort = refl; no_prepare = refl }) mine (Wires.wire-yes c t t.child p net)
+      (Readings.reading-yes root outcome above half k v d r (active_open turn a) (rw mine refl) refl refl refl
       refl refl refl)
-      (onward (move.votes_yes (move.hardens_child (r0 turn)))
-      (moves.votes_yes pr (move.hardens_child (r0 turn)) hard.invariant
+      (onward (ChildMoves.votes_yes (ChildMoves.hardens_child (r0 turn)))
+      (Moves.votes_yes pr (ChildMoves.hardens_child (r0 turn)) hard.invariant
       (record { asked = may.asked; is_open = may.is_open })))
 
   -- An outcome finds the branch in doubt.
@@ -190,13 +187,13 @@ module _ (turn : Turn) where
         → Fine turn (forced r) (ack turn CommittedOutcome fs)
     commit_forced fs pa i r g =
         forced_own r (ack turn CommittedOutcome fs) (record v { ack = true })
-        (move.commits_forced (move.hardens_child (r0 turn))) g.none g.mine
-        (wires.wire-ack c t t.child p net CommittedOutcome fs)
-        (readings.reading-commit_forced root outcome above half k v d r closed
+        (ChildMoves.commits_forced (ChildMoves.hardens_child (r0 turn))) g.none g.mine
+        (Wires.wire-ack c t t.child p net CommittedOutcome fs)
+        (Readings.reading-commit_forced root outcome above half k v d r closed
         (promised_so n nested m d o) g.plain g.commit g.abort
         g.heuristic g.decides g.forgot g.ends)
-        (onward (move.commits_forced (move.hardens_child (r0 turn)))
-        (moves.commits_forced pr (sym pa) (move.hardens_child (r0 turn)) hard.invariant
+        (onward (ChildMoves.commits_forced (ChildMoves.hardens_child (r0 turn)))
+        (Moves.commits_forced pr (sym pa) (ChildMoves.hardens_child (r0 turn)) hard.invariant
         (let x = in_doubt w o in record {
           up = up;
           told = commit_sent j i;
@@ -212,34 +209,34 @@ module _ (turn : Turn) where
     pub commit_plain : PresumeCommit ≡ pr → h.input ≡ MessageInput j (Commit d) → (r : Record)
         → TellsCommit r → Fine turn (plain r) []
     commit_plain pc i r g =
-        plain_own r [] v (move.commits (r0 turn)) g.none g.mine (wires.wire-none c t t.child p net)
-        (readings.reading-commit_plain root outcome above half k v d r closed (promised_so n nested m d o)
+        plain_own r [] v (ChildMoves.commits (r0 turn)) g.none g.mine (Wires.wire-none c t t.child p net)
+        (Readings.reading-commit_plain root outcome above half k v d r closed (promised_so n nested m d o)
         g.plain g.commit g.abort
         g.heuristic g.decides g.forgot g.ends)
-        (moves.commits pr (sym pc) (r0 turn) inv
+        (Moves.commits pr (sym pc) (r0 turn) inv
         (record { up = up; told = commit_sent j i; in_doubt = in_doubt w o }))
 
     pub abort_plain : PresumeAbort ≡ pr → h.input ≡ MessageInput j (Abort d) → (r : Record) → TellsAbort r
         → Fine turn (plain r) []
     abort_plain pa i r g =
-        plain_own r [] v (move.rolls_back (r0 turn)) g.none g.mine (wires.wire-none c t t.child p net)
-        (readings.reading-abort_plain root outcome above half k v d r closed (promised_so n nested m d o)
+        plain_own r [] v (ChildMoves.rolls_back (r0 turn)) g.none g.mine (Wires.wire-none c t t.child p net)
+        (Readings.reading-abort_plain root outcome above half k v d r closed (promised_so n nested m d o)
         g.plain g.commit g.abort
         g.heuristic g.decides g.forgot g.ends)
-        (moves.rolls_back pr (sym pa) (r0 turn) inv
+        (Moves.rolls_back pr (sym pa) (r0 turn) inv
         (record { up = up; told = abort_sent j i; in_doubt = in_doubt w o }))
 
     pub abort_forced : (fs : List Finding) → PresumeCommit ≡ pr → h.input ≡ MessageInput j (Abort d) → (r : Record) → TellsAbort r
         → Fine turn (forced r) (ack turn AbortedOutcome fs)
     abort_forced fs pc i r g =
         forced_own r (ack turn AbortedOutcome fs) (record v { ack = true })
-        (move.rolls_back_forced (move.hardens_child (r0 turn))) g.none g.mine
-        (wires.wire-ack c t t.child p net AbortedOutcome fs)
-        (readings.reading-abort_forced root outcome above half k v d r closed (promised_so n nested m d o)
+        (ChildMoves.rolls_back_forced (ChildMoves.hardens_child (r0 turn))) g.none g.mine
+        (Wires.wire-ack c t t.child p net AbortedOutcome fs)
+        (Readings.reading-abort_forced root outcome above half k v d r closed (promised_so n nested m d o)
         g.plain g.commit g.abort
         g.heuristic g.decides g.forgot g.ends)
-        (onward (move.rolls_back_forced (move.hardens_child (r0 turn)))
-        (moves.rolls_back_forced pr (sym pc) (move.hardens_child (r0 turn)) hard.invariant
+        (onward (ChildMoves.rolls_back_forced (ChildMoves.hardens_child (r0 turn)))
+        (Moves.rolls_back_forced pr (sym pc) (ChildMoves.hardens_child (r0 turn)) hard.invariant
         (let x = in_doubt w o in record {
           up = up;
           told = abort_sent j i;

@@ -4,7 +4,7 @@ use Rattle.protocol.specs.declared.names.Case.{Case}
 use Rattle.protocol.specs.declared.names.ProcessId.{ProcessId}
 use Rattle.protocol.specs.declared.names.Ticket.{Ticket}
 use Rattle.protocol.specs.declared.names.Txn.{Txn}
-use Rattle.protocol.specs.declared.standings.Vote.TheVariants.{Yes as VoteYes}
+use Rattle.protocol_words.specs.Variants.{VoteYes}
 use Rattle.protocol.specs.declared.trees.TreeProcess.{TreeProcess}
 use Rattle.protocol.specs.Names.{process_of}
 use Rattle.protocol.specs.Records.{has, is_prepare}

@@ -14,7 +14,7 @@ use Rattle.protocol.specs.declared.messages.Message.TheVariants.{Join, Joined, W
 use Rattle.protocol.specs.declared.records.Record.{Record}
 use Rattle.protocol.specs.declared.standings.Standing.{Standing}
 use Rattle.protocol.specs.declared.standings.Standing.TheVariants.{Unknown, Active, Collecting, Prepared, Committing, Aborting, Heuristic}
-use Rattle.protocol.specs.declared.events.Happening.TheVariants.{Input as Handles}
+use Rattle.protocol_words.specs.Variants.{Handles}
 use Rattle.protocol.specs.declared.trees.TreeProcess.{TreeProcess}
 use Rattle.protocol.specs.Names.{child_case, process_of, root_case, same_case}
 use Rattle.protocol.specs.NameLaws.{names}
@@ -27,7 +27,7 @@ use Rattle.protocol.specs.Standings.{coordinator_view, phase_standing, standing_
 use Rattle.protocol.specs.Views.{IsOpenAlike, root_place}
 use Rattle.protocol.specs.World.{Move}
 use Rattle.proof_pairs.specs.Reading.{Closed, Active as ActivePhase, Collecting as CollectingPhase}
-use Rattle.proof_pairs.specs.Reading as reading
+use Rattle.proof_pairs.specs.Reading
 use Rattle.proof_pairs.specs.readings.ReadingOf.{ChildHalf, is_root_ticket, parent_half, parent_half_at, phase_by, reading_from, wire}
 use Rattle.protocol.specs.Audits.{is_decision_naming}
 use Rattle.proof_pairs.specs.turns.Steps.{StepOf, handled, failed_in, passed, failed_passing, reopened, failed_reopening, trims_log, failed_trimming}
@@ -44,11 +44,11 @@ use Rattle.proof_processes.proofs.Worlds.{has_other}
 use Rattle.proof_steps.proofs.children.Moves.{Fits}
 use Rattle.proof_steps.specs.crashes.CoordinatorCrashes.{IsCrash}
 use Rattle.proof_steps.proofs.crashes.Crashes.{forgetful}
-use Rattle.proof_steps.proofs.crashes.CrashSteps as steps
+use Rattle.proof_steps.proofs.crashes.CrashSteps
 
 -- How open a case is, by its phase in memory.
 
-abbrev pub by_phase : Phase → reading.HeldPhase
+abbrev pub by_phase : Phase → Reading.HeldPhase
 by_phase Open = ActivePhase
 by_phase Asked = CollectingPhase
 by_phase Idle = Closed
@@ -246,7 +246,7 @@ module _ (me : ProcessId) (tree : List TreeProcess) (n : Node) (net : List Envel
         by_test false e = e
 
     module _ (c : Case) (t : Ticket) (top : c.ticket ≡ None) (manager above : Bool) (kh : ChildHalf) where
-      abbrev seen : List Envelope → Node → reading.Reading
+      abbrev seen : List Envelope → Node → Reading.Reading
       seen ls x = reading_from true manager (has (is_commit c) x.durable) above (parent_half root x c t) kh
           (wire c t ls)
 
@@ -266,7 +266,7 @@ module _ (me : ProcessId) (tree : List TreeProcess) (n : Node) (net : List Envel
       follows_root _ _ (reopened j hp) then begun free inv =
           let k = restarted root n j in
           let rs = left_of n j ++ reopens AtRoot (left_of n j) in
-          steps.root_reopens me tree n j c t now.nested now.fit manager above kh net (none_here c.txn t)
+          CrashSteps.root_reopens me tree n j c t now.nested now.fit manager above kh net (none_here c.txn t)
           (λ x f. names_own root (net ++ (restart_effect root n j).messages) k then.coordinates
           then.nested c t free x
           (ap (has (is_decision_naming x t)) (append-nil rs) ∙ f))
@@ -275,19 +275,19 @@ module _ (me : ProcessId) (tree : List TreeProcess) (n : Node) (net : List Envel
       follows_root _ _ (failed_reopening j f fl hp) then begun free inv =
           let k = restart_fails root n j f.appended f.forced in
           subst (λ ls. Fits c.txn.presumption (seen net n) (seen ls k)) (sym (append-nil net))
-          (steps.root_breaks me tree n j c t now.nested now.fit manager above kh net (none_here c.txn t)
+          (CrashSteps.root_breaks me tree n j c t now.nested now.fit manager above kh net (none_here c.txn t)
           f.appended f.forced then.fit (same_begun k (coordinator_view root n c).standing
           (coordinator_view root k c).standing
           (forgetful root k c refl) begun) inv)
       follows_root _ _ (trims_log hp up) then begun free inv =
           subst (λ ls. Fits c.txn.presumption (seen net n) (seen ls (trims root n))) (sym (append-nil net))
-          (steps.root_trims me tree n c t manager above kh (wire c t net) (now.coordinates.names c) up
+          (CrashSteps.root_trims me tree n c t manager above kh (wire c t net) (now.coordinates.names c) up
           (as_open root net [] n (trims root n) now c t free (trims root n) then.coordinates up refl
           (trims_memory root n c)) inv)
       follows_root _ _ (failed_trimming f fl hp up) then begun free inv =
           subst (λ ls. Fits c.txn.presumption (seen net n) (seen ls (trim_fails root n f.appended)))
           (sym (append-nil net))
-          (steps.root_trim_breaks me tree n c t manager above kh (wire c t net) (now.coordinates.names c) up
+          (CrashSteps.root_trim_breaks me tree n c t manager above kh (wire c t net) (now.coordinates.names c) up
           f.appended inv)
       follows_root _ _ (handled i g hp np r) then begun free inv = no_handling i hp
       follows_root _ _ (failed_in i f g fl hp np r) then begun free inv = no_handling i hp
@@ -354,7 +354,7 @@ module _ (me p : ProcessId) (tree : List TreeProcess) (n : Node) (net : List Env
 
     module _ (c : Case) (t : Ticket) (other : t.child ≡ me → ⊥) (manager outcome above : Bool)
         (kh : ChildHalf) where
-      abbrev seen_so : List Envelope → Node → reading.Reading
+      abbrev seen_so : List Envelope → Node → Reading.Reading
       seen_so ls x = reading_from false manager outcome above (parent_half place x c t) kh (wire c t ls)
 
       pub follows_below : (e : Effect) (k : Node) → StepOf place n m e k
@@ -365,7 +365,7 @@ module _ (me p : ProcessId) (tree : List TreeProcess) (n : Node) (net : List Env
       follows_below _ _ (reopened j hp) then free inv =
           let k = restarted place n j in
           let rs = left_of n j ++ reopens (Below p) (left_of n j) in
-          steps.below_reopens me tree n j c t now.nested now.fit manager above kh net p outcome
+          CrashSteps.below_reopens me tree n j c t now.nested now.fit manager above kh net p outcome
           (none_of_child c.txn t other) (quiet c)
           (λ x f. names_own place (net ++ (restart_effect place n j).messages) k then.coordinates
           then.nested c t free x
@@ -373,19 +373,19 @@ module _ (me p : ProcessId) (tree : List TreeProcess) (n : Node) (net : List Env
       follows_below _ _ (failed_reopening j f fl hp) then free inv =
           let k = restart_fails place n j f.appended f.forced in
           subst (λ ls. Fits c.txn.presumption (seen_so net n) (seen_so ls k)) (sym (append-nil net))
-          (steps.below_breaks me tree n j c t now.nested now.fit manager above kh net p outcome
+          (CrashSteps.below_breaks me tree n j c t now.nested now.fit manager above kh net p outcome
           (none_of_child c.txn t other) (quiet c) f.appended f.forced then.fit inv)
       follows_below _ _ (trims_log hp up) then free inv =
           subst (λ ls. Fits c.txn.presumption (seen_so net n) (seen_so ls (trims place n)))
           (sym (append-nil net))
-          (steps.below_trims me tree n c t manager above kh (wire c t net) (now.coordinates.names c) up p
+          (CrashSteps.below_trims me tree n c t manager above kh (wire c t net) (now.coordinates.names c) up p
           outcome
           (as_open place net [] n (trims place n) now c t free (trims place n) then.coordinates up refl
           (trims_memory place n c)) inv)
       follows_below _ _ (failed_trimming f fl hp up) then free inv =
           subst (λ ls. Fits c.txn.presumption (seen_so net n) (seen_so ls (trim_fails place n f.appended)))
           (sym (append-nil net))
-          (steps.below_trim_breaks me tree n c t manager above kh (wire c t net) (now.coordinates.names c)
+          (CrashSteps.below_trim_breaks me tree n c t manager above kh (wire c t net) (now.coordinates.names c)
           up p outcome
           f.appended inv)
       follows_below _ _ (handled i g hp np r) then free inv = not_handled i hp

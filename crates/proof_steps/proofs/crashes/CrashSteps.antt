@@ -23,11 +23,11 @@ use Rattle.proof_processes.proofs.CaseOrders.{AllFit}
 use Rattle.proof_processes.proofs.Tests.{has-append, in_either, in_first, in_second, in_front, not_both}
 use Rattle.proof_processes.proofs.Boots.{trims_memory}
 use Rattle.proof_steps.proofs.children.Moves.{Fits, onward}
-use Rattle.proof_steps.proofs.crashes.Behind as behind
-use Rattle.proof_steps.proofs.crashes.Crashes as crashes
-use Rattle.proof_steps.proofs.crashes.Restarts as restarts
+use Rattle.proof_steps.proofs.crashes.Behind
+use Rattle.proof_steps.proofs.crashes.Crashes
+use Rattle.proof_steps.proofs.crashes.Restarts
 use Rattle.proof_steps.proofs.crashes.Resumed.{wire_resumed}
-use Rattle.proof_steps.proofs.crashes.Trims as trimming
+use Rattle.proof_steps.proofs.crashes.Trims
 use Rattle.proof_steps.proofs.crashes.Trimmed.{trims_alike}
 
 -- a process that failed remembers the same
@@ -100,9 +100,9 @@ module _ (me : ProcessId) (tree : List TreeProcess) (n : Node) (j : ℕ) (c : Ca
             let m = memory_of root n c in
             let o = has (is_commit c) n.durable in
             let v = wire c t net in
-            let now = crashes.reopened root n j c t nested refl in
-            let closed : phase_by n'.failed s' ≡ Closed = crashes.closed root n j c t nested refl in
-            let alone = crashes.aborts_alone root n j c t nested refl in
+            let now = Crashes.reopened root n j c t nested refl in
+            let closed : phase_by n'.failed s' ≡ Closed = Crashes.closed root n j c t nested refl in
+            let alone = Crashes.aborts_alone root n j c t nested refl in
             let aborts = λ (e : has (is_abort c) root_new ≡ true). sym alone ∙ e in
             subst (λ (z : Reading). Fits c.txn.presumption r0 z)
             (sym (ap (λ b. reading_from true manager b above
@@ -111,15 +111,15 @@ module _ (me : ProcessId) (tree : List TreeProcess) (n : Node) (j : ℕ) (c : Ca
             (now.ever_so (is_commit c) (λ x ts. refl) (λ b. refl))
             ∙ (ap (λ x. reading_from true manager (has (is_commit c) n'.forced || o) above
             (parent_half_at s' x n' c t) k
-            (wire c t (net ++ (restart_effect root n j).messages))) (crashes.forgetful root n' c refl)
+            (wire c t (net ++ (restart_effect root n j).messages))) (Crashes.forgetful root n' c refl)
             ∙ ap (λ x. reading_from true manager (has (is_commit c) n'.forced || o) above
             (parent_half_at s' fresh_memory n' c t) k x)
             (wire_resumed me None (left ++ root_new) c t own net
             (none_left none root_new (now.none_new (is_prepare d) (λ x ts. refl) (λ b. refl)))))))
-            (restarts.reopens_fits true manager o above k v c t n n' j root_new s s' m fit now closed refl
+            (Restarts.reopens_fits true manager o above k v c t n n' j root_new s s' m fit now closed refl
             aborts
             (ap (λ b. b) begun)
-            (behind.refused_root c.txn.presumption true manager o above k v c t n n' j root_new s s' m fit
+            (Behind.refused_root c.txn.presumption true manager o above k v c t n n' j root_new s s' m fit
             now closed
             refl aborts inv refl begun)
             c.txn.presumption refl (left ++ root_new) (λ q. ap (has q) (sym (append-nil (left ++ root_new))))
@@ -145,19 +145,19 @@ module _ (me : ProcessId) (tree : List TreeProcess) (n : Node) (j : ℕ) (c : Ca
               let m = memory_of root n c in
               let o = has (is_commit c) n.durable in
               let v = wire c t net in
-              let now = crashes.failed root n j c t nested refl a f in
+              let now = Crashes.failed root n j c t nested refl a f in
               let aborts = λ (e : has (is_abort c) (take a root_new) ≡ true).
-              sym (crashes.aborts_alone root n j c t nested refl) ∙ in_front (is_abort c) a root_new e in
+              sym (Crashes.aborts_alone root n j c t nested refl) ∙ in_front (is_abort c) a root_new e in
               subst (λ (z : Reading). Fits c.txn.presumption r0 z)
               (sym (ap (λ b. reading_from true manager b above
               (parent_half_at s' (memory_of root broken c) broken c t) k v)
               (now.ever_so (is_commit c) (λ x ts. refl) (λ b. refl))
               ∙ ap (λ x. reading_from true manager (has (is_commit c) broken.forced || o) above
-              (parent_half_at s' x broken c t) k v) (crashes.forgetful root broken c refl)))
-              (restarts.breaks_fits true manager o above k v c t n broken j (take a root_new) s s' m fit
+              (parent_half_at s' x broken c t) k v) (Crashes.forgetful root broken c refl)))
+              (Restarts.breaks_fits true manager o above k v c t n broken j (take a root_new) s s' m fit
               now refl refl aborts
               begun
-              (behind.refused_root c.txn.presumption true manager o above k v c t n broken j
+              (Behind.refused_root c.txn.presumption true manager o above k v c t n broken j
               (take a root_new) s s' m fit now
               refl refl aborts inv refl begun)
               c.txn.presumption refl fit'
@@ -193,19 +193,19 @@ module _ (me : ProcessId) (tree : List TreeProcess) (n : Node) (j : ℕ) (c : Ca
             let s' = (coordinator_view below n' c).standing in
             let m = memory_of below n c in
             let v = wire c t net in
-            let now = crashes.reopened below n j c t nested refl in
-            let closed : phase_by n'.failed s' ≡ Closed = crashes.closed below n j c t nested refl in
-            let alone = crashes.aborts_alone below n j c t nested refl in
+            let now = Crashes.reopened below n j c t nested refl in
+            let closed : phase_by n'.failed s' ≡ Closed = Crashes.closed below n j c t nested refl in
+            let alone = Crashes.aborts_alone below n j c t nested refl in
             let aborts = λ (e : has (is_abort c) new ≡ true). sym alone ∙ e in
             subst (λ (z : Reading). Fits c.txn.presumption rb z)
             (sym (ap (λ x. reading_from false manager outcome above (parent_half_at s' x n' c t) k
-            (wire c t (net ++ (restart_effect below n j).messages))) (crashes.forgetful below n' c refl)
+            (wire c t (net ++ (restart_effect below n j).messages))) (Crashes.forgetful below n' c refl)
             ∙ ap (λ x. reading_from false manager outcome above (parent_half_at s' fresh_memory n' c t) k x)
             (wire_resumed me (Some p) (left ++ new) c t own net
             (none_left none new (now.none_new (is_prepare d) (λ x ts. refl) (λ b. refl))))))
-            (restarts.reopens_fits false manager outcome above k v c t n n' j new sb s' m fit now closed
+            (Restarts.reopens_fits false manager outcome above k v c t n n' j new sb s' m fit now closed
             refl aborts refl
-            (behind.refused_below c.txn.presumption false manager outcome above k v c t n n' j new sb s' m
+            (Behind.refused_below c.txn.presumption false manager outcome above k v c t n n' j new sb s' m
             fit now closed
             refl aborts inv refl quiet)
             c.txn.presumption refl (left ++ new) (λ q. ap (has q) (sym (append-nil (left ++ new))))
@@ -225,16 +225,16 @@ module _ (me : ProcessId) (tree : List TreeProcess) (n : Node) (j : ℕ) (c : Ca
               let s' = (coordinator_view below down c).standing in
               let m = memory_of below n c in
               let v = wire c t net in
-              let now = crashes.failed below n j c t nested refl a f in
+              let now = Crashes.failed below n j c t nested refl a f in
               let aborts = λ (e : has (is_abort c) (take a new) ≡ true).
-              sym (crashes.aborts_alone below n j c t nested refl) ∙ in_front (is_abort c) a new e in
+              sym (Crashes.aborts_alone below n j c t nested refl) ∙ in_front (is_abort c) a new e in
               subst (λ (z : Reading). Fits c.txn.presumption rb z)
               (sym (ap (λ x. reading_from false manager outcome above (parent_half_at s' x down c t) k v)
-              (crashes.forgetful below down c refl)))
-              (restarts.breaks_fits false manager outcome above k v c t n down j (take a new) sb s' m fit
+              (Crashes.forgetful below down c refl)))
+              (Restarts.breaks_fits false manager outcome above k v c t n down j (take a new) sb s' m fit
               now refl refl
               aborts refl
-              (behind.refused_below c.txn.presumption false manager outcome above k v c t n down j
+              (Behind.refused_below c.txn.presumption false manager outcome above k v c t n down j
               (take a new) sb s' m fit
               now refl refl aborts inv refl quiet)
               c.txn.presumption refl fit'
@@ -270,7 +270,7 @@ module _ (me : ProcessId) (tree : List TreeProcess) (n : Node) (c : Case) (t : T
     root_left s' same inv =
         subst (λ b. Fits c.txn.presumption at_top (reading_from true manager b above
         (parent_half_at s' (memory_of top n c) (trims top n) c t) k v)) (sym commit_ever)
-        (trimming.root_trims c.txn.presumption manager (has (is_commit c) n.durable) above k v top n c t
+        (Trims.root_trims c.txn.presumption manager (has (is_commit c) n.durable) above k v top n c t
         (coordinator_view top n c).standing s' (memory_of top n c) refl refl same names up inv)
 
     pub root_trims : phase_by n.failed (coordinator_view top (trims top n) c).standing
@@ -292,7 +292,7 @@ module _ (me : ProcessId) (tree : List TreeProcess) (n : Node) (c : Case) (t : T
         k v)
     unfolding memory_of
     root_trim_breaks zero inv =
-        trimming.root_falls c.txn.presumption manager (has (is_commit c) n.durable) above (half_at top n)
+        Trims.root_falls c.txn.presumption manager (has (is_commit c) n.durable) above (half_at top n)
         k v inv up
     root_trim_breaks (suc a) inv =
         let s = (coordinator_view top n c).standing in
@@ -303,7 +303,7 @@ module _ (me : ProcessId) (tree : List TreeProcess) (n : Node) (c : Case) (t : T
         (trim_fails top n (suc a)) c t) k v))
         (sym (same_memory top (trims top n) c ∙ trims_memory top n c))
         (onward c.txn.presumption at_top _ _ first
-        (trimming.root_falls c.txn.presumption manager (has (is_commit c) (trims top n).durable) above
+        (Trims.root_falls c.txn.presumption manager (has (is_commit c) (trims top n).durable) above
         (parent_half_at s (memory_of top n c) (trims top n) c t) k v first.invariant up))
 
     module _ (p : ProcessId) (outcome : Bool) where
@@ -323,7 +323,7 @@ module _ (me : ProcessId) (tree : List TreeProcess) (n : Node) (c : Case) (t : T
           (reading_from false manager outcome above
           (parent_half_at s' (memory_of place n c) (trims place n) c t) k v)
       below_left s' same inv =
-          trimming.below_trims c.txn.presumption manager outcome above k v place n c t
+          Trims.below_trims c.txn.presumption manager outcome above k v place n c t
           (coordinator_view place n c).standing s' (memory_of place n c) alike refl same names up inv
 
       pub below_trims : phase_by n.failed (coordinator_view place (trims place n) c).standing
@@ -343,7 +343,7 @@ module _ (me : ProcessId) (tree : List TreeProcess) (n : Node) (c : Case) (t : T
           (reading_from false manager outcome above (half_at place (trim_fails place n a)) k v)
       unfolding memory_of
       below_trim_breaks zero inv =
-          trimming.below_falls c.txn.presumption manager outcome above (half_at place n) k v inv up
+          Trims.below_falls c.txn.presumption manager outcome above (half_at place n) k v inv up
       below_trim_breaks (suc a) inv =
           let s = (coordinator_view place n c).standing in
           let first = below_left s refl inv in
@@ -354,5 +354,5 @@ module _ (me : ProcessId) (tree : List TreeProcess) (n : Node) (c : Case) (t : T
           c t) k v))
           (sym (same_memory place (trims place n) c ∙ trims_memory place n c))
           (onward c.txn.presumption at_below _ _ first
-          (trimming.below_falls c.txn.presumption manager outcome above
+          (Trims.below_falls c.txn.presumption manager outcome above
           (parent_half_at s (memory_of place n c) (trims place n) c t) k v first.invariant up))

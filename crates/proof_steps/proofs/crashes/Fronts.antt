@@ -7,7 +7,7 @@ use Rattle.proof_pairs.specs.Reading.{Reading}
 use Rattle.proof_pairs.specs.ParentCrash.{ParentFront, IsParentFront}
 use Rattle.proof_processes.proofs.Tests.{in_first}
 use Rattle.proof_processes.proofs.CaseOrders.{AllFit}
-use Rattle.proof_processes.proofs.CaseFronts as fronts
+use Rattle.proof_processes.proofs.CaseFronts
 
 -- which records of the case the list holds
 abbrev pub parent_front : Case → List Record → ParentFront
@@ -48,14 +48,14 @@ module _ (c : Case) (xs ys forced : List Record) (fit : AllFit [] (xs ++ ys))
       had_abort = λ e. log.abort ∙ had (is_abort c) e;
       had_end = λ e. log.end ∙ had (is_end c) e;
       promise_behind_collecting = λ e f.
-          fronts.promise_behind_collecting c xs ys fit e (sym log.collecting ∙ f);
+          CaseFronts.promise_behind_collecting c xs ys fit e (sym log.collecting ∙ f);
       commit_behind_collecting = λ e f.
-          fronts.commit_behind_collecting c xs ys fit e (sym log.collecting ∙ f);
-      commit_behind_promise = λ e f. fronts.commit_behind_promise c xs ys fit e (sym log.own_prepare ∙ f);
+          CaseFronts.commit_behind_collecting c xs ys fit e (sym log.collecting ∙ f);
+      commit_behind_promise = λ e f. CaseFronts.commit_behind_promise c xs ys fit e (sym log.own_prepare ∙ f);
       abort_behind_collecting = λ e f.
-          fronts.abort_behind_collecting c xs ys fit e (sym log.collecting ∙ f);
-      abort_behind_promise = λ e f. fronts.abort_behind_promise c xs ys fit e (sym log.own_prepare ∙ f);
-      end_behind_collecting = λ e f. fronts.end_behind_collecting c xs ys fit e (sym log.collecting ∙ f);
-      end_behind_commit = λ e f. fronts.end_behind_commit c xs ys fit e (sym log.commit ∙ f);
-      end_behind_abort = λ e f. fronts.end_behind_abort c xs ys fit e (sym log.abort ∙ f);
+          CaseFronts.abort_behind_collecting c xs ys fit e (sym log.collecting ∙ f);
+      abort_behind_promise = λ e f. CaseFronts.abort_behind_promise c xs ys fit e (sym log.own_prepare ∙ f);
+      end_behind_collecting = λ e f. CaseFronts.end_behind_collecting c xs ys fit e (sym log.collecting ∙ f);
+      end_behind_commit = λ e f. CaseFronts.end_behind_commit c xs ys fit e (sym log.commit ∙ f);
+      end_behind_abort = λ e f. CaseFronts.end_behind_abort c xs ys fit e (sym log.abort ∙ f);
     }

@@ -3,7 +3,7 @@
 use Rattle.std.proofs.Common.{◌≡◌, ◌∙◌, ◌||◌, ◌&&◌, Bool, true, false, refl, arith}
 use Rattle.std.specs.Prelude.{not}
 use Rattle.proof_pairs.specs.Reading.{Reading, Closed, is_live}
-use Rattle.proof_pairs.specs.ParentCrash as crash
+use Rattle.proof_pairs.specs.ParentCrash
 use Rattle.proof_pairs.specs.ParentCrash.{ParentFront, IsParentFront}
 use Rattle.proof_pairs.specs.readings.ReadingOf.{ParentHalf, ChildHalf, Wire, reading_from, is_born, is_dead, is_refused}
 
@@ -60,7 +60,7 @@ module _ (root manager outcome above : Bool) (p p' : ParentHalf) (k : ChildHalf)
         → is_born root p'.begun v.given ≡ is_born root p.begun v.given
         → refused_by root outcome' p' v ≡ refused_lost root outcome front p v
         → reading_from root manager outcome' above p' k v
-        ≡ crash.hardens_failed_parent forced (crash.parent_loses front r)
+        ≡ ParentCrash.hardens_failed_parent forced (ParentCrash.parent_loses front r)
     reading_broken l failed born refused = rw (
       refused,
       born,
@@ -94,7 +94,7 @@ module _ (root manager outcome above : Bool) (p p' : ParentHalf) (k : ChildHalf)
         → is_born root p'.begun v.given ≡ is_born root p.begun v.given
         → refused_by root outcome' p' v ≡ refused_lost root outcome front p v
         → reading_from root manager outcome' above p' k v
-        ≡ crash.hardens_failed_parent forced (crash.fails_to_abort_at_restart (crash.parent_loses front r))
+        ≡ ParentCrash.hardens_failed_parent forced (ParentCrash.fails_to_abort_at_restart (ParentCrash.parent_loses front r))
     reading_broken_aborting l failed owed born refused = rw (
       refused,
       born,
@@ -139,7 +139,7 @@ module _ (root manager outcome above : Bool) (p p' : ParentHalf) (k : ChildHalf)
       (record v {
         commit = (front.commit && not front.end && ((front.commit || front.abort) && p.owed)) || v.commit;
       })
-      ≡ crash.parent_reopens_naming (crash.parent_loses front old)
+      ≡ ParentCrash.parent_reopens_naming (ParentCrash.parent_loses front old)
   reading_reopened_naming l failed never born refused = rw (
     refused,
     born,
@@ -181,7 +181,7 @@ module _ (root manager outcome above : Bool) (p p' : ParentHalf) (k : ChildHalf)
         abort = (left_undecided && (front.collecting && p.collects)) ||
             (front.abort && not front.end && ((front.commit || front.abort) && p.owed)) || v.abort;
       })
-      ≡ crash.parent_reopens (crash.parent_loses front old)
+      ≡ ParentCrash.parent_reopens (ParentCrash.parent_loses front old)
   reading_reopened l failed born refused = rw (
     refused,
     born,

@@ -13,7 +13,7 @@ use Rattle.protocol.specs.declared.records.Record.{Record}
 use Rattle.protocol.specs.declared.standings.Standing.{Standing}
 use Rattle.protocol.specs.declared.standings.Standing.TheVariants.{Collecting}
 use Rattle.protocol.specs.declared.standings.Vote.{Vote}
-use Rattle.protocol.specs.declared.standings.Vote.TheVariants.{Yes as VoteYes, Read as VoteRead}
+use Rattle.protocol_words.specs.Variants.{VoteRead, VoteYes}
 use Rattle.protocol.specs.declared.trees.TreeProcess.{TreeProcess}
 use Rattle.protocol.specs.Names.{same_case, same_ticket}
 use Rattle.protocol.specs.NameLaws.{same_case-refl, same_ticket-refl}

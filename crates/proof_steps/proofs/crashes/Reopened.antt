@@ -7,7 +7,8 @@ use Rattle.std.specs.List.{flat_map}
 use Rattle.protocol.specs.declared.names.Case.{Case}
 use Rattle.protocol.specs.declared.names.Ticket.{Ticket}
 use Rattle.protocol.specs.declared.records.Record.{Record}
-use Rattle.protocol.specs.declared.records.Record.TheVariants.{Opened, Abort as AbortRecord}
+use Rattle.protocol.specs.declared.records.Record.TheVariants.{Opened}
+use Rattle.protocol_words.specs.Variants.{AbortRecord}
 use Rattle.protocol.specs.declared.standings.Standing.{Standing}
 use Rattle.protocol.specs.declared.standings.Standing.TheVariants.{Unknown, Active, Collecting, Prepared, Committing, Aborting, Heuristic}
 use Rattle.protocol.specs.Names.{same_case}

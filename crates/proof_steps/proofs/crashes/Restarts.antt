@@ -13,20 +13,20 @@ use Rattle.protocol.specs.Memory.{Memory, fresh_memory}
 use Rattle.protocol.specs.Restarts.{left_of}
 use Rattle.proof_pairs.specs.Reading.{Reading, Closed}
 use Rattle.proof_pairs.specs.Invariant.{Common, PresumedAbort}
-use Rattle.proof_pairs.specs.ParentCrash as crash
+use Rattle.proof_pairs.specs.ParentCrash
 use Rattle.proof_pairs.specs.ParentCrash.{ParentFront, IsParentFront}
-use Rattle.proof_pairs.proofs.ParentCrashAbort as crash_abort
-use Rattle.proof_pairs.proofs.ParentCrashCommit as crash_commit
+use Rattle.proof_pairs.proofs.ParentCrashAbort
+use Rattle.proof_pairs.proofs.ParentCrashCommit
 use Rattle.proof_pairs.specs.readings.ReadingOf.{ParentHalf, ChildHalf, Wire, reading_from, parent_half_at, phase_by, is_born}
 use Rattle.protocol.specs.Audits.{is_decision_naming}
 use Rattle.proof_processes.specs.WorldHolds.{InvariantOf}
 use Rattle.proof_processes.proofs.CaseOrders.{AllFit}
 use Rattle.proof_steps.proofs.children.Moves.{Fits, onward, common_of}
-use Rattle.proof_steps.proofs.crashes.Behind as behind
+use Rattle.proof_steps.proofs.crashes.Behind
 use Rattle.proof_steps.proofs.crashes.Fronts.{parent_front, is_front}
 use Rattle.proof_steps.proofs.crashes.Losing.{Lost, refused_by, refused_lost, left_undecided, reading_broken, reading_broken_aborting, reading_reopened_naming, reading_reopened}
 use Rattle.proof_steps.proofs.crashes.LostHalves.{Crashed, lost}
-use Rattle.proof_steps.proofs.crashes.Moves as moves
+use Rattle.proof_steps.proofs.crashes.Moves
 use Rattle.proof_steps.proofs.crashes.Reopened.{collects_alone, is_alone}
 use Rattle.proof_steps.proofs.crashes.Resumed.{commit_again, abort_again}
 
@@ -136,11 +136,11 @@ module _ (root manager outcome above : Bool) (k : ChildHalf) (v : Wire) (c : Cas
           where
             fronts : IsParentFront front r0
             fronts =
-                behind.fronts pr root manager outcome above k v c t n n' j new s s' m fit now closed
+                Behind.fronts pr root manager outcome above k v c t n n' j new s s' m fit now closed
                 life_so alone inv
 
-            lost_first : Fits pr r0 (crash.parent_loses front r0)
-            lost_first = moves.loses pr front r0 inv fronts
+            lost_first : Fits pr r0 (ParentCrash.parent_loses front r0)
+            lost_first = Moves.loses pr front r0 inv fronts
 
             -- what is forced then is a front of what is kept then
             front_then : (r : Reading) → r.abort_kept ≡ (ab || front.abort)
@@ -164,12 +164,12 @@ module _ (root manager outcome above : Bool) (k : ChildHalf) (v : Wire) (c : Cas
 
             plain : ab ≡ false → Fits pr r0 (reading_from root manager outcome' above p' k v)
             plain e =
-                let r1 = crash.parent_loses front r0 in
+                let r1 = ParentCrash.parent_loses front r0 in
                 subst (λ (z : Reading). Fits pr r0 z)
                 (sym (reading_broken root manager outcome above p p' k v front forced
                 (subst (λ b. Lost front forced b p p') e l) failed born refused))
-                (onward pr r0 r1 (crash.hardens_failed_parent forced r1) lost_first
-                (moves.hardens_failed pr forced r1 lost_first.invariant
+                (onward pr r0 r1 (ParentCrash.hardens_failed_parent forced r1) lost_first
+                (Moves.hardens_failed pr forced r1 lost_first.invariant
                 (record {
                   failed = refl;
                   front_of = front_then r1 (ap (λ b. b || front.abort) (sym e)) refl refl refl refl refl
@@ -181,11 +181,11 @@ module _ (root manager outcome above : Bool) (k : ChildHalf) (v : Wire) (c : Cas
             aborted e q =
                 let a = is_alone c left (has (is_collecting c) left) (has (is_prepare c) left)
                 (has (is_commit c) left) (has (is_abort c) left) (has (is_end c) left) (alone e) in
-                let r1 = crash.parent_loses front r0 in
-                let r2 = crash.fails_to_abort_at_restart r1 in
+                let r1 = ParentCrash.parent_loses front r0 in
+                let r2 = ParentCrash.fails_to_abort_at_restart r1 in
                 let second : Fits pr r1 r2 =
                 subst (λ x. InvariantOf x r1 → Fits x r1 r2) (sym q)
-                (λ h. crash_commit.fails_to_abort_at_restart r1 h
+                (λ h. ParentCrashCommit.fails_to_abort_at_restart r1 h
                 (record { failed = refl; undecided = alone e }))
                 lost_first.invariant in
                 subst (λ (z : Reading). Fits pr r0 z)
@@ -197,9 +197,9 @@ module _ (root manager outcome above : Bool) (k : ChildHalf) (v : Wire) (c : Cas
                 ∙ owed_alone front.commit front.abort (front.collecting && p.collects) p.owed a.no_commit
                 a.no_abort))
                 born refused))
-                (onward pr r0 r2 (crash.hardens_failed_parent forced r2)
+                (onward pr r0 r2 (ParentCrash.hardens_failed_parent forced r2)
                 (onward pr r0 r1 r2 lost_first second)
-                (moves.hardens_failed pr forced r2 second.invariant
+                (Moves.hardens_failed pr forced r2 second.invariant
                 (record {
                   failed = refl;
                   front_of = front_then r2 (ap (λ b. b || front.abort) (sym e)) refl refl refl refl refl
@@ -248,7 +248,7 @@ module _ (root manager outcome above : Bool) (k : ChildHalf) (v : Wire) (c : Cas
 
             fronts' : IsParentFront front r0
             fronts' =
-                behind.fronts pr root manager outcome above k v c t n n' j new s s' m fit now closed
+                Behind.fronts pr root manager outcome above k v c t n n' j new s s' m fit now closed
                 life_so alone inv
 
             whole : (b : Bool) → ab ≡ b → Lost front front b p p'
@@ -331,8 +331,8 @@ module _ (root manager outcome above : Bool) (k : ChildHalf) (v : Wire) (c : Cas
                 })) aborts_not
                 ∙ reading_reopened_naming root manager outcome above p p' k v front (whole false none) up
                 (never_forced h) born refused_then))))
-                (subst (λ x. InvariantOf x r0 → Fits x r0 (crash.parent_restarts_naming front r0)) (sym q)
-                (λ i. crash_abort.parent_restarts front r0 i fronts') inv)
+                (subst (λ x. InvariantOf x r0 → Fits x r0 (ParentCrash.parent_restarts_naming front r0)) (sym q)
+                (λ i. ParentCrashAbort.parent_restarts front r0 i fronts') inv)
               where
                 none_alone : PresumedAbort r0 → (b : Bool) → ab ≡ b → ab ≡ false
                 none_alone h true e =
@@ -384,8 +384,8 @@ module _ (root manager outcome above : Bool) (k : ChildHalf) (v : Wire) (c : Cas
                 ∙ (ap (λ b. R then (record v { abort = b })) aborts_so
                 ∙ reading_reopened root manager outcome above p p' k v front (whole u is_u) up born
                 refused_then))))
-                (subst (λ x. InvariantOf x r0 → Fits x r0 (crash.parent_restarts front r0)) (sym q)
-                (λ i. crash_commit.parent_restarts front r0 i fronts') inv)
+                (subst (λ x. InvariantOf x r0 → Fits x r0 (ParentCrash.parent_restarts front r0)) (sym q)
+                (λ i. ParentCrashCommit.parent_restarts front r0 i fronts') inv)
 
             pub reopens_fits : Fits pr r0 (R outcome' v')
             reopens_fits = by_presumption pr refl

@@ -12,7 +12,7 @@ use Rattle.protocol.specs.Memory.{Memory}
 use Rattle.protocol.specs.Restarts.{case_stays, data_records, is_known, recorded_view, trimmed, trims}
 use Rattle.proof_pairs.specs.Reading.{Reading, Closed, is_live}
 use Rattle.proof_pairs.specs.Invariant.{Common}
-use Rattle.proof_pairs.specs.ParentMoves as move
+use Rattle.proof_pairs.specs.ParentMoves
 use Rattle.proof_pairs.specs.readings.Halves.{hardened_parent, trimmed_parent}
 use Rattle.proof_pairs.specs.readings.ReadingOf.{ParentHalf, ChildHalf, Wire, reading_from, parent_half_at, phase_by, is_dead}
 use Rattle.protocol.specs.Audits.{is_collecting_naming, is_prepare_naming, is_decision_naming}
@@ -23,7 +23,7 @@ use Rattle.proof_processes.proofs.Tests.{first_false, has-append, not_both}
 use Rattle.proof_processes.proofs.Worlds.{has_other}
 use Rattle.proof_processes.proofs.CaseFronts.{either_has}
 use Rattle.proof_steps.proofs.children.Moves.{Fits, common_of}
-use Rattle.proof_steps.proofs.crashes.Moves as moves
+use Rattle.proof_steps.proofs.crashes.Moves
 use Rattle.proof_steps.proofs.crashes.Named.{owing-by, somebody}
 use Rattle.proof_steps.proofs.crashes.Trimmed.{Stays, all_stay, none_stays, Forgets, forgets, ended, committed, aborted, nothing}
 
@@ -80,21 +80,21 @@ kept_ever a b f = grind arith
 
 module _ (manager outcome above : Bool) (p : ParentHalf) (k : ChildHalf) (v : Wire) where
   hardened_root : reading_from true manager (p.commit_kept || outcome) above (hardened_parent p) k v
-      ≡ move.hardens_parent (reading_from true manager outcome above p k v)
+      ≡ ParentMoves.hardens_parent (reading_from true manager outcome above p k v)
   hardened_root = rw (or-twice p.commit_kept outcome) refl
 
   hardened_below : reading_from false manager outcome above (hardened_parent p) k v
-      ≡ move.hardens_parent (reading_from false manager outcome above p k v)
+      ≡ ParentMoves.hardens_parent (reading_from false manager outcome above p k v)
   hardened_below = rw (or-twice p.own_prepare_kept p.own_prepare_ever) refl
 
   cleared_root : (p.commit_kept ≡ true → outcome ≡ true)
       → reading_from true manager outcome above (trimmed_parent p) k v
-      ≡ move.trims_parent (reading_from true manager outcome above p k v)
+      ≡ ParentMoves.trims_parent (reading_from true manager outcome above p k v)
   cleared_root f = rw (sym (kept_ever p.commit_kept outcome f)) refl
 
   cleared_below : (p.own_prepare_kept ≡ true → p.own_prepare_ever ≡ true)
       → reading_from false manager outcome above (trimmed_parent p) k v
-      ≡ move.trims_parent (reading_from false manager outcome above p k v)
+      ≡ ParentMoves.trims_parent (reading_from false manager outcome above p k v)
   cleared_below f = rw (sym (kept_ever p.own_prepare_kept p.own_prepare_ever f)) refl
 
 -- The device fails, and nothing else changes.
@@ -138,7 +138,7 @@ module _ (pr : Presumption) (manager outcome above : Bool) (p : ParentHalf) (k :
       (rw (sym (falls-root (p.commit_kept || outcome) (is_live p.phase) p.begun
       (λ e. let f = live_root root_reading refl (common_of pr root_reading inv) e in
       (f.0, neither-so p.commit_kept outcome f.1.0 f.1.1)))) refl)
-      (moves.fails pr root_reading inv up)
+      (Moves.fails pr root_reading inv up)
 
   pub below_falls : InvariantOf pr below_reading → p.failed ≡ false
       → Fits pr below_reading (reading_from false manager outcome above (fallen p) k v)
@@ -148,7 +148,7 @@ module _ (pr : Presumption) (manager outcome above : Bool) (p : ParentHalf) (k :
       v.given v.read_up
       (λ e. let f = live_below below_reading (common_of pr below_reading inv) e in
       (f.0, (f.1.0, neither-so p.own_prepare_kept p.own_prepare_ever f.1.1.0 f.1.1.1))))) refl)
-      (moves.fails pr below_reading inv up)
+      (Moves.fails pr below_reading inv up)
 
 -- The trim.
 
@@ -187,7 +187,7 @@ module _ (pr : Presumption) (manager outcome above : Bool) (k : ChildHalf) (v : 
 
     may_trim : (root : Bool) → (q : Presumption) → pr ≡ q
         → is_live p.phase ≡ false → Forgets c t (kept n)
-        → moves.MayTrim q (reading_from root manager outcome above p k v)
+        → Moves.MayTrim q (reading_from root manager outcome above p k v)
     may_trim root PresumeAbort e closed (ended f) = record { up = up; closed = closed; nothing = inl f }
     may_trim root PresumeAbort e closed (committed f g) =
         ends (sym g ∙ (subst (λ x. NamesBy x c (kept n)) e names).0 f)
@@ -234,20 +234,20 @@ module _ (pr : Presumption) (manager outcome above : Bool) (k : ChildHalf) (v : 
       -- either all of the case's records stay, or none does and the case is unknown
       pub trimmed_so : Stays c t (kept n)
           ⊎ (Gone c t (trimmed AtRoot (kept n))
-          × moves.MayTrim pr (reading_from root manager outcome above p k v))
+          × Moves.MayTrim pr (reading_from root manager outcome above p k v))
       trimmed_so = by_stay (case_stays (kept n) (Some c)) refl
         where
           unknown : case_stays (kept n) (Some c) ≡ false → is_known (recorded_view (kept n) c).standing ≡ false
           unknown f = first_false (is_known (recorded_view (kept n) c).standing) (is_reported (kept n) c) f
 
           by_live : (b : Bool) → is_live p.phase ≡ b → case_stays (kept n) (Some c) ≡ false
-              → Stays c t (kept n) ⊎ (Gone c t (trimmed AtRoot (kept n)) × moves.MayTrim pr r0)
+              → Stays c t (kept n) ⊎ (Gone c t (trimmed AtRoot (kept n)) × Moves.MayTrim pr r0)
           by_live true e f = inl (none_stays c t (kept n) (none_live e (forgets c t (kept n) (unknown f))))
           by_live false e f =
               inr (gone (kept n) c t f, may_trim root pr refl e (forgets c t (kept n) (unknown f)))
 
           by_stay : (b : Bool) → case_stays (kept n) (Some c) ≡ b
-              → Stays c t (kept n) ⊎ (Gone c t (trimmed AtRoot (kept n)) × moves.MayTrim pr r0)
+              → Stays c t (kept n) ⊎ (Gone c t (trimmed AtRoot (kept n)) × Moves.MayTrim pr r0)
           by_stay true f = inl (all_stay c t (kept n) f)
           by_stay false f = by_live (is_live p.phase) refl f
 
@@ -268,13 +268,13 @@ module _ (pr : Presumption) (manager outcome above : Bool) (k : ChildHalf) (v : 
           ∙ (ap (λ (x : ParentHalf). reading_from true manager (p.commit_kept || outcome) above x k v)
           (half_keeps s s' m place n c t log pairs same g)
           ∙ hardened_root manager outcome above p k v)))
-          (moves.hardens pr at_root inv up)
+          (Moves.hardens pr at_root inv up)
       | inr g ↦ subst (λ (z : Reading). Fits pr at_root z)
           (sym (ap (λ b. reading_from true manager (b || outcome) above p' k v) g.0.commit
           ∙ (ap (λ (x : ParentHalf). reading_from true manager outcome above x k v)
           (half_clears s s' m place n c t log pairs same g.0)
           ∙ cleared_root manager outcome above p k v forced_commit)))
-          (moves.trims pr at_root inv g.1)
+          (Moves.trims pr at_root inv g.1)
     ]
       where
         forced_commit : p.commit_kept ≡ true → outcome ≡ true
@@ -290,12 +290,12 @@ module _ (pr : Presumption) (manager outcome above : Bool) (k : ChildHalf) (v : 
           (sym (ap (λ (x : ParentHalf). reading_from false manager outcome above x k v)
           (half_keeps s s' m place n c t log pairs same g)
           ∙ hardened_below manager outcome above p k v))
-          (moves.hardens pr below inv up)
+          (Moves.hardens pr below inv up)
       | inr g ↦ subst (λ (z : Reading). Fits pr below z)
           (sym (ap (λ (x : ParentHalf). reading_from false manager outcome above x k v)
           (half_clears s s' m place n c t log pairs same g.0)
           ∙ cleared_below manager outcome above p k v forced_promise))
-          (moves.trims pr below inv g.1)
+          (Moves.trims pr below inv g.1)
     ]
       where
         forced_promise : p.own_prepare_kept ≡ true → p.own_prepare_ever ≡ true

@@ -8,7 +8,7 @@ use Rattle.protocol.specs.declared.names.Outcome.{Outcome}
 use Rattle.protocol.specs.declared.names.Presumption.{Presumption}
 use Rattle.protocol.specs.declared.messages.Message.TheVariants.{Join, Joined}
 use Rattle.protocol.specs.declared.events.Act.TheVariants.{Begin}
-use Rattle.protocol.specs.declared.events.Input.TheVariants.{Act as ActInput}
+use Rattle.protocol_words.specs.Variants.{ActInput}
 use Rattle.protocol.specs.Names.{same_case, same_ticket, child_case, root_case}
 use Rattle.protocol.specs.NameLaws.{same_case_tells, same_ticket_tells, names}
 use Rattle.protocol.specs.Records.{boot_of, in_list}
@@ -20,8 +20,8 @@ use Rattle.protocol.specs.Reactions.{sends_only}
 use Rattle.protocol.specs.Standings.{some_case}
 use Rattle.protocol.specs.Views.{IsOpenAlike, begin_effect, next_begun}
 use Rattle.proof_pairs.specs.Invariant.{Common}
-use Rattle.proof_pairs.specs.RootMoves as at_top
-use Rattle.proof_pairs.specs.CascadedMoves as below
+use Rattle.proof_pairs.specs.RootMoves
+use Rattle.proof_pairs.specs.CascadedMoves
 use Rattle.proof_pairs.specs.readings.ReadingOf.{ParentHalf, Wire, wire, gives_case, is_refused}
 use Rattle.proof_pairs.proofs.readings.Named.{in_list-none}
 use Rattle.proof_pairs.specs.turns.LeafTurns.{Hears}
@@ -31,16 +31,16 @@ use Rattle.proof_processes.proofs.PairOf.{given}
 use Rattle.proof_steps.proofs.children.Moves.{unmoved}
 use Rattle.proof_steps.proofs.parents.Halves.{acked_of, remembered_half}
 use Rattle.proof_steps.proofs.parents.Known.{clash}
-use Rattle.proof_steps.proofs.parents.Memories as by_input
+use Rattle.proof_steps.proofs.parents.Memories
 use Rattle.proof_steps.proofs.parents.Memories.{Alike, below_is, itself, stays, top_is}
-use Rattle.proof_steps.proofs.parents.Moves as moves
-use Rattle.proof_steps.proofs.parents.Own as own
+use Rattle.proof_steps.proofs.parents.Moves
+use Rattle.proof_steps.proofs.parents.Own
 use Rattle.proof_steps.proofs.parents.OwnMoves.{read_as}
 use Rattle.proof_steps.proofs.parents.OwnPromised.{is_below}
 use Rattle.proof_steps.proofs.parents.Quiet.{DoesNothing, did_nothing, begun_silent, shown}
-use Rattle.proof_steps.proofs.parents.Readings as readings
+use Rattle.proof_steps.proofs.parents.Readings
 use Rattle.proof_steps.proofs.parents.Turns.{Turn, Says, Fine, Fits_in, seen, remembered, then_remembered, half, net_part, told_outcome, reading, at_root, fine_silent}
-use Rattle.proof_steps.proofs.parents.Wires as wires
+use Rattle.proof_steps.proofs.parents.Wires
 use Rattle.proof_steps.proofs.parents.Writes.{stands_so, begun_after}
 
 no_acks : (o : Outcome) (t : Ticket) → has_acked [] o t ≡ false
@@ -114,7 +114,7 @@ module _ (turn : Turn) where
   unborn_half e = (by_accepted p0.accepted refl, by_acked p0.acked refl)
     where
       common : Common (reading turn)
-      common = own.common turn
+      common = Own.common turn
 
       by_accepted : (b : Bool) → p0.accepted ≡ b → p0.accepted ≡ false
       by_accepted false f = f
@@ -165,7 +165,7 @@ module _ (turn : Turn) where
       → active_ticket (memory_of place n d).active d ≡ Some u → Says turn m.phase p0.accepted p0.acked
   again_says p d u s i e =
       let here : active_ticket m.active d ≡ Some u = ap (λ as'. active_ticket as' d) (self d c).active ∙ e in
-      stays turn m (by_input.join_comes turn d i.0 p s i.1 ∙ ap (λ o. joins place.me boot c d m o) here)
+      stays turn m (Memories.join_comes turn d i.0 p s i.1 ∙ ap (λ o. joins place.me boot c d m o) here)
       (itself turn)
 
   pub gives_again : (p : ProcessId) (d : Case) (u : Ticket) → parent ≡ Some p → Hears h (Join d)
@@ -178,9 +178,9 @@ module _ (turn : Turn) where
       by_test : (u.child ≡ place.me) × (sent (is_joined_message d u) net ≡ true) → (b : Bool)
           → same_case (child_case d.txn u) c ≡ b
           → wire c t (net ++ post place.me p (Joined d u) ∷ []) ≡ v0
-      by_test o false f = wires.wire-joined c t net place.me p d u false (not_childs_ticket u o.0) f
+      by_test o false f = Wires.wire-joined c t net place.me p d u false (not_childs_ticket u o.0) f
       by_test o true f =
-          wires.wire-joined c t net place.me p d u true (not_childs_ticket u o.0) f
+          Wires.wire-joined c t net place.me p d u true (not_childs_ticket u o.0) f
           ∙ ap (λ b. record v0 { given = b }) (sym (joined_case d u o.1 f))
 
   abbrev pub fresh : Case → Ticket
@@ -222,7 +222,7 @@ module _ (turn : Turn) where
       (e : active_ticket (memory_of place n d).active d ≡ None) where
     fresh_now : (b : Bool) → IsFresh d b → then_remembered turn ≡ is_as b d
     fresh_now b f =
-        by_input.join_comes turn d i.0 p s i.1
+        Memories.join_comes turn d i.0 p s i.1
         ∙ (ap (λ o. joins place.me boot c d m o) (ap (λ as'. active_ticket as' d) (self d c).active ∙ e)
         ∙ (ap (λ (u : Ticket). if same_case c (child_case d.txn u) then opens_case (gives m d u) else
         gives m d u)
@@ -257,7 +257,7 @@ module _ (turn : Turn) where
 
     sent_wire : (b : Bool) → IsFresh d b
         → wire c t (net ++ post place.me p (Joined d (fresh d)) ∷ []) ≡ record v0 { given = b || v0.given }
-    sent_wire b f = wires.wire-joined c t net place.me p d (fresh d) b (not_childs_ticket (fresh d) refl)
+    sent_wire b f = Wires.wire-joined c t net place.me p d (fresh d) b (not_childs_ticket (fresh d) refl)
         (reversed b f)
 
     by_fresh : IsOpenAlike place (after n h (answer p d (fresh d))) c → (b : Bool) → IsFresh d b
@@ -269,17 +269,17 @@ module _ (turn : Turn) where
         let b = is_below turn p s in
         let none = not_given p s d f in
         let unborn = fresh_unborn f in
-        let u = (own.common turn).unborn unborn in
+        let u = (Own.common turn).unborn unborn in
         let w : Wire = record v0 { given = true } in
         fine_silent turn (answer p d (fresh d)) later Open p0.accepted p0.acked (fresh_says f) w
         (sent_wire true f) refl
         (read_as turn _ _
-        (subst (λ y. readings.R manager above k c t y (told_outcome turn)
+        (subst (λ y. Readings.R manager above k c t y (told_outcome turn)
         (stands_so false Open p0.accepted p0.acked true p0) w
-        ≡ below.is_born (readings.R manager above k c t y (told_outcome turn) p0 v0)) (sym b)
-        (readings.reading-born manager above k c t (told_outcome turn) p0 v0 none
+        ≡ CascadedMoves.is_born (Readings.R manager above k c t y (told_outcome turn) p0 v0)) (sym b)
+        (Readings.reading-born manager above k c t (told_outcome turn) p0 v0 none
         (not_obeyed root _ p0.obeyed_abort _ b u.not_refused)))
-        (moves.is_born c.txn.presumption (reading turn) inv
+        (Moves.is_born c.txn.presumption (reading turn) inv
         (record { cascaded = b; fresh = unborn; up = up })))
 
     pub gives_fresh : IsOpenAlike place (after n h (answer p d (fresh d))) c
@@ -320,7 +320,7 @@ module _ (turn : Turn) where
   module _ (q : Presumption) (s : parent ≡ None) (i : h.input ≡ ActInput (Begin q)) where
     begin_now : (b : Bool) → IsNew q b → then_remembered turn ≡ opened_as b
     begin_now b f =
-        by_input.begin_act turn q s i
+        Memories.begin_act turn q s i
         ∙ (ap (λ x. if same_case (root_case (txn_by q x)) c then opens_case
         (record m { begun = m.begun + 1 }) else record m { begun = m.begun + 1 })
         (self (some_case place) c).begun
@@ -332,7 +332,7 @@ module _ (turn : Turn) where
         (record { phase = refl; accepted = refl; acks = refl })
 
     pub at_the_root : root ≡ true
-    at_the_root = own.seat_is turn (λ s' e. e) (λ p s' e. absurd (let z = sym s ∙ s' in cc))
+    at_the_root = Own.seat_is turn (λ s' e. e) (λ p s' e. absurd (let z = sym s ∙ s' in cc))
 
     pub not_begun : IsNew q true → p0.begun ≡ false
     not_begun f = by_begun p0.begun refl
@@ -364,24 +364,24 @@ module _ (turn : Turn) where
           acked_so = ap (λ (y : Memory). acked_of y c t) (begin_now true f) ∙ (no_acks _ t ∙ sym has.1);
         }
 
-    pub begin_fits : IsNew q true → Fits_in turn (at_top.begins (reading turn))
+    pub begin_fits : IsNew q true → Fits_in turn (RootMoves.begins (reading turn))
     begin_fits f =
-        moves.begins c.txn.presumption (reading turn) inv
+        Moves.begins c.txn.presumption (reading turn) inv
         (record { root = at_the_root; fresh = begin_unborn f; up = up })
 
     by_new : IsOpenAlike place (after n h (begin_effect (begun_txn q))) c → (b : Bool) → IsNew q b
         → Fine turn (begin_effect (begun_txn q))
     by_new later false f =
         only_sends (begin_effect (begun_txn q)) refl (begins_nothing q) later (begin_elsewhere f)
-        (wires.wire-nothing c t net)
+        (Wires.wire-nothing c t net)
     by_new later true f =
         fine_silent turn (begin_effect (begun_txn q)) later Open p0.accepted p0.acked (begin_says f) v0
-        (wires.wire-nothing c t net) refl
+        (Wires.wire-nothing c t net) refl
         (read_as turn _ _
-        (subst (λ y. readings.R manager above k c t y (told_outcome turn)
+        (subst (λ y. Readings.R manager above k c t y (told_outcome turn)
         (stands_so false Open p0.accepted p0.acked true p0) v0
-        ≡ at_top.begins (readings.R manager above k c t y (told_outcome turn) p0 v0)) (sym at_the_root)
-        (readings.reading-begins manager above k c t (told_outcome turn) p0 v0 (not_begun f)))
+        ≡ RootMoves.begins (Readings.R manager above k c t y (told_outcome turn) p0 v0)) (sym at_the_root)
+        (Readings.reading-begins manager above k c t (told_outcome turn) p0 v0 (not_begun f)))
         (begin_fits f))
 
     pub begins : IsOpenAlike place (after n h (begin_effect (begun_txn q))) c

@@ -6,10 +6,9 @@ use Rattle.protocol.specs.declared.names.ProcessId.{ProcessId}
 use Rattle.protocol.specs.declared.names.Ticket.{Ticket}
 use Rattle.protocol.specs.declared.names.Txn.{Txn}
 use Rattle.protocol.specs.declared.records.Record.{Record}
-use Rattle.protocol.specs.declared.records.Record.TheVariants.{Collecting as CollectingRecord, Prepare as PrepareRecord, Commit as CommitRecord, Abort as AbortRecord, End as EndRecord}
+use Rattle.protocol_words.specs.Variants.{AbortRecord, CollectingRecord, CommitRecord, EndRecord, PrepareRecord, VoteYes}
 use Rattle.protocol.specs.declared.standings.Standing.TheVariants.{Active, Collecting, Prepared}
 use Rattle.protocol.specs.declared.standings.Vote.{Vote}
-use Rattle.protocol.specs.declared.standings.Vote.TheVariants.{Yes as VoteYes}
 use Rattle.protocol.specs.declared.events.Conclusion.{Conclusion}
 use Rattle.protocol.specs.Names.{same_case, same_ticket, same_txn, child_case, root_case, process_of}
 use Rattle.protocol.specs.NameLaws.{same_case_tells, names}

@@ -6,20 +6,17 @@ use Rattle.protocol.specs.declared.names.ProcessId.{ProcessId}
 use Rattle.protocol.specs.declared.names.Ticket.{Ticket}
 use Rattle.protocol.specs.declared.names.Txn.{Txn}
 use Rattle.protocol.specs.declared.names.Outcome.{Outcome}
-use Rattle.protocol.specs.declared.names.Outcome.TheVariants.{Committed as CommittedOutcome, Aborted as AbortedOutcome}
+use Rattle.protocol_words.specs.Variants.{AbortRecord, AbortedOutcome, ClearedRecord, CollectingRecord, CommitRecord, CommittedOutcome, EndRecord, MessageInput, PrepareRecord, VoteNo}
 use Rattle.protocol.specs.declared.names.Presumption.{Presumption}
 use Rattle.protocol.specs.declared.names.Presumption.TheVariants.{PresumeAbort, PresumeCommit}
 use Rattle.protocol.specs.declared.messages.Envelope.{Envelope}
 use Rattle.protocol.specs.declared.messages.Message.{Message}
 use Rattle.protocol.specs.declared.messages.Message.TheVariants.{Prepare, Yes, No, Read, Commit, Abort, Ack, Inquire}
 use Rattle.protocol.specs.declared.records.Record.{Record}
-use Rattle.protocol.specs.declared.records.Record.TheVariants.{Collecting as CollectingRecord, Prepare as PrepareRecord, Commit as CommitRecord, Abort as AbortRecord, End as EndRecord, Cleared as ClearedRecord}
 use Rattle.protocol.specs.declared.standings.Standing.{Standing}
 use Rattle.protocol.specs.declared.standings.Standing.TheVariants.{Active, Collecting, Prepared}
 use Rattle.protocol.specs.declared.standings.Vote.{Vote}
-use Rattle.protocol.specs.declared.standings.Vote.TheVariants.{No as VoteNo}
 use Rattle.protocol.specs.declared.events.Conclusion.{Conclusion}
-use Rattle.protocol.specs.declared.events.Input.TheVariants.{Message as MessageInput}
 use Rattle.protocol.specs.Names.{same_case, same_ticket, same_txn, child_case, root_case, process_of}
 use Rattle.protocol.specs.NameLaws.{same_ticket_tells}
 use Rattle.protocol.specs.Records.{has, in_list, is_prepare, none_of, in_order}
@@ -32,23 +29,23 @@ use Rattle.protocol.specs.Outcomes.{has_accepted}
 use Rattle.protocol.specs.Views.{IsOpenAlike, vote_message}
 use Rattle.proof_pairs.specs.readings.ReadingOf.{wire}
 use Rattle.proof_pairs.specs.turns.CoordinatorTurns.{CaseTurn, RestsBy, IsToCommit, IsToAbort, HearsChild, HearsParent, CountsVote, CountsLast}
-use Rattle.proof_pairs.specs.turns.CoordinatorTurns as turns
+use Rattle.proof_pairs.specs.turns.CoordinatorTurns
 use Rattle.proof_processes.specs.Owns.{is_own_case, GoesToOwner}
 use Rattle.proof_processes.specs.WorldHolds.{Issues, RoleHolds, is_record_of}
 use Rattle.proof_processes.proofs.Cases.{viewed}
 use Rattle.proof_processes.proofs.Owning.{delivered}
 use Rattle.proof_processes.proofs.Worlds.{has_other}
 use Rattle.proof_processes.proofs.Yesses.{own_process}
-use Rattle.proof_steps.proofs.parents.Elsewhere as elsewhere
+use Rattle.proof_steps.proofs.parents.Elsewhere
 use Rattle.proof_steps.proofs.parents.Elsewhere.{ToldElsewhere, WroteElsewhere, none_written, one_plain, one_forced}
 use Rattle.proof_steps.proofs.parents.Halves.{active_is_open}
 use Rattle.proof_steps.proofs.parents.Known.{clash, found_accepted, pairs_case}
-use Rattle.proof_steps.proofs.parents.Memories as by_input
+use Rattle.proof_steps.proofs.parents.Memories
 use Rattle.proof_steps.proofs.parents.Memories.{below_is, top_is}
 use Rattle.proof_steps.proofs.parents.Quiet.{Rests, cleared_unrelated}
-use Rattle.proof_steps.proofs.parents.Rested as rested
+use Rattle.proof_steps.proofs.parents.Rested
 use Rattle.proof_steps.proofs.parents.Turns.{Turn, Fine}
-use Rattle.proof_steps.proofs.parents.Wires as wires
+use Rattle.proof_steps.proofs.parents.Wires
 use Rattle.proof_steps.proofs.parents.Wires.{Silent, same_children, silent_before}
 use Rattle.protocol.specs.declared.messages.Finding.{Finding}
 use Rattle.protocol.specs.declared.records.Reports.{Reports}
@@ -138,12 +135,12 @@ module _ (turn : Turn) (d : Case) where
       by_test false f = absurd (cc)
 
   to_commit_root : IsToCommit parent h d → parent ≡ None → d.ticket ≡ None
-  to_commit_root (turns.commit_act x e i) s = ap (λ (y : Case). y.ticket) e
-  to_commit_root (turns.prepare_comes p k e i) s = absurd (cc)
+  to_commit_root (CoordinatorTurns.commit_act x e i) s = ap (λ (y : Case). y.ticket) e
+  to_commit_root (CoordinatorTurns.prepare_comes p k e i) s = absurd (cc)
 
   to_abort_root : (why : Reason) → IsToAbort parent h d why → parent ≡ None → d.ticket ≡ None
-  to_abort_root _ (turns.abort_act x e i) s = ap (λ (y : Case). y.ticket) e
-  to_abort_root _ (turns.abort_comes p e i) s = absurd (cc)
+  to_abort_root _ (CoordinatorTurns.abort_act x e i) s = ap (λ (y : Case). y.ticket) e
+  to_abort_root _ (CoordinatorTurns.abort_comes p e i) s = absurd (cc)
 
   module _ (other : same_case d c ≡ false) where
     abbrev Told : Option Conclusion → Type 0
@@ -156,13 +153,13 @@ module _ (turn : Turn) (d : Case) where
     told_elsewhere a f = by_parent parent refl
       where
         by_parent : (o : Option ProcessId) → parent ≡ o → Told (told_by o a)
-        by_parent None e = inr (elsewhere.unticketed_apart turn d other e (f e))
+        by_parent None e = inr (Elsewhere.unticketed_apart turn d other e (f e))
         by_parent (Some p) e = inl refl
 
     -- Messages up.
 
     nothing_sent : Quiet []
-    nothing_sent = simp (wires.sent-none)
+    nothing_sent = simp (Wires.sent-none)
 
     up_silent : (m : Message)
         → ((p : ProcessId) → same_case d (child_case c.txn t) ≡ false → Quiet (posted_up place.me (Some p) m))
@@ -171,25 +168,25 @@ module _ (turn : Turn) (d : Case) where
       where
         by_parent : (o : Option ProcessId) → parent ≡ o → Quiet (posted_up place.me o m)
         by_parent None e = nothing_sent
-        by_parent (Some p) e = f p (elsewhere.not_childs turn d other (own p e))
+        by_parent (Some p) e = f p (Elsewhere.not_childs turn d other (own p e))
 
     abbrev Own : Type 0
     Own = (p : ProcessId) → parent ≡ Some p → process_of d ≡ place.me
 
     up_yes : Own → Quiet (posted_up place.me parent (Yes d))
-    up_yes own = up_silent (Yes d) (λ p e. wires.silent-yes c t net place.me (Some p) d e) own
+    up_yes own = up_silent (Yes d) (λ p e. Wires.silent-yes c t net place.me (Some p) d e) own
 
     up_no : Own → Quiet (posted_up place.me parent (No d))
-    up_no own = up_silent (No d) (λ p e. wires.silent-no c t net place.me (Some p) d e) own
+    up_no own = up_silent (No d) (λ p e. Wires.silent-no c t net place.me (Some p) d e) own
 
     up_read : Own → Quiet (posted_up place.me parent (Read d))
-    up_read own = up_silent (Read d) (λ p e. wires.silent-read c t net place.me (Some p) d e other) own
+    up_read own = up_silent (Read d) (λ p e. Wires.silent-read c t net place.me (Some p) d e other) own
 
     up_ack : (o : Outcome) (fs : List Finding) → Own → Quiet (posted_up place.me parent (Ack d o fs))
-    up_ack o fs own = up_silent (Ack d o fs) (λ p e. wires.silent-ack c t net place.me (Some p) d e o fs) own
+    up_ack o fs own = up_silent (Ack d o fs) (λ p e. Wires.silent-ack c t net place.me (Some p) d e o fs) own
 
     up_inquire : Own → Quiet (posted_up place.me parent (Inquire d))
-    up_inquire own = up_silent (Inquire d) (λ p e. wires.silent-inquire c t net place.me (Some p) d e) own
+    up_inquire own = up_silent (Inquire d) (λ p e. Wires.silent-inquire c t net place.me (Some p) d e) own
 
     up_acknowledges : (p : Presumption) → Own → Quiet (acknowledges_abort (seat_of place parent d) p)
     up_acknowledges PresumeAbort own = nothing_sent
@@ -217,21 +214,21 @@ module _ (turn : Turn) (d : Case) where
     -- Messages down.
 
     none_of_them : (ts : List Ticket) → in_list ts t ≡ false → (same_txn d.txn c.txn && in_list ts t) ≡ false
-    none_of_them ts e = rw e (elsewhere.and-false (same_txn d.txn c.txn))
+    none_of_them ts e = rw e (Elsewhere.and-false (same_txn d.txn c.txn))
 
     each_commit : (ts : List Ticket) → in_list ts t ≡ false → Quiet (each (seat_of place parent d) Commit ts)
     each_commit ts e =
-        wires.wire-commits c t [] (seat_of place parent d) ts false (none_of_them ts e) ∙ nothing_sent
+        Wires.wire-commits c t [] (seat_of place parent d) ts false (none_of_them ts e) ∙ nothing_sent
 
     each_abort : (ts : List Ticket) → in_list ts t ≡ false → Quiet (each (seat_of place parent d) Abort ts)
     each_abort ts e =
-        wires.wire-aborts c t [] (seat_of place parent d) ts false (none_of_them ts e) ∙ nothing_sent
+        Wires.wire-aborts c t [] (seat_of place parent d) ts false (none_of_them ts e) ∙ nothing_sent
 
     each_prepare : in_list (coordinator_view place n d).accepted t ≡ false
         → Quiet (prepares (seat_of place parent d) (coordinator_view place n d))
     each_prepare e =
         let v = coordinator_view place n d in
-        wires.wire-prepares c t [] (seat_of place parent d) v v.accepted false (none_of_them v.accepted e)
+        Wires.wire-prepares c t [] (seat_of place parent d) v v.accepted false (none_of_them v.accepted e)
         ∙ nothing_sent
 
     one_behind : (xs ys : List Envelope) → Quiet xs → Quiet ys → Quiet (xs ++ ys)
@@ -249,66 +246,66 @@ module _ (turn : Turn) (d : Case) where
     answer : (o : Outcome) (x : Txn) (u : Ticket) → case_of_child place n x u ≡ Some d
         → Quiet (to_child (seat_of place parent d) (tells_outcome o) u ∷ [])
     answer CommittedOutcome x u found =
-        wires.wire-commit c t [] place.me u.child d.txn u false
+        Wires.wire-commit c t [] place.me u.child d.txn u false
         (same_children d.txn c.txn u t
-        ∙ rw (other_child x u found) (elsewhere.and-false (same_txn d.txn c.txn)))
+        ∙ rw (other_child x u found) (Elsewhere.and-false (same_txn d.txn c.txn)))
         ∙ nothing_sent
     answer AbortedOutcome x u found =
-        wires.wire-abort c t [] place.me u.child d.txn u false
+        Wires.wire-abort c t [] place.me u.child d.txn u false
         (same_children d.txn c.txn u t
-        ∙ rw (other_child x u found) (elsewhere.and-false (same_txn d.txn c.txn)))
+        ∙ rw (other_child x u found) (Elsewhere.and-false (same_txn d.txn c.txn)))
         ∙ nothing_sent
 
     -- Memory.
 
     rest_to_commit : IsToCommit parent h d → Rests turn
-    rest_to_commit (turns.commit_act x e i) =
-        rested.rest_commit_act turn x i (subst (λ (y : Case). same_case y c ≡ false) e other)
-    rest_to_commit (turns.prepare_comes p k e i) =
-        rested.rest_prepare turn d i.0 k p e i.1 (λ f g. clash (same_case d c) f other)
+    rest_to_commit (CoordinatorTurns.commit_act x e i) =
+        Rested.rest_commit_act turn x i (subst (λ (y : Case). same_case y c ≡ false) e other)
+    rest_to_commit (CoordinatorTurns.prepare_comes p k e i) =
+        Rested.rest_prepare turn d i.0 k p e i.1 (λ f g. clash (same_case d c) f other)
 
     rest_to_abort : (why : Reason) → IsToAbort parent h d why → Rests turn
-    rest_to_abort _ (turns.abort_act x e i) =
-        rested.rest_abort_act turn x i (subst (λ (y : Case). same_case y c ≡ false) e other)
-    rest_to_abort _ (turns.abort_comes p e i) =
-        rested.rest_abort turn d i.0 p e i.1 (λ f g. clash (same_case d c) f other)
+    rest_to_abort _ (CoordinatorTurns.abort_act x e i) =
+        Rested.rest_abort_act turn x i (subst (λ (y : Case). same_case y c ≡ false) e other)
+    rest_to_abort _ (CoordinatorTurns.abort_comes p e i) =
+        Rested.rest_abort turn d i.0 p e i.1 (λ f g. clash (same_case d c) f other)
         (λ f g. clash (same_case d c) f other)
 
     rest_vote : (u : Ticket) (w : Vote) → HearsChild place n h d u (vote_message w) → Rests turn
     rest_vote u w i =
-        rested.rest_vote turn w i.txn u i.hears.0 i.hears.1
-        (λ e f. rw (rested.others_ticket turn i.txn u d i.belongs other) refl)
+        Rested.rest_vote turn w i.txn u i.hears.0 i.hears.1
+        (λ e f. rw (Rested.others_ticket turn i.txn u d i.belongs other) refl)
 
     rest_ack : (u : Ticket) (o : Outcome) (fs : List Finding) → HearsChild place n h d u (λ e. Ack e o fs)
         → Rests turn
-    rest_ack u o fs i = rested.rest_ack turn o fs i.txn u i.hears.0 i.hears.1
+    rest_ack u o fs i = Rested.rest_ack turn o fs i.txn u i.hears.0 i.hears.1
 
     rest_inquiry : (u : Ticket) → HearsChild place n h d u Inquire → Rests turn
-    rest_inquiry u i = rested.rest_same turn (by_input.inquires turn (child_case i.txn u) i.hears.0 i.hears.1)
+    rest_inquiry u i = Rested.rest_same turn (Memories.inquires turn (child_case i.txn u) i.hears.0 i.hears.1)
 
     rest_prepare : (k : ℕ) → HearsParent parent h (Prepare d k) → Rests turn
     rest_prepare k i =
-        rested.rest_prepare turn d i.hears.0 k i.from i.is_parent i.hears.1
+        Rested.rest_prepare turn d i.hears.0 k i.from i.is_parent i.hears.1
         (λ f g. clash (same_case d c) f other)
 
     rest_commit : HearsParent parent h (Commit d) → Rests turn
-    rest_commit i = rested.rest_same turn (by_input.commit_comes turn d i.hears.0 i.hears.1)
+    rest_commit i = Rested.rest_same turn (Memories.commit_comes turn d i.hears.0 i.hears.1)
 
     rest_abort : HearsParent parent h (Abort d) → Rests turn
     rest_abort i =
-        rested.rest_abort turn d i.hears.0 i.from i.is_parent i.hears.1 (λ f g. clash (same_case d c) f other)
+        Rested.rest_abort turn d i.hears.0 i.from i.is_parent i.hears.1 (λ f g. clash (same_case d c) f other)
         (λ f g. clash (same_case d c) f other)
 
     rest_nothing : RestsBy place parent n h d → Rests turn
-    rest_nothing (turns.invited_already q i) = rested.rest_same turn (by_input.join_act turn d q i)
-    rest_nothing (turns.takes_nobody u i f) =
-        rested.rest_joined turn d u i.0 i.1 (λ g k. clash (same_case d c) g other)
-    rest_nothing (turns.counts_nothing u w i f) = rest_vote u w i
-    rest_nothing (turns.owes_nothing u o fs i f) = rest_ack u o fs i
-    rest_nothing (turns.knows_nothing u i) = rest_inquiry u i
-    rest_nothing (turns.prepares_nothing k i f) = rest_prepare k i
-    rest_nothing (turns.commits_nothing i) = rest_commit i
-    rest_nothing (turns.aborts_nothing i f g) = rest_abort i
+    rest_nothing (CoordinatorTurns.invited_already q i) = Rested.rest_same turn (Memories.join_act turn d q i)
+    rest_nothing (CoordinatorTurns.takes_nobody u i f) =
+        Rested.rest_joined turn d u i.0 i.1 (λ g k. clash (same_case d c) g other)
+    rest_nothing (CoordinatorTurns.counts_nothing u w i f) = rest_vote u w i
+    rest_nothing (CoordinatorTurns.owes_nothing u o fs i f) = rest_ack u o fs i
+    rest_nothing (CoordinatorTurns.knows_nothing u i) = rest_inquiry u i
+    rest_nothing (CoordinatorTurns.prepares_nothing k i f) = rest_prepare k i
+    rest_nothing (CoordinatorTurns.commits_nothing i) = rest_commit i
+    rest_nothing (CoordinatorTurns.aborts_nothing i f g) = rest_abort i
 
     own_prepare : (k : ℕ) → HearsParent parent h (Prepare d k) → Own
     own_prepare k i p s = own_told (Prepare d k) i.hears.0 i.hears.1 (λ x. x)
@@ -333,16 +330,16 @@ module _ (turn : Turn) (d : Case) where
         → Rests turn → Own
         → (parent ≡ None → d.ticket ≡ None) → in_list us t ≡ false → Fine turn (row_effect d row)
     aborts_by why v us PresumeAbort row e later rests own top f =
-        elsewhere.row_fine turn d other row later.alike rests
+        Elsewhere.row_fine turn d other row later.alike rests
         (ap (λ (x : Row). wire c t x.messages) e ∙ one_behind _ _ (up_heard why us own) (each_abort us f))
         (subst (λ (x : Row). Told x.told) (sym e) (told_elsewhere _ top))
-        (one_plain (AbortRecord d []) (ap (λ (x : Row). x.written) e) (elsewhere.other_abort turn d other []))
+        (one_plain (AbortRecord d []) (ap (λ (x : Row). x.written) e) (Elsewhere.other_abort turn d other []))
     aborts_by why v us PresumeCommit row e later rests own top f =
-        elsewhere.row_fine turn d other row later.alike rests
+        Elsewhere.row_fine turn d other row later.alike rests
         (ap (λ (x : Row). wire c t x.messages) e ∙ one_behind _ _ (up_heard why us own) (each_abort us f))
         (subst (λ (x : Row). Told x.told) (sym e) (told_elsewhere _ top))
         (one_forced (AbortRecord d us) (ap (λ (x : Row). x.written) e)
-        (elsewhere.other_abort turn d other us))
+        (Elsewhere.other_abort turn d other us))
 
     root_of : (u : Ticket) (says : Case → Message) → HearsChild place n h d u says → parent ≡ None
         → d.ticket ≡ None
@@ -351,7 +348,7 @@ module _ (turn : Turn) (d : Case) where
     row_fine : (row : Row) → After row → Rests turn → Quiet row.messages → Told row.told
         → WroteElsewhere turn d other row.written
         → Fine turn (row_effect d row)
-    row_fine row later rests q told w = elsewhere.row_fine turn d other row later.alike rests q told w
+    row_fine row later rests q told w = Elsewhere.row_fine turn d other row later.alike rests q told w
 
     asks_by : (v : CoordinatorView) (p : Presumption) → v ≡ coordinator_view place n d
         → After (active_commit_with (seat_of place parent d) v p)
@@ -366,11 +363,11 @@ module _ (turn : Turn) (d : Case) where
         row_fine (active_commit_with (seat_of place parent d) v PresumeCommit) later rests
         (ap (λ (x : CoordinatorView). wire c t (prepares (seat_of place parent d) x)) e ∙ each_prepare f)
         (inl refl)
-        (one_forced (CollectingRecord d v.accepted) refl (elsewhere.other_collecting turn d other v.accepted))
+        (one_forced (CollectingRecord d v.accepted) refl (Elsewhere.other_collecting turn d other v.accepted))
 
     reads_by : (p : Presumption) → WroteElsewhere turn d other (read_only_end (seat_of place parent d) p)
     reads_by PresumeAbort = none_written refl
-    reads_by PresumeCommit = one_plain (EndRecord d None) refl (elsewhere.other_end turn d other None)
+    reads_by PresumeCommit = one_plain (EndRecord d None) refl (Elsewhere.other_end turn d other None)
 
     commits_by : (w : (Ticket × Vote)) (v : CoordinatorView) (ys : List Ticket) (p : Presumption)
         → After (record (root_commits (seat_of place parent d) v ys p) { counts = w ∷ [] })
@@ -380,12 +377,12 @@ module _ (turn : Turn) (d : Case) where
         row_fine (record (root_commits (seat_of place parent d) v ys PresumeAbort) { counts = w ∷ [] })
         later rests
         (each_commit ys f) (inr x)
-        (one_forced (CommitRecord d ys) refl (elsewhere.other_commit turn d other ys))
+        (one_forced (CommitRecord d ys) refl (Elsewhere.other_commit turn d other ys))
     commits_by w v ys PresumeCommit later rests f x =
         row_fine (record (root_commits (seat_of place parent d) v ys PresumeCommit) { counts = w ∷ [] })
         later rests
         (each_commit ys f) (inr x)
-        (one_forced (CommitRecord d []) refl (elsewhere.other_commit turn d other []))
+        (one_forced (CommitRecord d []) refl (Elsewhere.other_commit turn d other []))
 
     passes_commit : (p : Presumption)
         → After (prepared_commit_by h.version (seat_of place parent d) (coordinator_view place n d) p)
@@ -394,10 +391,10 @@ module _ (turn : Turn) (d : Case) where
         (coordinator_view place n d) p))
     passes_commit PresumeAbort later rests own f =
         row_fine _ later rests (one_behind _ _ (at_once h.version CommittedOutcome own) (each_commit _ f)) (inl refl)
-        (one_forced _ refl (elsewhere.other_commit turn d other _))
+        (one_forced _ refl (Elsewhere.other_commit turn d other _))
     passes_commit PresumeCommit later rests own f =
         row_fine _ later rests (each_commit _ f) (inl refl)
-        (one_plain _ refl (elsewhere.other_commit turn d other []))
+        (one_plain _ refl (Elsewhere.other_commit turn d other []))
 
     passes_abort : (p : Presumption)
         → After (prepared_abort_by h.version (seat_of place parent d) (coordinator_view place n d) p)
@@ -405,10 +402,10 @@ module _ (turn : Turn) (d : Case) where
         → Fine turn (row_effect d (prepared_abort_by h.version (seat_of place parent d) (coordinator_view place n d) p))
     passes_abort PresumeAbort later rests own f =
         row_fine _ later rests (each_abort _ f) (inl refl)
-        (one_plain _ refl (elsewhere.other_abort turn d other []))
+        (one_plain _ refl (Elsewhere.other_abort turn d other []))
     passes_abort PresumeCommit later rests own f =
         row_fine _ later rests (one_behind _ _ (at_once h.version AbortedOutcome own) (each_abort _ f)) (inl refl)
-        (one_forced _ refl (elsewhere.other_abort turn d other _))
+        (one_forced _ refl (Elsewhere.other_abort turn d other _))
 
     own_outcome : (o : Outcome) → HearsParent parent h (tells_outcome o d) → Own
     own_outcome CommittedOutcome i = own_commit i
@@ -420,126 +417,126 @@ module _ (turn : Turn) (d : Case) where
 
     pub turn_elsewhere : (row : Row) → CaseTurn place parent n h d row → After row
         → Fine turn (row_effect d row)
-    turn_elsewhere _ (turns.rests r) later =
+    turn_elsewhere _ (CoordinatorTurns.rests r) later =
         row_fine _ later (rest_nothing r) nothing_sent (inl refl) (none_written refl)
-    turn_elsewhere _ (turns.invites q i e f g) later =
-        row_fine _ later (rested.rest_same turn (by_input.join_act turn d q i))
-        (wires.silent-join c t net place.me q d) (inl refl)
+    turn_elsewhere _ (CoordinatorTurns.invites q i e f g) later =
+        row_fine _ later (Rested.rest_same turn (Memories.join_act turn d q i))
+        (Wires.silent-join c t net place.me q d) (inl refl)
         (none_written refl)
-    turn_elsewhere _ (turns.accepts u i e f) later =
-        row_fine _ later (rested.rest_joined turn d u i.0 i.1 (λ g k. clash (same_case d c) g other))
+    turn_elsewhere _ (CoordinatorTurns.accepts u i e f) later =
+        row_fine _ later (Rested.rest_joined turn d u i.0 i.1 (λ g k. clash (same_case d c) g other))
         nothing_sent (inl refl)
         (none_written refl)
-    turn_elsewhere _ (turns.sends_work q u op i e f g) later =
-        row_fine _ later (rested.rest_work turn d q op i)
-        (wires.silent-work c t net place.me u.child (child_case d.txn u) _ op) (inl refl)
+    turn_elsewhere _ (CoordinatorTurns.sends_work q u op i e f g) later =
+        row_fine _ later (Rested.rest_work turn d q op i)
+        (Wires.silent-work c t net place.me u.child (child_case d.txn u) _ op) (inl refl)
         (none_written refl)
-    turn_elsewhere _ (turns.finds_nobody i e f) later =
+    turn_elsewhere _ (CoordinatorTurns.finds_nobody i e f) later =
         row_fine _ later (rest_to_commit i) (up_read (own_active e)) (told_elsewhere _ (to_commit_root i))
         (none_written refl)
-    turn_elsewhere _ (turns.asks_for_votes p i e f q) later =
+    turn_elsewhere _ (CoordinatorTurns.asks_for_votes p i e f q) later =
         asks_by (coordinator_view place n d) p refl later (rest_to_commit i)
-        (elsewhere.active_apart turn d other e)
-    turn_elsewhere _ (turns.gives_up why p i e q) later =
+        (Elsewhere.active_apart turn d other e)
+    turn_elsewhere _ (CoordinatorTurns.gives_up why p i e q) later =
         row_fine _ later (rest_to_abort why i)
         (one_behind _ _ (up_acknowledges p (own_active e))
-        (each_abort _ (elsewhere.active_apart turn d other e)))
+        (each_abort _ (Elsewhere.active_apart turn d other e)))
         (told_elsewhere _ (to_abort_root why i)) (none_written refl)
-    turn_elsewhere _ (turns.counts_vote u w i k e) later =
+    turn_elsewhere _ (CoordinatorTurns.counts_vote u w i k e) later =
         row_fine _ later (rest_vote u w i.hears) nothing_sent (inl refl) (none_written refl)
-    turn_elsewhere _ (turns.reads_only u w ys p i e q) later =
+    turn_elsewhere _ (CoordinatorTurns.reads_only u w ys p i e q) later =
         row_fine _ later (rest_vote u w i.vote.hears) (up_read (own_collecting i.vote.stands))
         (told_elsewhere _ (root_of u _ i.vote.hears)) (reads_by p)
-    turn_elsewhere _ (turns.commits u w ys p i e s q) later =
-        commits_by (u, w) (turns.voted (coordinator_view place n d) u w) ys p later
+    turn_elsewhere _ (CoordinatorTurns.commits u w ys p i e s q) later =
+        commits_by (u, w) (CoordinatorTurns.voted (coordinator_view place n d) u w) ys p later
         (rest_vote u w i.vote.hears)
         (ap (λ ts. in_list ts t) (sym i.yes)
-        ∙ elsewhere.in_yes _ _ t (elsewhere.collecting_apart turn d other i.vote.stands))
-        (elsewhere.unticketed_apart turn d other s (root_of u _ i.vote.hears s))
-    turn_elsewhere _ (turns.promises u w ys p i e s) later =
+        ∙ Elsewhere.in_yes _ _ t (Elsewhere.collecting_apart turn d other i.vote.stands))
+        (Elsewhere.unticketed_apart turn d other s (root_of u _ i.vote.hears s))
+    turn_elsewhere _ (CoordinatorTurns.promises u w ys p i e s) later =
         row_fine _ later (rest_vote u w i.vote.hears) (up_yes (own_collecting i.vote.stands)) (inl refl)
-        (one_forced (PrepareRecord d ys) refl (elsewhere.other_prepare turn d other ys))
-    turn_elsewhere _ (turns.hears_no u us p i f q) later =
+        (one_forced (PrepareRecord d ys) refl (Elsewhere.other_prepare turn d other ys))
+    turn_elsewhere _ (CoordinatorTurns.hears_no u us p i f q) later =
         let v = coordinator_view place n d in
         aborts_no u us p i f later
       where
         aborts_no : (u : Ticket) (us : List Ticket) (p : Presumption) → CountsVote place n h d u VoteNo
             → undecided_of (coordinator_view place n d).accepted
-            (turns.voted (coordinator_view place n d) u VoteNo).votes ≡ us
-            → After (turns.counting u VoteNo
+            (CoordinatorTurns.voted (coordinator_view place n d) u VoteNo).votes ≡ us
+            → After (CoordinatorTurns.counting u VoteNo
             (collecting_abort_by (seat_of place parent d) ByVote
-            (turns.voted (coordinator_view place n d) u VoteNo) us p))
-            → Fine turn (row_effect d (turns.counting u VoteNo
+            (CoordinatorTurns.voted (coordinator_view place n d) u VoteNo) us p))
+            → Fine turn (row_effect d (CoordinatorTurns.counting u VoteNo
             (collecting_abort_by (seat_of place parent d) ByVote
-            (turns.voted (coordinator_view place n d) u VoteNo) us p)))
+            (CoordinatorTurns.voted (coordinator_view place n d) u VoteNo) us p)))
         aborts_no u us PresumeAbort i f later =
             row_fine _ later (rest_vote u VoteNo i.hears)
             (one_behind _ _ (up_heard ByVote us (own_collecting i.stands))
             (each_abort us (ap (λ ts. in_list ts t) (sym f)
-            ∙ elsewhere.in_undecided _ _ t (elsewhere.collecting_apart turn d other i.stands))))
+            ∙ Elsewhere.in_undecided _ _ t (Elsewhere.collecting_apart turn d other i.stands))))
             (told_elsewhere _ (root_of u _ i.hears))
-            (one_plain _ refl (elsewhere.other_abort turn d other []))
+            (one_plain _ refl (Elsewhere.other_abort turn d other []))
         aborts_no u us PresumeCommit i f later =
             row_fine _ later (rest_vote u VoteNo i.hears)
             (one_behind _ _ (up_heard ByVote us (own_collecting i.stands))
             (each_abort us (ap (λ ts. in_list ts t) (sym f)
-            ∙ elsewhere.in_undecided _ _ t (elsewhere.collecting_apart turn d other i.stands))))
+            ∙ Elsewhere.in_undecided _ _ t (Elsewhere.collecting_apart turn d other i.stands))))
             (told_elsewhere _ (root_of u _ i.hears))
-            (one_forced _ refl (elsewhere.other_abort turn d other us))
-    turn_elsewhere _ (turns.aborts why us p i e f q) later =
+            (one_forced _ refl (Elsewhere.other_abort turn d other us))
+    turn_elsewhere _ (CoordinatorTurns.aborts why us p i e f q) later =
         aborts_by why (coordinator_view place n d) us p _ refl later (rest_to_abort why i)
         (own_collecting e) (to_abort_root why i)
         (ap (λ ts. in_list ts t) (sym f)
-        ∙ elsewhere.in_undecided _ _ t (elsewhere.collecting_apart turn d other e))
-    turn_elsewhere _ (turns.passes_commit p i e q) later =
-        passes_commit p later (rest_commit i) (own_commit i) (elsewhere.prepared_apart turn d other e)
-    turn_elsewhere _ (turns.passes_abort p i e q) later =
-        passes_abort p later (rest_abort i) (own_abort i) (elsewhere.prepared_apart turn d other e)
-    turn_elsewhere _ (turns.repeats_yes k i e) later =
+        ∙ Elsewhere.in_undecided _ _ t (Elsewhere.collecting_apart turn d other e))
+    turn_elsewhere _ (CoordinatorTurns.passes_commit p i e q) later =
+        passes_commit p later (rest_commit i) (own_commit i) (Elsewhere.prepared_apart turn d other e)
+    turn_elsewhere _ (CoordinatorTurns.passes_abort p i e q) later =
+        passes_abort p later (rest_abort i) (own_abort i) (Elsewhere.prepared_apart turn d other e)
+    turn_elsewhere _ (CoordinatorTurns.repeats_yes k i e) later =
         row_fine _ later (rest_prepare k i) (up_yes (own_prepare k i)) (inl refl) (none_written refl)
-    turn_elsewhere _ (turns.asks i e) later =
-        row_fine _ later (rested.rest_same turn (by_input.ask_act turn d i)) (up_inquire (own_prepared e))
+    turn_elsewhere _ (CoordinatorTurns.asks i e) later =
+        row_fine _ later (Rested.rest_same turn (Memories.ask_act turn d i)) (up_inquire (own_prepared e))
         (inl refl)
         (none_written refl)
-    turn_elsewhere _ (turns.refuses k i e) later =
+    turn_elsewhere _ (CoordinatorTurns.refuses k i e) later =
         row_fine _ later (rest_prepare k i) (up_no (own_prepare k i)) (inl refl) (none_written refl)
-    turn_elsewhere _ (turns.acknowledges o fs i e) later =
+    turn_elsewhere _ (CoordinatorTurns.acknowledges o fs i e) later =
         row_fine _ later (rest_outcome o i) (up_ack o fs (own_outcome o i)) (inl refl) (none_written refl)
-    turn_elsewhere _ (turns.waits_for_acks u o fs i e f g) later =
+    turn_elsewhere _ (CoordinatorTurns.waits_for_acks u o fs i e f g) later =
         row_fine _ later (rest_ack u o fs i) nothing_sent (inl refl) (none_written refl)
-    turn_elsewhere _ (turns.ends u o fs i e f g) later =
+    turn_elsewhere _ (CoordinatorTurns.ends u o fs i e f g) later =
         row_fine _ later (rest_ack u o fs i)
         (at_last h.version o (found_below place n d o fs) (own_of u (λ e. Ack e o fs) i)) (inl refl)
-        (elsewhere.ended_by turn d other (end_reports h.version parent (found_below place n d o fs)))
-    turn_elsewhere _ (turns.clears i e f g) later =
-        row_fine _ later (rested.rest_same turn (by_input.forget_act turn d i)) nothing_sent (inl refl)
+        (Elsewhere.ended_by turn d other (end_reports h.version parent (found_below place n d o fs)))
+    turn_elsewhere _ (CoordinatorTurns.clears i e f g) later =
+        row_fine _ later (Rested.rest_same turn (Memories.forget_act turn d i)) nothing_sent (inl refl)
         (one_forced (ClearedRecord d) refl (cleared_unrelated turn d))
-    turn_elsewhere _ (turns.answers u o i e) later =
+    turn_elsewhere _ (CoordinatorTurns.answers u o i e) later =
         row_fine _ later (rest_inquiry u i) (answer o i.txn u i.belongs) (inl refl) (none_written refl)
 
     -- what the pair's case remembers after the turn
     pub rests_elsewhere : (row : Row) → CaseTurn place parent n h d row → Rests turn
-    rests_elsewhere _ (turns.rests r) = rest_nothing r
-    rests_elsewhere _ (turns.invites q i e f g) = rested.rest_same turn (by_input.join_act turn d q i)
-    rests_elsewhere _ (turns.accepts u i e f) =
-        rested.rest_joined turn d u i.0 i.1 (λ g k. clash (same_case d c) g other)
-    rests_elsewhere _ (turns.sends_work q u op i e f g) = rested.rest_work turn d q op i
-    rests_elsewhere _ (turns.finds_nobody i e f) = rest_to_commit i
-    rests_elsewhere _ (turns.asks_for_votes p i e f q) = rest_to_commit i
-    rests_elsewhere _ (turns.gives_up why p i e q) = rest_to_abort why i
-    rests_elsewhere _ (turns.counts_vote u w i k e) = rest_vote u w i.hears
-    rests_elsewhere _ (turns.reads_only u w ys p i e q) = rest_vote u w i.vote.hears
-    rests_elsewhere _ (turns.commits u w ys p i e s q) = rest_vote u w i.vote.hears
-    rests_elsewhere _ (turns.promises u w ys p i e s) = rest_vote u w i.vote.hears
-    rests_elsewhere _ (turns.hears_no u us p i f q) = rest_vote u VoteNo i.hears
-    rests_elsewhere _ (turns.aborts why us p i e f q) = rest_to_abort why i
-    rests_elsewhere _ (turns.passes_commit p i e q) = rest_commit i
-    rests_elsewhere _ (turns.passes_abort p i e q) = rest_abort i
-    rests_elsewhere _ (turns.repeats_yes k i e) = rest_prepare k i
-    rests_elsewhere _ (turns.asks i e) = rested.rest_same turn (by_input.ask_act turn d i)
-    rests_elsewhere _ (turns.refuses k i e) = rest_prepare k i
-    rests_elsewhere _ (turns.acknowledges o fs i e) = rest_outcome o i
-    rests_elsewhere _ (turns.waits_for_acks u o fs i e f g) = rest_ack u o fs i
-    rests_elsewhere _ (turns.ends u o fs i e f g) = rest_ack u o fs i
-    rests_elsewhere _ (turns.clears i e f g) = rested.rest_same turn (by_input.forget_act turn d i)
-    rests_elsewhere _ (turns.answers u o i e) = rest_inquiry u i
+    rests_elsewhere _ (CoordinatorTurns.rests r) = rest_nothing r
+    rests_elsewhere _ (CoordinatorTurns.invites q i e f g) = Rested.rest_same turn (Memories.join_act turn d q i)
+    rests_elsewhere _ (CoordinatorTurns.accepts u i e f) =
+        Rested.rest_joined turn d u i.0 i.1 (λ g k. clash (same_case d c) g other)
+    rests_elsewhere _ (CoordinatorTurns.sends_work q u op i e f g) = Rested.rest_work turn d q op i
+    rests_elsewhere _ (CoordinatorTurns.finds_nobody i e f) = rest_to_commit i
+    rests_elsewhere _ (CoordinatorTurns.asks_for_votes p i e f q) = rest_to_commit i
+    rests_elsewhere _ (CoordinatorTurns.gives_up why p i e q) = rest_to_abort why i
+    rests_elsewhere _ (CoordinatorTurns.counts_vote u w i k e) = rest_vote u w i.hears
+    rests_elsewhere _ (CoordinatorTurns.reads_only u w ys p i e q) = rest_vote u w i.vote.hears
+    rests_elsewhere _ (CoordinatorTurns.commits u w ys p i e s q) = rest_vote u w i.vote.hears
+    rests_elsewhere _ (CoordinatorTurns.promises u w ys p i e s) = rest_vote u w i.vote.hears
+    rests_elsewhere _ (CoordinatorTurns.hears_no u us p i f q) = rest_vote u VoteNo i.hears
+    rests_elsewhere _ (CoordinatorTurns.aborts why us p i e f q) = rest_to_abort why i
+    rests_elsewhere _ (CoordinatorTurns.passes_commit p i e q) = rest_commit i
+    rests_elsewhere _ (CoordinatorTurns.passes_abort p i e q) = rest_abort i
+    rests_elsewhere _ (CoordinatorTurns.repeats_yes k i e) = rest_prepare k i
+    rests_elsewhere _ (CoordinatorTurns.asks i e) = Rested.rest_same turn (Memories.ask_act turn d i)
+    rests_elsewhere _ (CoordinatorTurns.refuses k i e) = rest_prepare k i
+    rests_elsewhere _ (CoordinatorTurns.acknowledges o fs i e) = rest_outcome o i
+    rests_elsewhere _ (CoordinatorTurns.waits_for_acks u o fs i e f g) = rest_ack u o fs i
+    rests_elsewhere _ (CoordinatorTurns.ends u o fs i e f g) = rest_ack u o fs i
+    rests_elsewhere _ (CoordinatorTurns.clears i e f g) = Rested.rest_same turn (Memories.forget_act turn d i)
+    rests_elsewhere _ (CoordinatorTurns.answers u o i e) = rest_inquiry u i

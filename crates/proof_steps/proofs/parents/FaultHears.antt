@@ -2,17 +2,17 @@
 -- heard.
 use Rattle.std.proofs.Common.{◌≡◌, ◌∙◌, Bool, true, false, ◌||◌, refl, sym, ap, subst, arith}
 use Rattle.protocol.specs.Nodes.{Effect}
-use Rattle.protocol.specs.Memory.{Memory, Phase as MemoryPhase, Idle, Open, Asked, Over}
+use Rattle.protocol.specs.Memory.{Memory, Phase, Idle, Open, Asked, Over}
 use Rattle.proof_pairs.specs.Reading.{Reading, is_live}
 use Rattle.proof_pairs.specs.Invariant.{Common}
-use Rattle.proof_pairs.specs.ParentCrash as crash
+use Rattle.proof_pairs.specs.ParentCrash
 use Rattle.proof_pairs.specs.readings.ReadingOf.{ParentHalf, ChildHalf, Wire, reading_from, is_begun, is_dead}
 use Rattle.proof_steps.proofs.children.Moves.{common_of, onward}
 use Rattle.proof_steps.proofs.parents.Faults.{down, heard_so}
 use Rattle.proof_steps.proofs.parents.Halves.{live_phase, phase_of}
 use Rattle.proof_steps.proofs.parents.Known.{clash}
-use Rattle.proof_steps.proofs.parents.Moves as moves
-use Rattle.proof_steps.proofs.parents.Own as own
+use Rattle.proof_steps.proofs.parents.Moves
+use Rattle.proof_steps.proofs.parents.Own
 use Rattle.proof_steps.proofs.parents.Readings.{Live}
 use Rattle.proof_steps.proofs.parents.Turns.{Turn, Says, Fits_in, seen, remembered, half, net_part, told_outcome, reading, at_root}
 
@@ -28,7 +28,7 @@ module _ (manager above : Bool) (k : ChildHalf) where
   X root o p v = reading_from root manager o above p k v
 
   reading-fails_live : (root o : Bool) (p : ParentHalf) (v : Wire) → Live root o p v
-      → X root o (down p.accepted p.acked true p) v ≡ crash.parent_fails (X root o p v)
+      → X root o (down p.accepted p.acked true p) v ≡ ParentCrash.parent_fails (X root o p v)
   reading-fails_live true o p v l =
       let f = l.undecided refl in
       rw (l.begun, l.live, l.no_commit, f) (simp (dead-now))
@@ -38,13 +38,13 @@ module _ (manager above : Bool) (k : ChildHalf) where
 
   reading-fails_closed : (root o b : Bool) (p : ParentHalf) (v : Wire) → is_live p.phase ≡ false
       → (root ≡ true → b ≡ p.begun)
-      → X root o (down p.accepted p.acked b p) v ≡ crash.parent_fails (X root o p v)
+      → X root o (down p.accepted p.acked b p) v ≡ ParentCrash.parent_fails (X root o p v)
   reading-fails_closed true o b p v e f =
       let g = f refl in
       rw (g, e) refl
   reading-fails_closed false o b p v e f = rw e refl
 
-live_begun : (ph : MemoryPhase) → is_live (live_phase ph) ≡ true → is_begun ph ≡ true
+live_begun : (ph : Phase) → is_live (live_phase ph) ≡ true → is_begun ph ≡ true
 live_begun Open e = refl
 live_begun Asked e = refl
 live_begun Idle e = absurd (cc)
@@ -70,7 +70,7 @@ module _ (turn : Turn) where
 
   -- What an input leads to even where the device fails: what is remembered, and what was accepted and heard.
   pub record Hears (e : Effect) : Type 0 where
-    pub phase : MemoryPhase
+    pub phase : Phase
     pub accepted : Bool
     pub acked : Bool
     pub says : Says turn phase accepted acked
@@ -106,7 +106,7 @@ module _ (turn : Turn) where
           by_test false g = clash (is_live p.phase) l (common.unborn (rw (f, g) refl)).closed
 
   begun_live : is_live p0.phase ≡ true → p0.begun ≡ true
-  begun_live l = own.begun_by turn refl
+  begun_live l = Own.begun_by turn refl
       (live_begun m.phase (sym (ap (λ b. is_live (phase_of b m.phase)) up) ∙ l))
 
   -- the parent fails after what it heard
@@ -121,10 +121,10 @@ module _ (turn : Turn) where
       r1 : Reading
       r1 = seen turn o0 (record y.half_then { accepted = y.accepted; acked = y.acked }) v0
 
-      fails : Fits_in turn (crash.parent_fails
+      fails : Fits_in turn (ParentCrash.parent_fails
           (seen turn o0 (record y.half_then { accepted = y.accepted; acked = y.acked }) v0))
       fails = onward c.txn.presumption (reading turn) _ _ y.fits
-          (moves.parent_fails c.txn.presumption
+          (Moves.parent_fails c.txn.presumption
           (seen turn o0 (record y.half_then { accepted = y.accepted; acked = y.acked }) v0)
           y.fits.invariant
           (record { up = is_up }))
@@ -155,8 +155,8 @@ module _ (turn : Turn) where
   pub fails_still : Fits_in turn (seen turn o0 (down p0.accepted p0.acked p0.begun p0) v0)
   fails_still = by_live (is_live p0.phase) refl
     where
-      fails : Fits_in turn (crash.parent_fails (reading turn))
-      fails = moves.parent_fails c.txn.presumption (reading turn) turn.inv (record { up = up })
+      fails : Fits_in turn (ParentCrash.parent_fails (reading turn))
+      fails = Moves.parent_fails c.txn.presumption (reading turn) turn.inv (record { up = up })
 
       by_live : (l : Bool) → is_live p0.phase ≡ l
           → Fits_in turn (seen turn o0 (down p0.accepted p0.acked p0.begun p0) v0)

@@ -12,23 +12,23 @@ use Rattle.protocol.specs.CoordinatorRows.{Row}
 use Rattle.protocol.specs.Reactions.{row_effect}
 use Rattle.protocol.specs.Standings.{CoordinatorView}
 use Rattle.proof_pairs.specs.Reading.{Reading, is_live}
-use Rattle.proof_pairs.specs.ParentMoves as move
+use Rattle.proof_pairs.specs.ParentMoves
 use Rattle.proof_pairs.specs.readings.ReadingOf.{ParentHalf, Wire, is_begun}
 use Rattle.proof_pairs.specs.turns.CoordinatorTurns.{CaseTurn, CountsVote}
-use Rattle.proof_pairs.specs.turns.CoordinatorTurns as turns
+use Rattle.proof_pairs.specs.turns.CoordinatorTurns
 use Rattle.proof_pairs.specs.turns.LeafTurns.{Hears as HearsMessage}
 use Rattle.proof_steps.proofs.children.Moves.{unmoved}
 use Rattle.proof_steps.proofs.parents.FaultHears.{Hears}
 use Rattle.proof_steps.proofs.parents.Faults.{heard_so}
 use Rattle.proof_steps.proofs.parents.Halves.{live_phase}
-use Rattle.proof_steps.proofs.parents.Own as own
+use Rattle.proof_steps.proofs.parents.Own
 use Rattle.proof_steps.proofs.parents.Own.{Goes, heard}
-use Rattle.proof_steps.proofs.parents.OwnActive as active
-use Rattle.proof_steps.proofs.parents.OwnPromised as promised
+use Rattle.proof_steps.proofs.parents.OwnActive
+use Rattle.proof_steps.proofs.parents.OwnPromised
 use Rattle.proof_steps.proofs.parents.OwnPromised.{not_open}
 use Rattle.proof_steps.proofs.parents.Quiet.{Rests, rest_fits}
 use Rattle.proof_steps.proofs.parents.Turns.{Turn, Fits_in, seen, remembered, half, net_part, told_outcome, reading}
-use Rattle.proof_steps.proofs.parents.Votes as votes
+use Rattle.proof_steps.proofs.parents.Votes
 
 or-false : (a : Bool) → (a || false) ≡ a
 or-false a = grind arith
@@ -52,7 +52,7 @@ module _ (turn : Turn) where
   o0 = told_outcome turn
 
   abbrev v : CoordinatorView
-  v = own.v turn
+  v = Own.v turn
 
   -- Of an input that leaves what is remembered, but that an ACK is heard.
   pub of_rests : (e : Effect) → heard_so e c t p0 ≡ p0 → Rests turn → Hears turn e
@@ -66,7 +66,7 @@ module _ (turn : Turn) where
     same_phase = refl;
     same_begun = refl;
     fits = rest_fits turn r.acked r.why;
-    lives = λ l. live_begun m.phase (sym (ap is_live (promised.phase_stays turn)) ∙ l);
+    lives = λ l. live_begun m.phase (sym (ap is_live (OwnPromised.phase_stays turn)) ∙ l);
     rests = λ l i. refl;
   }
     where
@@ -104,20 +104,20 @@ module _ (turn : Turn) where
       (unmoved c.txn.presumption (reading turn) inv)
 
   pub active_live : v.standing ≡ Active → is_live p0.phase ≡ true
-  active_live e = ap is_live (active.active_phase turn e)
+  active_live e = ap is_live (OwnActive.active_phase turn e)
 
   -- a vote was heard
   pub heard_vote : (e : Effect) (u : Ticket) (w : Vote) → e.accepts ≡ [] → e.counts ≡ (c, (u, w)) ∷ []
       → heard_so e c t p0 ≡ heard w (same_ticket u t) p0
   heard_vote e u w none one = rw (none, one) (simp (same_case-refl, or-false))
 
-  pub vote_goes : (e : Effect) (u : Ticket) (w : Vote) (i : CountsVote place n h c u w) → turns.Consents w
+  pub vote_goes : (e : Effect) (u : Ticket) (w : Vote) (i : CountsVote place n h c u w) → CoordinatorTurns.Consents w
       → e.accepts ≡ [] → e.counts ≡ (c, (u, w)) ∷ [] → (ph : Phase) → Goes turn ph → is_begun ph ≡ true
       → Hears turn e
   vote_goes e u w i k none one ph s b =
-      of_goes e ph (ap is_live (votes.phase turn u w i)) s b (heard w (same_ticket u t) p0)
+      of_goes e ph (ap is_live (Votes.phase turn u w i)) s b (heard w (same_ticket u t) p0)
       (heard_vote e u w none one) refl refl refl refl
-      (votes.hears turn u w i k)
+      (Votes.hears turn u w i k)
 
   -- JOINED is accepted
   pub joined_goes : (u : Ticket) → HearsMessage h (Joined c u) → v.standing ≡ Active
@@ -127,19 +127,19 @@ module _ (turn : Turn) where
     phase = Open;
     accepted = p0.accepted || same_ticket u t;
     acked = p0.acked;
-    says = active.joined_says turn u i e f;
+    says = OwnActive.joined_says turn u i e f;
     half_then = record p0 { took_part = same_ticket u t || p0.took_part };
     is = rw (one, none) (simp (same_case-refl, or-false));
     same_phase = refl;
     same_begun = refl;
     fits = subst (λ (x : Reading). Fits_in turn x) (sym (by_test (same_ticket u t)))
-        (active.accepts_fits turn u i e (same_ticket u t) refl);
+        (OwnActive.accepts_fits turn u i e (same_ticket u t) refl);
     lives = λ l. refl;
     rests = λ l x. absurd (let z = sym (active_live e) ∙ l in cc);
   }
     where
       by_test : (b : Bool) → seen turn o0
           (record p0 { accepted = p0.accepted || b; acked = p0.acked; took_part = b || p0.took_part }) v0
-          ≡ (if b then move.accepts (reading turn) else reading turn)
+          ≡ (if b then ParentMoves.accepts (reading turn) else reading turn)
       by_test true = simp (or-true)
       by_test false = simp (or-false)

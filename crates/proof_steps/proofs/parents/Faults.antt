@@ -6,12 +6,12 @@ use Rattle.std.proofs.lemmas.List.Folds.{list_any-append}
 use Rattle.protocol.specs.declared.names.Case.{Case}
 use Rattle.protocol.specs.declared.names.Ticket.{Ticket}
 use Rattle.protocol.specs.declared.records.Record.{Record}
-use Rattle.protocol.specs.declared.standings.Vote.TheVariants.{Yes as VoteYes, No as VoteNo, Read as VoteRead}
+use Rattle.protocol_words.specs.Variants.{VoteNo, VoteRead, VoteYes}
 use Rattle.protocol.specs.Records.{has, is_collecting, is_prepare, is_commit, is_abort, is_end}
 use Rattle.protocol.specs.Nodes.{Role, AtRoot, Below, AtLeaf, Node, Heard, Effect, fails_in, entries_written, kept}
 use Rattle.protocol.specs.Memory.{Phase}
 use Rattle.proof_pairs.specs.Reading.{Reading, Closed}
-use Rattle.proof_pairs.specs.ParentCrash as crash
+use Rattle.proof_pairs.specs.ParentCrash
 use Rattle.proof_pairs.specs.ParentCrash.{ParentFront, IsParentFront}
 use Rattle.proof_pairs.specs.readings.ReadingOf.{ParentHalf, ChildHalf, Wire, parent_half, reading_from}
 use Rattle.proof_pairs.proofs.readings.Lists.{has-push_behind, has-nil_behind}
@@ -21,7 +21,7 @@ use Rattle.proof_processes.proofs.Tests.{has-cons, in_first, either, left, right
 use Rattle.proof_steps.proofs.children.Moves.{Fits, onward}
 use Rattle.proof_steps.proofs.parents.Halves.{half_of}
 use Rattle.proof_steps.proofs.parents.Known.{clash}
-use Rattle.proof_steps.proofs.parents.Moves as moves
+use Rattle.proof_steps.proofs.parents.Moves
 use Rattle.proof_steps.proofs.parents.Turns.{Turn, is_top, Fits_in, seen, half, net_part, told_outcome, reading, at_root}
 use Rattle.proof_steps.proofs.parents.Writes.{wrote, counts_so, accepts_so, begun_after}
 
@@ -156,7 +156,7 @@ pub reading-cut : (root manager above o : Bool) (k : ChildHalf) (front : ParentF
     (v : Wire)
     → (front.commit ≡ true → p.commit_kept ≡ true) → (front.own_prepare ≡ true → p.own_prepare_kept ≡ true)
     → reading_from root manager ((root && front.commit) || o) above (cut front p) k v
-    ≡ crash.hardens_failed_parent front (reading_from root manager o above p k v)
+    ≡ ParentCrash.hardens_failed_parent front (reading_from root manager o above p k v)
 reading-cut true manager above o k front p v f g = simp (implied_root front.commit p.commit_kept o f)
 reading-cut false manager above o k front p v f g = simp
     (implied front.own_prepare p.own_prepare_kept p.own_prepare_ever g)
@@ -263,6 +263,6 @@ module _ (turn : Turn) where
         (subst (λ (y : Reading). Fits_in turn y)
         (sym (reading-cut (at_root turn) manager above (told_outcome turn) k front q v0
         (λ i. sym commit_is ∙ in_kept (is_commit c) i) (λ i. sym prepare_is ∙ in_kept (is_prepare c) i)))
-        (onward c.txn.presumption (reading turn) r (crash.hardens_failed_parent front r) fits
-        (moves.hardens_failed c.txn.presumption front r fits.invariant
+        (onward c.txn.presumption (reading turn) r (ParentCrash.hardens_failed_parent front r) fits
+        (Moves.hardens_failed c.txn.presumption front r fits.invariant
         (record { failed = down_so; front_of = is_front })))))

@@ -6,12 +6,12 @@ use Rattle.protocol.specs.declared.names.Ticket.{Ticket}
 use Rattle.protocol.specs.declared.names.Presumption.{Presumption}
 use Rattle.protocol.specs.declared.names.Presumption.TheVariants.{PresumeAbort, PresumeCommit}
 use Rattle.protocol.specs.declared.standings.Standing.{Standing}
-use Rattle.protocol.specs.declared.standings.Standing.TheVariants.{Unknown, Active as ActiveStanding, Collecting as CollectingStanding, Prepared, Committing, Aborting, Heuristic}
-use Rattle.protocol.specs.declared.standings.Vote.TheVariants.{Yes as VoteYes, No as VoteNo, Read as VoteRead}
+use Rattle.protocol.specs.declared.standings.Standing.TheVariants.{Unknown, Prepared, Committing, Aborting, Heuristic}
+use Rattle.protocol_words.specs.Variants.{ActiveStanding, CollectingStanding, VoteNo, VoteRead, VoteYes}
 use Rattle.protocol.specs.Names.{same_txn}
 use Rattle.protocol.specs.Records.{has, in_list, is_collecting, is_prepare, is_commit, is_abort, is_end}
 use Rattle.protocol.specs.Nodes.{Place, Role, AtRoot, Below, AtLeaf, Node, kept, IsCoordinator}
-use Rattle.protocol.specs.Memory.{Memory, Phase as MemoryPhase, Idle, Open, Asked, Over, memory_of, has_acked, same_vote}
+use Rattle.protocol.specs.Memory.{Memory, Phase, Idle, Open, Asked, Over, memory_of, has_acked, same_vote}
 use Rattle.protocol.specs.Outcomes.{has_accepted, has_heard_vote, follows, is_told_aborted}
 use Rattle.protocol.specs.Standings.{coordinator_view, standing_in, standing_of, phase_standing}
 use Rattle.protocol.specs.Views.{IsOpenAlike}
@@ -22,18 +22,18 @@ use Rattle.proof_processes.proofs.Cases.{viewed}
 use Rattle.proof_processes.proofs.Phases.{standing_at, active_unrecorded, unrecorded_stands}
 
 -- what a process that is up says of a case that it remembers so
-abbrev pub live_phase : MemoryPhase → HeldPhase
+abbrev pub live_phase : Phase → HeldPhase
 live_phase Idle = Closed
 live_phase Open = Active
 live_phase Asked = Collecting
 live_phase Over = Closed
 
-abbrev pub phase_of : Bool → MemoryPhase → HeldPhase
+abbrev pub phase_of : Bool → Phase → HeldPhase
 phase_of true ph = Closed
 phase_of false ph = live_phase ph
 
 -- the half by the phase, whether the ticket is remembered as accepted, and whether its ACK is
-abbrev pub half_of : MemoryPhase → Bool → Bool → Node → Case → Ticket → ParentHalf
+abbrev pub half_of : Phase → Bool → Bool → Node → Case → Ticket → ParentHalf
 half_of ph accepted acked n c t = record {
   failed = n.failed;
   phase = phase_of n.failed ph;
@@ -74,7 +74,7 @@ by_phase : (s : Standing) (m : Memory) (n : Node) (c : Case) (t : Ticket)
 by_phase s m n c t e = rw e refl
 
 -- an Active case is open
-open_if_active : (p : Presumption) (ph : MemoryPhase) → phase_standing p ph ≡ ActiveStanding → ph ≡ Open
+open_if_active : (p : Presumption) (ph : Phase) → phase_standing p ph ≡ ActiveStanding → ph ≡ Open
 open_if_active p Open e = refl
 open_if_active PresumeAbort Idle e = absurd (cc)
 open_if_active PresumeCommit Idle e = absurd (cc)
@@ -103,7 +103,7 @@ closed_so Committing f g = refl
 closed_so Aborting f g = refl
 closed_so Heuristic f g = refl
 
-phases : (s : Standing) (ph : MemoryPhase) → (s ≡ ActiveStanding → ph ≡ Open)
+phases : (s : Standing) (ph : Phase) → (s ≡ ActiveStanding → ph ≡ Open)
     → (ph ≡ Open → s ≡ ActiveStanding)
     → (ph ≡ Asked → s ≡ CollectingStanding) → (s ≡ CollectingStanding → ph ≡ Asked)
     → phase_by false s ≡ live_phase ph
@@ -118,7 +118,7 @@ stands_in AtRoot place n c i = refl
 stands_in (Below p) place n c i = refl
 stands_in (AtLeaf p) place n c i = absurd i
 
-at_failed : (b : Bool) (s : Standing) (ph : MemoryPhase) → b ≡ false → phase_by false s ≡ live_phase ph
+at_failed : (b : Bool) (s : Standing) (ph : Phase) → b ≡ false → phase_by false s ≡ live_phase ph
     → phase_by b s ≡ phase_of b ph
 at_failed false s ph e f = f
 at_failed true s ph e f = absurd (cc)
@@ -136,7 +136,7 @@ half_is place n c t up role alike =
     (phases v m.phase (active_is_open place n c) alike.open_is_active alike.asked_is_collecting
     alike.collecting_is_asked))
 
-at_down : (b : Bool) (s : Standing) (ph : MemoryPhase) → b ≡ true → phase_by b s ≡ phase_of b ph
+at_down : (b : Bool) (s : Standing) (ph : Phase) → b ≡ true → phase_by b s ≡ phase_of b ph
 at_down true s ph e = refl
 at_down false s ph e = absurd (cc)
 

@@ -10,7 +10,7 @@ use Rattle.protocol.specs.declared.messages.Message.{Message}
 use Rattle.protocol.specs.declared.messages.Message.TheVariants.{Joined}
 use Rattle.protocol.specs.declared.messages.Envelope.{Envelope}
 use Rattle.protocol.specs.declared.records.Record.{Record}
-use Rattle.protocol.specs.declared.records.Record.TheVariants.{Collecting as CollectingRecord, Prepare as PrepareRecord, Commit as CommitRecord, Abort as AbortRecord}
+use Rattle.protocol_words.specs.Variants.{AbortRecord, CollectingRecord, CommitRecord, PrepareRecord}
 use Rattle.protocol.specs.Names.{same_case, same_ticket}
 use Rattle.protocol.specs.NameLaws.{same_case_tells}
 use Rattle.protocol.specs.Records.{has, in_list, named_in, named_by}

@@ -10,10 +10,9 @@ use Rattle.protocol.specs.declared.messages.Message.{Message}
 use Rattle.protocol.specs.declared.messages.Message.TheVariants.{Join, Joined, Work, Prepare, Commit, Abort, Ack, Inquire}
 use Rattle.protocol.specs.declared.messages.Op.{Op}
 use Rattle.protocol.specs.declared.standings.Vote.{Vote}
-use Rattle.protocol.specs.declared.standings.Vote.TheVariants.{Yes as VoteYes, No as VoteNo, Read as VoteRead}
-use Rattle.protocol.specs.declared.events.Act.TheVariants.{Begin, Join as JoinAct, Work as WorkAct, Commit as CommitAct, Abort as AbortAct, Ask, Forget}
+use Rattle.protocol_words.specs.Variants.{AbortAct, ActInput, CommitAct, JoinAct, MessageInput, VoteNo, VoteRead, VoteYes, WorkAct}
+use Rattle.protocol.specs.declared.events.Act.TheVariants.{Begin, Ask, Forget}
 use Rattle.protocol.specs.declared.events.Input.{Input}
-use Rattle.protocol.specs.declared.events.Input.TheVariants.{Act as ActInput, Message as MessageInput}
 use Rattle.protocol.specs.Names.{same_case, same_txn, child_case, root_case}
 use Rattle.protocol.specs.Records.{boot_of, in_list}
 use Rattle.protocol.specs.Nodes.{Role, AtRoot, Below, kept}

@@ -4,18 +4,18 @@ use Rattle.std.proofs.Common.{◌≡◌, false}
 use Rattle.protocol.specs.declared.names.Presumption.{Presumption}
 use Rattle.protocol.specs.declared.names.Presumption.TheVariants.{PresumeAbort, PresumeCommit}
 use Rattle.proof_pairs.specs.Reading.{Reading}
-use Rattle.proof_pairs.specs.ParentMoves as move
-use Rattle.proof_pairs.specs.RootMoves as root
-use Rattle.proof_pairs.specs.CascadedMoves as below
-use Rattle.proof_pairs.specs.ParentCrash as crash
-use Rattle.proof_pairs.proofs.ParentAbort as parent_abort
-use Rattle.proof_pairs.proofs.ParentCommit as parent_commit
-use Rattle.proof_pairs.proofs.RootAbort as root_abort
-use Rattle.proof_pairs.proofs.RootCommit as root_commit
-use Rattle.proof_pairs.proofs.CascadedAbort as cascaded_abort
-use Rattle.proof_pairs.proofs.CascadedCommit as cascaded_commit
-use Rattle.proof_pairs.proofs.ParentCrashAbort as crash_abort
-use Rattle.proof_pairs.proofs.ParentCrashCommit as crash_commit
+use Rattle.proof_pairs.specs.ParentMoves
+use Rattle.proof_pairs.specs.RootMoves
+use Rattle.proof_pairs.specs.CascadedMoves
+use Rattle.proof_pairs.specs.ParentCrash
+use Rattle.proof_pairs.proofs.ParentAbort
+use Rattle.proof_pairs.proofs.ParentCommit
+use Rattle.proof_pairs.proofs.RootAbort
+use Rattle.proof_pairs.proofs.RootCommit
+use Rattle.proof_pairs.proofs.CascadedAbort
+use Rattle.proof_pairs.proofs.CascadedCommit
+use Rattle.proof_pairs.proofs.ParentCrashAbort
+use Rattle.proof_pairs.proofs.ParentCrashCommit
 use Rattle.proof_processes.specs.WorldHolds.{InvariantOf}
 use Rattle.proof_steps.proofs.children.Moves.{Fits}
 
@@ -23,220 +23,220 @@ abbrev Keeps : Presumption → (Reading → Type 0) → (Reading → Reading) �
 Keeps pr May step = (r : Reading) → InvariantOf pr r → May r → Fits pr r (step r)
 
 pub hardens : (pr : Presumption) (r : Reading) → InvariantOf pr r → r.failed ≡ false
-    → Fits pr r (move.hardens_parent r)
-hardens PresumeAbort r h up = parent_abort.hardens_parent r h (record { up = up })
-hardens PresumeCommit r h up = parent_commit.hardens_parent r h (record { up = up })
+    → Fits pr r (ParentMoves.hardens_parent r)
+hardens PresumeAbort r h up = ParentAbort.hardens_parent r h (record { up = up })
+hardens PresumeCommit r h up = ParentCommit.hardens_parent r h (record { up = up })
 
-pub hardens_failed : (pr : Presumption) (front : crash.ParentFront) (r : Reading) → InvariantOf pr r
-    → crash.MayHardenFailedParent front r → Fits pr r (crash.hardens_failed_parent front r)
-hardens_failed PresumeAbort front r h g = crash_abort.hardens_failed_parent front r h g
-hardens_failed PresumeCommit front r h g = crash_commit.hardens_failed_parent front r h g
+pub hardens_failed : (pr : Presumption) (front : ParentCrash.ParentFront) (r : Reading) → InvariantOf pr r
+    → ParentCrash.MayHardenFailedParent front r → Fits pr r (ParentCrash.hardens_failed_parent front r)
+hardens_failed PresumeAbort front r h g = ParentCrashAbort.hardens_failed_parent front r h g
+hardens_failed PresumeCommit front r h g = ParentCrashCommit.hardens_failed_parent front r h g
 
-pub accepts : (pr : Presumption) → Keeps pr move.MayAccept move.accepts
-accepts PresumeAbort r h g = parent_abort.accepts r h g
-accepts PresumeCommit r h g = parent_commit.accepts r h g
+pub accepts : (pr : Presumption) → Keeps pr ParentMoves.MayAccept ParentMoves.accepts
+accepts PresumeAbort r h g = ParentAbort.accepts r h g
+accepts PresumeCommit r h g = ParentCommit.accepts r h g
 
-pub hears_yes : (pr : Presumption) → Keeps pr move.MayHearYes move.hears_yes
-hears_yes PresumeAbort r h g = parent_abort.hears_yes r h g
-hears_yes PresumeCommit r h g = parent_commit.hears_yes r h g
+pub hears_yes : (pr : Presumption) → Keeps pr ParentMoves.MayHearYes ParentMoves.hears_yes
+hears_yes PresumeAbort r h g = ParentAbort.hears_yes r h g
+hears_yes PresumeCommit r h g = ParentCommit.hears_yes r h g
 
-pub hears_read : (pr : Presumption) → Keeps pr move.MayHearRead move.hears_read
-hears_read PresumeAbort r h g = parent_abort.hears_read r h g
-hears_read PresumeCommit r h g = parent_commit.hears_read r h g
+pub hears_read : (pr : Presumption) → Keeps pr ParentMoves.MayHearRead ParentMoves.hears_read
+hears_read PresumeAbort r h g = ParentAbort.hears_read r h g
+hears_read PresumeCommit r h g = ParentCommit.hears_read r h g
 
-pub gives_up : (pr : Presumption) → Keeps pr move.MayGiveUp move.gives_up
-gives_up PresumeAbort r h g = parent_abort.gives_up r h g
-gives_up PresumeCommit r h g = parent_commit.gives_up r h g
+pub gives_up : (pr : Presumption) → Keeps pr ParentMoves.MayGiveUp ParentMoves.gives_up
+gives_up PresumeAbort r h g = ParentAbort.gives_up r h g
+gives_up PresumeCommit r h g = ParentCommit.gives_up r h g
 
-pub hears_ack : (pr : Presumption) → Keeps pr move.MayHearAck move.hears_ack
-hears_ack PresumeAbort r h g = parent_abort.hears_ack r h g
-hears_ack PresumeCommit r h g = parent_commit.hears_ack r h g
+pub hears_ack : (pr : Presumption) → Keeps pr ParentMoves.MayHearAck ParentMoves.hears_ack
+hears_ack PresumeAbort r h g = ParentAbort.hears_ack r h g
+hears_ack PresumeCommit r h g = ParentCommit.hears_ack r h g
 
-pub begins : (pr : Presumption) → Keeps pr root.MayBegin root.begins
-begins PresumeAbort r h g = root_abort.begins r h g
-begins PresumeCommit r h g = root_commit.begins r h g
+pub begins : (pr : Presumption) → Keeps pr RootMoves.MayBegin RootMoves.begins
+begins PresumeAbort r h g = RootAbort.begins r h g
+begins PresumeCommit r h g = RootCommit.begins r h g
 
-pub ends_empty : (pr : Presumption) → Keeps pr root.MayEndEmpty root.ends_empty
-ends_empty PresumeAbort r h g = root_abort.ends_empty r h g
-ends_empty PresumeCommit r h g = root_commit.ends_empty r h g
+pub ends_empty : (pr : Presumption) → Keeps pr RootMoves.MayEndEmpty RootMoves.ends_empty
+ends_empty PresumeAbort r h g = RootAbort.ends_empty r h g
+ends_empty PresumeCommit r h g = RootCommit.ends_empty r h g
 
-pub is_born : (pr : Presumption) → Keeps pr below.MayBeBorn below.is_born
-is_born PresumeAbort r h g = cascaded_abort.is_born r h g
-is_born PresumeCommit r h g = cascaded_commit.is_born r h g
+pub is_born : (pr : Presumption) → Keeps pr CascadedMoves.MayBeBorn CascadedMoves.is_born
+is_born PresumeAbort r h g = CascadedAbort.is_born r h g
+is_born PresumeCommit r h g = CascadedCommit.is_born r h g
 
-pub reads_empty : (pr : Presumption) → Keeps pr below.MayReadEmpty below.reads_empty
-reads_empty PresumeAbort r h g = cascaded_abort.reads_empty r h g
-reads_empty PresumeCommit r h g = cascaded_commit.reads_empty r h g
+pub reads_empty : (pr : Presumption) → Keeps pr CascadedMoves.MayReadEmpty CascadedMoves.reads_empty
+reads_empty PresumeAbort r h g = CascadedAbort.reads_empty r h g
+reads_empty PresumeCommit r h g = CascadedCommit.reads_empty r h g
 
-pub promises : (pr : Presumption) → Keeps pr below.MayPromise below.promises
-promises PresumeAbort r h g = cascaded_abort.promises r h g
-promises PresumeCommit r h g = cascaded_commit.promises r h g
+pub promises : (pr : Presumption) → Keeps pr CascadedMoves.MayPromise CascadedMoves.promises
+promises PresumeAbort r h g = CascadedAbort.promises r h g
+promises PresumeCommit r h g = CascadedCommit.promises r h g
 
-pub parent_fails : (pr : Presumption) → Keeps pr crash.MayFailParent crash.parent_fails
-parent_fails PresumeAbort r h g = crash_abort.parent_fails r h g
-parent_fails PresumeCommit r h g = crash_commit.parent_fails r h g
+pub parent_fails : (pr : Presumption) → Keeps pr ParentCrash.MayFailParent ParentCrash.parent_fails
+parent_fails PresumeAbort r h g = ParentCrashAbort.parent_fails r h g
+parent_fails PresumeCommit r h g = ParentCrashCommit.parent_fails r h g
 
-pub fails_to_hear_no : (pr : Presumption) → Keeps pr move.MayHearNo crash.fails_to_hear_no
-fails_to_hear_no PresumeAbort r h g = crash_abort.fails_to_hear_no r h g
-fails_to_hear_no PresumeCommit r h g = crash_commit.fails_to_hear_no r h g
+pub fails_to_hear_no : (pr : Presumption) → Keeps pr ParentMoves.MayHearNo ParentCrash.fails_to_hear_no
+fails_to_hear_no PresumeAbort r h g = ParentCrashAbort.fails_to_hear_no r h g
+fails_to_hear_no PresumeCommit r h g = ParentCrashCommit.fails_to_hear_no r h g
 
-pub fails_at_no : (pr : Presumption) → Keeps pr move.MayHearNo crash.fails_at_no
-fails_at_no PresumeAbort r h g = crash_abort.fails_at_no r h g
-fails_at_no PresumeCommit r h g = crash_commit.fails_at_no r h g
+pub fails_at_no : (pr : Presumption) → Keeps pr ParentMoves.MayHearNo ParentCrash.fails_at_no
+fails_at_no PresumeAbort r h g = ParentCrashAbort.fails_at_no r h g
+fails_at_no PresumeCommit r h g = ParentCrashCommit.fails_at_no r h g
 
-pub fails_to_promise_up : (pr : Presumption) → Keeps pr below.MayPromise crash.fails_to_promise_up
-fails_to_promise_up PresumeAbort r h g = crash_abort.fails_to_promise_up r h g
-fails_to_promise_up PresumeCommit r h g = crash_commit.fails_to_promise_up r h g
+pub fails_to_promise_up : (pr : Presumption) → Keeps pr CascadedMoves.MayPromise ParentCrash.fails_to_promise_up
+fails_to_promise_up PresumeAbort r h g = ParentCrashAbort.fails_to_promise_up r h g
+fails_to_promise_up PresumeCommit r h g = ParentCrashCommit.fails_to_promise_up r h g
 
-pub asks_for_votes : (pr : Presumption) → pr ≡ PresumeAbort → Keeps pr move.MayAskForVotes move.asks_for_votes
-asks_for_votes PresumeAbort e r h g = parent_abort.asks_for_votes r h g
+pub asks_for_votes : (pr : Presumption) → pr ≡ PresumeAbort → Keeps pr ParentMoves.MayAskForVotes ParentMoves.asks_for_votes
+asks_for_votes PresumeAbort e r h g = ParentAbort.asks_for_votes r h g
 asks_for_votes PresumeCommit e r h g = absurd (cc)
 
 pub collects_votes : (pr : Presumption) → pr ≡ PresumeCommit
-    → Keeps pr move.MayAskForVotes move.collects_votes
-collects_votes PresumeCommit e r h g = parent_commit.asks_for_votes r h g
+    → Keeps pr ParentMoves.MayAskForVotes ParentMoves.collects_votes
+collects_votes PresumeCommit e r h g = ParentCommit.asks_for_votes r h g
 collects_votes PresumeAbort e r h g = absurd (cc)
 
-pub hears_no : (pr : Presumption) → pr ≡ PresumeAbort → Keeps pr move.MayHearNo move.hears_no
-hears_no PresumeAbort e r h g = parent_abort.hears_no r h g
+pub hears_no : (pr : Presumption) → pr ≡ PresumeAbort → Keeps pr ParentMoves.MayHearNo ParentMoves.hears_no
+hears_no PresumeAbort e r h g = ParentAbort.hears_no r h g
 hears_no PresumeCommit e r h g = absurd (cc)
 
-pub hears_no_forced : (pr : Presumption) → pr ≡ PresumeCommit → Keeps pr move.MayHearNo move.hears_no_forced
-hears_no_forced PresumeCommit e r h g = parent_commit.hears_no r h g
+pub hears_no_forced : (pr : Presumption) → pr ≡ PresumeCommit → Keeps pr ParentMoves.MayHearNo ParentMoves.hears_no_forced
+hears_no_forced PresumeCommit e r h g = ParentCommit.hears_no r h g
 hears_no_forced PresumeAbort e r h g = absurd (cc)
 
-pub aborts : (pr : Presumption) → pr ≡ PresumeAbort → Keeps pr move.MayAbort move.aborts
-aborts PresumeAbort e r h g = parent_abort.aborts r h g
+pub aborts : (pr : Presumption) → pr ≡ PresumeAbort → Keeps pr ParentMoves.MayAbort ParentMoves.aborts
+aborts PresumeAbort e r h g = ParentAbort.aborts r h g
 aborts PresumeCommit e r h g = absurd (cc)
 
-pub aborts_forced : (pr : Presumption) → pr ≡ PresumeCommit → Keeps pr move.MayAbort move.aborts_forced
-aborts_forced PresumeCommit e r h g = parent_commit.aborts r h g
+pub aborts_forced : (pr : Presumption) → pr ≡ PresumeCommit → Keeps pr ParentMoves.MayAbort ParentMoves.aborts_forced
+aborts_forced PresumeCommit e r h g = ParentCommit.aborts r h g
 aborts_forced PresumeAbort e r h g = absurd (cc)
 
-pub ends_commit : (pr : Presumption) → pr ≡ PresumeAbort → Keeps pr move.MayEndCommit move.ends
-ends_commit PresumeAbort e r h g = parent_abort.ends r h g
+pub ends_commit : (pr : Presumption) → pr ≡ PresumeAbort → Keeps pr ParentMoves.MayEndCommit ParentMoves.ends
+ends_commit PresumeAbort e r h g = ParentAbort.ends r h g
 ends_commit PresumeCommit e r h g = absurd (cc)
 
-pub ends_abort : (pr : Presumption) → pr ≡ PresumeCommit → Keeps pr move.MayEndAbort move.ends
-ends_abort PresumeCommit e r h g = parent_commit.ends r h g
+pub ends_abort : (pr : Presumption) → pr ≡ PresumeCommit → Keeps pr ParentMoves.MayEndAbort ParentMoves.ends
+ends_abort PresumeCommit e r h g = ParentCommit.ends r h g
 ends_abort PresumeAbort e r h g = absurd (cc)
 
 pub answers_commit : (pr : Presumption) → pr ≡ PresumeAbort
-    → Keeps pr move.MayAnswerCommit move.answers_commit
-answers_commit PresumeAbort e r h g = parent_abort.answers_commit r h g
+    → Keeps pr ParentMoves.MayAnswerCommit ParentMoves.answers_commit
+answers_commit PresumeAbort e r h g = ParentAbort.answers_commit r h g
 answers_commit PresumeCommit e r h g = absurd (cc)
 
-pub answers_abort : (pr : Presumption) → pr ≡ PresumeCommit → Keeps pr move.MayAnswerAbort move.answers_abort
-answers_abort PresumeCommit e r h g = parent_commit.answers_abort r h g
+pub answers_abort : (pr : Presumption) → pr ≡ PresumeCommit → Keeps pr ParentMoves.MayAnswerAbort ParentMoves.answers_abort
+answers_abort PresumeCommit e r h g = ParentCommit.answers_abort r h g
 answers_abort PresumeAbort e r h g = absurd (cc)
 
-pub presumes_abort : (pr : Presumption) → pr ≡ PresumeAbort → Keeps pr move.MayPresumeAbort move.answers_abort
-presumes_abort PresumeAbort e r h g = parent_abort.presumes r h g
+pub presumes_abort : (pr : Presumption) → pr ≡ PresumeAbort → Keeps pr ParentMoves.MayPresumeAbort ParentMoves.answers_abort
+presumes_abort PresumeAbort e r h g = ParentAbort.presumes r h g
 presumes_abort PresumeCommit e r h g = absurd (cc)
 
 pub presumes_commit : (pr : Presumption) → pr ≡ PresumeCommit
-    → Keeps pr move.MayPresumeCommit move.answers_commit
-presumes_commit PresumeCommit e r h g = parent_commit.presumes r h g
+    → Keeps pr ParentMoves.MayPresumeCommit ParentMoves.answers_commit
+presumes_commit PresumeCommit e r h g = ParentCommit.presumes r h g
 presumes_commit PresumeAbort e r h g = absurd (cc)
 
-pub ends_read_only : (pr : Presumption) → pr ≡ PresumeAbort → Keeps pr root.MayEndReadOnly root.ends_read_only
-ends_read_only PresumeAbort e r h g = root_abort.ends_read_only r h g
+pub ends_read_only : (pr : Presumption) → pr ≡ PresumeAbort → Keeps pr RootMoves.MayEndReadOnly RootMoves.ends_read_only
+ends_read_only PresumeAbort e r h g = RootAbort.ends_read_only r h g
 ends_read_only PresumeCommit e r h g = absurd (cc)
 
 pub ends_read_only_collected : (pr : Presumption) → pr ≡ PresumeCommit
-    → Keeps pr root.MayEndReadOnly root.ends_read_only_collected
-ends_read_only_collected PresumeCommit e r h g = root_commit.ends_read_only r h g
+    → Keeps pr RootMoves.MayEndReadOnly RootMoves.ends_read_only_collected
+ends_read_only_collected PresumeCommit e r h g = RootCommit.ends_read_only r h g
 ends_read_only_collected PresumeAbort e r h g = absurd (cc)
 
-pub decides_naming : (pr : Presumption) → pr ≡ PresumeAbort → Keeps pr root.MayDecide root.decides_naming
-decides_naming PresumeAbort e r h g = root_abort.decides r h g
+pub decides_naming : (pr : Presumption) → pr ≡ PresumeAbort → Keeps pr RootMoves.MayDecide RootMoves.decides_naming
+decides_naming PresumeAbort e r h g = RootAbort.decides r h g
 decides_naming PresumeCommit e r h g = absurd (cc)
 
-pub decides : (pr : Presumption) → pr ≡ PresumeCommit → Keeps pr root.MayDecide root.decides
-decides PresumeCommit e r h g = root_commit.decides r h g
+pub decides : (pr : Presumption) → pr ≡ PresumeCommit → Keeps pr RootMoves.MayDecide RootMoves.decides
+decides PresumeCommit e r h g = RootCommit.decides r h g
 decides PresumeAbort e r h g = absurd (cc)
 
-pub reads_up : (pr : Presumption) → pr ≡ PresumeAbort → Keeps pr below.MayReadUp below.reads_up
-reads_up PresumeAbort e r h g = cascaded_abort.reads_up r h g
+pub reads_up : (pr : Presumption) → pr ≡ PresumeAbort → Keeps pr CascadedMoves.MayReadUp CascadedMoves.reads_up
+reads_up PresumeAbort e r h g = CascadedAbort.reads_up r h g
 reads_up PresumeCommit e r h g = absurd (cc)
 
 pub reads_up_collected : (pr : Presumption) → pr ≡ PresumeCommit
-    → Keeps pr below.MayReadUp below.reads_up_collected
-reads_up_collected PresumeCommit e r h g = cascaded_commit.reads_up r h g
+    → Keeps pr CascadedMoves.MayReadUp CascadedMoves.reads_up_collected
+reads_up_collected PresumeCommit e r h g = CascadedCommit.reads_up r h g
 reads_up_collected PresumeAbort e r h g = absurd (cc)
 
 pub passes_commit_forced : (pr : Presumption) → pr ≡ PresumeAbort
-    → Keeps pr below.MayPassCommit below.passes_commit_forced
-passes_commit_forced PresumeAbort e r h g = cascaded_abort.passes_commit r h g
+    → Keeps pr CascadedMoves.MayPassCommit CascadedMoves.passes_commit_forced
+passes_commit_forced PresumeAbort e r h g = CascadedAbort.passes_commit r h g
 passes_commit_forced PresumeCommit e r h g = absurd (cc)
 
-pub passes_commit : (pr : Presumption) → pr ≡ PresumeCommit → Keeps pr below.MayPassCommit below.passes_commit
-passes_commit PresumeCommit e r h g = cascaded_commit.passes_commit r h g
+pub passes_commit : (pr : Presumption) → pr ≡ PresumeCommit → Keeps pr CascadedMoves.MayPassCommit CascadedMoves.passes_commit
+passes_commit PresumeCommit e r h g = CascadedCommit.passes_commit r h g
 passes_commit PresumeAbort e r h g = absurd (cc)
 
-pub passes_abort : (pr : Presumption) → pr ≡ PresumeAbort → Keeps pr below.MayPassAbort below.passes_abort
-passes_abort PresumeAbort e r h g = cascaded_abort.passes_abort r h g
+pub passes_abort : (pr : Presumption) → pr ≡ PresumeAbort → Keeps pr CascadedMoves.MayPassAbort CascadedMoves.passes_abort
+passes_abort PresumeAbort e r h g = CascadedAbort.passes_abort r h g
 passes_abort PresumeCommit e r h g = absurd (cc)
 
 pub passes_abort_forced : (pr : Presumption) → pr ≡ PresumeCommit
-    → Keeps pr below.MayPassAbort below.passes_abort_forced
-passes_abort_forced PresumeCommit e r h g = cascaded_commit.passes_abort r h g
+    → Keeps pr CascadedMoves.MayPassAbort CascadedMoves.passes_abort_forced
+passes_abort_forced PresumeCommit e r h g = CascadedCommit.passes_abort r h g
 passes_abort_forced PresumeAbort e r h g = absurd (cc)
 
 pub fails_to_collect : (pr : Presumption) → pr ≡ PresumeCommit
-    → Keeps pr crash.MayFailToCollect crash.fails_to_collect
-fails_to_collect PresumeCommit e r h g = crash_commit.fails_to_collect r h g
+    → Keeps pr ParentCrash.MayFailToCollect ParentCrash.fails_to_collect
+fails_to_collect PresumeCommit e r h g = ParentCrashCommit.fails_to_collect r h g
 fails_to_collect PresumeAbort e r h g = absurd (cc)
 
-pub fails_to_abort : (pr : Presumption) → pr ≡ PresumeAbort → Keeps pr move.MayAbort crash.fails_to_abort
-fails_to_abort PresumeAbort e r h g = crash_abort.fails_to_abort r h g
+pub fails_to_abort : (pr : Presumption) → pr ≡ PresumeAbort → Keeps pr ParentMoves.MayAbort ParentCrash.fails_to_abort
+fails_to_abort PresumeAbort e r h g = ParentCrashAbort.fails_to_abort r h g
 fails_to_abort PresumeCommit e r h g = absurd (cc)
 
 pub fails_to_abort_naming : (pr : Presumption) → pr ≡ PresumeCommit
-    → Keeps pr move.MayAbort crash.fails_to_abort_naming
-fails_to_abort_naming PresumeCommit e r h g = crash_commit.fails_to_abort r h g
+    → Keeps pr ParentMoves.MayAbort ParentCrash.fails_to_abort_naming
+fails_to_abort_naming PresumeCommit e r h g = ParentCrashCommit.fails_to_abort r h g
 fails_to_abort_naming PresumeAbort e r h g = absurd (cc)
 
 pub fails_to_end_read_only : (pr : Presumption) → pr ≡ PresumeCommit
-    → Keeps pr crash.MayFailToEndReadOnly crash.fails_to_end_read_only
-fails_to_end_read_only PresumeCommit e r h g = crash_commit.fails_to_end_read_only r h g
+    → Keeps pr ParentCrash.MayFailToEndReadOnly ParentCrash.fails_to_end_read_only
+fails_to_end_read_only PresumeCommit e r h g = ParentCrashCommit.fails_to_end_read_only r h g
 fails_to_end_read_only PresumeAbort e r h g = absurd (cc)
 
 pub fails_to_decide_naming : (pr : Presumption) → pr ≡ PresumeAbort
-    → Keeps pr root.MayDecide crash.fails_to_decide_naming
-fails_to_decide_naming PresumeAbort e r h g = crash_abort.fails_to_decide r h g
+    → Keeps pr RootMoves.MayDecide ParentCrash.fails_to_decide_naming
+fails_to_decide_naming PresumeAbort e r h g = ParentCrashAbort.fails_to_decide r h g
 fails_to_decide_naming PresumeCommit e r h g = absurd (cc)
 
-pub fails_to_decide : (pr : Presumption) → pr ≡ PresumeCommit → Keeps pr root.MayDecide crash.fails_to_decide
-fails_to_decide PresumeCommit e r h g = crash_commit.fails_to_decide r h g
+pub fails_to_decide : (pr : Presumption) → pr ≡ PresumeCommit → Keeps pr RootMoves.MayDecide ParentCrash.fails_to_decide
+fails_to_decide PresumeCommit e r h g = ParentCrashCommit.fails_to_decide r h g
 fails_to_decide PresumeAbort e r h g = absurd (cc)
 
 pub fails_to_pass_commit_naming : (pr : Presumption) → pr ≡ PresumeAbort
-    → Keeps pr below.MayPassCommit crash.fails_to_pass_commit_naming
-fails_to_pass_commit_naming PresumeAbort e r h g = crash_abort.fails_to_pass_commit r h g
+    → Keeps pr CascadedMoves.MayPassCommit ParentCrash.fails_to_pass_commit_naming
+fails_to_pass_commit_naming PresumeAbort e r h g = ParentCrashAbort.fails_to_pass_commit r h g
 fails_to_pass_commit_naming PresumeCommit e r h g = absurd (cc)
 
 pub fails_to_pass_commit : (pr : Presumption) → pr ≡ PresumeCommit
-    → Keeps pr below.MayPassCommit crash.fails_to_pass_commit
-fails_to_pass_commit PresumeCommit e r h g = crash_commit.fails_to_pass_commit r h g
+    → Keeps pr CascadedMoves.MayPassCommit ParentCrash.fails_to_pass_commit
+fails_to_pass_commit PresumeCommit e r h g = ParentCrashCommit.fails_to_pass_commit r h g
 fails_to_pass_commit PresumeAbort e r h g = absurd (cc)
 
 pub fails_to_pass_abort : (pr : Presumption) → pr ≡ PresumeAbort
-    → Keeps pr below.MayPassAbort crash.fails_to_pass_abort
-fails_to_pass_abort PresumeAbort e r h g = crash_abort.fails_to_pass_abort r h g
+    → Keeps pr CascadedMoves.MayPassAbort ParentCrash.fails_to_pass_abort
+fails_to_pass_abort PresumeAbort e r h g = ParentCrashAbort.fails_to_pass_abort r h g
 fails_to_pass_abort PresumeCommit e r h g = absurd (cc)
 
 pub fails_to_pass_abort_naming : (pr : Presumption) → pr ≡ PresumeCommit
-    → Keeps pr below.MayPassAbort crash.fails_to_pass_abort_naming
-fails_to_pass_abort_naming PresumeCommit e r h g = crash_commit.fails_to_pass_abort r h g
+    → Keeps pr CascadedMoves.MayPassAbort ParentCrash.fails_to_pass_abort_naming
+fails_to_pass_abort_naming PresumeCommit e r h g = ParentCrashCommit.fails_to_pass_abort r h g
 fails_to_pass_abort_naming PresumeAbort e r h g = absurd (cc)
 
 pub fails_to_end_commit : (pr : Presumption) → pr ≡ PresumeAbort
-    → Keeps pr move.MayEndCommit crash.fails_to_end
-fails_to_end_commit PresumeAbort e r h g = crash_abort.fails_to_end r h g
+    → Keeps pr ParentMoves.MayEndCommit ParentCrash.fails_to_end
+fails_to_end_commit PresumeAbort e r h g = ParentCrashAbort.fails_to_end r h g
 fails_to_end_commit PresumeCommit e r h g = absurd (cc)
 
 pub fails_to_end_abort : (pr : Presumption) → pr ≡ PresumeCommit
-    → Keeps pr move.MayEndAbort crash.fails_to_end
-fails_to_end_abort PresumeCommit e r h g = crash_commit.fails_to_end r h g
+    → Keeps pr ParentMoves.MayEndAbort ParentCrash.fails_to_end
+fails_to_end_abort PresumeCommit e r h g = ParentCrashCommit.fails_to_end r h g
 fails_to_end_abort PresumeAbort e r h g = absurd (cc)

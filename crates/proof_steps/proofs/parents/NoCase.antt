@@ -7,13 +7,12 @@ use Rattle.protocol.specs.declared.names.ProcessId.{ProcessId}
 use Rattle.protocol.specs.declared.names.Ticket.{Ticket}
 use Rattle.protocol.specs.declared.names.Txn.{Txn}
 use Rattle.protocol.specs.declared.names.Outcome.{Outcome}
-use Rattle.protocol.specs.declared.names.Outcome.TheVariants.{Committed as CommittedOutcome, Aborted as AbortedOutcome}
+use Rattle.protocol_words.specs.Variants.{AbortRecord, AbortedOutcome, CollectingRecord, CommitRecord, CommittedOutcome, PrepareRecord}
 use Rattle.protocol.specs.declared.names.Presumption.{Presumption}
 use Rattle.protocol.specs.declared.names.Presumption.TheVariants.{PresumeAbort, PresumeCommit}
 use Rattle.protocol.specs.declared.messages.Message.{Message}
 use Rattle.protocol.specs.declared.messages.Message.TheVariants.{Join, Work, Prepare, Commit, Abort, Inquire}
 use Rattle.protocol.specs.declared.records.Record.{Record}
-use Rattle.protocol.specs.declared.records.Record.TheVariants.{Collecting as CollectingRecord, Prepare as PrepareRecord, Commit as CommitRecord, Abort as AbortRecord}
 use Rattle.protocol.specs.Names.{same_case, same_ticket, same_txn, child_case, root_case, presumed}
 use Rattle.protocol.specs.NameLaws.{names, same_case_tells, same_ticket_tells, same_txn_tells}
 use Rattle.protocol.specs.Records.{has, has_case, in_list, named_by, named_in, cases_in}
@@ -23,11 +22,11 @@ use Rattle.protocol.specs.CoordinatorRows.{post, tells_outcome}
 use Rattle.protocol.specs.Reactions.{sends_only}
 use Rattle.protocol.specs.Standings.{belongs, case_of_child, own_cases, some_case}
 use Rattle.protocol.specs.Views.{IsOpenAlike}
-use Rattle.proof_pairs.specs.Standing as pair
+use Rattle.proof_pairs.specs.Standing
 use Rattle.proof_pairs.specs.readings.ReadingOf.{ParentHalf, Wire, wire, is_root_ticket, is_inquiry_message}
 use Rattle.protocol.specs.Audits.{is_collecting_naming, is_prepare_naming, is_decision_naming}
 use Rattle.proof_pairs.specs.turns.CoordinatorTurns.{IsOfNoCase, IsNotTaken, ChildSays}
-use Rattle.proof_pairs.specs.turns.CoordinatorTurns as turns
+use Rattle.proof_pairs.specs.turns.CoordinatorTurns
 use Rattle.proof_pairs.specs.turns.LeafTurns.{Hears}
 use Rattle.proof_processes.specs.WorldHolds.{Cascades, RoleHolds, is_record_of}
 use Rattle.protocol.specs.Audits.{is_naming}
@@ -37,14 +36,14 @@ use Rattle.proof_processes.proofs.Tests.{both, either, left, right}
 use Rattle.proof_processes.proofs.Worlds.{has_other}
 use Rattle.proof_steps.proofs.children.Moves.{unmoved}
 use Rattle.proof_steps.proofs.parents.Known.{clash, none_passes, records_name}
-use Rattle.proof_steps.proofs.parents.Memories as by_input
+use Rattle.proof_steps.proofs.parents.Memories
 use Rattle.proof_steps.proofs.parents.Memories.{itself, stays}
-use Rattle.proof_steps.proofs.parents.Moves as moves
+use Rattle.proof_steps.proofs.parents.Moves
 use Rattle.proof_steps.proofs.parents.OwnDecided.{told_wire}
 use Rattle.proof_steps.proofs.parents.Quiet.{DoesNothing, Rests, quiet_fine, begun_silent, shown}
-use Rattle.proof_steps.proofs.parents.Rested as rested
+use Rattle.proof_steps.proofs.parents.Rested
 use Rattle.proof_steps.proofs.parents.Turns.{Turn, Says, IsSeat, is_top, top, under, Fine, Fits_in, seen, remembered, half, net_part, told_outcome, reading, fine_silent}
-use Rattle.proof_steps.proofs.parents.Wires as wires
+use Rattle.proof_steps.proofs.parents.Wires
 use Rattle.proof_steps.proofs.parents.Wires.{same_children}
 use Rattle.proof_steps.proofs.parents.Writes.{stands_so}
 
@@ -228,43 +227,43 @@ module _ (turn : Turn) where
   }
 
   unticketed : (says : Case → Message) (x : Txn) → ChildSays says → Hears h (says (root_case x)) → Rests turn
-  unticketed _ x (turns.votes w) i = rested.rest_same turn (by_input.unticketed_vote turn w x i.0 i.1)
-  unticketed _ x (turns.acknowledged o fs) i = rested.rest_same turn (by_input.unticketed_ack turn o fs x i.0 i.1)
-  unticketed _ x turns.inquires i = rested.rest_same turn (by_input.inquires turn (root_case x) i.0 i.1)
+  unticketed _ x (CoordinatorTurns.votes w) i = Rested.rest_same turn (Memories.unticketed_vote turn w x i.0 i.1)
+  unticketed _ x (CoordinatorTurns.acknowledged o fs) i = Rested.rest_same turn (Memories.unticketed_ack turn o fs x i.0 i.1)
+  unticketed _ x CoordinatorTurns.inquires i = Rested.rest_same turn (Memories.inquires turn (root_case x) i.0 i.1)
 
   nowhere : (says : Case → Message) (x : Txn) (u : Ticket) → ChildSays says → Hears h (says (child_case x u))
       → case_of_child place n x u ≡ None → Rests turn
-  nowhere _ x u (turns.votes w) i none =
-      rested.rest_vote turn w x u i.0 i.1 (λ s a. rw (not_accepted x u s none) refl)
-  nowhere _ x u (turns.acknowledged o fs) i none = rested.rest_ack turn o fs x u i.0 i.1
-  nowhere _ x u turns.inquires i none = rested.rest_same turn
-      (by_input.inquires turn (child_case x u) i.0 i.1)
+  nowhere _ x u (CoordinatorTurns.votes w) i none =
+      Rested.rest_vote turn w x u i.0 i.1 (λ s a. rw (not_accepted x u s none) refl)
+  nowhere _ x u (CoordinatorTurns.acknowledged o fs) i none = Rested.rest_ack turn o fs x u i.0 i.1
+  nowhere _ x u CoordinatorTurns.inquires i none = Rested.rest_same turn
+      (Memories.inquires turn (child_case x u) i.0 i.1)
 
   not_taken : (msg : Message) → Hears h msg → (o : Option ProcessId) → parent ≡ o → IsNotTaken o msg
       → Rests turn
-  not_taken (Work d l op) i o s e = rested.rest_same turn (by_input.work_comes turn d i.0 l op i.1)
-  not_taken (Join d) i None s e = rested.rest_same turn (by_input.root_passes turn (Join d) i.0 s i.1 refl)
-  not_taken (Prepare d l) i None s e = rested.rest_same turn
-      (by_input.root_passes turn (Prepare d l) i.0 s i.1 refl)
-  not_taken (Commit d) i None s e = rested.rest_same turn
-      (by_input.root_passes turn (Commit d) i.0 s i.1 refl)
-  not_taken (Abort d) i None s e = rested.rest_same turn (by_input.root_passes turn (Abort d) i.0 s i.1 refl)
+  not_taken (Work d l op) i o s e = Rested.rest_same turn (Memories.work_comes turn d i.0 l op i.1)
+  not_taken (Join d) i None s e = Rested.rest_same turn (Memories.root_passes turn (Join d) i.0 s i.1 refl)
+  not_taken (Prepare d l) i None s e = Rested.rest_same turn
+      (Memories.root_passes turn (Prepare d l) i.0 s i.1 refl)
+  not_taken (Commit d) i None s e = Rested.rest_same turn
+      (Memories.root_passes turn (Commit d) i.0 s i.1 refl)
+  not_taken (Abort d) i None s e = Rested.rest_same turn (Memories.root_passes turn (Abort d) i.0 s i.1 refl)
   not_taken msg i o s e = absurd e
 
   pub of_no_case : IsOfNoCase place parent n h → Rests turn
-  of_no_case (turns.unticketed says x k i) = unticketed says x k i
-  of_no_case (turns.belongs_nowhere says x u k i none) = nowhere says x u k i none
-  of_no_case (turns.not_taken msg i e) = not_taken msg i parent refl e
+  of_no_case (CoordinatorTurns.unticketed says x k i) = unticketed says x k i
+  of_no_case (CoordinatorTurns.belongs_nowhere says x u k i none) = nowhere says x u k i none
+  of_no_case (CoordinatorTurns.not_taken msg i e) = not_taken msg i parent refl e
 
   pub does_nothing : IsOfNoCase place parent n h → IsOpenAlike place (after n h no_effect) c
       → Fine turn no_effect
   does_nothing i later = quiet_fine turn no_effect later idle_effect (of_no_case i)
-      (simp (wires.sent-none)) refl
+      (simp (Wires.sent-none)) refl
 
   -- What is presumed is told.
 
   stranger : (x : Txn) → same_txn x c.txn ≡ true → case_of_child place n x t ≡ None
-      → pair.IsStranger (reading turn)
+      → Standing.IsStranger (reading turn)
   stranger x s none = record {
     up = up;
     not_accepted = not_accepted x t s none;
@@ -303,19 +302,19 @@ module _ (turn : Turn) where
       → same_case (child_case x u) (child_case c.txn t) ≡ b
       → wire c t (net ++ post place.me u.child (tells_outcome o (child_case x u)) ∷ [])
       ≡ (if b then told_wire turn o else v0)
-  told_wire_by x u CommittedOutcome true e = wires.wire-commit c t net place.me u.child x u true e
-  told_wire_by x u CommittedOutcome false e = wires.wire-commit c t net place.me u.child x u false e
-  told_wire_by x u AbortedOutcome true e = wires.wire-abort c t net place.me u.child x u true e
-  told_wire_by x u AbortedOutcome false e = wires.wire-abort c t net place.me u.child x u false e
+  told_wire_by x u CommittedOutcome true e = Wires.wire-commit c t net place.me u.child x u true e
+  told_wire_by x u CommittedOutcome false e = Wires.wire-commit c t net place.me u.child x u false e
+  told_wire_by x u AbortedOutcome true e = Wires.wire-abort c t net place.me u.child x u true e
+  told_wire_by x u AbortedOutcome false e = Wires.wire-abort c t net place.me u.child x u false e
 
   presumed_fits : (p : Presumption) → c.txn.presumption ≡ p → v0.inquire ≡ true
-      → pair.IsStranger (reading turn)
+      → Standing.IsStranger (reading turn)
       → Fits_in turn (seen turn (told_outcome turn) p0 (told_wire turn (presumed p)))
   presumed_fits PresumeAbort q a s =
-      moves.presumes_abort c.txn.presumption q (reading turn) inv
+      Moves.presumes_abort c.txn.presumption q (reading turn) inv
       (record { asked = a; nothing_known = inr s })
   presumed_fits PresumeCommit q a s =
-      moves.presumes_commit c.txn.presumption q (reading turn) inv
+      Moves.presumes_commit c.txn.presumption q (reading turn) inv
       (record { asked = a; nothing_known = inr s })
 
   pub presumes : (x : Txn) (u : Ticket) → Hears h (Inquire (child_case x u)) → case_of_child place n x u
@@ -324,7 +323,7 @@ module _ (turn : Turn) where
   presumes x u i none later = by_test (same_case (child_case x u) (child_case c.txn t)) refl
     where
       says : Says turn m.phase p0.accepted p0.acked
-      says = stays turn m (by_input.inquires turn (child_case x u) i.0 i.1) (itself turn)
+      says = stays turn m (Memories.inquires turn (child_case x u) i.0 i.1) (itself turn)
 
       sent_so : (w : Wire) → wire c t (net ++ (told x u).messages) ≡ w
           → Fits_in turn (seen turn (told_outcome turn) p0 w) → Fine turn (told x u)

@@ -8,9 +8,9 @@ use Rattle.protocol.specs.declared.names.Ticket.{Ticket}
 use Rattle.protocol.specs.declared.names.Txn.{Txn}
 use Rattle.protocol.specs.declared.standings.Standing.TheVariants.{Active, Collecting}
 use Rattle.protocol.specs.declared.standings.Vote.{Vote}
-use Rattle.protocol.specs.declared.standings.Vote.TheVariants.{Yes as VoteYes, No as VoteNo, Read as VoteRead}
+use Rattle.protocol_words.specs.Variants.{ConcludedAborted, VoteNo, VoteRead, VoteYes}
 use Rattle.protocol.specs.declared.events.Conclusion.{Conclusion}
-use Rattle.protocol.specs.declared.events.Conclusion.TheVariants.{Aborted as ConcludedAborted, ReadOnly}
+use Rattle.protocol.specs.declared.events.Conclusion.TheVariants.{ReadOnly}
 use Rattle.protocol.specs.declared.events.Told.{Told}
 use Rattle.protocol.specs.Names.{same_case, same_ticket, same_txn, root_case}
 use Rattle.protocol.specs.NameLaws.{same_case-refl, same_txn-refl, names}
@@ -21,15 +21,15 @@ use Rattle.protocol.specs.CoordinatorRows.{Reason, told_by}
 use Rattle.protocol.specs.Outcomes.{is_told_aborted}
 use Rattle.protocol.specs.Reactions.{told_of}
 use Rattle.protocol.specs.Standings.{CoordinatorView, coordinator_view, case_of_child, belongs, own_cases}
-use Rattle.proof_pairs.specs.Reading as pair
+use Rattle.proof_pairs.specs.Reading
 use Rattle.proof_pairs.specs.Invariant.{Common}
 use Rattle.proof_pairs.specs.readings.ReadingOf.{ParentHalf, is_root_ticket, is_told_committed, is_told_of_txn, is_begun}
 use Rattle.proof_pairs.specs.turns.CoordinatorTurns.{IsToCommit, IsToAbort, HearsChild, CountsVote, voted}
-use Rattle.proof_pairs.specs.turns.CoordinatorTurns as turns
+use Rattle.proof_pairs.specs.turns.CoordinatorTurns
 use Rattle.proof_steps.proofs.children.Moves.{common_of}
 use Rattle.proof_steps.proofs.parents.Halves.{active_is_open, acked_of, live_phase, phase_of}
 use Rattle.proof_steps.proofs.parents.Known.{clash}
-use Rattle.proof_steps.proofs.parents.Memories as by_input
+use Rattle.proof_steps.proofs.parents.Memories
 use Rattle.proof_steps.proofs.parents.Readings.{Live}
 use Rattle.proof_steps.proofs.parents.Rested.{view_so}
 use Rattle.proof_steps.proofs.parents.Turns.{Turn, IsSeat, is_top, top, under, Says, remembered, then_remembered, half, net_part, told_outcome, reading, at_root}
@@ -110,7 +110,7 @@ module _ (turn : Turn) where
   pub collecting_votes : v.standing ≡ Collecting → v.votes ≡ m.votes
   collecting_votes e = ap (λ (x : CoordinatorView). x.votes) (view_so place n c Collecting e)
 
-  pub phase_is : (ph : Phase) (q : pair.HeldPhase) → m.phase ≡ ph → live_phase ph ≡ q → p0.phase ≡ q
+  pub phase_is : (ph : Phase) (q : Reading.HeldPhase) → m.phase ≡ ph → live_phase ph ≡ q → p0.phase ≡ q
   phase_is ph q e f = ap (λ b. phase_of b m.phase) up ∙ (ap live_phase e ∙ f)
 
   pub begun_by : {ph : Phase} → m.phase ≡ ph → is_begun ph ≡ true → p0.begun ≡ true
@@ -120,10 +120,10 @@ module _ (turn : Turn) where
       has (is_commit c) n.life)
       (ap is_begun f ∙ g)
 
-  lives : (ph : Phase) → (ph ≡ Open) ⊎ (ph ≡ Asked) → m.phase ≡ ph → (pair.is_live p0.phase ≡ true)
+  lives : (ph : Phase) → (ph ≡ Open) ⊎ (ph ≡ Asked) → m.phase ≡ ph → (Reading.is_live p0.phase ≡ true)
       × (p0.begun ≡ true)
-  lives Open e f = (ap pair.is_live (phase_is Open pair.Active f refl), begun_by f refl)
-  lives Asked e f = (ap pair.is_live (phase_is Asked pair.Collecting f refl), begun_by f refl)
+  lives Open e f = (ap Reading.is_live (phase_is Open Reading.Active f refl), begun_by f refl)
+  lives Asked e f = (ap Reading.is_live (phase_is Asked Reading.Collecting f refl), begun_by f refl)
   lives Idle (inl e) f = absurd (cc)
   lives Idle (inr e) f = absurd (cc)
   lives Over (inl e) f = absurd (cc)
@@ -144,12 +144,12 @@ module _ (turn : Turn) where
         no_read = u.no_read;
       }
     where
-      given : pair.is_live p0.phase ≡ true → at_root turn ≡ false → (net_part turn).given ≡ true
+      given : Reading.is_live p0.phase ≡ true → at_root turn ≡ false → (net_part turn).given ≡ true
       given l f = by_test (net_part turn).given refl
         where
           by_test : (b : Bool) → (net_part turn).given ≡ b → (net_part turn).given ≡ true
           by_test true g = g
-          by_test false g = clash (pair.is_live p0.phase) l (common.unborn (rw (f, g) refl)).closed
+          by_test false g = clash (Reading.is_live p0.phase) l (common.unborn (rw (f, g) refl)).closed
 
   -- What is told.
 
@@ -212,13 +212,13 @@ module _ (turn : Turn) where
   asked_says x Over e a b f = absurd (cc)
 
   pub to_commit : IsToCommit parent h c → m.phase ≡ Open → Goes (if none_of m.accepted then Over else Asked)
-  to_commit (turns.commit_act x e i) o =
+  to_commit (CoordinatorTurns.commit_act x e i) o =
       let same : same_case (root_case x) c
       ≡ true = subst (λ (y : Case). same_case y c ≡ true) e (same_case-refl c) in
-      asked_says m m.phase o refl refl (by_input.commit_act turn x (act_is_at_root x e) i ∙ rw same refl)
-  to_commit (turns.prepare_comes p k e i) o =
+      asked_says m m.phase o refl refl (Memories.commit_act turn x (act_is_at_root x e) i ∙ rw same refl)
+  to_commit (CoordinatorTurns.prepare_comes p k e i) o =
       asked_says (retires m c) m.phase o refl refl
-      (by_input.prepare_comes turn c i.0 k p e i.1 ∙ rw (same_case-refl c) refl)
+      (Memories.prepare_comes turn c i.0 k p e i.1 ∙ rw (same_case-refl c) refl)
 
   closed_says : (x : Memory) (ph : Phase) → (ph ≡ Open) ⊎ (ph ≡ Asked) → x.accepted ≡ m.accepted → x.acks
       ≡ m.acks
@@ -231,13 +231,13 @@ module _ (turn : Turn) where
   closed_says x Over (inr e) a b f = absurd (cc)
 
   pub to_abort : (why : Reason) → IsToAbort parent h c why → (m.phase ≡ Open) ⊎ (m.phase ≡ Asked) → Goes Over
-  to_abort _ (turns.abort_act x e i) o =
+  to_abort _ (CoordinatorTurns.abort_act x e i) o =
       let same : same_case (root_case x) c
       ≡ true = subst (λ (y : Case). same_case y c ≡ true) e (same_case-refl c) in
-      closed_says m m.phase o refl refl (by_input.abort_act turn x (act_is_at_root x e) i ∙ rw same refl)
-  to_abort _ (turns.abort_comes p e i) o =
+      closed_says m m.phase o refl refl (Memories.abort_act turn x (act_is_at_root x e) i ∙ rw same refl)
+  to_abort _ (CoordinatorTurns.abort_comes p e i) o =
       closed_says (retires m c) m.phase o refl refl
-      (by_input.abort_comes turn c i.0 p e i.1 ∙ rw (same_case-refl c) refl)
+      (Memories.abort_comes turn c i.0 p e i.1 ∙ rw (same_case-refl c) refl)
 
   -- the transaction of the case to which a child's ticket belongs
   same_txn_if : (r : Role) (o : Option ProcessId) → IsSeat r o → (x : Txn) (u : Ticket)

@@ -2,11 +2,10 @@
 use Rattle.std.proofs.Common.{◌≡◌, ◌∙◌, inl, Bool, true, false, ◌||◌, List, [], ◌∷◌, ◌++◌, refl, sym, ap, subst, arith, if◌then◌else◌}
 use Rattle.std.proofs.lemmas.List.Folds.{list_any-append}
 use Rattle.protocol.specs.declared.names.Ticket.{Ticket}
-use Rattle.protocol.specs.declared.names.Outcome.TheVariants.{Aborted as AbortedOutcome}
+use Rattle.protocol_words.specs.Variants.{AbortedOutcome, CollectingRecord}
 use Rattle.protocol.specs.declared.names.Presumption.{Presumption}
 use Rattle.protocol.specs.declared.names.Presumption.TheVariants.{PresumeAbort, PresumeCommit}
 use Rattle.protocol.specs.declared.messages.Message.TheVariants.{Joined, Read, Abort}
-use Rattle.protocol.specs.declared.records.Record.TheVariants.{Collecting as CollectingRecord}
 use Rattle.protocol.specs.declared.standings.Standing.TheVariants.{Active}
 use Rattle.protocol.specs.Names.{same_ticket}
 use Rattle.protocol.specs.NameLaws.{same_case-refl, same_txn-refl}
@@ -18,9 +17,9 @@ use Rattle.protocol.specs.Reactions.{row_effect, seat_of}
 use Rattle.protocol.specs.Standings.{CoordinatorView}
 use Rattle.proof_pairs.specs.Reading as pair
 use Rattle.proof_pairs.specs.Reading.{Reading}
-use Rattle.proof_pairs.specs.ParentMoves as move
-use Rattle.proof_pairs.specs.RootMoves as at_top
-use Rattle.proof_pairs.specs.CascadedMoves as below
+use Rattle.proof_pairs.specs.ParentMoves
+use Rattle.proof_pairs.specs.RootMoves
+use Rattle.proof_pairs.specs.CascadedMoves
 use Rattle.proof_pairs.specs.readings.ReadingOf.{ParentHalf, Wire, wire}
 use Rattle.proof_pairs.specs.turns.CoordinatorTurns.{IsToCommit, IsToAbort}
 use Rattle.proof_pairs.specs.turns.LeafTurns.{Hears}
@@ -28,17 +27,17 @@ use Rattle.proof_processes.specs.WorldHolds.{InvariantOf}
 use Rattle.proof_processes.proofs.Deliveries.{was_sent}
 use Rattle.proof_steps.proofs.children.Moves.{unmoved}
 use Rattle.proof_steps.proofs.parents.Halves.{acked_of}
-use Rattle.proof_steps.proofs.parents.Memories as by_input
-use Rattle.proof_steps.proofs.parents.Moves as moves
-use Rattle.proof_steps.proofs.parents.Own as own
+use Rattle.proof_steps.proofs.parents.Memories
+use Rattle.proof_steps.proofs.parents.Moves
+use Rattle.proof_steps.proofs.parents.Own
 use Rattle.proof_steps.proofs.parents.Own.{Goes, told_so}
 use Rattle.proof_steps.proofs.parents.OwnMoves.{own_silent, own_forced, forced_first, and_then, read_as, asked_above, up_part}
 use Rattle.proof_steps.proofs.parents.OwnQuiet.{After, not_childs}
-use Rattle.proof_steps.proofs.parents.Readings as readings
+use Rattle.proof_steps.proofs.parents.Readings
 use Rattle.proof_steps.proofs.parents.Readings.{Live}
 use Rattle.proof_steps.proofs.parents.Tables.{none_in}
 use Rattle.proof_steps.proofs.parents.Turns.{Turn, Says, Fine, Fits_in, seen, remembered, half, net_part, told_outcome, reading, at_root, fine_silent}
-use Rattle.proof_steps.proofs.parents.Wires as wires
+use Rattle.proof_steps.proofs.parents.Wires
 use Rattle.proof_steps.proofs.parents.Wires.{Silent, silent_before}
 use Rattle.proof_steps.proofs.parents.Writes.{did, stands_so}
 
@@ -69,7 +68,7 @@ module _ (turn : Turn) where
   root = at_root turn
 
   abbrev v : CoordinatorView
-  v = own.v turn
+  v = Own.v turn
 
   abbrev R : Bool → ParentHalf → Wire → Reading
   R o p w = seen turn o p w
@@ -78,13 +77,13 @@ module _ (turn : Turn) where
   F r = Fits_in turn r
 
   pub active_phase : v.standing ≡ Active → p0.phase ≡ pair.Active
-  active_phase e = own.phase_is turn Open pair.Active (own.active_open turn e) refl
+  active_phase e = Own.phase_is turn Open pair.Active (Own.active_open turn e) refl
 
   pub alive : v.standing ≡ Active → Live root o0 p0 v0
-  alive e = own.live turn (inl (own.active_open turn e))
+  alive e = Own.live turn (inl (Own.active_open turn e))
 
   pub accepted_in_view : v.standing ≡ Active → in_list v.accepted t ≡ p0.accepted
-  accepted_in_view e = ap (λ ts. in_list ts t) (own.active_accepted turn e)
+  accepted_in_view e = ap (λ ts. in_list ts t) (Own.active_accepted turn e)
 
   -- JOINED is accepted.
 
@@ -99,10 +98,10 @@ module _ (turn : Turn) where
       → has_child v.accepted u.child ≡ false
       → Says turn Open (p0.accepted || same_ticket u t) p0.acked
   joined_says u i e f =
-      let o = own.active_open turn e in
+      let o = Own.active_open turn e in
       let g : has_child m.accepted u.child ≡ false =
-      ap (λ ts. has_child ts u.child) (sym (own.active_accepted turn e)) ∙ f in
-      let x = by_input.joined_comes turn c u i.0 i.1
+      ap (λ ts. has_child ts u.child) (sym (Own.active_accepted turn e)) ∙ f in
+      let x = Memories.joined_comes turn c u i.0 i.1
       ∙ (rw (same_case-refl c) refl ∙ joined_memory u m.phase o g) in
       record {
         phase = ap (λ (y : Memory). y.phase) x ∙ o;
@@ -112,10 +111,10 @@ module _ (turn : Turn) where
 
   pub accepts_fits : (u : Ticket) → Hears h (Joined c u) → v.standing ≡ Active → (b : Bool)
       → same_ticket u t ≡ b
-      → F (if b then move.accepts (reading turn) else reading turn)
+      → F (if b then ParentMoves.accepts (reading turn) else reading turn)
   accepts_fits u i e false f = unmoved c.txn.presumption (reading turn) inv
   accepts_fits u i e true f =
-      moves.accepts c.txn.presumption (reading turn) inv (record {
+      Moves.accepts c.txn.presumption (reading turn) inv (record {
         active = active_phase e;
         joined = was_sent (is_joined_message c t) net place.me h.input i.0 (Joined c u) stands i.1
             (rw (same_case-refl c, f) refl);
@@ -132,10 +131,10 @@ module _ (turn : Turn) where
       rw is (simp (same_case-refl, or-false)) in
       fine_silent turn (row_effect c row) later.alike Open (p0.accepted || b) p0.acked
       (joined_says u i e f) v0
-      (rw is (wires.wire-nothing c t net)) (rw is refl)
+      (rw is (Wires.wire-nothing c t net)) (rw is refl)
       (subst (λ (x : ParentHalf). F (R o0 (stands_so false Open (p0.accepted || b) p0.acked true x) v0))
       (sym did_so)
-      (read_as turn _ _ (readings.reading-accepts manager above k c t root o0 b p0 v0 (active_phase e)
+      (read_as turn _ _ (Readings.reading-accepts manager above k c t root o0 b p0 v0 (active_phase e)
       (alive e).begun)
       (accepts_fits u i e b refl)))
 
@@ -143,32 +142,32 @@ module _ (turn : Turn) where
 
   pub nobody_says : IsToCommit parent h c → v.standing ≡ Active → none_of v.accepted ≡ true → Goes turn Over
   nobody_says i e f =
-      let g : none_of m.accepted ≡ true = ap none_of (sym (own.active_accepted turn e)) ∙ f in
-      subst (λ b. Goes turn (if b then Over else Asked)) g (own.to_commit turn i (own.active_open turn e))
+      let g : none_of m.accepted ≡ true = ap none_of (sym (Own.active_accepted turn e)) ∙ f in
+      subst (λ b. Goes turn (if b then Over else Asked)) g (Own.to_commit turn i (Own.active_open turn e))
 
   pub finds_nobody : IsToCommit parent h c → v.standing ≡ Active → none_of v.accepted ≡ true
       → After turn (active_commit_alone (seat_of place parent c))
       → Fine turn (row_effect c (active_commit_alone (seat_of place parent c)))
   finds_nobody i e f later =
-      own.seat_is turn
+      Own.seat_is turn
       (λ s is_root. own_silent turn row later Over (nobody_says i e f) v0
-      (ap (λ o. wire c t (net ++ posted_up place.me o (Read c))) s ∙ wires.wire-nothing c t net) p0 told refl
+      (ap (λ o. wire c t (net ++ posted_up place.me o (Read c))) s ∙ Wires.wire-nothing c t net) p0 told refl
       (read_as turn _ _
-      (subst (λ b. Live b o0 p0 v0 → readings.R manager above k c t b o0
+      (subst (λ b. Live b o0 p0 v0 → Readings.R manager above k c t b o0
       (stands_so false Over p0.accepted p0.acked true p0) v0
-      ≡ at_top.ends_empty (readings.R manager above k c t b o0 p0 v0)) (sym is_root)
-      (λ l. readings.reading-ends manager above k c t o0 p0 v0 l) (alive e))
-      (moves.ends_empty c.txn.presumption (reading turn) inv
+      ≡ RootMoves.ends_empty (Readings.R manager above k c t b o0 p0 v0)) (sym is_root)
+      (λ l. Readings.reading-ends manager above k c t o0 p0 v0 l) (alive e))
+      (Moves.ends_empty c.txn.presumption (reading turn) inv
       (record { root = is_root; active = active_phase e; empty = nobody }))))
       (λ p s is_below. own_silent turn row later Over (nobody_says i e f) (record v0 { read_up = true })
       (ap (λ o. wire c t (net ++ posted_up place.me o (Read c))) s
-      ∙ wires.wire-read_up c t net place.me p (not_childs turn)) p0 told refl
+      ∙ Wires.wire-read_up c t net place.me p (not_childs turn)) p0 told refl
       (read_as turn _ _
-      (subst (λ b. Live b o0 p0 v0 → readings.R manager above k c t b o0
+      (subst (λ b. Live b o0 p0 v0 → Readings.R manager above k c t b o0
       (stands_so false Over p0.accepted p0.acked true p0) (record v0 { read_up = true })
-      ≡ below.reads_empty (readings.R manager above k c t b o0 p0 v0)) (sym is_below)
-      (λ l. readings.reading-reads manager above k c t o0 p0 v0 l) (alive e))
-      (moves.reads_empty c.txn.presumption (reading turn) inv
+      ≡ CascadedMoves.reads_empty (Readings.R manager above k c t b o0 p0 v0)) (sym is_below)
+      (λ l. Readings.reading-reads manager above k c t o0 p0 v0 l) (alive e))
+      (Moves.reads_empty c.txn.presumption (reading turn) inv
       (record {
         cascaded = is_below;
         active = active_phase e;
@@ -184,21 +183,21 @@ module _ (turn : Turn) where
       nobody = sym (accepted_in_view e) ∙ none_in v.accepted t f
 
       told : did (row_effect c row) c t p0 ≡ p0
-      told = own.did_tell turn (row_effect c row) false false p0 refl refl (own.read_no_commit turn)
-          (own.read_no_abort turn)
+      told = Own.did_tell turn (row_effect c row) false false p0 refl refl (Own.read_no_commit turn)
+          (Own.read_no_abort turn)
 
   -- It asks for votes.
 
   pub asks_says : IsToCommit parent h c → v.standing ≡ Active → none_of v.accepted ≡ false → Goes turn Asked
   asks_says i e f =
-      let g : none_of m.accepted ≡ false = ap none_of (sym (own.active_accepted turn e)) ∙ f in
-      subst (λ b. Goes turn (if b then Over else Asked)) g (own.to_commit turn i (own.active_open turn e))
+      let g : none_of m.accepted ≡ false = ap none_of (sym (Own.active_accepted turn e)) ∙ f in
+      subst (λ b. Goes turn (if b then Over else Asked)) g (Own.to_commit turn i (Own.active_open turn e))
 
   prepares_to : v.standing ≡ Active
       → wire c t (net ++ prepares (seat_of place parent c) v)
       ≡ record v0 { prepare = p0.accepted || v0.prepare }
   prepares_to e =
-      wires.wire-prepares c t net (seat_of place parent c) v v.accepted p0.accepted
+      Wires.wire-prepares c t net (seat_of place parent c) v v.accepted p0.accepted
       (rw (same_txn-refl c.txn) (accepted_in_view e))
 
   pub no_collects : v.standing ≡ Active → c.txn.presumption ≡ PresumeCommit → p0.collects ≡ false
@@ -213,7 +212,7 @@ module _ (turn : Turn) where
       by_test : (b : Bool) → p0.collects ≡ b → p0.collects ≡ false
       by_test false x = x
       by_test true x = absurd (let y = stands_for c.txn.presumption q inv x in let z =
-          ((own.common turn).not_asked (active_phase e)).no_collecting in
+          ((Own.common turn).not_asked (active_phase e)).no_collecting in
           let w = sym y ∙ z in cc)
 
   pub asks_for_votes : (p : Presumption) → IsToCommit parent h c → v.standing ≡ Active
@@ -224,9 +223,9 @@ module _ (turn : Turn) where
       own_silent turn (active_commit_with (seat_of place parent c) v PresumeAbort) later Asked
       (asks_says i e f)
       (record v0 { prepare = p0.accepted || v0.prepare }) (prepares_to e) p0 refl refl
-      (read_as turn _ _ (readings.reading-asks manager above k c t root o0 p0 v0 (active_phase e)
+      (read_as turn _ _ (Readings.reading-asks manager above k c t root o0 p0 v0 (active_phase e)
       (alive e).begun)
-      (moves.asks_for_votes c.txn.presumption q (reading turn) inv
+      (Moves.asks_for_votes c.txn.presumption q (reading turn) inv
       (record { active = active_phase e; asked_above = λ x. up_part turn x (asked_above turn i x) })))
   asks_for_votes PresumeCommit i e f q later =
       own_forced turn (active_commit_with (seat_of place parent c) v PresumeCommit) later Asked
@@ -234,19 +233,19 @@ module _ (turn : Turn) where
       (record v0 { prepare = p0.accepted || v0.prepare }) (prepares_to e) p0 refl
       (CollectingRecord c v.accepted) (λ x. refl) refl
       (read_as turn _ _
-      (readings.reading-collects manager above k c t root o0 (has (is_prepare c) n.life) v.accepted p0 v0
+      (Readings.reading-collects manager above k c t root o0 (has (is_prepare c) n.life) v.accepted p0 v0
       (active_phase e) (alive e).begun
       (accepted_in_view e) (no_collects e q))
       (let first = forced_first turn in
-      and_then turn (move.hardens_parent (reading turn)) _ first
-      (moves.collects_votes c.txn.presumption q (move.hardens_parent (reading turn)) first.invariant
+      and_then turn (ParentMoves.hardens_parent (reading turn)) _ first
+      (Moves.collects_votes c.txn.presumption q (ParentMoves.hardens_parent (reading turn)) first.invariant
       (record { active = active_phase e; asked_above = λ x. up_part turn x (asked_above turn i x) }))))
 
   -- It gives up.
 
   pub acknowledged_up : (p : Presumption) → Silent c t net (acknowledges_abort (seat_of place parent c) p)
-  acknowledged_up PresumeAbort = simp (wires.sent-none)
-  acknowledged_up PresumeCommit = wires.silent-ack c t net place.me parent c (not_childs turn) AbortedOutcome []
+  acknowledged_up PresumeAbort = simp (Wires.sent-none)
+  acknowledged_up PresumeCommit = Wires.silent-ack c t net place.me parent c (not_childs turn) AbortedOutcome []
 
   pub gives_up : (why : Reason) (p : Presumption) → IsToAbort parent h c why → v.standing ≡ Active
       → (row : Row)
@@ -256,17 +255,17 @@ module _ (turn : Turn) where
       }
       → After turn row → Fine turn (row_effect c row)
   gives_up why p i e row is later =
-      own_silent turn row later Over (own.to_abort turn why i (inl (own.active_open turn e)))
+      own_silent turn row later Over (Own.to_abort turn why i (inl (Own.active_open turn e)))
       (record v0 { abort = p0.accepted || v0.abort })
       (ap (λ (x : Row). wire c t (net ++ x.messages)) is
       ∙ (silent_before c t net (acknowledges_abort (seat_of place parent c) p)
       (each (seat_of place parent c) Abort v.accepted) (acknowledged_up p)
-      ∙ wires.wire-aborts c t net (seat_of place parent c) v.accepted p0.accepted
+      ∙ Wires.wire-aborts c t net (seat_of place parent c) v.accepted p0.accepted
       (rw (same_txn-refl c.txn) (accepted_in_view e))))
       (told_so false root p0)
-      (own.did_tell turn (row_effect c row) false root p0 (rw is refl) (rw is refl)
-      (rw is (own.abort_no_commit turn))
-      (rw is (own.told_aborted turn)))
+      (Own.did_tell turn (row_effect c row) false root p0 (rw is refl) (rw is refl)
+      (rw is (Own.abort_no_commit turn))
+      (rw is (Own.told_aborted turn)))
       (rw is refl)
-      (read_as turn _ _ (readings.reading-gives_up manager above k c t root o0 p0 v0 (alive e))
-      (moves.gives_up c.txn.presumption (reading turn) inv (record { active = active_phase e })))
+      (read_as turn _ _ (Readings.reading-gives_up manager above k c t root o0 p0 v0 (alive e))
+      (Moves.gives_up c.txn.presumption (reading turn) inv (record { active = active_phase e })))

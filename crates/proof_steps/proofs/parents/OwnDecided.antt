@@ -2,11 +2,10 @@
 use Rattle.std.proofs.Common.{◌≡◌, ◌≢◌, ◌∙◌, ◌⊎◌, inl, inr, Bool, true, false, ◌||◌, ◌&&◌, not, List, [], ◌∷◌, ◌++◌, refl, sym, ap, subst, Option, is_some, Some, None}
 use Rattle.protocol.specs.declared.names.Ticket.{Ticket}
 use Rattle.protocol.specs.declared.names.Outcome.{Outcome}
-use Rattle.protocol.specs.declared.names.Outcome.TheVariants.{Committed as CommittedOutcome, Aborted as AbortedOutcome}
+use Rattle.protocol_words.specs.Variants.{AbortedOutcome, CommittedOutcome, EndRecord}
 use Rattle.protocol.specs.declared.names.Presumption.{Presumption}
 use Rattle.protocol.specs.declared.names.Presumption.TheVariants.{PresumeAbort, PresumeCommit}
 use Rattle.protocol.specs.declared.messages.Message.TheVariants.{Ack, Inquire}
-use Rattle.protocol.specs.declared.records.Record.TheVariants.{End as EndRecord}
 use Rattle.protocol.specs.declared.standings.Standing.{Standing}
 use Rattle.protocol.specs.declared.standings.Standing.TheVariants.{Unknown, Active, Collecting, Committing, Aborting}
 use Rattle.protocol.specs.Names.{same_outcome, same_ticket, child_case}
@@ -18,27 +17,27 @@ use Rattle.protocol.specs.Reactions.{row_effect, seat_of}
 use Rattle.protocol.specs.Standings.{CoordinatorView, unknown_view, still_owed, found_below}
 use Rattle.proof_pairs.specs.Reading.{Reading, is_live}
 use Rattle.proof_pairs.specs.Standing as pair
-use Rattle.proof_pairs.specs.ParentMoves as move
+use Rattle.proof_pairs.specs.ParentMoves
 use Rattle.proof_pairs.specs.readings.ReadingOf.{ParentHalf, Wire, acknowledged, is_inquiry_message}
 use Rattle.proof_pairs.specs.turns.CoordinatorTurns.{HearsChild, HasDecided, AnswersInquiry}
-use Rattle.proof_pairs.specs.turns.CoordinatorTurns as turns
+use Rattle.proof_pairs.specs.turns.CoordinatorTurns
 use Rattle.proof_processes.specs.WorldHolds.{NamesBy}
 use Rattle.proof_processes.proofs.Deliveries.{was_sent}
 use Rattle.proof_steps.proofs.parents.Halves.{acked_of, live_phase}
 use Rattle.proof_steps.proofs.parents.Known.{clash}
-use Rattle.proof_steps.proofs.parents.Memories as by_input
-use Rattle.proof_steps.proofs.parents.Moves as moves
-use Rattle.proof_steps.proofs.parents.Own as own
+use Rattle.proof_steps.proofs.parents.Memories
+use Rattle.proof_steps.proofs.parents.Moves
+use Rattle.proof_steps.proofs.parents.Own
 use Rattle.proof_steps.proofs.parents.OwnAborts.{in_filter}
 use Rattle.proof_steps.proofs.parents.OwnMoves.{and_then, read_as}
 use Rattle.proof_steps.proofs.parents.OwnPromised.{not_open, not_asked, phase_stays}
 use Rattle.proof_steps.proofs.parents.OwnQuiet.{After, not_childs}
 use Rattle.proof_steps.proofs.parents.Quiet.{rested, rest_fits, begun_plain, begun_forced, reading-hardens, DoesNothing}
-use Rattle.proof_steps.proofs.parents.Readings as readings
+use Rattle.proof_steps.proofs.parents.Readings
 use Rattle.proof_steps.proofs.parents.Rested.{view_so, heard_so, acked_now, has_acked-push}
 use Rattle.proof_steps.proofs.parents.Tables.{committing_facts, aborting_facts, UnknownFacts, ended, committed, aborted, unrecorded, unknown_facts, owing_by-naming, none_in}
 use Rattle.proof_steps.proofs.parents.Turns.{Turn, Says, Fine, Fits_in, seen, remembered, then_remembered, half, net_part, told_outcome, reading, at_root, fine_plain, fine_forced}
-use Rattle.proof_steps.proofs.parents.Wires as wires
+use Rattle.proof_steps.proofs.parents.Wires
 use Rattle.proof_steps.proofs.parents.Wires.{Silent, same_children}
 use Rattle.proof_steps.proofs.parents.Writes.{stands_so, wrote, begun_after, hardens}
 use Rattle.protocol.specs.declared.messages.Finding.{Finding}
@@ -94,7 +93,7 @@ module _ (turn : Turn) where
   root = at_root turn
 
   abbrev v : CoordinatorView
-  v = own.v turn
+  v = Own.v turn
 
   abbrev m : Memory
   m = remembered turn
@@ -103,59 +102,59 @@ module _ (turn : Turn) where
   decided_as : (o : Outcome) (s : Standing) → HasDecided o s → v.standing ≡ s → (p : Presumption)
       → c.txn.presumption ≡ p
       → o ≡ acknowledged p
-  decided_as _ _ turns.by_commit e PresumeAbort q = refl
-  decided_as _ _ turns.by_abort e PresumeCommit q = refl
-  decided_as _ _ turns.by_commit e PresumeCommit q =
+  decided_as _ _ CoordinatorTurns.by_commit e PresumeAbort q = refl
+  decided_as _ _ CoordinatorTurns.by_abort e PresumeCommit q = refl
+  decided_as _ _ CoordinatorTurns.by_commit e PresumeCommit q =
       let f = committing_facts place n c e in
       clash (none_of (owing_by c (kept n)))
       (subst (λ (x : Presumption). NamesBy x c (kept n)) q (holds.names c) f.commit) f.some
-  decided_as _ _ turns.by_abort e PresumeAbort q =
+  decided_as _ _ CoordinatorTurns.by_abort e PresumeAbort q =
       let f = aborting_facts place n c e in
       clash (none_of (owing_by c (kept n)))
       ((subst (λ (x : Presumption). NamesBy x c (kept n)) q (holds.names c)).1 f.abort) f.some
 
   pub late_of : (o : Outcome) (s : Standing) → HasDecided o s → v.standing ≡ s → (m.phase ≡ Open → ⊥)
       × (m.phase ≡ Asked → ⊥)
-  late_of _ _ turns.by_commit e =
+  late_of _ _ CoordinatorTurns.by_commit e =
       (not_open turn Committing e (λ z. cc), not_asked turn Committing e (λ z. cc))
-  late_of _ _ turns.by_abort e = (not_open turn Aborting e (λ z. cc), not_asked turn Aborting e (λ z. cc))
+  late_of _ _ CoordinatorTurns.by_abort e = (not_open turn Aborting e (λ z. cc), not_asked turn Aborting e (λ z. cc))
 
   -- whom the view says that an ACK is owed by
   owed_in : (o : Outcome) (s : Standing) → HasDecided o s → v.standing ≡ s
       → in_list v.owed t ≡ (p0.owed && not (has_acked m.acks o t))
-  owed_in _ _ turns.by_commit e =
+  owed_in _ _ CoordinatorTurns.by_commit e =
       ap (λ (x : CoordinatorView). in_list x.owed t) (view_so place n c Committing e)
       ∙ (in_owed m.acks CommittedOutcome (owing_by c (kept n)) t
       ∙ ap (λ b. b && not (has_acked m.acks CommittedOutcome t)) (owing_by-naming c t (kept n)))
-  owed_in _ _ turns.by_abort e =
+  owed_in _ _ CoordinatorTurns.by_abort e =
       ap (λ (x : CoordinatorView). in_list x.owed t) (view_so place n c Aborting e)
       ∙ (in_owed m.acks AbortedOutcome (owing_by c (kept n)) t
       ∙ ap (λ b. b && not (has_acked m.acks AbortedOutcome t)) (owing_by-naming c t (kept n)))
 
   pub may_end_commit : (b : Bool) → (s : Standing) → HasDecided CommittedOutcome s → v.standing ≡ s
       → (p0.owed ≡ true → b ≡ true)
-      → move.MayEndCommit (seen turn o0 (rested turn b) v0)
-  may_end_commit b _ turns.by_commit e f =
+      → ParentMoves.MayEndCommit (seen turn o0 (rested turn b) v0)
+  may_end_commit b _ CoordinatorTurns.by_commit e f =
       let g = committing_facts place n c e in
       record { decided = record { up = up; decided = g.commit; not_ended = g.no_end }; all_acked = f }
 
   pub may_end_abort : (b : Bool) → (s : Standing) → HasDecided AbortedOutcome s → v.standing ≡ s
       → (p0.owed ≡ true → b ≡ true)
-      → move.MayEndAbort (seen turn o0 (rested turn b) v0)
-  may_end_abort b _ turns.by_abort e f =
+      → ParentMoves.MayEndAbort (seen turn o0 (rested turn b) v0)
+  may_end_abort b _ CoordinatorTurns.by_abort e f =
       let g = aborting_facts place n c e in
       record { decided = record { up = up; decided = g.abort; not_ended = g.no_end }; all_acked = f }
 
   ends_fits : (b : Bool) → Fits_in turn (seen turn o0 (rested turn b) v0) → (o : Outcome) (p : Presumption)
       → c.txn.presumption ≡ p → o ≡ acknowledged p → HasDecided o v.standing → (p0.owed ≡ true → b ≡ true)
-      → Fits_in turn (move.ends (seen turn o0 (rested turn b) v0))
+      → Fits_in turn (ParentMoves.ends (seen turn o0 (rested turn b) v0))
   ends_fits b fits o PresumeAbort q e d f =
       and_then turn _ _ fits
-      (moves.ends_commit c.txn.presumption q _ fits.invariant
+      (Moves.ends_commit c.txn.presumption q _ fits.invariant
       (may_end_commit b v.standing (subst (λ (x : Outcome). HasDecided x v.standing) e d) refl f))
   ends_fits b fits o PresumeCommit q e d f =
       and_then turn _ _ fits
-      (moves.ends_abort c.txn.presumption q _ fits.invariant
+      (Moves.ends_abort c.txn.presumption q _ fits.invariant
       (may_end_abort b v.standing (subst (λ (x : Outcome). HasDecided x v.standing) e d) refl f))
 
   -- what its End reports
@@ -174,8 +173,8 @@ module _ (turn : Turn) where
 
   at_last : (ver : Version) (o : Outcome) (fs : List Finding)
       → Silent c t net (acknowledges_at_last ver (seat_of place parent c) o fs)
-  at_last First o fs = simp (wires.sent-none)
-  at_last Second o fs = wires.silent-ack c t net place.me parent c (not_childs turn) o (in_order fs)
+  at_last First o fs = simp (Wires.sent-none)
+  at_last Second o fs = Wires.silent-ack c t net place.me parent c (not_childs turn) o (in_order fs)
 
   -- The last ACK that is owed.
 
@@ -188,8 +187,8 @@ module _ (turn : Turn) where
     ack_now : then_remembered turn ≡ acks_so m u o fs
     ack_now =
         let late = late_of o v.standing d refl in
-        let same = own.of_txn turn i.txn u i.belongs in
-        by_input.ack_comes turn o fs i.txn u i.hears.0 i.hears.1
+        let same = Own.of_txn turn i.txn u i.belongs in
+        Memories.ack_comes turn o fs i.txn u i.hears.0 i.hears.1
         ∙ (rw same refl ∙ acks_late m u o fs m.phase late.0 late.1)
 
     pub ack_says : Says turn m.phase p0.accepted heard_acks
@@ -203,7 +202,7 @@ module _ (turn : Turn) where
     pub ack_fits : Fits_in turn (seen turn o0 (rested turn heard_acks) v0)
     ack_fits =
         rest_fits turn heard_acks
-        (acked_now turn i.txn u o fs i.hears.0 i.hears.1 (own.of_txn turn i.txn u i.belongs)
+        (acked_now turn i.txn u o fs i.hears.0 i.hears.1 (Own.of_txn turn i.txn u i.belongs)
         (heard_so turn u o) refl)
 
     pub agrees : o ≡ acknowledged c.txn.presumption
@@ -237,7 +236,7 @@ module _ (turn : Turn) where
         → (p0.owed ≡ true → b ≡ true)
         → Fits_in turn (seen turn o0 (wrote (EndRecord c rep) c t x (rested turn b)) v0)
     end_stays b x rep fits f =
-        read_as turn _ _ (readings.reading-ended manager above k c t rep root o0 x (rested turn b) v0)
+        read_as turn _ _ (Readings.reading-ended manager above k c t rep root o0 x (rested turn b) v0)
         (ends_fits b fits o c.txn.presumption refl agrees d f)
 
     -- nothing was found: the End is unforced
@@ -246,7 +245,7 @@ module _ (turn : Turn) where
         let x = has (is_prepare c) n.life in
         let one : the_end.written ≡ plain (EndRecord c None) = ap end_written e in
         fine_plain turn the_end later.alike m.phase p0.accepted heard_acks ack_says v0
-        (wires.wire-silent c t net the_end.messages (at_last h.version o (found_below place n c o fs)))
+        (Wires.wire-silent c t net the_end.messages (at_last h.version o (found_below place n c o fs)))
         (EndRecord c None) (λ j. refl) one
         (subst (λ (y : Bool). Fits_in turn
         (seen turn o0 (stands_so false m.phase p0.accepted heard_acks y
@@ -265,7 +264,7 @@ module _ (turn : Turn) where
         let x = has (is_prepare c) n.life in
         let one : the_end.written ≡ forced (EndRecord c (Some r)) = ap end_written e in
         fine_forced turn the_end later.alike m.phase p0.accepted heard_acks ack_says v0
-        (wires.wire-silent c t net the_end.messages (at_last h.version o (found_below place n c o fs)))
+        (Wires.wire-silent c t net the_end.messages (at_last h.version o (found_below place n c o fs)))
         (EndRecord c (Some r)) (λ j. refl) one
         (subst (λ (y : Bool). Fits_in turn
         (seen turn ((root && p0.commit_kept) || o0) (stands_so false m.phase p0.accepted heard_acks y
@@ -288,7 +287,7 @@ module _ (turn : Turn) where
             let old = end_stays b x (Some r) fits f in
             read_as turn _ _ (reading-hardens manager above k root o0 q v0)
             (and_then turn (seen turn o0 q v0) _ old
-            (moves.hardens c.txn.presumption (seen turn o0 q v0) old.invariant up))
+            (Moves.hardens c.txn.presumption (seen turn o0 q v0) old.invariant up))
 
     pub ends : After turn (end_row o fs) → Fine turn the_end
     ends later = by_reports (reports o fs) refl
@@ -303,7 +302,7 @@ module _ (turn : Turn) where
   asked u i e =
       was_sent (is_inquiry_message (child_case c.txn t)) net place.me h.input i.hears.0
       (Inquire (child_case i.txn u)) stands i.hears.1
-      (same_children i.txn c.txn u t ∙ rw (own.of_txn turn i.txn u i.belongs, e) refl)
+      (same_children i.txn c.txn u t ∙ rw (Own.of_txn turn i.txn u i.belongs, e) refl)
 
   closed : (s : Standing) → v.standing ≡ s → s ≢ Active → s ≢ Collecting → is_live p0.phase ≡ false
   closed s e f g = ap is_live (phase_stays turn)
@@ -365,21 +364,21 @@ module _ (turn : Turn) where
       → (o : Outcome) → AnswersInquiry p s o
       → v0.inquire ≡ true
       → Fits_in turn (reading_told o)
-  answer_fits PresumeAbort q _ e _ (turns.by_decision p s o turns.by_commit) a =
+  answer_fits PresumeAbort q _ e _ (CoordinatorTurns.by_decision p s o CoordinatorTurns.by_commit) a =
       let g = committing_facts place n c e in
-      moves.answers_commit c.txn.presumption q (reading turn) inv
+      Moves.answers_commit c.txn.presumption q (reading turn) inv
       (record { asked = a; committing = record { up = up; decided = g.commit; not_ended = g.no_end } })
-  answer_fits PresumeCommit q _ e _ (turns.by_decision p s o turns.by_abort) a =
+  answer_fits PresumeCommit q _ e _ (CoordinatorTurns.by_decision p s o CoordinatorTurns.by_abort) a =
       let g = aborting_facts place n c e in
-      moves.answers_abort c.txn.presumption q (reading turn) inv
+      Moves.answers_abort c.txn.presumption q (reading turn) inv
       (record { asked = a; aborting = record { up = up; decided = g.abort; not_ended = g.no_end } })
-  answer_fits PresumeCommit q _ e _ (turns.by_decision p s o turns.by_commit) a =
-      absurd (let x = decided_as CommittedOutcome Committing turns.by_commit e PresumeCommit q in cc)
-  answer_fits PresumeAbort q _ e _ (turns.by_decision p s o turns.by_abort) a =
-      absurd (let x = decided_as AbortedOutcome Aborting turns.by_abort e PresumeAbort q in cc)
-  answer_fits PresumeAbort q _ e _ (turns.by_presumption p) a =
-      moves.presumes_abort c.txn.presumption q (reading turn) inv
+  answer_fits PresumeCommit q _ e _ (CoordinatorTurns.by_decision p s o CoordinatorTurns.by_commit) a =
+      absurd (let x = decided_as CommittedOutcome Committing CoordinatorTurns.by_commit e PresumeCommit q in cc)
+  answer_fits PresumeAbort q _ e _ (CoordinatorTurns.by_decision p s o CoordinatorTurns.by_abort) a =
+      absurd (let x = decided_as AbortedOutcome Aborting CoordinatorTurns.by_abort e PresumeAbort q in cc)
+  answer_fits PresumeAbort q _ e _ (CoordinatorTurns.by_presumption p) a =
+      Moves.presumes_abort c.txn.presumption q (reading turn) inv
       (record { asked = a; nothing_known = inl (unknown_abort PresumeAbort q refl e) })
-  answer_fits PresumeCommit q _ e _ (turns.by_presumption p) a =
-      moves.presumes_commit c.txn.presumption q (reading turn) inv
+  answer_fits PresumeCommit q _ e _ (CoordinatorTurns.by_presumption p) a =
+      Moves.presumes_commit c.txn.presumption q (reading turn) inv
       (record { asked = a; nothing_known = inl (unknown_commit e) })

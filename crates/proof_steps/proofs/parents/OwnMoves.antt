@@ -11,16 +11,16 @@ use Rattle.protocol.specs.CoordinatorRows.{Row, forced, plain}
 use Rattle.protocol.specs.Reactions.{row_effect}
 use Rattle.protocol.specs.Standings.{CoordinatorView}
 use Rattle.proof_pairs.specs.Reading.{Reading}
-use Rattle.proof_pairs.specs.ParentMoves as move
+use Rattle.proof_pairs.specs.ParentMoves
 use Rattle.proof_pairs.specs.readings.ReadingOf.{ParentHalf, Wire, wire, is_prepare_message}
 use Rattle.proof_pairs.specs.turns.CoordinatorTurns.{IsToCommit, IsToAbort}
-use Rattle.proof_pairs.specs.turns.CoordinatorTurns as turns
+use Rattle.proof_pairs.specs.turns.CoordinatorTurns
 use Rattle.proof_processes.specs.ProcessSteps.{Above, FromAbove}
 use Rattle.proof_processes.proofs.Deliveries.{was_sent}
 use Rattle.proof_steps.proofs.children.Moves.{Fits, onward}
 use Rattle.proof_steps.proofs.parents.Memories.{below_is}
-use Rattle.proof_steps.proofs.parents.Moves as moves
-use Rattle.proof_steps.proofs.parents.Own as own
+use Rattle.proof_steps.proofs.parents.Moves
+use Rattle.proof_steps.proofs.parents.Own
 use Rattle.proof_steps.proofs.parents.Own.{Goes, told_so}
 use Rattle.proof_steps.proofs.parents.OwnQuiet.{After}
 use Rattle.proof_steps.proofs.parents.Turns.{Turn, Fine, Fits_in, seen, remembered, half, net_part, told_outcome, reading, at_root, fine_silent, fine_forced, fine_plain}
@@ -63,7 +63,7 @@ module _ (turn : Turn) where
   root = at_root turn
 
   abbrev v : CoordinatorView
-  v = own.v turn
+  v = Own.v turn
 
   abbrev R : Bool → ParentHalf → Wire → Reading
   R o p w = seen turn o p w
@@ -107,8 +107,8 @@ module _ (turn : Turn) where
         (sym d) f)
 
   -- one move, after the force of what stood
-  pub forced_first : Fits_in turn (move.hardens_parent (reading turn))
-  forced_first = moves.hardens c.txn.presumption (reading turn) inv up
+  pub forced_first : Fits_in turn (ParentMoves.hardens_parent (reading turn))
+  forced_first = Moves.hardens c.txn.presumption (reading turn) inv up
 
   pub and_then : (r s : Reading) → Fits_in turn r → Fits c.txn.presumption r s → Fits_in turn s
   and_then r s f g = onward c.txn.presumption (reading turn) r s f g
@@ -125,9 +125,9 @@ module _ (turn : Turn) where
       p s (λ x. x) from_above
 
   pub asked_above : IsToCommit parent h c → root ≡ false → above ≡ true
-  asked_above (turns.commit_act x e i) f = absurd
-      (let g = own.act_is_roots turn x e in let q = sym g ∙ f in cc)
-  asked_above (turns.prepare_comes p j e i) f =
+  asked_above (CoordinatorTurns.commit_act x e i) f = absurd
+      (let g = Own.act_is_roots turn x e in let q = sym g ∙ f in cc)
+  asked_above (CoordinatorTurns.prepare_comes p j e i) f =
       (from_above_says p e).asked_takes_part
       (was_sent (is_prepare_message c) net place.me h.input i.0 (Prepare c j) stands i.1 (same_case-refl c))
 

@@ -2,12 +2,11 @@
 use Rattle.std.proofs.Common.{◌≡◌, ◌≢◌, ◌∙◌, Bool, true, false, ◌||◌, ◌&&◌, Some, List, [], ◌++◌, refl, sym, ap, subst}
 use Rattle.protocol.specs.declared.names.Outcome.{Outcome}
 use Rattle.protocol.specs.declared.names.ProcessId.{ProcessId}
-use Rattle.protocol.specs.declared.names.Outcome.TheVariants.{Committed as CommittedOutcome, Aborted as AbortedOutcome}
+use Rattle.protocol_words.specs.Variants.{AbortRecord, AbortedOutcome, CommitRecord, CommittedOutcome}
 use Rattle.protocol.specs.declared.names.Presumption.{Presumption}
 use Rattle.protocol.specs.declared.names.Presumption.TheVariants.{PresumeAbort, PresumeCommit}
 use Rattle.protocol.specs.declared.messages.Message.TheVariants.{Commit, Abort, Ack}
 use Rattle.protocol.specs.declared.records.Record.{Record}
-use Rattle.protocol.specs.declared.records.Record.TheVariants.{Commit as CommitRecord, Abort as AbortRecord}
 use Rattle.protocol.specs.declared.standings.Standing.{Standing}
 use Rattle.protocol.specs.declared.standings.Standing.TheVariants.{Active, Collecting, Prepared}
 use Rattle.protocol.specs.NameLaws.{same_case-refl, same_txn-refl}
@@ -20,8 +19,8 @@ use Rattle.protocol.specs.Reactions.{row_effect, seat_of}
 use Rattle.protocol.specs.Standings.{CoordinatorView}
 use Rattle.proof_pairs.specs.Reading.{Reading}
 use Rattle.proof_pairs.specs.Standing.{Waits}
-use Rattle.proof_pairs.specs.ParentMoves as move
-use Rattle.proof_pairs.specs.CascadedMoves as below
+use Rattle.proof_pairs.specs.ParentMoves
+use Rattle.proof_pairs.specs.CascadedMoves
 use Rattle.proof_pairs.specs.readings.ReadingOf.{ParentHalf, Wire, wire}
 use Rattle.proof_pairs.proofs.readings.Named.{promised_by-naming}
 use Rattle.proof_pairs.specs.turns.CoordinatorTurns.{HearsParent}
@@ -30,19 +29,19 @@ use Rattle.proof_processes.specs.WorldHolds.{InvariantOf}
 use Rattle.proof_processes.proofs.Deliveries.{was_sent}
 use Rattle.proof_steps.proofs.parents.Halves.{phase_of}
 use Rattle.proof_steps.proofs.parents.Known.{clash}
-use Rattle.proof_steps.proofs.parents.Memories as by_input
+use Rattle.proof_steps.proofs.parents.Memories
 use Rattle.proof_steps.proofs.parents.Memories.{below_is, itself, stays}
-use Rattle.proof_steps.proofs.parents.Moves as moves
-use Rattle.proof_steps.proofs.parents.Own as own
+use Rattle.proof_steps.proofs.parents.Moves
+use Rattle.proof_steps.proofs.parents.Own
 use Rattle.proof_steps.proofs.parents.Own.{Goes}
 use Rattle.proof_steps.proofs.parents.OwnMoves.{own_forced, own_plain, forced_first, and_then, read_as, from_above_says}
 use Rattle.proof_steps.proofs.parents.OwnQuiet.{After, not_childs}
-use Rattle.proof_steps.proofs.parents.Readings as readings
-use Rattle.proof_steps.proofs.parents.Rested as rested
+use Rattle.proof_steps.proofs.parents.Readings
+use Rattle.proof_steps.proofs.parents.Rested
 use Rattle.proof_steps.proofs.parents.Rested.{view_so}
 use Rattle.proof_steps.proofs.parents.Tables.{PreparedFacts, prepared_facts}
 use Rattle.proof_steps.proofs.parents.Turns.{Turn, Fine, Fits_in, seen, remembered, half, net_part, told_outcome, reading, at_root}
-use Rattle.proof_steps.proofs.parents.Wires as wires
+use Rattle.proof_steps.proofs.parents.Wires
 use Rattle.proof_steps.proofs.parents.Wires.{Silent, silent_before}
 use Rattle.proof_steps.proofs.parents.Writes.{stands_so, hardens, wrote, begun_after}
 
@@ -85,7 +84,7 @@ module _ (turn : Turn) where
   root = at_root turn
 
   abbrev v : CoordinatorView
-  v = own.v turn
+  v = Own.v turn
 
   abbrev m : Memory
   m = remembered turn
@@ -139,14 +138,14 @@ module _ (turn : Turn) where
       i.hears.1 (same_case-refl c)) e
 
   pub is_below : (p : ProcessId) → parent ≡ Some p → root ≡ false
-  is_below p s = own.seat_is turn (λ s' e. absurd (let z = sym s ∙ s' in cc)) (λ p' s' e. e)
+  is_below p s = Own.seat_is turn (λ s' e. absurd (let z = sym s ∙ s' in cc)) (λ p' s' e. e)
 
   pub commit_says : HearsParent parent h (Commit c) → Goes turn m.phase
-  commit_says i = stays turn m (by_input.commit_comes turn c i.hears.0 i.hears.1) (itself turn)
+  commit_says i = stays turn m (Memories.commit_comes turn c i.hears.0 i.hears.1) (itself turn)
 
   pub abort_says : v.standing ≡ Prepared → HearsParent parent h (Abort c) → Goes turn m.phase
   abort_says e i =
-      rested.abort_stays turn c i.hears.0 i.from i.is_parent i.hears.1
+      Rested.abort_stays turn c i.hears.0 i.from i.is_parent i.hears.1
       (λ x o. not_open Prepared e (λ z. cc) o)
       (λ x o. not_asked Prepared e (λ z. cc) o)
 
@@ -181,7 +180,7 @@ module _ (turn : Turn) where
   abort_row p = prepared_abort_by h.version (seat_of place parent c) v p
 
   abbrev X : Bool → Bool → ParentHalf → Wire → Reading
-  X b o q x = readings.R manager above k c t b o q x
+  X b o q x = Readings.R manager above k c t b o q x
 
   at_false : root ≡ false → (P : Bool → Type 0) → P false → P root
   at_false e P x = subst P (sym e) x
@@ -195,18 +194,18 @@ module _ (turn : Turn) where
   commits_to : v.standing ≡ Prepared
       → wire c t (net ++ each (seat_of place parent c) Commit v.promised)
       ≡ record v0 { commit = p0.names || v0.commit }
-  commits_to e = wires.wire-commits c t net (seat_of place parent c) v.promised p0.names
+  commits_to e = Wires.wire-commits c t net (seat_of place parent c) v.promised p0.names
       (rw (same_txn-refl c.txn) (names e))
 
   aborts_to : v.standing ≡ Prepared
       → wire c t (net ++ each (seat_of place parent c) Abort v.promised)
       ≡ record v0 { abort = p0.names || v0.abort }
-  aborts_to e = wires.wire-aborts c t net (seat_of place parent c) v.promised p0.names
+  aborts_to e = Wires.wire-aborts c t net (seat_of place parent c) v.promised p0.names
       (rw (same_txn-refl c.txn) (names e))
 
   at_once : (ver : Version) (o : Outcome) → Silent c t net (acknowledges_at_once ver (seat_of place parent c) o)
-  at_once First o = wires.silent-ack c t net place.me parent c (not_childs turn) o []
-  at_once Second o = simp (wires.sent-none)
+  at_once First o = Wires.silent-ack c t net place.me parent c (not_childs turn) o []
+  at_once Second o = simp (Wires.sent-none)
 
   pub passes_commit : (p : Presumption) → HearsParent parent h (Commit c) → v.standing ≡ Prepared
       → c.txn.presumption ≡ p → After turn (commit_row p) → Fine turn (row_effect c (commit_row p))
@@ -227,12 +226,12 @@ module _ (turn : Turn) where
       (read_as turn _ _
       (at_false b (λ y. X y ((y && (is_commit c (CommitRecord c v.promised) || p0.commit_kept)) || o0)
       (record half_then { begun = now (commit_row PresumeAbort) }) w
-      ≡ below.passes_commit_forced (move.hardens_parent (X y o0 p0 v0)))
-      (readings.reading-passes_commit_forced manager above k c t o0 promised
+      ≡ CascadedMoves.passes_commit_forced (ParentMoves.hardens_parent (X y o0 p0 v0)))
+      (Readings.reading-passes_commit_forced manager above k c t o0 promised
       (now (commit_row PresumeAbort)) v.promised p0 v0 (names e)
       (no_owed_abort q f.no_commit)))
-      (and_then turn (move.hardens_parent (reading turn)) _ first
-      (moves.passes_commit_forced c.txn.presumption q (move.hardens_parent (reading turn)) first.invariant
+      (and_then turn (ParentMoves.hardens_parent (reading turn)) _ first
+      (Moves.passes_commit_forced c.txn.presumption q (ParentMoves.hardens_parent (reading turn)) first.invariant
       (let ws = waits e in record {
         cascaded = b;
         up = up;
@@ -249,9 +248,9 @@ module _ (turn : Turn) where
       (sym (left_as m.phase (now (commit_row PresumeCommit)) half_then phase_stays))
       (read_as turn _ _
       (at_false b (λ y. X y o0 (record half_then { begun = now (commit_row PresumeCommit) }) w
-      ≡ below.passes_commit (X y o0 p0 v0))
-      (readings.reading-passes_commit manager above k c t o0 promised (now (commit_row PresumeCommit)) p0 v0))
-      (moves.passes_commit c.txn.presumption q (reading turn) inv
+      ≡ CascadedMoves.passes_commit (X y o0 p0 v0))
+      (Readings.reading-passes_commit manager above k c t o0 promised (now (commit_row PresumeCommit)) p0 v0))
+      (Moves.passes_commit c.txn.presumption q (reading turn) inv
       (record { cascaded = b; up = up; waits = waits e; answer_is_true = commit_told e i }))))
 
   pub passes_abort : (p : Presumption) → HearsParent parent h (Abort c) → v.standing ≡ Prepared
@@ -267,9 +266,9 @@ module _ (turn : Turn) where
       ∙ ap (λ y. record (half_then y) { begun = now (abort_row PresumeAbort) }) (promise_written e)))
       (read_as turn _ _
       (at_false b (λ y. X y o0 (record (half_then true) { begun = now (abort_row PresumeAbort) }) w
-      ≡ below.passes_abort (X y o0 p0 v0))
-      (readings.reading-passes_abort manager above k c t o0 (now (abort_row PresumeAbort)) p0 v0))
-      (moves.passes_abort c.txn.presumption q (reading turn) inv
+      ≡ CascadedMoves.passes_abort (X y o0 p0 v0))
+      (Readings.reading-passes_abort manager above k c t o0 (now (abort_row PresumeAbort)) p0 v0))
+      (Moves.passes_abort c.txn.presumption q (reading turn) inv
       (record { cascaded = b; up = up; waits = waits e; answer_is_true = abort_told e i }))))
   passes_abort PresumeCommit i e q later =
       let b = is_below i.from i.is_parent in
@@ -289,12 +288,12 @@ module _ (turn : Turn) where
       (read_as turn _ _
       (at_false b (λ y. X y ((y && (is_commit c (AbortRecord c v.promised) || p0.commit_kept)) || o0)
       (record (half_then true) { begun = now (abort_row PresumeCommit) }) w
-      ≡ below.passes_abort_forced (move.hardens_parent (X y o0 p0 v0)))
-      (readings.reading-passes_abort_forced manager above k c t o0 (now (abort_row PresumeCommit))
+      ≡ CascadedMoves.passes_abort_forced (ParentMoves.hardens_parent (X y o0 p0 v0)))
+      (Readings.reading-passes_abort_forced manager above k c t o0 (now (abort_row PresumeCommit))
       v.promised p0 v0 (names e)
       (no_owed_commit q f.no_abort)))
-      (and_then turn (move.hardens_parent (reading turn)) _ first
-      (moves.passes_abort_forced c.txn.presumption q (move.hardens_parent (reading turn)) first.invariant
+      (and_then turn (ParentMoves.hardens_parent (reading turn)) _ first
+      (Moves.passes_abort_forced c.txn.presumption q (ParentMoves.hardens_parent (reading turn)) first.invariant
       (let ws = waits e in record {
         cascaded = b;
         up = up;

@@ -3,7 +3,7 @@ use Rattle.std.proofs.Common.{◌≡◌, ◌∙◌, inl, inr, ℕ, false, None, 
 use Rattle.protocol.specs.declared.names.Ticket.{Ticket}
 use Rattle.protocol.specs.declared.messages.Message.TheVariants.{Prepare, Commit, Abort}
 use Rattle.protocol.specs.declared.names.Outcome.{Outcome}
-use Rattle.protocol.specs.declared.names.Outcome.TheVariants.{Committed as CommittedOutcome, Aborted as AbortedOutcome}
+use Rattle.protocol_words.specs.Variants.{AbortedOutcome, CommittedOutcome}
 use Rattle.protocol.specs.declared.records.Record.{Record}
 use Rattle.protocol.specs.declared.standings.Standing.TheVariants.{Active, Collecting}
 use Rattle.protocol.specs.Names.{same_case, child_case, process_of}
@@ -15,11 +15,11 @@ use Rattle.protocol.specs.Reactions.{row_effect}
 use Rattle.protocol.specs.Standings.{CoordinatorView}
 use Rattle.protocol.specs.Views.{IsOpenAlike}
 use Rattle.proof_pairs.specs.turns.CoordinatorTurns.{RestsBy, HearsChild, HearsParent}
-use Rattle.proof_pairs.specs.turns.CoordinatorTurns as turns
-use Rattle.proof_steps.proofs.parents.Memories as by_input
+use Rattle.proof_pairs.specs.turns.CoordinatorTurns
+use Rattle.proof_steps.proofs.parents.Memories
 use Rattle.proof_steps.proofs.parents.Own.{v as view, active_accepted, collecting_accepted, collecting_votes}
 use Rattle.proof_steps.proofs.parents.Quiet.{DoesNothing, Rests, Unrelated, forced_elsewhere, quiet_fine}
-use Rattle.proof_steps.proofs.parents.Rested as rested
+use Rattle.proof_steps.proofs.parents.Rested
 use Rattle.proof_steps.proofs.parents.Turns.{Turn, Fine, remembered}
 use Rattle.proof_steps.proofs.parents.Wires.{Silent}
 
@@ -78,14 +78,14 @@ module _ (turn : Turn) where
   asked_is_collecting e = (holds.alike up c).asked_is_collecting e
 
   pub rest_prepare : (k : ℕ) → HearsParent parent h (Prepare c k) → (m.phase ≡ Open → ⊥) → Rests turn
-  rest_prepare k i f = rested.rest_prepare turn c i.hears.0 k i.from i.is_parent i.hears.1 (λ g o. f o)
+  rest_prepare k i f = Rested.rest_prepare turn c i.hears.0 k i.from i.is_parent i.hears.1 (λ g o. f o)
 
   pub rest_commit : HearsParent parent h (Commit c) → Rests turn
-  rest_commit i = rested.rest_same turn (by_input.commit_comes turn c i.hears.0 i.hears.1)
+  rest_commit i = Rested.rest_same turn (Memories.commit_comes turn c i.hears.0 i.hears.1)
 
   pub rest_abort : HearsParent parent h (Abort c) → (m.phase ≡ Open → ⊥) → (m.phase ≡ Asked → ⊥) → Rests turn
   rest_abort i f g =
-      rested.rest_abort turn c i.hears.0 i.from i.is_parent i.hears.1 (λ x o. f o) (λ x o. g o)
+      Rested.rest_abort turn c i.hears.0 i.from i.is_parent i.hears.1 (λ x o. f o) (λ x o. g o)
 
   pub rest_outcome : (o : Outcome) → HearsParent parent h (tells_outcome o c) → (m.phase ≡ Open → ⊥)
       → (m.phase ≡ Asked → ⊥) → Rests turn
@@ -99,18 +99,18 @@ module _ (turn : Turn) where
       ∙ (ap (λ vs. is_counted v.accepted vs u) (sym (collecting_votes turn s)) ∙ e)
 
   pub rest_nothing : RestsBy place parent n h c → Rests turn
-  rest_nothing (turns.invited_already q i) = rested.rest_same turn (by_input.join_act turn c q i)
-  rest_nothing (turns.takes_nobody u i f) =
-      rested.rest_joined turn c u i.0 i.1
+  rest_nothing (CoordinatorTurns.invited_already q i) = Rested.rest_same turn (Memories.join_act turn c q i)
+  rest_nothing (CoordinatorTurns.takes_nobody u i f) =
+      Rested.rest_joined turn c u i.0 i.1
       (λ g o. ap (λ ts. has_child ts u.child) (sym (active_accepted turn (open_is_active o)))
       ∙ f (open_is_active o))
-  rest_nothing (turns.counts_nothing u w i f) =
-      rested.rest_vote turn w i.txn u i.hears.0 i.hears.1
+  rest_nothing (CoordinatorTurns.counts_nothing u w i f) =
+      Rested.rest_vote turn w i.txn u i.hears.0 i.hears.1
       (λ g o. counted_not u (asked_is_collecting o) (f (asked_is_collecting o)))
-  rest_nothing (turns.owes_nothing u o fs i f) = rested.rest_ack turn o fs i.txn u i.hears.0 i.hears.1
-  rest_nothing (turns.knows_nothing u i) =
-      rested.rest_same turn (by_input.inquires turn (child_case i.txn u) i.hears.0 i.hears.1)
-  rest_nothing (turns.prepares_nothing k i f) = rest_prepare k i (λ o. f (open_is_active o))
-  rest_nothing (turns.commits_nothing i) = rest_commit i
-  rest_nothing (turns.aborts_nothing i f g) =
+  rest_nothing (CoordinatorTurns.owes_nothing u o fs i f) = Rested.rest_ack turn o fs i.txn u i.hears.0 i.hears.1
+  rest_nothing (CoordinatorTurns.knows_nothing u i) =
+      Rested.rest_same turn (Memories.inquires turn (child_case i.txn u) i.hears.0 i.hears.1)
+  rest_nothing (CoordinatorTurns.prepares_nothing k i f) = rest_prepare k i (λ o. f (open_is_active o))
+  rest_nothing (CoordinatorTurns.commits_nothing i) = rest_commit i
+  rest_nothing (CoordinatorTurns.aborts_nothing i f g) =
       rest_abort i (λ o. f (open_is_active o)) (λ o. g (asked_is_collecting o))

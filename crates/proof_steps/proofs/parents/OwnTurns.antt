@@ -3,7 +3,7 @@ use Rattle.std.proofs.Common.{◌≡◌, ◌∙◌, Bool, true, false, List, [],
 use Rattle.protocol.specs.Nodes.{Version}
 use Rattle.protocol.specs.declared.names.Ticket.{Ticket}
 use Rattle.protocol.specs.declared.names.Outcome.{Outcome}
-use Rattle.protocol.specs.declared.names.Outcome.TheVariants.{Committed as CommittedOutcome, Aborted as AbortedOutcome}
+use Rattle.protocol_words.specs.Variants.{AbortedOutcome, ClearedRecord, CommittedOutcome}
 use Rattle.protocol.specs.declared.messages.Envelope.{Envelope}
 use Rattle.protocol.specs.declared.messages.Message.TheVariants.{Inquire}
 use Rattle.protocol.specs.declared.standings.Standing.{Standing}
@@ -17,25 +17,24 @@ use Rattle.protocol.specs.Reactions.{row_effect, seat_of}
 use Rattle.protocol.specs.Standings.{CoordinatorView}
 use Rattle.proof_pairs.specs.readings.ReadingOf.{ParentHalf, Wire, wire}
 use Rattle.proof_pairs.specs.turns.CoordinatorTurns.{CaseTurn, HearsChild, HearsParent, PromisesNoMore, Acknowledges, AnswersInquiry}
-use Rattle.proof_pairs.specs.turns.CoordinatorTurns as turns
+use Rattle.proof_pairs.specs.turns.CoordinatorTurns
 use Rattle.proof_steps.proofs.children.Moves.{unmoved}
-use Rattle.proof_steps.proofs.parents.Memories as by_input
+use Rattle.proof_steps.proofs.parents.Memories
 use Rattle.proof_steps.proofs.parents.Memories.{itself, stays}
-use Rattle.proof_steps.proofs.parents.Own as own
+use Rattle.proof_steps.proofs.parents.Own
 use Rattle.proof_steps.proofs.parents.Own.{Goes}
-use Rattle.proof_steps.proofs.parents.OwnAborts as aborts
-use Rattle.proof_steps.proofs.parents.OwnActive as active
-use Rattle.proof_steps.proofs.parents.OwnDecided as decided
+use Rattle.proof_steps.proofs.parents.OwnAborts
+use Rattle.proof_steps.proofs.parents.OwnActive
+use Rattle.proof_steps.proofs.parents.OwnDecided
 use Rattle.proof_steps.proofs.parents.OwnDecided.{told_wire}
-use Rattle.proof_steps.proofs.parents.OwnPromised as promised
+use Rattle.proof_steps.proofs.parents.OwnPromised
 use Rattle.proof_steps.proofs.parents.OwnPromised.{not_open, not_asked}
 use Rattle.proof_steps.proofs.parents.OwnQuiet.{After, not_childs, aside_row, quiet_row, rest_nothing, rest_prepare, rest_outcome}
-use Rattle.proof_steps.proofs.parents.OwnVotes as votes
-use Rattle.protocol.specs.declared.records.Record.TheVariants.{Cleared as ClearedRecord}
+use Rattle.proof_steps.proofs.parents.OwnVotes
 use Rattle.proof_steps.proofs.parents.Quiet.{begun_silent, cleared_unrelated, shown}
-use Rattle.proof_steps.proofs.parents.Rested as rested
+use Rattle.proof_steps.proofs.parents.Rested
 use Rattle.proof_steps.proofs.parents.Turns.{Turn, Fine, Fits_in, seen, remembered, half, net_part, told_outcome, reading, fine_silent}
-use Rattle.proof_steps.proofs.parents.Wires as wires
+use Rattle.proof_steps.proofs.parents.Wires
 use Rattle.proof_steps.proofs.parents.Writes.{stands_so}
 use Rattle.protocol.specs.declared.messages.Finding.{Finding}
 use Rattle.protocol.specs.declared.names.Case.{Case}
@@ -50,7 +49,7 @@ module _ (turn : Turn) where
   v0 = net_part turn
 
   abbrev v : CoordinatorView
-  v = own.v turn
+  v = Own.v turn
 
   abbrev m : Memory
   m = remembered turn
@@ -81,17 +80,17 @@ module _ (turn : Turn) where
       → wire c t (net ++ to_child (seat_of place parent c) (tells_outcome o) u ∷ [])
       ≡ (if b then told_wire turn o else v0)
   answer_wire u CommittedOutcome true e =
-      wires.wire-commit c t net place.me u.child c.txn u true
-      (wires.same_children c.txn c.txn u t ∙ rw (same_txn-refl c.txn, e) refl)
+      Wires.wire-commit c t net place.me u.child c.txn u true
+      (Wires.same_children c.txn c.txn u t ∙ rw (same_txn-refl c.txn, e) refl)
   answer_wire u CommittedOutcome false e =
-      wires.wire-commit c t net place.me u.child c.txn u false
-      (wires.same_children c.txn c.txn u t ∙ rw (same_txn-refl c.txn, e) refl)
+      Wires.wire-commit c t net place.me u.child c.txn u false
+      (Wires.same_children c.txn c.txn u t ∙ rw (same_txn-refl c.txn, e) refl)
   answer_wire u AbortedOutcome true e =
-      wires.wire-abort c t net place.me u.child c.txn u true
-      (wires.same_children c.txn c.txn u t ∙ rw (same_txn-refl c.txn, e) refl)
+      Wires.wire-abort c t net place.me u.child c.txn u true
+      (Wires.same_children c.txn c.txn u t ∙ rw (same_txn-refl c.txn, e) refl)
   answer_wire u AbortedOutcome false e =
-      wires.wire-abort c t net place.me u.child c.txn u false
-      (wires.same_children c.txn c.txn u t ∙ rw (same_txn-refl c.txn, e) refl)
+      Wires.wire-abort c t net place.me u.child c.txn u false
+      (Wires.same_children c.txn c.txn u t ∙ rw (same_txn-refl c.txn, e) refl)
 
   answers : (u : Ticket) (o : Outcome) → HearsChild place n h c u Inquire
       → AnswersInquiry c.txn.presumption v.standing o
@@ -100,72 +99,72 @@ module _ (turn : Turn) where
       → Fine turn (row_effect c (sends (to_child (seat_of place parent c) (tells_outcome o) u ∷ []) v))
   answers u o i e true f later =
       only_sends (to_child (seat_of place parent c) (tells_outcome o) u ∷ []) v later
-      (stays turn m (by_input.inquires turn (child_case i.txn u) i.hears.0 i.hears.1) (itself turn))
+      (stays turn m (Memories.inquires turn (child_case i.txn u) i.hears.0 i.hears.1) (itself turn))
       (told_wire turn o) (answer_wire u o true f)
-      (decided.answer_fits turn c.txn.presumption refl v.standing refl o e (decided.asked turn u i f))
+      (OwnDecided.answer_fits turn c.txn.presumption refl v.standing refl o e (OwnDecided.asked turn u i f))
   answers u o i e false f later =
       only_sends (to_child (seat_of place parent c) (tells_outcome o) u ∷ []) v later
-      (stays turn m (by_input.inquires turn (child_case i.txn u) i.hears.0 i.hears.1) (itself turn)) v0
+      (stays turn m (Memories.inquires turn (child_case i.txn u) i.hears.0 i.hears.1) (itself turn)) v0
       (answer_wire u o false f)
       (unmoved c.txn.presumption (reading turn) inv)
 
   pub refuses_late : (s : Standing) → PromisesNoMore s → v.standing ≡ s → m.phase ≡ Open → ⊥
-  refuses_late _ turns.unknown_refuses e o = not_open turn Unknown e (λ z. cc) o
-  refuses_late _ turns.aborting_refuses e o = not_open turn Aborting e (λ z. cc) o
+  refuses_late _ CoordinatorTurns.unknown_refuses e o = not_open turn Unknown e (λ z. cc) o
+  refuses_late _ CoordinatorTurns.aborting_refuses e o = not_open turn Aborting e (λ z. cc) o
 
   pub acknowledges_late : (ver : Version) (d : Case) (o : Outcome) (p : Presumption) (s : Standing)
       (fs : List Finding) → Acknowledges ver d o p s fs → v.standing ≡ s
       → (m.phase ≡ Open → ⊥) × (m.phase ≡ Asked → ⊥)
-  acknowledges_late _ _ _ _ _ _ (turns.commit_presumed_abort w _) e =
+  acknowledges_late _ _ _ _ _ _ (CoordinatorTurns.commit_presumed_abort w _) e =
       (not_open turn Unknown e (λ z. cc), not_asked turn Unknown e (λ z. cc))
-  acknowledges_late _ _ _ _ _ _ (turns.commit_again _ p) e =
+  acknowledges_late _ _ _ _ _ _ (CoordinatorTurns.commit_again _ p) e =
       (not_open turn Committing e (λ z. cc), not_asked turn Committing e (λ z. cc))
-  acknowledges_late _ _ _ _ _ _ (turns.abort_presumed_commit w _) e =
+  acknowledges_late _ _ _ _ _ _ (CoordinatorTurns.abort_presumed_commit w _) e =
       (not_open turn Unknown e (λ z. cc), not_asked turn Unknown e (λ z. cc))
-  acknowledges_late _ _ _ _ _ _ (turns.abort_again _ p) e =
+  acknowledges_late _ _ _ _ _ _ (CoordinatorTurns.abort_again _ p) e =
       (not_open turn Aborting e (λ z. cc), not_asked turn Aborting e (λ z. cc))
 
   pub own_turn : (row : Row) → CaseTurn place parent n h c row → After turn row → Fine turn (row_effect c row)
-  own_turn _ (turns.rests r) later =
-      quiet_row turn _ later refl refl refl refl (rest_nothing turn r) (simp (wires.sent-none))
-  own_turn _ (turns.invites q i e f g) later =
-      quiet_row turn _ later refl refl refl refl (rested.rest_same turn (by_input.join_act turn c q i))
-      (wires.silent-join c t net place.me q c)
-  own_turn _ (turns.accepts u i e f) later = active.accepts turn u i e f _ refl later
-  own_turn _ (turns.sends_work q u op i e f g) later =
-      quiet_row turn _ later refl refl refl refl (rested.rest_work turn c q op i)
-      (wires.silent-work c t net place.me u.child (child_case c.txn u) _ op)
-  own_turn _ (turns.finds_nobody i e f) later = active.finds_nobody turn i e f later
-  own_turn _ (turns.asks_for_votes p i e f q) later = active.asks_for_votes turn p i e f q later
-  own_turn _ (turns.gives_up why p i e q) later = active.gives_up turn why p i e _ refl later
-  own_turn _ (turns.counts_vote u w i k e) later = votes.counts_vote turn u w i k e later
-  own_turn _ (turns.reads_only u w ys p i e q) later = votes.reads_only turn u w ys i p e q later
-  own_turn _ (turns.commits u w ys p i e s q) later = votes.commits turn u w ys i p s q later
-  own_turn _ (turns.promises u w ys p i e s) later = votes.promises turn u w ys i p s later
-  own_turn _ (turns.hears_no u us p i f q) later = aborts.hears_no turn u us i f p q later
-  own_turn _ (turns.aborts why us p i e f q) later = aborts.aborts turn why us p i e f q later
-  own_turn _ (turns.passes_commit p i e q) later = promised.passes_commit turn p i e q later
-  own_turn _ (turns.passes_abort p i e q) later = promised.passes_abort turn p i e q later
-  own_turn _ (turns.repeats_yes k i e) later =
+  own_turn _ (CoordinatorTurns.rests r) later =
+      quiet_row turn _ later refl refl refl refl (rest_nothing turn r) (simp (Wires.sent-none))
+  own_turn _ (CoordinatorTurns.invites q i e f g) later =
+      quiet_row turn _ later refl refl refl refl (Rested.rest_same turn (Memories.join_act turn c q i))
+      (Wires.silent-join c t net place.me q c)
+  own_turn _ (CoordinatorTurns.accepts u i e f) later = OwnActive.accepts turn u i e f _ refl later
+  own_turn _ (CoordinatorTurns.sends_work q u op i e f g) later =
+      quiet_row turn _ later refl refl refl refl (Rested.rest_work turn c q op i)
+      (Wires.silent-work c t net place.me u.child (child_case c.txn u) _ op)
+  own_turn _ (CoordinatorTurns.finds_nobody i e f) later = OwnActive.finds_nobody turn i e f later
+  own_turn _ (CoordinatorTurns.asks_for_votes p i e f q) later = OwnActive.asks_for_votes turn p i e f q later
+  own_turn _ (CoordinatorTurns.gives_up why p i e q) later = OwnActive.gives_up turn why p i e _ refl later
+  own_turn _ (CoordinatorTurns.counts_vote u w i k e) later = OwnVotes.counts_vote turn u w i k e later
+  own_turn _ (CoordinatorTurns.reads_only u w ys p i e q) later = OwnVotes.reads_only turn u w ys i p e q later
+  own_turn _ (CoordinatorTurns.commits u w ys p i e s q) later = OwnVotes.commits turn u w ys i p s q later
+  own_turn _ (CoordinatorTurns.promises u w ys p i e s) later = OwnVotes.promises turn u w ys i p s later
+  own_turn _ (CoordinatorTurns.hears_no u us p i f q) later = OwnAborts.hears_no turn u us i f p q later
+  own_turn _ (CoordinatorTurns.aborts why us p i e f q) later = OwnAborts.aborts turn why us p i e f q later
+  own_turn _ (CoordinatorTurns.passes_commit p i e q) later = OwnPromised.passes_commit turn p i e q later
+  own_turn _ (CoordinatorTurns.passes_abort p i e q) later = OwnPromised.passes_abort turn p i e q later
+  own_turn _ (CoordinatorTurns.repeats_yes k i e) later =
       quiet_row turn _ later refl refl refl refl
       (rest_prepare turn k i (λ o. not_open turn Prepared e (λ z. cc) o))
-      (wires.silent-yes c t net place.me parent c (not_childs turn))
-  own_turn _ (turns.asks i e) later =
-      quiet_row turn _ later refl refl refl refl (rested.rest_same turn (by_input.ask_act turn c i))
-      (wires.silent-inquire c t net place.me parent c (not_childs turn))
-  own_turn _ (turns.refuses k i e) later =
+      (Wires.silent-yes c t net place.me parent c (not_childs turn))
+  own_turn _ (CoordinatorTurns.asks i e) later =
+      quiet_row turn _ later refl refl refl refl (Rested.rest_same turn (Memories.ask_act turn c i))
+      (Wires.silent-inquire c t net place.me parent c (not_childs turn))
+  own_turn _ (CoordinatorTurns.refuses k i e) later =
       quiet_row turn _ later refl refl refl refl
       (rest_prepare turn k i (λ o. refuses_late v.standing e refl o))
-      (wires.silent-no c t net place.me parent c (not_childs turn))
-  own_turn _ (turns.acknowledges o fs i e) later =
+      (Wires.silent-no c t net place.me parent c (not_childs turn))
+  own_turn _ (CoordinatorTurns.acknowledges o fs i e) later =
       let late = acknowledges_late h.version c o c.txn.presumption v.standing fs e refl in
       quiet_row turn _ later refl refl refl refl (rest_outcome turn o i late.0 late.1)
-      (wires.silent-ack c t net place.me parent c (not_childs turn) o fs)
-  own_turn _ (turns.waits_for_acks u o fs i e f g) later =
-      quiet_row turn _ later refl refl refl refl (rested.rest_ack turn o fs i.txn u i.hears.0 i.hears.1)
-      (simp (wires.sent-none))
-  own_turn _ (turns.ends u o fs i e f g) later = decided.ends turn u o fs i e g later
-  own_turn _ (turns.clears i e f g) later =
+      (Wires.silent-ack c t net place.me parent c (not_childs turn) o fs)
+  own_turn _ (CoordinatorTurns.waits_for_acks u o fs i e f g) later =
+      quiet_row turn _ later refl refl refl refl (Rested.rest_ack turn o fs i.txn u i.hears.0 i.hears.1)
+      (simp (Wires.sent-none))
+  own_turn _ (CoordinatorTurns.ends u o fs i e f g) later = OwnDecided.ends turn u o fs i e g later
+  own_turn _ (CoordinatorTurns.clears i e f g) later =
       aside_row turn _ later (ClearedRecord c) refl (cleared_unrelated turn c) refl refl refl
-      (rested.rest_same turn (by_input.forget_act turn c i)) (simp (wires.sent-none))
-  own_turn _ (turns.answers u o i e) later = answers u o i e (same_ticket u t) refl later
+      (Rested.rest_same turn (Memories.forget_act turn c i)) (simp (Wires.sent-none))
+  own_turn _ (CoordinatorTurns.answers u o i e) later = answers u o i e (same_ticket u t) refl later

@@ -4,8 +4,7 @@ use Rattle.std.proofs.Common.{◌≡◌, ◌∙◌, ◌⊎◌, inl, inr, ℕ, Bo
 use Rattle.std.specs.List.{list_any}
 use Rattle.protocol.specs.declared.names.Case.{Case}
 use Rattle.protocol.specs.declared.records.Record.{Record}
-use Rattle.protocol.specs.declared.records.Record.TheVariants.{Cleared as ClearedRecord}
-use Rattle.protocol.specs.declared.standings.Vote.TheVariants.{Yes as VoteYes, No as VoteNo, Read as VoteRead}
+use Rattle.protocol_words.specs.Variants.{ClearedRecord, VoteNo, VoteRead, VoteYes}
 use Rattle.protocol.specs.Records.{has, in_list, is_commit, is_prepare, boot_after}
 use Rattle.protocol.specs.Nodes.{Effect, after, told_first}
 use Rattle.protocol.specs.Memory.{Memory}
@@ -13,12 +12,12 @@ use Rattle.protocol.specs.CoordinatorRows.{forced, plain}
 use Rattle.protocol.specs.Outcomes.{is_told_aborted}
 use Rattle.protocol.specs.Views.{IsOpenAlike}
 use Rattle.proof_pairs.specs.Reading.{Reading}
-use Rattle.proof_pairs.specs.ParentMoves as move
+use Rattle.proof_pairs.specs.ParentMoves
 use Rattle.proof_pairs.specs.readings.ReadingOf.{reading_from, ParentHalf, ChildHalf, Wire, is_told_committed, is_told_of_txn}
 use Rattle.proof_pairs.proofs.readings.Lists.{has-cons}
 use Rattle.proof_steps.proofs.children.Moves.{onward, unmoved}
 use Rattle.proof_steps.proofs.parents.Halves.{acked_of}
-use Rattle.proof_steps.proofs.parents.Moves as moves
+use Rattle.proof_steps.proofs.parents.Moves
 use Rattle.proof_steps.proofs.parents.Turns.{Turn, remembered, half, net_part, told_outcome, reading, seen, Says, Fine, Fits_in, at_root, fine_silent, fine_forced, fine_plain}
 use Rattle.proof_steps.proofs.parents.Wires.{Silent, wire-silent}
 use Rattle.proof_steps.proofs.parents.Writes.{wrote, hardens, did, stands_so, begun_after, accepts_so, counts_so, is_told_so, told-first}
@@ -33,7 +32,7 @@ module _ (manager above : Bool) (k : ChildHalf) where
   R root o p v = reading_from root manager o above p k v
 
   pub reading-hardens : (root o : Bool) (p : ParentHalf) (v : Wire)
-      → R root ((root && p.commit_kept) || o) (hardens p) v ≡ move.hardens_parent (R root o p v)
+      → R root ((root && p.commit_kept) || o) (hardens p) v ≡ ParentMoves.hardens_parent (R root o p v)
   reading-hardens true o p v = simp (or_twice)
   reading-hardens false o p v = simp (or_twice)
 
@@ -85,7 +84,7 @@ module _ (turn : Turn) where
       (unmoved c.txn.presumption (reading turn) inv)
   rest_fits b (inr e) =
       subst (λ (x : Bool). Fits_in turn (seen turn o0 (rested x) v0)) (sym e.0)
-      (moves.hears_ack c.txn.presumption (reading turn) inv (record { said = e.1 }))
+      (Moves.hears_ack c.txn.presumption (reading turn) inv (record { said = e.1 }))
 
   -- as the half is written after an event
   pub shown : (b : Bool) → stands_so false m.phase (in_list m.accepted t) b p0.begun p0 ≡ rested b
@@ -156,8 +155,8 @@ module _ (turn : Turn) where
         let r = seen turn o0 (rested b) v0 in
         subst (λ (x : Reading). Fits_in turn x)
         (sym (reading-hardens manager above k (at_root turn) o0 (rested b) v0))
-        (onward c.txn.presumption (reading turn) r (move.hardens_parent r) old
-        (moves.hardens c.txn.presumption r old.invariant up))
+        (onward c.txn.presumption (reading turn) r (ParentMoves.hardens_parent r) old
+        (Moves.hardens c.txn.presumption r old.invariant up))
 
     -- and forced
     pub forced_elsewhere : (r : Record) → e.written ≡ forced r → Unrelated r → Fine turn e

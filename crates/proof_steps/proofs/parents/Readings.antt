@@ -2,14 +2,14 @@
 use Rattle.std.proofs.Common.{◌≡◌, Bool, true, false, not, ◌||◌, ◌&&◌, [], refl, List, arith, if◌then◌else◌, Option, None}
 use Rattle.protocol.specs.declared.names.Case.{Case}
 use Rattle.protocol.specs.declared.names.Ticket.{Ticket}
-use Rattle.protocol.specs.declared.records.Record.TheVariants.{Collecting as CollectingRecord, Prepare as PrepareRecord, Commit as CommitRecord, Abort as AbortRecord, End as EndRecord}
+use Rattle.protocol_words.specs.Variants.{AbortRecord, CollectingRecord, CommitRecord, EndRecord, PrepareRecord}
 use Rattle.protocol.specs.NameLaws.{same_case-refl}
 use Rattle.protocol.specs.Records.{in_list, is_commit}
 use Rattle.protocol.specs.Memory.{Phase, Open, Asked, Over}
 use Rattle.proof_pairs.specs.Reading.{Reading, Active, Collecting, is_live}
-use Rattle.proof_pairs.specs.ParentMoves as move
-use Rattle.proof_pairs.specs.RootMoves as at_root
-use Rattle.proof_pairs.specs.CascadedMoves as below
+use Rattle.proof_pairs.specs.ParentMoves
+use Rattle.proof_pairs.specs.RootMoves
+use Rattle.proof_pairs.specs.CascadedMoves
 use Rattle.proof_pairs.specs.readings.ReadingOf.{reading_from, ParentHalf, ChildHalf, Wire, is_dead}
 use Rattle.proof_pairs.proofs.readings.Named.{in_list-none}
 use Rattle.proof_steps.proofs.parents.Writes.{wrote, hardens, stands_so}
@@ -70,7 +70,7 @@ module _ (manager above : Bool) (k : ChildHalf) (c : Case) (t : Ticket) where
 
   pub reading-asks : (root o : Bool) (p : ParentHalf) (v : Wire) → p.phase ≡ Active → p.begun ≡ true
       → R root o (S Asked p p) (record v { prepare = p.accepted || v.prepare })
-      ≡ move.asks_for_votes (R root o p v)
+      ≡ ParentMoves.asks_for_votes (R root o p v)
   reading-asks true o p v e f = rw (e, f) (simp (dead-live))
   reading-asks false o p v e f = rw e (simp (dead-live))
 
@@ -79,13 +79,13 @@ module _ (manager above : Bool) (k : ChildHalf) (c : Case) (t : Ticket) where
       → R root ((root && (is_commit c (CollectingRecord c ts) || p.commit_kept)) || o)
       (S Asked p (hardens (wrote (CollectingRecord c ts) c t b p)))
       (record v { prepare = p.accepted || v.prepare })
-      ≡ move.collects_votes (move.hardens_parent (R root o p v))
+      ≡ ParentMoves.collects_votes (ParentMoves.hardens_parent (R root o p v))
   reading-collects true o b ts p v e f g h = rw (e, f, g, h) (simp (dead-live, same_case-refl, or-false))
   reading-collects false o b ts p v e f g h = rw (e, g, h) (simp (dead-live, same_case-refl, or-false))
 
   pub reading-gives_up : (root o : Bool) (p : ParentHalf) (v : Wire) → Live root o p v
       → R root o (S Over p (tells root p)) (record v { abort = p.accepted || v.abort })
-      ≡ move.gives_up (R root o p v)
+      ≡ ParentMoves.gives_up (R root o p v)
   reading-gives_up true o p v l =
       let f = l.undecided refl in
       rw (l.begun, l.no_commit, f) (simp (dead-now))
@@ -95,25 +95,25 @@ module _ (manager above : Bool) (k : ChildHalf) (c : Case) (t : Ticket) where
 
   -- the root's case ends by nobody
   pub reading-ends : (o : Bool) (p : ParentHalf) (v : Wire) → Live true o p v
-      → R true o (S Over p p) v ≡ at_root.ends_empty (R true o p v)
+      → R true o (S Over p p) v ≡ RootMoves.ends_empty (R true o p v)
   reading-ends o p v l =
       let f = l.undecided refl in
       rw (l.begun, l.no_commit, f) (simp (dead-now))
 
   pub reading-ends_collected : (o b : Bool) (p : ParentHalf) (v : Wire) → Live true o p v
-      → R true o (S Over p (wrote (EndRecord c None) c t b p)) v ≡ at_root.ends_read_only_collected (R true o p v)
+      → R true o (S Over p (wrote (EndRecord c None) c t b p)) v ≡ RootMoves.ends_read_only_collected (R true o p v)
   reading-ends_collected o b p v l =
       let f = l.undecided refl in
       rw (l.begun, l.no_commit, f) (simp (dead-now, same_case-refl))
 
   -- a cascaded case says READ
   pub reading-reads : (o : Bool) (p : ParentHalf) (v : Wire) → Live false o p v
-      → R false o (S Over p p) (record v { read_up = true }) ≡ below.reads_empty (R false o p v)
+      → R false o (S Over p p) (record v { read_up = true }) ≡ CascadedMoves.reads_empty (R false o p v)
   reading-reads o p v l = rw (l.live) (simp (dead-live, dead-read))
 
   pub reading-reads_collected : (o b : Bool) (p : ParentHalf) (v : Wire) → Live false o p v
       → R false o (S Over p (wrote (EndRecord c None) c t b p)) (record v { read_up = true })
-      ≡ below.reads_up_collected (R false o p v)
+      ≡ CascadedMoves.reads_up_collected (R false o p v)
   reading-reads_collected o b p v l = rw (l.live) (simp (dead-live, dead-read, same_case-refl))
 
   -- the root commits
@@ -122,7 +122,7 @@ module _ (manager above : Bool) (k : ChildHalf) (c : Case) (t : Ticket) where
       → R true ((true && (is_commit c (CommitRecord c ys) || p.commit_kept)) || o)
       (S Over p (hardens (wrote (CommitRecord c ys) c t b (record p { told_committed = true }))))
       (record v { commit = (p.accepted && p.first_yes) || v.commit })
-      ≡ at_root.decides_naming (move.hardens_parent (R true o p v))
+      ≡ RootMoves.decides_naming (ParentMoves.hardens_parent (R true o p v))
   reading-decides_naming o b ys p v l g h =
       rw (l.begun, l.live, g, h) (simp (dead-live, dead-promised, same_case-refl, or-false))
 
@@ -130,7 +130,7 @@ module _ (manager above : Bool) (k : ChildHalf) (c : Case) (t : Ticket) where
       → R true ((true && (is_commit c (CommitRecord c []) || p.commit_kept)) || o)
       (S Over p (hardens (wrote (CommitRecord c []) c t b (record p { told_committed = true }))))
       (record v { commit = (p.accepted && p.first_yes) || v.commit })
-      ≡ at_root.decides (move.hardens_parent (R true o p v))
+      ≡ RootMoves.decides (ParentMoves.hardens_parent (R true o p v))
   reading-decides o b p v l =
       rw (l.begun, l.live) (simp (dead-live, dead-promised, same_case-refl, in_list-none))
 
@@ -139,14 +139,14 @@ module _ (manager above : Bool) (k : ChildHalf) (c : Case) (t : Ticket) where
       → in_list ys t ≡ (p.accepted && p.first_yes) → p.names ≡ false
       → R false ((false && (is_commit c (PrepareRecord c ys) || p.commit_kept)) || o)
       (S Over p (hardens (wrote (PrepareRecord c ys) c t b p))) v
-      ≡ below.promises (move.hardens_parent (R false o p v))
+      ≡ CascadedMoves.promises (ParentMoves.hardens_parent (R false o p v))
   reading-promises o b ys p v l g h =
       rw (l.live, g, h) (simp (dead-live, dead-promised, same_case-refl, or-false))
 
   -- an abort while votes are collected: PA
   pub reading-hears_no : (root o b : Bool) (p : ParentHalf) (v : Wire) → Live root o p v
       → R root o (S Over p (wrote (AbortRecord c []) c t b (tells root (record p { first_no = true })))) v
-      ≡ move.hears_no (R root o p v)
+      ≡ ParentMoves.hears_no (R root o p v)
   reading-hears_no true o b p v l =
       let f = l.undecided refl in
       rw (l.begun, l.no_commit, f) (simp (dead-now, same_case-refl, in_list-none))
@@ -158,7 +158,7 @@ module _ (manager above : Bool) (k : ChildHalf) (c : Case) (t : Ticket) where
   pub reading-aborts : (root o b : Bool) (p : ParentHalf) (v : Wire) → Live root o p v
       → R root o (S Over p (wrote (AbortRecord c []) c t b (tells root p)))
       (record v { abort = (p.accepted && not p.first_read) || v.abort })
-      ≡ move.aborts (R root o p v)
+      ≡ ParentMoves.aborts (R root o p v)
   reading-aborts true o b p v l =
       let f = l.undecided refl in
       rw (l.begun, l.no_commit, f) (simp (dead-now, same_case-refl, in_list-none))
@@ -173,7 +173,7 @@ module _ (manager above : Bool) (k : ChildHalf) (c : Case) (t : Ticket) where
       → in_list us t ≡ false
       → R root ((root && (is_commit c (AbortRecord c us) || p.commit_kept)) || o)
       (S Over p (hardens (wrote (AbortRecord c us) c t b (tells root (record p { first_no = true }))))) v
-      ≡ move.hears_no_forced (move.hardens_parent (R root o p v))
+      ≡ ParentMoves.hears_no_forced (ParentMoves.hardens_parent (R root o p v))
   reading-hears_no_forced true o b us p v l g =
       let f = l.undecided refl in
       rw (l.begun, l.no_commit, f, g) (simp (dead-now, same_case-refl))
@@ -187,7 +187,7 @@ module _ (manager above : Bool) (k : ChildHalf) (c : Case) (t : Ticket) where
       → R root ((root && (is_commit c (AbortRecord c us) || p.commit_kept)) || o)
       (S Over p (hardens (wrote (AbortRecord c us) c t b (tells root p))))
       (record v { abort = (p.accepted && not p.first_read) || v.abort })
-      ≡ move.aborts_forced (move.hardens_parent (R root o p v))
+      ≡ ParentMoves.aborts_forced (ParentMoves.hardens_parent (R root o p v))
   reading-aborts_forced true o b us p v l g h =
       let f = l.undecided refl in
       rw (l.begun, l.no_commit, f, g, h) (simp (dead-now, same_case-refl, or-false))
@@ -205,36 +205,36 @@ module _ (manager above : Bool) (k : ChildHalf) (c : Case) (t : Ticket) where
       → in_list ys t ≡ p.names → p.owed ≡ false
       → R false ((false && (is_commit c (CommitRecord c ys) || p.commit_kept)) || o)
       (B x (hardens (wrote (CommitRecord c ys) c t b p))) (record v { commit = p.names || v.commit })
-      ≡ below.passes_commit_forced (move.hardens_parent (R false o p v))
+      ≡ CascadedMoves.passes_commit_forced (ParentMoves.hardens_parent (R false o p v))
   reading-passes_commit_forced o b x ys p v g h = rw (g, h) (simp (same_case-refl, or_twice, or-false))
 
   pub reading-passes_commit : (o b x : Bool) (p : ParentHalf) (v : Wire)
       → R false o (B x (wrote (CommitRecord c []) c t b p)) (record v { commit = p.names || v.commit })
-      ≡ below.passes_commit (R false o p v)
+      ≡ CascadedMoves.passes_commit (R false o p v)
   reading-passes_commit o b x p v = simp (same_case-refl, in_list-none)
 
   pub reading-passes_abort : (o x : Bool) (p : ParentHalf) (v : Wire)
       → R false o (B x (wrote (AbortRecord c []) c t true p)) (record v { abort = p.names || v.abort })
-      ≡ below.passes_abort (R false o p v)
+      ≡ CascadedMoves.passes_abort (R false o p v)
   reading-passes_abort o x p v = simp (same_case-refl, in_list-none)
 
   pub reading-passes_abort_forced : (o x : Bool) (ys : List Ticket) (p : ParentHalf) (v : Wire)
       → in_list ys t ≡ p.names → p.owed ≡ false
       → R false ((false && (is_commit c (AbortRecord c ys) || p.commit_kept)) || o)
       (B x (hardens (wrote (AbortRecord c ys) c t true p))) (record v { abort = p.names || v.abort })
-      ≡ below.passes_abort_forced (move.hardens_parent (R false o p v))
+      ≡ CascadedMoves.passes_abort_forced (ParentMoves.hardens_parent (R false o p v))
   reading-passes_abort_forced o x ys p v g h = rw (g, h) (simp (same_case-refl, or-false))
 
   -- the last ACK came
   pub reading-ended : (rep : Option Reports) (root o b : Bool) (p : ParentHalf) (v : Wire)
-      → R root o (wrote (EndRecord c rep) c t b p) v ≡ move.ends (R root o p v)
+      → R root o (wrote (EndRecord c rep) c t b p) v ≡ ParentMoves.ends (R root o p v)
   reading-ended rep root o b p v = simp (same_case-refl)
 
   -- JOINED was accepted, of the pair's ticket or of another
   pub reading-accepts : (root o b : Bool) (p : ParentHalf) (v : Wire) → p.phase ≡ Active → p.begun ≡ true
       → R root o (stands_so false Open (p.accepted || b) p.acked true
       (record p { took_part = b || p.took_part })) v
-      ≡ (if b then move.accepts (R root o p v) else R root o p v)
+      ≡ (if b then ParentMoves.accepts (R root o p v) else R root o p v)
   reading-accepts true o true p v e f = rw (e, f) (simp (or-true))
   reading-accepts false o true p v e f = rw e (simp (or-true))
   reading-accepts true o false p v e f = rw (e, f) (simp (or-false))
@@ -255,10 +255,10 @@ module _ (manager above : Bool) (k : ChildHalf) (c : Case) (t : Ticket) where
 
   -- the root begins the transaction
   pub reading-begins : (o : Bool) (p : ParentHalf) (v : Wire) → p.begun ≡ false
-      → R true o (S Open p p) v ≡ at_root.begins (R true o p v)
+      → R true o (S Open p p) v ≡ RootMoves.begins (R true o p v)
   reading-begins o p v e = rw e (simp (dead-live, dead-unknown))
 
   -- JOIN makes the case
   pub reading-born : (o : Bool) (p : ParentHalf) (v : Wire) → v.given ≡ false → p.obeyed_abort ≡ false
-      → R false o (S Open p p) (record v { given = true }) ≡ below.is_born (R false o p v)
+      → R false o (S Open p p) (record v { given = true }) ≡ CascadedMoves.is_born (R false o p v)
   reading-born o p v e f = rw (e, f) (simp (dead-live, dead-unknown))

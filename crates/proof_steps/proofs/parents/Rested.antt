@@ -10,8 +10,7 @@ use Rattle.protocol.specs.declared.messages.Op.{Op}
 use Rattle.protocol.specs.declared.messages.Message.TheVariants.{Joined, Prepare, Abort, Ack}
 use Rattle.protocol.specs.declared.standings.Standing.{Standing}
 use Rattle.protocol.specs.declared.standings.Vote.{Vote}
-use Rattle.protocol.specs.declared.events.Act.TheVariants.{Work as WorkAct, Commit as CommitAct, Abort as AbortAct}
-use Rattle.protocol.specs.declared.events.Input.TheVariants.{Act as ActInput, Message as MessageInput}
+use Rattle.protocol_words.specs.Variants.{AbortAct, ActInput, CommitAct, MessageInput, WorkAct}
 use Rattle.protocol.specs.Names.{same_case, same_outcome, same_ticket, same_txn, child_case, root_case}
 use Rattle.protocol.specs.Records.{in_list}
 use Rattle.protocol.specs.Nodes.{Place, Node, kept}
@@ -24,7 +23,7 @@ use Rattle.proof_processes.proofs.Deliveries.{was_sent}
 use Rattle.proof_processes.proofs.Tests.{both}
 use Rattle.proof_steps.proofs.parents.Halves.{acked_of}
 use Rattle.proof_steps.proofs.parents.Known.{clash, found_accepted, one_case}
-use Rattle.proof_steps.proofs.parents.Memories as by_input
+use Rattle.proof_steps.proofs.parents.Memories
 use Rattle.proof_steps.proofs.parents.Memories.{Alike, itself, stays, works_alike}
 use Rattle.proof_steps.proofs.parents.Quiet.{Rests, rests_as}
 use Rattle.proof_steps.proofs.parents.Turns.{Turn, Says, remembered, then_remembered, net_part}
@@ -79,7 +78,7 @@ module _ (turn : Turn) where
       → h.input ≡ MessageInput j (vote_message w (child_case x u))
       → (same_txn x c.txn ≡ true → m.phase ≡ Asked → is_counted m.accepted m.votes u ≡ false) → Rests turn
   rest_vote w x u j i f =
-      rest_if (same_txn x c.txn) (takes_vote m u w m.phase) (by_input.vote_comes turn w x u j i)
+      rest_if (same_txn x c.txn) (takes_vote m u w m.phase) (Memories.vote_comes turn w x u j i)
       (λ e. uncounted u w m.phase (f e))
 
   -- a ticket that belongs to another case is not accepted in this one
@@ -152,8 +151,8 @@ module _ (turn : Turn) where
   rest_ack o fs x u j i = by_test (same_txn x c.txn) refl
     where
       by_test : (b : Bool) → same_txn x c.txn ≡ b → Rests turn
-      by_test true e = takes x u o fs j i e m.phase refl (by_input.ack_comes turn o fs x u j i ∙ rw e refl)
-      by_test false e = rest_same (by_input.ack_comes turn o fs x u j i ∙ rw e refl)
+      by_test true e = takes x u o fs j i e m.phase refl (Memories.ack_comes turn o fs x u j i ∙ rw e refl)
+      by_test false e = rest_same (Memories.ack_comes turn o fs x u j i ∙ rw e refl)
 
   -- The parent's messages.
 
@@ -178,7 +177,7 @@ module _ (turn : Turn) where
       → (same_case d c ≡ true → m.phase ≡ Open → ⊥) → Rests turn
   rest_prepare d j l p s i f =
       rest_alike (if same_case d c then asks_votes (retires m d) m.phase else retires m d)
-      (by_input.prepare_comes turn d j l p s i)
+      (Memories.prepare_comes turn d j l p s i)
       (if_alike (same_case d c) (asks_votes (retires m d) m.phase) (retires m d)
       (λ e. asks_late d m.phase (f e)) (retired d))
 
@@ -187,7 +186,7 @@ module _ (turn : Turn) where
       → Says turn m.phase (in_list m.accepted t) (acked_of m c t)
   abort_stays d j p s i f g =
       stays turn (if same_case d c then closes (retires m d) m.phase else retires m d)
-      (by_input.abort_comes turn d j p s i)
+      (Memories.abort_comes turn d j p s i)
       (if_alike (same_case d c) (closes (retires m d) m.phase) (retires m d)
       (λ e. closes_late d m.phase refl (f e) (g e)) (retired d))
 
@@ -208,20 +207,20 @@ module _ (turn : Turn) where
   pub rest_joined : (d : Case) (u : Ticket) (j : ℕ) → h.input ≡ MessageInput j (Joined d u)
       → (same_case d c ≡ true → m.phase ≡ Open → has_child m.accepted u.child ≡ true) → Rests turn
   rest_joined d u j i f =
-      rest_if (same_case d c) (accepts_ticket m u m.phase) (by_input.joined_comes turn d u j i)
+      rest_if (same_case d c) (accepts_ticket m u m.phase) (Memories.joined_comes turn d u j i)
       (λ e. not_taken u m.phase (f e))
 
   pub rest_work : (d : Case) (q : ProcessId) (op : Op) → h.input ≡ ActInput (WorkAct d q op) → Rests turn
   rest_work d q op i =
-      rest_if (same_case d c) _ (by_input.work_act turn d q op i)
+      rest_if (same_case d c) _ (Memories.work_act turn d q op i)
       (λ e. works_alike turn (ticket_of_child m.accepted q) m.phase)
 
   -- Acts for another case.
 
   pub rest_commit_act : (x : Txn) → h.input ≡ ActInput (CommitAct x) → same_case (root_case x) c ≡ false
       → Rests turn
-  rest_commit_act x i e = rest_same (by_input.commit_act_elsewhere turn x e i)
+  rest_commit_act x i e = rest_same (Memories.commit_act_elsewhere turn x e i)
 
   pub rest_abort_act : (x : Txn) → h.input ≡ ActInput (AbortAct x) → same_case (root_case x) c ≡ false
       → Rests turn
-  rest_abort_act x i e = rest_same (by_input.abort_act_elsewhere turn x e i)
+  rest_abort_act x i e = rest_same (Memories.abort_act_elsewhere turn x e i)

@@ -5,7 +5,7 @@ use Rattle.protocol.specs.declared.names.ProcessId.{ProcessId}
 use Rattle.protocol.specs.declared.names.Ticket.{Ticket}
 use Rattle.protocol.specs.declared.messages.Envelope.{Envelope}
 use Rattle.protocol.specs.declared.events.Happening.{Happening}
-use Rattle.protocol.specs.declared.events.Happening.TheVariants.{Input as Handles}
+use Rattle.protocol_words.specs.Variants.{Handles}
 use Rattle.protocol.specs.declared.events.Input.{Input}
 use Rattle.protocol.specs.declared.trees.TreeProcess.{TreeProcess}
 use Rattle.protocol.specs.Names.{process_of, same_case}
@@ -20,7 +20,7 @@ use Rattle.protocol.specs.World.{World, Made, Move, IsRun, MayHappen, InputStand
 use Rattle.protocol.proofs.RunLaws.{makes_at}
 use Rattle.proof_pairs.specs.readings.ReadingOf.{ChildHalf, ParentHalf, Wire, gives_case, is_born, is_root_ticket, parent_half, reading_from, wire}
 use Rattle.proof_pairs.specs.turns.CoordinatorTurns.{CaseTurn, CoordinatorTurn}
-use Rattle.proof_pairs.specs.turns.CoordinatorTurns as turns
+use Rattle.proof_pairs.specs.turns.CoordinatorTurns
 use Rattle.proof_pairs.specs.turns.Steps.{StepOf, heard_in, handled, failed_in, passed, failed_passing, reopened, failed_reopening, trims_log, failed_trimming}
 use Rattle.proof_pairs.proofs.turns.Steps.{step_of, turn_of}
 use Rattle.proof_pairs.proofs.turns.CoordinatorReactions.{CoordinatorTurnAt, coordinator_turn_of}
@@ -35,10 +35,10 @@ use Rattle.proof_pairs.proofs.readings.ReadingSteps.{same_process-refl}
 use Rattle.proof_pairs.proofs.readings.Lists.{sent-append}
 use Rattle.proof_steps.proofs.children.Moves.{Fits, unmoved}
 use Rattle.proof_steps.specs.parents.ParentRows.{CoordinatorRows, JoinedAreBorn, NoOwnParent}
-use Rattle.proof_steps.proofs.parents.Born as born
-use Rattle.proof_steps.proofs.parents.ElsewhereRows as elsewhere
+use Rattle.proof_steps.proofs.parents.Born
+use Rattle.proof_steps.proofs.parents.ElsewhereRows
 use Rattle.proof_steps.proofs.parents.Halves.{half_is, remembered_half}
-use Rattle.proof_steps.proofs.parents.NoCase as no_case
+use Rattle.proof_steps.proofs.parents.NoCase
 use Rattle.proof_steps.proofs.parents.OwnTurns.{own_turn}
 use Rattle.proof_steps.proofs.parents.Turns.{Turn, Fine, IsSeat, is_top, top, under}
 use Rattle.proof_steps.proofs.parents.Wires.{wire-nothing}
@@ -46,8 +46,8 @@ use Rattle.proof_steps.proofs.parents.Wires.{wire-nothing}
 -- Each turn keeps the pair.
 pub turn_fits : (turn : Turn) (e : Effect) → CoordinatorTurn turn.place turn.parent turn.n turn.h e
     → IsOpenAlike turn.place (after turn.n turn.h e) turn.c → Fine turn e
-turn_fits turn _ (turns.does_nothing i) later = no_case.does_nothing turn i later
-turn_fits turn _ (turns.of_case d row r) later = by_case (same_case_tells d turn.c)
+turn_fits turn _ (CoordinatorTurns.does_nothing i) later = NoCase.does_nothing turn i later
+turn_fits turn _ (CoordinatorTurns.of_case d row r) later = by_case (same_case_tells d turn.c)
   where
     by_case : ((same_case d turn.c ≡ true) × (d ≡ turn.c)) ⊎ ((same_case d turn.c ≡ false) × (d ≢ turn.c))
         → Fine turn (row_effect d row)
@@ -56,11 +56,11 @@ turn_fits turn _ (turns.of_case d row r) later = by_case (same_case_tells d turn
         → IsOpenAlike turn.place (after turn.n turn.h (row_effect x row)) turn.c
         → Fine turn (row_effect x row)) (sym same.1)
         (λ s l. own_turn turn row s (record { alike = l })) r later
-    by_case (inr other) = elsewhere.turn_elsewhere turn d other.0 row r (record { alike = later })
-turn_fits turn _ (turns.begins q s i) later = born.begins turn q s i later
-turn_fits turn _ (turns.gives_again p d u s i e) later = born.gives_again turn p d u s i e later
-turn_fits turn _ (turns.gives_fresh p d s i e) later = born.gives_fresh turn p d s i e later
-turn_fits turn _ (turns.presumes x u i none) later = no_case.presumes turn x u i none later
+    by_case (inr other) = ElsewhereRows.turn_elsewhere turn d other.0 row r (record { alike = later })
+turn_fits turn _ (CoordinatorTurns.begins q s i) later = Born.begins turn q s i later
+turn_fits turn _ (CoordinatorTurns.gives_again p d u s i e) later = Born.gives_again turn p d u s i e later
+turn_fits turn _ (CoordinatorTurns.gives_fresh p d s i e) later = Born.gives_fresh turn p d s i e later
+turn_fits turn _ (CoordinatorTurns.presumes x u i none) later = NoCase.presumes turn x u i none later
 
 -- A coordinator's seat.
 pub record Seated (role : Role) : Type 0 where

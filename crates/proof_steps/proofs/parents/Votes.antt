@@ -5,7 +5,7 @@ use Rattle.std.proofs.lemmas.List.Folds.{list_any-append}
 use Rattle.protocol.specs.declared.names.Ticket.{Ticket}
 use Rattle.protocol.specs.declared.messages.Message.{Message}
 use Rattle.protocol.specs.declared.standings.Vote.{Vote}
-use Rattle.protocol.specs.declared.standings.Vote.TheVariants.{Yes as VoteYes, No as VoteNo, Read as VoteRead}
+use Rattle.protocol_words.specs.Variants.{VoteNo, VoteRead, VoteYes}
 use Rattle.protocol.specs.Names.{same_case, same_ticket, child_case}
 use Rattle.protocol.specs.NameLaws.{same_ticket_tells}
 use Rattle.protocol.specs.Records.{in_list}
@@ -18,15 +18,15 @@ use Rattle.proof_pairs.specs.Reading.{Reading}
 use Rattle.proof_pairs.specs.Standing.{HasVote}
 use Rattle.proof_pairs.specs.readings.ReadingOf.{ParentHalf, is_no_message}
 use Rattle.proof_pairs.specs.turns.CoordinatorTurns.{CountsVote, HearsChild, Consents, voted}
-use Rattle.proof_pairs.specs.turns.CoordinatorTurns as turns
+use Rattle.proof_pairs.specs.turns.CoordinatorTurns
 use Rattle.proof_processes.proofs.Deliveries.{was_sent}
 use Rattle.proof_processes.proofs.Tests.{both, either}
 use Rattle.proof_steps.proofs.children.Moves.{unmoved, common_of}
 use Rattle.proof_steps.proofs.parents.Halves.{acked_of}
 use Rattle.proof_steps.proofs.parents.Known.{clash}
-use Rattle.proof_steps.proofs.parents.Memories as by_input
-use Rattle.proof_steps.proofs.parents.Moves as moves
-use Rattle.proof_steps.proofs.parents.Own as own
+use Rattle.proof_steps.proofs.parents.Memories
+use Rattle.proof_steps.proofs.parents.Moves
+use Rattle.proof_steps.proofs.parents.Own
 use Rattle.proof_steps.proofs.parents.Own.{Goes, heard}
 use Rattle.proof_steps.proofs.parents.Readings.{Live}
 use Rattle.proof_steps.proofs.parents.Turns.{Turn, Fits_in, seen, remembered, then_remembered, half, net_part, told_outcome, reading, at_root}
@@ -108,8 +108,8 @@ each_voted (u ∷ us) vs t e i =
     ]
 
 consents_so : (w : Vote) → Consents w → (w ≡ VoteYes) ⊎ (w ≡ VoteRead)
-consents_so _ turns.votes_yes = inl refl
-consents_so _ turns.votes_read = inr refl
+consents_so _ CoordinatorTurns.votes_yes = inl refl
+consents_so _ CoordinatorTurns.votes_read = inr refl
 
 module _ (turn : Turn) where
   open turn use {place, parent, n, h, net, c, t, up, inv, holds, stands}
@@ -124,7 +124,7 @@ module _ (turn : Turn) where
   p0 = half turn
 
   abbrev v : CoordinatorView
-  v = own.v turn
+  v = Own.v turn
 
   module _ (u : Ticket) (w : Vote) (i : CountsVote place n h c u w) where
     abbrev pub its : Bool
@@ -138,14 +138,14 @@ module _ (turn : Turn) where
     votes = m.votes ++ (u, w) ∷ []
 
     pub asked : m.phase ≡ Asked
-    asked = own.collecting_asked turn i.stands
+    asked = Own.collecting_asked turn i.stands
 
     pub phase : p0.phase ≡ pair.Collecting
-    phase = own.phase_is turn Asked pair.Collecting asked refl
+    phase = Own.phase_is turn Asked pair.Collecting asked refl
 
     pub alive : Live (at_root turn) (told_outcome turn) p1 (net_part turn)
     alive =
-        let l = own.live turn (inr asked) in
+        let l = Own.live turn (inr asked) in
         record {
           begun = l.begun;
           live = l.live;
@@ -159,8 +159,8 @@ module _ (turn : Turn) where
 
     pub counted : is_counted m.accepted m.votes u ≡ true
     counted =
-        ap (λ ts. is_counted ts m.votes u) (sym (own.collecting_accepted turn i.stands))
-        ∙ (ap (λ vs. is_counted v.accepted vs u) (sym (own.collecting_votes turn i.stands)) ∙ i.counts)
+        ap (λ ts. is_counted ts m.votes u) (sym (Own.collecting_accepted turn i.stands))
+        ∙ (ap (λ vs. is_counted v.accepted vs u) (sym (Own.collecting_votes turn i.stands)) ∙ i.counts)
 
     -- What is remembered.
 
@@ -172,8 +172,8 @@ module _ (turn : Turn) where
 
     now : m' ≡ with_vote m u w
     now =
-        by_input.vote_comes turn w i.hears.txn u i.hears.hears.0 i.hears.hears.1
-        ∙ (rw (own.of_txn turn i.hears.txn u i.hears.belongs) refl ∙ counts_memory m.phase asked)
+        Memories.vote_comes turn w i.hears.txn u i.hears.hears.0 i.hears.hears.1
+        ∙ (rw (Own.of_txn turn i.hears.txn u i.hears.belongs) refl ∙ counts_memory m.phase asked)
 
     pub vote_says : (ph : Phase) → phase_after w (all_voted m.accepted votes) ≡ ph → Goes turn ph
     vote_says ph e = record {
@@ -184,8 +184,8 @@ module _ (turn : Turn) where
 
     pub all_seen : (b : Bool) → all_voted v.accepted (voted v u w).votes ≡ b → all_voted m.accepted votes ≡ b
     all_seen b e =
-        ap (λ ts. all_voted ts votes) (sym (own.collecting_accepted turn i.stands))
-        ∙ (ap (λ vs. all_voted v.accepted (vs ++ (u, w) ∷ [])) (sym (own.collecting_votes turn i.stands)) ∙ e)
+        ap (λ ts. all_voted ts votes) (sym (Own.collecting_accepted turn i.stands))
+        ∙ (ap (λ vs. all_voted v.accepted (vs ++ (u, w) ∷ [])) (sym (Own.collecting_votes turn i.stands)) ∙ e)
 
     -- The pair's ticket.
 
@@ -220,7 +220,7 @@ module _ (turn : Turn) where
         was_sent q net place.me h.input i.hears.hears.0 (vote_message w (child_case i.hears.txn u)) stands
         i.hears.hears.1
         (f ∙ (same_children i.hears.txn c.txn u t
-        ∙ rw (own.of_txn turn i.hears.txn u i.hears.belongs, e) refl))
+        ∙ rw (Own.of_txn turn i.hears.txn u i.hears.belongs, e) refl))
 
     -- what was heard then
     pub heard_now : (x : Vote) → ((its && same_vote x w) || has_heard_vote n c t (same_vote x))
@@ -245,7 +245,7 @@ module _ (turn : Turn) where
     hears_by k true e = elim (consents_so w k) [
       | inl f ↦ subst (λ (x : Vote). Fits_in turn
           (seen turn (told_outcome turn) (heard x true p0) (net_part turn))) (sym f)
-          (moves.hears_yes c.txn.presumption (reading turn) inv
+          (Moves.hears_yes c.txn.presumption (reading turn) inv
           (record {
             waiting = phase;
             accepted = its_accepted e;
@@ -256,7 +256,7 @@ module _ (turn : Turn) where
           }))
       | inr f ↦ subst (λ (x : Vote). Fits_in turn
           (seen turn (told_outcome turn) (heard x true p0) (net_part turn))) (sym f)
-          (moves.hears_read c.txn.presumption (reading turn) inv
+          (Moves.hears_read c.txn.presumption (reading turn) inv
           (record {
             waiting = phase;
             accepted = its_accepted e;

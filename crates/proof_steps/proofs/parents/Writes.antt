@@ -7,7 +7,7 @@ use Rattle.protocol.specs.declared.names.Case.{Case}
 use Rattle.protocol.specs.declared.names.Ticket.{Ticket}
 use Rattle.protocol.specs.declared.records.Record.{Record}
 use Rattle.protocol.specs.declared.standings.Vote.{Vote}
-use Rattle.protocol.specs.declared.standings.Vote.TheVariants.{Yes as VoteYes, No as VoteNo, Read as VoteRead}
+use Rattle.protocol_words.specs.Variants.{VoteNo, VoteRead, VoteYes}
 use Rattle.protocol.specs.declared.events.Told.{Told}
 use Rattle.protocol.specs.Names.{same_txn, same_case, same_ticket}
 use Rattle.protocol.specs.Records.{has, is_collecting, is_prepare, is_commit, is_abort, is_end}

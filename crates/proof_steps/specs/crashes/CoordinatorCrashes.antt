@@ -1,7 +1,8 @@
 -- What a restart or a trim of a coordinator does to the pairs below it.
 use Rattle.std.specs.Prelude.{◌≡◌, Some, List}
 use Rattle.protocol.specs.declared.events.Happening.{Happening}
-use Rattle.protocol.specs.declared.events.Happening.TheVariants.{Input as Handles, Restart, Trim}
+use Rattle.protocol.specs.declared.events.Happening.TheVariants.{Restart, Trim}
+use Rattle.protocol_words.specs.Variants.{Handles}
 use Rattle.protocol.specs.declared.trees.TreeProcess.{TreeProcess}
 use Rattle.protocol.specs.Nodes.{Effect, place_of, role_of, IsCoordinator}
 use Rattle.protocol.specs.Trees.{IsTree}

@@ -13,7 +13,7 @@ use Rattle.protocol.specs.Standings.{some_case}
 use Rattle.proof_processes.specs.WorldHolds.{WorldHolds, RoleHolds, Issues, IsGivenOut}
 use Rattle.proof_worked.specs.wrong.WrongSteps.{Breaks}
 use Rattle.proof_worked.specs.wrong.WrongBodies.{top, second}
-use Rattle.proof_worked.specs.wrong.WrongBodies as wrong
+use Rattle.proof_worked.specs.wrong.WrongBodies
 use Rattle.proof_worked.proofs.wrong.Computing.{computing}
 use Rattle.proof_worked.proofs.wrong.PlayedRuns.{goes_on}
 use Rattle.proof_worked.proofs.wrong.Breaking.{play_of, left_by, by_world}
@@ -31,12 +31,12 @@ not_given_out now count e f (inl less) = omega arith
 not_given_out now count e f (inr both) = omega arith
 
 abbrev restarted : Node
-restarted = (left_by wrong.boot_reused).at (process 2)
+restarted = (left_by WrongBodies.boot_reused).at (process 2)
 
 abbrev place : Place
 place = place_of tree_a (process 2)
 
-reused_goes : goes_on (play_of wrong.boot_reused) ≡ true
+reused_goes : goes_on (play_of WrongBodies.boot_reused) ≡ true
 unfolding computing
 reused_goes = refl
 
@@ -52,7 +52,7 @@ is_up : restarted.failed ≡ false
 unfolding computing
 is_up = refl
 
-was_joined : sent (is_joined_message (top PresumeAbort) second) (left_by wrong.boot_reused).net ≡ true
+was_joined : sent (is_joined_message (top PresumeAbort) second) (left_by WrongBodies.boot_reused).net ≡ true
 unfolding computing
 was_joined = refl
 
@@ -64,13 +64,13 @@ given_now : (memory_of place restarted (some_case place)).given ≡ 0
 unfolding computing
 given_now = refl
 
-falls : WorldHolds tree_a (left_by wrong.boot_reused) → ⊥
+falls : WorldHolds tree_a (left_by WrongBodies.boot_reused) → ⊥
 falls holds =
     let node = holds.nodes (process 2) second_listed in
-    let issues = leaf_issues (role_of tree_a (process 2)) (process 1) place (left_by wrong.boot_reused).net
+    let issues = leaf_issues (role_of tree_a (process 2)) (process 1) place (left_by WrongBodies.boot_reused).net
     restarted second_role node.role in
     not_given_out (boot_of (kept restarted)) (memory_of place restarted (some_case place)).given boot_now
     given_now (issues.given_once is_up (top PresumeAbort) second refl was_joined)
 
-pub boot_reused : Breaks wrong.boot_reused
-boot_reused = by_world wrong.boot_reused reused_goes refl tree_a_is_tree tt falls
+pub boot_reused : Breaks WrongBodies.boot_reused
+boot_reused = by_world WrongBodies.boot_reused reused_goes refl tree_a_is_tree tt falls

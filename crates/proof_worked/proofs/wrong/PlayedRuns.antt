@@ -3,8 +3,7 @@ use Rattle.std.proofs.Common.{◌≡◌, ◌∙◌, ap, ℕ, zero, suc, ◌-◌,
 use Rattle.protocol.specs.Nodes.{is_listed, place_of}
 use Rattle.protocol.specs.Plays.{Play, Acts, Delivers, Settles, Restarts, Trims, Player, Played, Goes, Stops, played, plays_move, plays, plays_on, plays_all, delivers, sent_as, move_of, plain_answer, process_of_act}
 use Rattle.protocol.specs.World.{World, Made, opened_world, node_makes, world_makes, IsSent, MayHappen, Move, Stepped, Refuses, Makes, IsRun, opens, makes, Continues, stays, goes_on as steps_on}
-use Rattle.protocol.specs.declared.events.Input.TheVariants.{Act as ActInput, Message as MessageInput}
-use Rattle.protocol.specs.declared.events.Happening.TheVariants.{Input as Handles}
+use Rattle.protocol_words.specs.Variants.{ActInput, Handles, MessageInput}
 use Rattle.protocol.specs.declared.events.StepError.TheVariants.{NoSuch}
 use Rattle.protocol.specs.declared.messages.Envelope.{Envelope}
 use Rattle.protocol.specs.declared.names.ProcessId.{ProcessId}

@@ -2,7 +2,7 @@
 use Rattle.std.proofs.Common.{◌≡◌, ◌∙◌, ◌&&◌, inl, inr, ℕ, Bool, true, false, Some, None, List, [], ◌∷◌, ◌++◌, refl, sym}
 use Rattle.std.specs.Prelude.{⊤, not, slice_get}
 use Rattle.protocol.specs.declared.names.Outcome.{Outcome}
-use Rattle.protocol.specs.declared.names.Outcome.TheVariants.{Committed as CommittedOutcome, Aborted as AbortedOutcome}
+use Rattle.protocol_words.specs.Variants.{AbortedOutcome, CommittedOutcome}
 use Rattle.protocol.specs.declared.names.Presumption.TheVariants.{PresumeAbort}
 use Rattle.protocol.specs.declared.names.ProcessId.{ProcessId}
 use Rattle.protocol.specs.declared.names.Ticket.{Ticket}
@@ -27,9 +27,9 @@ use Rattle.proof_reports.proofs.Found.{among_second, among_sent}
 use Rattle.proof_worked.specs.SecondPlays.{second_plays_all}
 use Rattle.proof_worked.specs.wrong.WrongBodies.{case_at, post, second, third, top}
 use Rattle.proof_worked.specs.wrong.WrongReports.{BreaksReports, HarmsReports, ReportsFalsely, second_plays_behind}
-use Rattle.proof_worked.specs.wrong.WrongReports as wrong
+use Rattle.proof_worked.specs.wrong.WrongReports
 use Rattle.proof_worked.specs.wrong.WrongSteps.{WrongStep, wrongly_left}
-use Rattle.proof_worked.proofs.wrong.Computing as runs
+use Rattle.proof_worked.proofs.wrong.Computing
 use Rattle.proof_worked.proofs.wrong.Harming.{not_aborted}
 use Rattle.proof_worked.proofs.wrong.PlayedRuns.{are_single, goes, goes_on, player_of}
 use Rattle.proof_worked.proofs.wrong.SecondPlayed.{continues_by, is_run_by}
@@ -37,7 +37,7 @@ use Rattle.proof_worked.proofs.wrong.Trees.{tree_b_is_tree}
 
 -- what these runs compute with
 unfoldable computing : ⊤
-unfolding runs.computing has_last mixed_of unreported_of
+unfolding Computing.computing has_last mixed_of unreported_of
 computing = tt
 
 -- Runs by the second version.
@@ -154,22 +154,22 @@ below_fails w s =
 
 -- The coordinator that does not wait for its child.
 
-early_goes : goes_on (play_of wrong.acknowledges_before_children) ≡ true
+early_goes : goes_on (play_of WrongReports.acknowledges_before_children) ≡ true
 unfolding computing
 early_goes = refl
 
-early_stands : MayHappen (reached wrong.acknowledges_before_children).net
-    wrong.acknowledges_before_children.process wrong.acknowledges_before_children.happening
+early_stands : MayHappen (reached WrongReports.acknowledges_before_children).net
+    WrongReports.acknowledges_before_children.process WrongReports.acknowledges_before_children.happening
 unfolding computing
 early_stands = record { sender = process 1; place = 9; stands = refl }
 
 early_named : has (is_decision_naming (case_at PresumeAbort second) third)
-    ((left_by wrong.acknowledges_before_children).at second.child).life ≡ true
+    ((left_by WrongReports.acknowledges_before_children).at second.child).life ≡ true
 unfolding computing
 early_named = refl
 
 early_unacked : sent (acks_without (txn 1 1 PresumeAbort) third)
-    (left_by wrong.acknowledges_before_children).net ≡ false
+    (left_by WrongReports.acknowledges_before_children).net ≡ false
 unfolding computing
 early_unacked = refl
 
@@ -177,18 +177,18 @@ second_is_below : role_of tree_b second.child ≡ Below (process 1)
 unfolding computing
 second_is_below = refl
 
-pub acknowledges_before_children_breaks : BreaksReports wrong.acknowledges_before_children
+pub acknowledges_before_children_breaks : BreaksReports WrongReports.acknowledges_before_children
 acknowledges_before_children_breaks =
-    breaks_by wrong.acknowledges_before_children early_goes refl early_stands refl
-    (uncovered tree_b (reached wrong.acknowledges_before_children).net (left_by wrong.acknowledges_before_children)
+    breaks_by WrongReports.acknowledges_before_children early_goes refl early_stands refl
+    (uncovered tree_b (reached WrongReports.acknowledges_before_children).net (left_by WrongReports.acknowledges_before_children)
     (txn 1 1 PresumeAbort) second third (process 1) 2 1 second_is_below early_named early_unacked)
 
-early_goes_on : goes_on (second_plays_behind wrong.acknowledges_before_children
-    (reached wrong.acknowledges_before_children)) ≡ true
+early_goes_on : goes_on (second_plays_behind WrongReports.acknowledges_before_children
+    (reached WrongReports.acknowledges_before_children)) ≡ true
 unfolding computing
 early_goes_on = refl
 
-early_below : StandsBelow (later_of wrong.acknowledges_before_children).world
+early_below : StandsBelow (later_of WrongReports.acknowledges_before_children).world
 unfolding computing
 early_below = record {
   decided = refl;
@@ -208,49 +208,49 @@ falsely : (es : List Made) (w : World) → LastEnds es → StandsBelow w → Rep
 falsely [] w l s = l
 falsely (e ∷ es) w l s = λ truly. below_fails w s (truly 0 (top PresumeAbort) None l.0 l.1)
 
-early_ends : LastEnds (later_of wrong.acknowledges_before_children).moves
+early_ends : LastEnds (later_of WrongReports.acknowledges_before_children).moves
 unfolding computing
 early_ends = (refl, refl)
 
-pub acknowledges_before_children_harms : HarmsReports wrong.acknowledges_before_children
+pub acknowledges_before_children_harms : HarmsReports WrongReports.acknowledges_before_children
 acknowledges_before_children_harms =
-    harms_by wrong.acknowledges_before_children early_goes refl early_goes_on refl
-    (falsely (later_of wrong.acknowledges_before_children).moves
-    (later_of wrong.acknowledges_before_children).world early_ends early_below)
+    harms_by WrongReports.acknowledges_before_children early_goes refl early_goes_on refl
+    (falsely (later_of WrongReports.acknowledges_before_children).moves
+    (later_of WrongReports.acknowledges_before_children).world early_ends early_below)
 
 -- The coordinator that knows nothing any more.
 
-unknown_goes : goes_on (play_of wrong.unknown_reports_nothing) ≡ true
+unknown_goes : goes_on (play_of WrongReports.unknown_reports_nothing) ≡ true
 unfolding computing
 unknown_goes = refl
 
-unknown_stands : MayHappen (reached wrong.unknown_reports_nothing).net
-    wrong.unknown_reports_nothing.process wrong.unknown_reports_nothing.happening
+unknown_stands : MayHappen (reached WrongReports.unknown_reports_nothing).net
+    WrongReports.unknown_reports_nothing.process WrongReports.unknown_reports_nothing.happening
 unfolding computing
 unknown_stands = record { sender = process 1; place = 9; stands = refl }
 
 unknown_named : has (is_decision_naming (case_at PresumeAbort second) third)
-    ((left_by wrong.unknown_reports_nothing).at second.child).life ≡ true
+    ((left_by WrongReports.unknown_reports_nothing).at second.child).life ≡ true
 unfolding computing
 unknown_named = refl
 
-unknown_unacked : sent (acks_without (txn 1 1 PresumeAbort) third) (left_by wrong.unknown_reports_nothing).net
+unknown_unacked : sent (acks_without (txn 1 1 PresumeAbort) third) (left_by WrongReports.unknown_reports_nothing).net
     ≡ false
 unfolding computing
 unknown_unacked = refl
 
-pub unknown_reports_nothing_breaks : BreaksReports wrong.unknown_reports_nothing
+pub unknown_reports_nothing_breaks : BreaksReports WrongReports.unknown_reports_nothing
 unknown_reports_nothing_breaks =
-    breaks_by wrong.unknown_reports_nothing unknown_goes refl unknown_stands refl
-    (uncovered tree_b (reached wrong.unknown_reports_nothing).net (left_by wrong.unknown_reports_nothing)
+    breaks_by WrongReports.unknown_reports_nothing unknown_goes refl unknown_stands refl
+    (uncovered tree_b (reached WrongReports.unknown_reports_nothing).net (left_by WrongReports.unknown_reports_nothing)
     (txn 1 1 PresumeAbort) second third (process 1) 2 1 second_is_below unknown_named unknown_unacked)
 
-unknown_goes_on : goes_on (second_plays_behind wrong.unknown_reports_nothing
-    (reached wrong.unknown_reports_nothing)) ≡ true
+unknown_goes_on : goes_on (second_plays_behind WrongReports.unknown_reports_nothing
+    (reached WrongReports.unknown_reports_nothing)) ≡ true
 unfolding computing
 unknown_goes_on = refl
 
-unknown_below : StandsBelow (later_of wrong.unknown_reports_nothing).world
+unknown_below : StandsBelow (later_of WrongReports.unknown_reports_nothing).world
 unfolding computing
 unknown_below = record {
   decided = refl;
@@ -260,12 +260,12 @@ unknown_below = record {
   second_names = record { accepted = refl; named = refl };
 }
 
-unknown_ends : LastEnds (later_of wrong.unknown_reports_nothing).moves
+unknown_ends : LastEnds (later_of WrongReports.unknown_reports_nothing).moves
 unfolding computing
 unknown_ends = (refl, refl)
 
-pub unknown_reports_nothing_harms : HarmsReports wrong.unknown_reports_nothing
+pub unknown_reports_nothing_harms : HarmsReports WrongReports.unknown_reports_nothing
 unknown_reports_nothing_harms =
-    harms_by wrong.unknown_reports_nothing unknown_goes refl unknown_goes_on refl
-    (falsely (later_of wrong.unknown_reports_nothing).moves (later_of wrong.unknown_reports_nothing).world
+    harms_by WrongReports.unknown_reports_nothing unknown_goes refl unknown_goes_on refl
+    (falsely (later_of WrongReports.unknown_reports_nothing).moves (later_of WrongReports.unknown_reports_nothing).world
     unknown_ends unknown_below)

@@ -2,9 +2,9 @@
 use Rattle.std.proofs.Common.{◌≡◌, ◌∙◌, ap, ℕ, zero, suc, ◌-◌, ◌+◌, Bool, true, false, ◌&&◌, Option, Some, None, List, [], ◌∷◌, refl, if◌then◌else◌, arith, fold, slice_get}
 use Rattle.protocol.specs.Nodes.{Effect, Second, is_listed, place_of}
 use Rattle.protocol.specs.Plays.{Play, Acts, Delivers, Settles, Restarts, Trims, Player, Played, Goes, Stops, played, plays_move, sent_as, plain_answer, process_of_act}
-use Rattle.protocol.specs.World.{World, Made, opened_world, node_makes, world_makes, IsNewInNet, IsNumberedMessage, IsRunBy, Move, Stepped, Refuses, Makes, first_opens, next, Continues, stays, goes_on as steps_on}
-use Rattle.protocol.specs.declared.events.Input.TheVariants.{Act as ActInput, Message as MessageInput}
-use Rattle.protocol.specs.declared.events.Happening.TheVariants.{Input as Handles, Restart, Trim}
+use Rattle.protocol.specs.World.{World, Made, opened_world, node_makes, world_makes, IsNewInNet, IsNumberedMessage, IsRunBy, Move, Stepped, Refuses, Makes, first_opens, next, Continues, stays, goes_on}
+use Rattle.protocol_words.specs.Variants.{ActInput, Handles, MessageInput}
+use Rattle.protocol.specs.declared.events.Happening.TheVariants.{Restart, Trim}
 use Rattle.protocol.specs.declared.events.StepError.TheVariants.{NoSuch}
 use Rattle.protocol.specs.declared.messages.Envelope.{Envelope}
 use Rattle.protocol.specs.declared.names.ProcessId.{ProcessId}
@@ -95,7 +95,7 @@ leads_on : (tree : List TreeProcess) (start : World) (es : List Made) (w : World
     → Continues tree start es w
 leads_on tree start _ _ stays_by = stays
 leads_on tree start _ _ (goes_by es w m e w' run second new made) =
-    steps_on es w m e w' (leads_on tree start es w run)
+    goes_on es w m e w' (leads_on tree start es w run)
     (stands_new w.net 0 m.step.process m.step.happening new) made
 
 -- and from the opened world they are a run by the second version

@@ -2,7 +2,7 @@
 -- the wrong step after it, written out.
 use Rattle.std.specs.Prelude.{ℕ, true, false, Some, List, [], ◌∷◌, ◌++◌, take, codes, None}
 use Rattle.protocol.specs.declared.names.Case.{Case}
-use Rattle.protocol.specs.declared.names.Outcome.TheVariants.{Committed as CommittedOutcome, Aborted as AbortedOutcome}
+use Rattle.protocol_words.specs.Variants.{AbortAct, AbortedOutcome, ActInput, CaseBranch, CommitAct, CommitRecord, CommittedOutcome, ConcludedCommitted, Handles, MessageInput, ToldRecord, VoteYes}
 use Rattle.protocol.specs.declared.names.Presumption.{Presumption}
 use Rattle.protocol.specs.declared.names.Presumption.TheVariants.{PresumeAbort, PresumeCommit}
 use Rattle.protocol.specs.declared.names.Ticket.{Ticket}
@@ -10,15 +10,11 @@ use Rattle.protocol.specs.declared.messages.Envelope.{Envelope}
 use Rattle.protocol.specs.declared.messages.Message.{Message}
 use Rattle.protocol.specs.declared.messages.Message.TheVariants.{Prepare, Yes, Read, Commit, Ack}
 use Rattle.protocol.specs.declared.messages.Op.TheVariants.{Put}
-use Rattle.protocol.specs.declared.events.Act.TheVariants.{Begin, Join, Work, Commit as CommitAct, Abort as AbortAct, Ask, Decide}
-use Rattle.protocol.specs.declared.events.Conclusion.TheVariants.{Committed as ConcludedCommitted}
-use Rattle.protocol.specs.declared.events.Happening.TheVariants.{Input as Handles, Restart, Trim}
+use Rattle.protocol.specs.declared.events.Act.TheVariants.{Begin, Join, Work, Ask, Decide}
+use Rattle.protocol.specs.declared.events.Happening.TheVariants.{Restart, Trim}
 use Rattle.protocol.specs.declared.events.Input.{Input}
-use Rattle.protocol.specs.declared.events.Input.TheVariants.{Act as ActInput, Message as MessageInput}
-use Rattle.protocol.specs.declared.records.BranchName.TheVariants.{Case as CaseBranch}
 use Rattle.protocol.specs.declared.records.Record.{Record}
-use Rattle.protocol.specs.declared.records.Record.TheVariants.{Opened, Collecting, Commit as CommitRecord, End, Told as ToldRecord}
-use Rattle.protocol.specs.declared.standings.Vote.TheVariants.{Yes as VoteYes}
+use Rattle.protocol.specs.declared.records.Record.TheVariants.{Opened, Collecting, End}
 use Rattle.protocol.specs.Names.{root_case, child_case}
 use Rattle.protocol.specs.Nodes.{First, Heard, ReadsOnly, Written, no_effect, after}
 use Rattle.protocol.specs.Plays.{Play, Acts, Delivers, Restarts, Trims}

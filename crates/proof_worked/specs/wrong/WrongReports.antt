@@ -1,13 +1,11 @@
 -- Wrong bodies of the second version, which report too little: where each breaks the invariant of reports, and what comes
 -- of it.
 use Rattle.std.specs.Prelude.{◌≡◌, true, List, [], ◌∷◌, ◌++◌, fold}
-use Rattle.protocol.specs.declared.names.Outcome.TheVariants.{Committed as CommittedOutcome, Aborted as AbortedOutcome}
+use Rattle.protocol_words.specs.Variants.{AbortedOutcome, CommittedOutcome, Handles, MessageInput}
 use Rattle.protocol.specs.declared.names.Presumption.TheVariants.{PresumeAbort}
 use Rattle.protocol.specs.declared.messages.Message.TheVariants.{Ack, Commit}
 use Rattle.protocol.specs.declared.events.Act.TheVariants.{Decide}
-use Rattle.protocol.specs.declared.events.Happening.TheVariants.{Input as Handles}
 use Rattle.protocol.specs.declared.events.Input.{Input}
-use Rattle.protocol.specs.declared.events.Input.TheVariants.{Message as MessageInput}
 use Rattle.protocol.specs.declared.trees.TreeProcess.{TreeProcess}
 use Rattle.protocol.specs.Nodes.{Heard, ReadsOnly, Second, after, no_effect}
 use Rattle.protocol.specs.Plays.{Acts, Delivers, Goes, Play, Played, Player}

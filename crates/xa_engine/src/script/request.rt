@@ -6,7 +6,7 @@ ghost use Rattle.std.specs.List.{All};
 ghost use Rattle.xa_codes.specs.FlagNames.{IsFlagText};
 ghost use Rattle.xa_xid.specs.declared.xid.Xid.{Xid as AnyXid};
 ghost use Rattle.protocol.specs.declared.messages.Op.{Op as AnyOp};
-ghost use Rattle.protocol.specs.declared.names.Outcome.{Outcome as AnyOutcome};
+ghost use Rattle.protocol_words.specs.Types.{AnyOutcome};
 ghost use Rattle.script_words.specs.Operations.{op_view};
 ghost use Rattle.xa_engine.specs.declared.script.request.Request.{Request as AnyRequest};
 ghost use Rattle.xa_engine.specs.script.Requests.{IsAlone, IsInfoText, IsNumber, SpellsRequest, SpellsBranch, SpellsCall, SpellsDecision, SpellsOpen, SpellsRecover, SpellsTask, SpellsWork, three_at, word_at};

@@ -1,6 +1,6 @@
 use Rattle.std.proofs.Common.{◌∙◌, ◌∷◌, ◌+◌, ap, sym, subst, refl, arith, drop}
 use Rattle.std.proofs.lemmas.List.{at_drop_more, drop_all}
-use Rattle.log_script.specs.Logs.{bytes_of as bytes_in}
+use Rattle.log_script.specs.Logs.{bytes_of}
 use Rattle.log_script.specs.Faults.{first_damage}
 use Rattle.audit_tree.specs.Tables.{IsDamage, NotesLog}
 use Rattle.audit_tree.proofs.Passes.{first_damaged, none_damaged, none_noted, noted_all_of, noted_next, sound_more}
@@ -25,7 +25,7 @@ loop-entry-preserved c =
     let e = c.entry-item.result in
     let rest = at_drop_more (λ xs. xs) es c.loop-entry.entry-index e c.loop-entry-test.true
     ∙ ap (λ x. x ∷ drop (c.loop-entry.entry-index + 1) es) (sym c.entry-item.is) in
-    let noted : NotesLog c.args.tree.now e (bytes_in c.args.logs.now e.id) c.in-Ok.new =
+    let noted : NotesLog c.args.tree.now e (bytes_of c.args.logs.now e.id) c.in-Ok.new =
     subst (λ bytes. NotesLog c.args.tree.now e bytes c.in-Ok.new) c.bytes_of.ensures c.in-Ok.ensures.ok in (
       sym (ap (λ xs. first_damage xs c.args.logs.now) rest
           ∙ sound_more e (drop (c.loop-entry.entry-index + 1) es) c.args.logs.now

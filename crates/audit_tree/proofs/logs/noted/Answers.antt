@@ -3,7 +3,7 @@ use Rattle.log_text.specs.Forms.{size_bytes}
 use Rattle.protocol.specs.LogNames.{own_records}
 use Rattle.log_script.specs.Places.{placed_in}
 use Rattle.log_script.proofs.PlaceLaws.{frame_size, goes_on, no_frame, stops}
-use Rattle.audit_cases.specs.Notes.{IsRecordAt, noted as noted_by_record, place_at}
+use Rattle.audit_cases.specs.Notes.{IsRecordAt, noted, place_at}
 use Rattle.audit_tree.proofs.Passes.{is_frames_notes, noted_ends, noted_goes_on}
 use Rattle.audit_tree.proofs.RecordsAt.{record_at}
 use Rattle.audit_tree.proofs.logs.noted.Goals as goal
@@ -29,7 +29,7 @@ loop-kind-preserved c =
     ≡ 5 + (length c.args.frames.now - length c.loop-kind.rest.now) + suc (size_bytes c.args.form.format)
     + length c.in-Some.payload.now =
     omega (arith, size, within) in (
-      ap (λ at. fold noted_by_record c.take.new.self (own_records (place_at c.args.tree.now c.args.entry.now)
+      ap (λ at. fold noted c.take.new.self (own_records (place_at c.args.tree.now c.args.entry.now)
           (map (λ x. x.read) (placed_in c.args.form at 0 c.in-Some.behind.now)))) next
           ∙ noted_goes_on c.args.tree.now c.args.entry.now c.loop-kind.notes
           c.take.new.self _ _ c.in-Ok.record _ _

@@ -1,5 +1,5 @@
 use Rattle.std.proofs.Common.{ap}
-use Rattle.cluster_ties.proofs.Parting as parting
+use Rattle.cluster_ties.proofs.Parting
 use Rattle.cluster_ties.proofs.seats.give.Goals as goal
 
 pub split_seat-requires : goal.split_seat-requires
@@ -7,6 +7,6 @@ split_seat-requires c =
     let is = c.requires.journal in (
       c.requires.here.0,
       c.requires.here.1,
-      λ s h at. parting.gives _ s.views _ _ h at
+      λ s h at. Parting.gives _ s.views _ _ h at
           (ap (λ m. m.0.journal.keeps) is) (ap (λ m. m.0.pass.holds) is),
     )

@@ -2,8 +2,8 @@ use Rattle.std.proofs.Common.{◌∙◌, ap, refl, subst, sym}
 use Rattle.atomic_table.specs.Table.{keeps}
 use Rattle.atomic_table.proofs.Lists.{set_again}
 use Rattle.cluster_ties.specs.Rule.{IsTied}
-use Rattle.cluster_ties.proofs.Moves as moves
-use Rattle.cluster_ties.proofs.Parting as parting
+use Rattle.cluster_ties.proofs.Moves
+use Rattle.cluster_ties.proofs.Parting
 use Rattle.cluster_ties.proofs.ties.compare.Goals as goal
 
 pub load-requires : goal.load-requires
@@ -20,7 +20,7 @@ load-requires c =
         keeps,
         tt,
         subst (IsTied key) (sym (set_again s.views _ v at)) h,
-        (refl, moves.sees _ s.views _ v h at kept works),
+        (refl, Moves.sees _ s.views _ v h at kept works),
       ),
     )
 
@@ -31,5 +31,5 @@ split_seat-requires c =
     let works = ap (λ m. m.0.process.works) l.2.0 ∙ ap (λ m. m.0.process.works) e.1 ∙ c.requires.seat.1 in (
       l.0 ∙ e.0 ∙ c.requires.here.0,
       c.requires.here.2,
-      λ s h at. parting.parts _ s.views _ _ h at works,
+      λ s h at. Parting.parts _ s.views _ _ h at works,
     )

@@ -2,7 +2,7 @@ use Rattle.std.proofs.Common.{ap, refl, subst, sym}
 use Rattle.atomic_table.specs.Table.{keeps}
 use Rattle.atomic_table.proofs.Lists.{set_again}
 use Rattle.cluster_ties.specs.Rule.{IsTied}
-use Rattle.cluster_ties.proofs.Parting as parting
+use Rattle.cluster_ties.proofs.Parting
 use Rattle.cluster_ties.proofs.ties.look.Goals as goal
 
 pub load-requires : goal.load-requires
@@ -17,6 +17,6 @@ load-requires c =
         keeps,
         tt,
         subst (IsTied key) (sym (set_again s.views _ v at)) h,
-        (refl, parting.known _ s.views _ v h at kept),
+        (refl, Parting.known _ s.views _ v h at kept),
       ),
     )

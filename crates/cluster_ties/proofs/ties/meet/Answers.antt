@@ -2,7 +2,7 @@ use Rattle.std.proofs.Common.{◌∙◌, ap, refl, subst, sym}
 use Rattle.atomic_table.specs.Table.{keeps}
 use Rattle.atomic_table.proofs.Lists.{set_again}
 use Rattle.cluster_ties.specs.Rule.{IsTied}
-use Rattle.cluster_ties.proofs.Parting as parting
+use Rattle.cluster_ties.proofs.Parting
 use Rattle.cluster_ties.proofs.ties.meet.Goals as goal
 
 pub load-requires : goal.load-requires
@@ -19,7 +19,7 @@ load-requires c =
         keeps,
         tt,
         subst (IsTied key) (sym (set_again s.views _ v at)) h,
-        (refl, parting.met _ s.views _ v h at kept holds),
+        (refl, Parting.met _ s.views _ v h at kept holds),
       ),
     )
 
@@ -31,5 +31,5 @@ split_seat-requires c =
     ∙ ap (λ m. m.0.pass.holds) c.requires.pass in (
       l.0 ∙ e.0 ∙ c.requires.here.0,
       c.requires.here.2,
-      λ s h at. parting.parts_pass _ s.views _ _ h at holds,
+      λ s h at. Parting.parts_pass _ s.views _ _ h at holds,
     )

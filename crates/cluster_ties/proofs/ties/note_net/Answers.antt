@@ -2,8 +2,8 @@ use Rattle.std.proofs.Common.{◌∙◌, ap, refl}
 use Rattle.atomic_table.specs.Table.{keeps}
 use Rattle.tree_state.specs.Cuts.{net_of}
 use Rattle.cluster_ties.specs.Views.{entries_in, noted, own_of, with_net, worker}
-use Rattle.cluster_ties.proofs.Moves as moves
-use Rattle.cluster_ties.proofs.Parting as parting
+use Rattle.cluster_ties.proofs.Moves
+use Rattle.cluster_ties.proofs.Parting
 use Rattle.cluster_ties.proofs.ties.note_net.Goals as goal
 
 pub load-requires : goal.load-requires
@@ -18,8 +18,8 @@ load-requires c =
         with_net v,
         keeps,
         tt,
-        moves.notes _ s.views _ v h at kept works,
-        (refl, moves.sees _ s.views _ v h at kept works),
+        Moves.notes _ s.views _ v h at kept works,
+        (refl, Moves.sees _ s.views _ v h at kept works),
       ),
     )
 
@@ -30,5 +30,5 @@ split_seat-requires c =
     let works = ap (λ m. m.0.process.works) l.2.0 ∙ ap (λ m. m.0.process.works) e.1 ∙ c.requires.seat.1 in (
       l.0 ∙ e.0 ∙ c.requires.here.0,
       c.requires.here.2,
-      λ s h at. parting.parts _ s.views _ _ h at works,
+      λ s h at. Parting.parts _ s.views _ _ h at works,
     )

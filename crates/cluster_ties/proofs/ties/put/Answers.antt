@@ -2,8 +2,8 @@ use Rattle.std.proofs.Common.{◌∙◌, ap, refl, subst, sym}
 use Rattle.atomic_table.specs.Table.{keeps}
 use Rattle.cluster_ties.specs.Views.{AreBy, AreOf, beside_pass, entered}
 use Rattle.cluster_ties.specs.Plays.{IsUpTo}
-use Rattle.cluster_ties.proofs.Moves as moves
-use Rattle.cluster_ties.proofs.Parting as parting
+use Rattle.cluster_ties.proofs.Moves
+use Rattle.cluster_ties.proofs.Parting
 use Rattle.cluster_ties.proofs.ties.put.Goals as goal
 
 pub compare_exchange_with-requires : goal.compare_exchange_with-requires
@@ -26,8 +26,8 @@ compare_exchange_with-requires c =
         entered v zs,
         keeps,
         tt,
-        moves.puts _ s.views _ v h at zs kept works holds mine by_it,
-        (refl, moves.up_to _ s.views _ v h at kept works),
+        Moves.puts _ s.views _ v h at zs kept works holds mine by_it,
+        (refl, Moves.up_to _ s.views _ v h at kept works),
       ),
     )
 
@@ -40,7 +40,7 @@ split_seat-requires c =
     ∙ ap (λ m. m.0.pass.holds) c.requires.pass in (
       l.0 ∙ f.0 ∙ e.0 ∙ c.requires.here.0,
       c.requires.here.2,
-      λ s h at. parting.parts_pass _ s.views _ _ h at holds,
+      λ s h at. Parting.parts_pass _ s.views _ _ h at holds,
     )
 
 pub split_seat-requires-2 : goal.split_seat-requires-2
@@ -53,7 +53,7 @@ split_seat-requires-2 c =
     ∙ ap (λ m. m.0.process.works) f.1 ∙ ap (λ m. m.0.process.works) e.1 ∙ c.requires.seat.1 in (
       k.0 ∙ l.0 ∙ f.0 ∙ e.0 ∙ c.requires.here.0,
       c.requires.here.2,
-      λ s h at. parting.parts _ s.views _ _ h at works,
+      λ s h at. Parting.parts _ s.views _ _ h at works,
     )
 
 pub returns-clause-told : goal.returns-clause-told

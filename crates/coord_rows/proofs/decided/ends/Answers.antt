@@ -1,6 +1,6 @@
 use Rattle.std.proofs.Common.{rules, ◌≡◌, ◌∙◌, None, [], ◌∷◌, IfErr, IfOk, ap, subst, sym, false}
 use Rattle.protocol.specs.declared.messages.Message.TheVariants.{Ack}
-use Rattle.protocol.specs.declared.records.Record.TheVariants.{End as EndRecord}
+use Rattle.protocol_words.specs.Variants.{EndRecord}
 use Rattle.protocol.specs.Records.{in_order}
 use Rattle.protocol.specs.CoordinatorRows.{decided_ack_by, end_reports, up}
 use Rattle.process_state.specs.Turns.{this_version}

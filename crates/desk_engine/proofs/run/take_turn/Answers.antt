@@ -1,6 +1,6 @@
 use Rattle.std.proofs.Common.{refl, subst}
 use Rattle.std.specs.Prelude.{IfErr}
-use Rattle.protocol.specs.declared.events.Reaction.{Reaction as AnyReaction}
+use Rattle.protocol_words.specs.Types.{AnyReaction}
 use Rattle.node_engine.specs.declared.failure.NodeFailure.TheVariants.{Read}
 use Rattle.node_engine.specs.Answers.{state_of}
 use Rattle.node_engine.specs.Runs.{Known, Stand, stand}

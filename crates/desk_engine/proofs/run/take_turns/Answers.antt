@@ -1,5 +1,5 @@
 use Rattle.std.proofs.Common.{Option, refl, subst, sym}
-use Rattle.protocol.specs.declared.events.Reaction.{Reaction as AnyReaction}
+use Rattle.protocol_words.specs.Types.{AnyReaction}
 use Rattle.node_desk.specs.declared.watch.Ways.{Ways}
 use Rattle.node_engine.specs.declared.failure.NodeFailure.TheVariants.{Read}
 use Rattle.node_engine.specs.declared.run.Ended.{Ended}

@@ -1,5 +1,5 @@
 use Rattle.std.proofs.Common.{◌≡◌}
-use Rattle.protocol.specs.declared.events.Reaction.{Reaction as AnyReaction}
+use Rattle.protocol_words.specs.Types.{AnyReaction}
 use Rattle.node_engine.specs.Answers.{state_of}
 use Rattle.node_engine.specs.Runs.{Stand, stand}
 use Rattle.desk_engine.specs.Weaves.{Woven}

@@ -1,4 +1,4 @@
-use Rattle.protocol.specs.declared.events.Reaction.{Reaction as AnyReaction}
+use Rattle.protocol_words.specs.Types.{AnyReaction}
 use Rattle.node_engine.specs.Answers.{state_of}
 use Rattle.node_engine.specs.Runs.{Served, Stand, stand}
 use Rattle.node_engine.proofs.run.serve_lines.Given as goal

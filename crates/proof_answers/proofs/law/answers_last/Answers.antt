@@ -1,5 +1,5 @@
-use Rattle.proof_answers.proofs.Lasting.{answers_last as lemma}
+use Rattle.proof_answers.proofs.Lasting.{answers_last}
 use Rattle.proof_answers.proofs.law.answers_last.Goals as goal
 
 pub returns : goal.returns
-returns c = lemma
+returns c = answers_last

@@ -1,5 +1,5 @@
-use Rattle.proof_audits.proofs.Audits.{audited_truly as lemma}
+use Rattle.proof_audits.proofs.Audits.{audited_truly}
 use Rattle.proof_audits.proofs.law.states_are_audited_truly.Goals as goal
 
 pub returns : goal.returns
-returns c = lemma
+returns c = audited_truly

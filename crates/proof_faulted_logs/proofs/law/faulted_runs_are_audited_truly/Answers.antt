@@ -1,5 +1,5 @@
-use Rattle.proof_faulted_logs.proofs.Faulted.{faulted_truly as lemma}
+use Rattle.proof_faulted_logs.proofs.Faulted.{faulted_truly}
 use Rattle.proof_faulted_logs.proofs.law.faulted_runs_are_audited_truly.Goals as goal
 
 pub returns : goal.returns
-returns c = lemma
+returns c = faulted_truly

@@ -1,5 +1,5 @@
-use Rattle.proof_headline.proofs.Coordinators as coordinators
+use Rattle.proof_headline.proofs.Coordinators
 use Rattle.proof_headline.proofs.law.headline_from_root_and_cascaded.Goals as goal
 
 pub returns : goal.returns
-returns c = coordinators.headline_of_runs
+returns c = Coordinators.headline_of_runs

@@ -1,5 +1,5 @@
-use Rattle.proof_headline.proofs.Opened as world
+use Rattle.proof_headline.proofs.Opened
 use Rattle.proof_headline.proofs.law.opened_world_holds.Goals as goal
 
 pub returns : goal.returns
-returns c = world.opened_world_holds
+returns c = Opened.opened_world_holds

@@ -1,5 +1,5 @@
-use Rattle.proof_headline.proofs.Parts as world
+use Rattle.proof_headline.proofs.Parts
 use Rattle.proof_headline.proofs.law.parts.Goals as goal
 
 pub returns : goal.returns
-returns c = world.parts
+returns c = Parts.parts

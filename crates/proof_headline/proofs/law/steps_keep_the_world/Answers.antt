@@ -1,4 +1,4 @@
-use Rattle.proof_headline.proofs.Headline as runs
+use Rattle.proof_headline.proofs.Headline
 use Rattle.proof_headline.proofs.Steps.{step_holds, step_later}
 use Rattle.proof_headline.proofs.law.steps_keep_the_world.Goals as goal
 
@@ -10,4 +10,4 @@ returns-clause-step c = λ tree is_tree laws es w run h m e later stands made. (
 )
 
 pub returns-clause-run : goal.returns-clause-run
-returns-clause-run c = runs.runs_hold
+returns-clause-run c = Headline.runs_hold

@@ -1,5 +1,5 @@
-use Rattle.proof_nodes.proofs.Audits.{nodes_are_audited_truly as lemma}
+use Rattle.proof_nodes.proofs.Audits.{nodes_are_audited_truly}
 use Rattle.proof_nodes.proofs.law.nodes_are_audited_truly.Goals as goal
 
 pub returns : goal.returns
-returns c = lemma
+returns c = nodes_are_audited_truly

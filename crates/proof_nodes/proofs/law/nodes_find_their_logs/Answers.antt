@@ -1,5 +1,5 @@
-use Rattle.proof_nodes.proofs.Finding.{finds_kept as lemma}
+use Rattle.proof_nodes.proofs.Finding.{finds_kept}
 use Rattle.proof_nodes.proofs.law.nodes_find_their_logs.Goals as goal
 
 pub returns : goal.returns
-returns c = lemma
+returns c = finds_kept

@@ -1,5 +1,5 @@
-use Rattle.proof_nodes.proofs.Repeats.{repeats_were_sent as lemma}
+use Rattle.proof_nodes.proofs.Repeats.{repeats_were_sent}
 use Rattle.proof_nodes.proofs.law.repeats_were_sent.Goals as goal
 
 pub returns : goal.returns
-returns c = lemma
+returns c = repeats_were_sent

@@ -1,5 +1,5 @@
-use Rattle.proof_nodes.proofs.Speakers.{sent_may_speak as lemma}
+use Rattle.proof_nodes.proofs.Speakers.{sent_may_speak}
 use Rattle.proof_nodes.proofs.law.senders_may_speak.Goals as goal
 
 pub returns : goal.returns
-returns c = lemma
+returns c = sent_may_speak

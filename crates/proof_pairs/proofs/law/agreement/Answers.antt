@@ -1,8 +1,8 @@
 use Rattle.proof_pairs.proofs.law.agreement.Goals as goal
-use Rattle.proof_pairs.proofs.Promises as promises_proof
+use Rattle.proof_pairs.proofs.Promises
 
 pub returns : goal.returns
 returns c = record {
-  presumed_abort = promises_proof.abort_agreement;
-  presumed_commit = promises_proof.commit_agreement;
+  presumed_abort = Promises.abort_agreement;
+  presumed_commit = Promises.commit_agreement;
 }

@@ -1,5 +1,5 @@
 use Rattle.proof_pairs.proofs.law.chain.Goals as goal
-use Rattle.proof_pairs.proofs.Chain as chain_proof
+use Rattle.proof_pairs.proofs.Chain
 
 pub returns : goal.returns
-returns c = record { presumed_abort = chain_proof.abort_chain; presumed_commit = chain_proof.commit_chain }
+returns c = record { presumed_abort = Chain.abort_chain; presumed_commit = Chain.commit_chain }

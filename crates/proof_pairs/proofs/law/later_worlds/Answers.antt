@@ -1,5 +1,5 @@
-use Rattle.proof_pairs.proofs.Later as later_proof
+use Rattle.proof_pairs.proofs.Later
 use Rattle.proof_pairs.proofs.law.later_worlds.Goals as goal
 
 pub returns : goal.returns
-returns c = record { later = later_proof.lateness }
+returns c = record { later = Later.lateness }

@@ -1,5 +1,5 @@
 use Rattle.proof_pairs.proofs.law.one_step.Goals as goal
-use Rattle.proof_pairs.proofs.TwoPairs as twopairs_proof
+use Rattle.proof_pairs.proofs.TwoPairs
 
 pub returns : goal.returns
-returns c = record { alike = twopairs_proof.one_step }
+returns c = record { alike = TwoPairs.one_step }

@@ -1,5 +1,5 @@
 use Rattle.proof_pairs.proofs.law.wrong_moves.Goals as goal
-use Rattle.proof_pairs.proofs.WrongMoves as wrongmoves_proof
+use Rattle.proof_pairs.proofs.WrongMoves
 
 pub returns : goal.returns
-returns c = record { breaks = wrongmoves_proof.wrong_moves }
+returns c = record { breaks = WrongMoves.wrong_moves }

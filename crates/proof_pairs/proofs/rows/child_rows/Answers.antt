@@ -1,38 +1,38 @@
 use Rattle.proof_pairs.proofs.rows.child_rows.Goals as goal
-use Rattle.proof_pairs.proofs.ChildAbort as child_abort
-use Rattle.proof_pairs.proofs.ChildCommit as child_commit
+use Rattle.proof_pairs.proofs.ChildAbort
+use Rattle.proof_pairs.proofs.ChildCommit
 
 pub returns : goal.returns
 returns c = record {
   presumed_abort = record {
-    issues = child_abort.issues;
-    votes_yes = child_abort.votes_yes;
-    votes_no = child_abort.votes_no;
-    votes_read = child_abort.votes_read;
-    drops = child_abort.drops;
-    repeats_yes = child_abort.repeats_yes;
-    refuses = child_abort.refuses;
-    commits = child_abort.commits;
-    rolls_back = child_abort.rolls_back;
-    acknowledges = child_abort.acknowledges;
-    learns_commit = child_abort.learns_commit;
-    acknowledges_settled = child_abort.acknowledges_settled;
-    asks = child_abort.asks;
+    issues = ChildAbort.issues;
+    votes_yes = ChildAbort.votes_yes;
+    votes_no = ChildAbort.votes_no;
+    votes_read = ChildAbort.votes_read;
+    drops = ChildAbort.drops;
+    repeats_yes = ChildAbort.repeats_yes;
+    refuses = ChildAbort.refuses;
+    commits = ChildAbort.commits;
+    rolls_back = ChildAbort.rolls_back;
+    acknowledges = ChildAbort.acknowledges;
+    learns_commit = ChildAbort.learns_commit;
+    acknowledges_settled = ChildAbort.acknowledges_settled;
+    asks = ChildAbort.asks;
   };
   presumed_commit = record {
-    issues = child_commit.issues;
-    votes_yes = child_commit.votes_yes;
-    votes_no = child_commit.votes_no;
-    votes_read = child_commit.votes_read;
-    drops = child_commit.drops;
-    drops_and_acknowledges = child_commit.drops_and_acknowledges;
-    repeats_yes = child_commit.repeats_yes;
-    refuses = child_commit.refuses;
-    commits = child_commit.commits;
-    rolls_back = child_commit.rolls_back;
-    acknowledges = child_commit.acknowledges;
-    learns_abort = child_commit.learns_abort;
-    acknowledges_settled = child_commit.acknowledges_settled;
-    asks = child_commit.asks;
+    issues = ChildCommit.issues;
+    votes_yes = ChildCommit.votes_yes;
+    votes_no = ChildCommit.votes_no;
+    votes_read = ChildCommit.votes_read;
+    drops = ChildCommit.drops;
+    drops_and_acknowledges = ChildCommit.drops_and_acknowledges;
+    repeats_yes = ChildCommit.repeats_yes;
+    refuses = ChildCommit.refuses;
+    commits = ChildCommit.commits;
+    rolls_back = ChildCommit.rolls_back;
+    acknowledges = ChildCommit.acknowledges;
+    learns_abort = ChildCommit.learns_abort;
+    acknowledges_settled = ChildCommit.acknowledges_settled;
+    asks = ChildCommit.asks;
   };
 }

@@ -1,33 +1,33 @@
 use Rattle.proof_pairs.proofs.rows.parent_rows.Goals as goal
-use Rattle.proof_pairs.proofs.ParentAbort as parent_abort
-use Rattle.proof_pairs.proofs.ParentCommit as parent_commit
+use Rattle.proof_pairs.proofs.ParentAbort
+use Rattle.proof_pairs.proofs.ParentCommit
 
 pub returns : goal.returns
 returns c = record {
   presumed_abort = record {
-    accepts = parent_abort.accepts;
-    asks_for_votes = parent_abort.asks_for_votes;
-    hears_yes = parent_abort.hears_yes;
-    hears_read = parent_abort.hears_read;
-    hears_no = parent_abort.hears_no;
-    aborts = parent_abort.aborts;
-    gives_up = parent_abort.gives_up;
-    hears_ack = parent_abort.hears_ack;
-    ends = parent_abort.ends;
-    answers_commit = parent_abort.answers_commit;
-    presumes = parent_abort.presumes;
+    accepts = ParentAbort.accepts;
+    asks_for_votes = ParentAbort.asks_for_votes;
+    hears_yes = ParentAbort.hears_yes;
+    hears_read = ParentAbort.hears_read;
+    hears_no = ParentAbort.hears_no;
+    aborts = ParentAbort.aborts;
+    gives_up = ParentAbort.gives_up;
+    hears_ack = ParentAbort.hears_ack;
+    ends = ParentAbort.ends;
+    answers_commit = ParentAbort.answers_commit;
+    presumes = ParentAbort.presumes;
   };
   presumed_commit = record {
-    accepts = parent_commit.accepts;
-    asks_for_votes = parent_commit.asks_for_votes;
-    hears_yes = parent_commit.hears_yes;
-    hears_read = parent_commit.hears_read;
-    hears_no = parent_commit.hears_no;
-    aborts = parent_commit.aborts;
-    gives_up = parent_commit.gives_up;
-    hears_ack = parent_commit.hears_ack;
-    ends = parent_commit.ends;
-    answers_abort = parent_commit.answers_abort;
-    presumes = parent_commit.presumes;
+    accepts = ParentCommit.accepts;
+    asks_for_votes = ParentCommit.asks_for_votes;
+    hears_yes = ParentCommit.hears_yes;
+    hears_read = ParentCommit.hears_read;
+    hears_no = ParentCommit.hears_no;
+    aborts = ParentCommit.aborts;
+    gives_up = ParentCommit.gives_up;
+    hears_ack = ParentCommit.hears_ack;
+    ends = ParentCommit.ends;
+    answers_abort = ParentCommit.answers_abort;
+    presumes = ParentCommit.presumes;
   };
 }

@@ -1,5 +1,5 @@
-use Rattle.proof_processes.proofs.CascadesHold as runs
+use Rattle.proof_processes.proofs.CascadesHold
 use Rattle.proof_processes.proofs.law.cascades_hold.Goals as goal
 
 pub returns : goal.returns
-returns c = runs.cascade_holds
+returns c = CascadesHold.cascade_holds

@@ -1,5 +1,5 @@
-use Rattle.proof_processes.proofs.CascadesHold as runs
+use Rattle.proof_processes.proofs.CascadesHold
 use Rattle.proof_processes.proofs.law.cascades_own_their_cases.Goals as goal
 
 pub returns : goal.returns
-returns c = runs.cascade_issues
+returns c = CascadesHold.cascade_issues

@@ -1,5 +1,5 @@
-use Rattle.proof_processes.proofs.CoordinatorsHold as runs
+use Rattle.proof_processes.proofs.CoordinatorsHold
 use Rattle.proof_processes.proofs.law.coordinators_hold.Goals as goal
 
 pub returns : goal.returns
-returns c = runs.coordinators_hold
+returns c = CoordinatorsHold.coordinators_hold

@@ -1,5 +1,5 @@
-use Rattle.proof_processes.proofs.ManagersHold as runs
+use Rattle.proof_processes.proofs.ManagersHold
 use Rattle.proof_processes.proofs.law.managers_hold.Goals as goal
 
 pub returns : goal.returns
-returns c = runs.managers_hold
+returns c = ManagersHold.managers_hold

@@ -1,5 +1,5 @@
-use Rattle.proof_processes.proofs.Worlds as worlds
+use Rattle.proof_processes.proofs.Worlds
 use Rattle.proof_processes.proofs.law.mismatches_stand.Goals as goal
 
 pub returns : goal.returns
-returns c = worlds.mismatches_stand
+returns c = Worlds.mismatches_stand

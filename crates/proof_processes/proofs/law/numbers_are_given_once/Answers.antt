@@ -1,5 +1,5 @@
-use Rattle.proof_processes.proofs.ManagersHold as runs
+use Rattle.proof_processes.proofs.ManagersHold
 use Rattle.proof_processes.proofs.law.numbers_are_given_once.Goals as goal
 
 pub returns : goal.returns
-returns c = runs.numbers_are_given_once
+returns c = ManagersHold.numbers_are_given_once

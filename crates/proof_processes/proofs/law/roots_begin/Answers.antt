@@ -1,5 +1,5 @@
-use Rattle.proof_processes.proofs.RootsHold as runs
+use Rattle.proof_processes.proofs.RootsHold
 use Rattle.proof_processes.proofs.law.roots_begin.Goals as goal
 
 pub returns : goal.returns
-returns c = runs.roots_begin
+returns c = RootsHold.roots_begin

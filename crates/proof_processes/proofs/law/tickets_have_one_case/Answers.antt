@@ -1,5 +1,5 @@
-use Rattle.proof_processes.proofs.JoinedOnce as runs
+use Rattle.proof_processes.proofs.JoinedOnce
 use Rattle.proof_processes.proofs.law.tickets_have_one_case.Goals as goal
 
 pub returns : goal.returns
-returns c = runs.tickets_have_one_case
+returns c = JoinedOnce.tickets_have_one_case

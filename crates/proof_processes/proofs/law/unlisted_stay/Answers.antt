@@ -1,5 +1,5 @@
-use Rattle.proof_processes.proofs.Unlisted as runs
+use Rattle.proof_processes.proofs.Unlisted
 use Rattle.proof_processes.proofs.law.unlisted_stay.Goals as goal
 
 pub returns : goal.returns
-returns c = runs.unlisted_stay
+returns c = Unlisted.unlisted_stay

@@ -1,6 +1,6 @@
 use Rattle.std.proofs.Common.{refl}
-use Rattle.xa_tables.specs.declared.call.Call.TheVariants as call
-use Rattle.xa_tables.specs.declared.call.Verb.TheVariants as verb
+use Rattle.xa_words.specs.call
+use Rattle.xa_words.specs.verb
 use Rattle.resource_manager.specs.Sights.{ManagerSight}
 use Rattle.sub_work.proofs.Ends.{breaks, commit_row, finishes, stays}
 use Rattle.sub_work.proofs.deeds.commit.Goals as goal

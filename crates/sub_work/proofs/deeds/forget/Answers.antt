@@ -1,6 +1,6 @@
 use Rattle.std.proofs.Common.{refl}
-use Rattle.xa_tables.specs.declared.call.Call.TheVariants as call
-use Rattle.xa_tables.specs.declared.call.Verb.TheVariants as verb
+use Rattle.xa_words.specs.call
+use Rattle.xa_words.specs.verb
 use Rattle.resource_manager.specs.Sights.{ManagerSight}
 use Rattle.sub_work.proofs.Ends.{breaks, finishes, forget_row, stays}
 use Rattle.sub_work.proofs.deeds.forget.Goals as goal

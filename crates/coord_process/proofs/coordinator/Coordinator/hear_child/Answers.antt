@@ -1,8 +1,7 @@
 use Rattle.std.proofs.Common.{rules, ◌≡◌, subst, sym, refl}
 use Rattle.protocol.specs.declared.messages.Message.{Message}
 use Rattle.protocol.specs.declared.messages.Message.TheVariants.{Joined, Yes, No, Read, Ack, Inquire}
-use Rattle.protocol.specs.declared.events.Input.TheVariants.{Message as MessageInput}
-use Rattle.protocol.specs.declared.standings.Vote.TheVariants.{Yes as VoteYes, No as VoteNo, Read as VoteRead}
+use Rattle.protocol_words.specs.Variants.{MessageInput, VoteNo, VoteRead, VoteYes}
 use Rattle.process_state.specs.Turns.{ack_turn, child_says, child_turn, inquiry_turn, vote_turn}
 use Rattle.coord_process.specs.States.{state}
 use Rattle.coord_process.specs.Meets.{Hears, HearsFrom}

@@ -1,5 +1,5 @@
 use Rattle.std.proofs.Common.{rules, ◌≡◌, refl, true, false, sym, ◌∙◌, subst, IfOk}
-use Rattle.xa_codes.specs.declared.code.Code.TheVariants as code
+use Rattle.xa_words.specs.code
 use Rattle.xa_tables.specs.declared.states.BranchState.TheVariants.{S0}
 use Rattle.xa_tables.specs.Calls.{legal}
 use Rattle.xa_assoc.specs.Answers.{AnswersCall, Wanted}

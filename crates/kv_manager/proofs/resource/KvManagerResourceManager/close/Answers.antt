@@ -1,5 +1,5 @@
 use Rattle.std.proofs.Common.{◌≡◌}
-use Rattle.xa_codes.specs.declared.code.Code.TheVariants as code
+use Rattle.xa_words.specs.code
 use Rattle.xa_assoc.specs.Answers.{Closes}
 use Rattle.kv_manager.proofs.Resources.{called}
 use Rattle.kv_manager.proofs.resource.KvManagerResourceManager.close.Goals as goal

@@ -1,5 +1,5 @@
 use Rattle.std.proofs.Common.{◌≡◌}
-use Rattle.xa_codes.specs.declared.code.Code.TheVariants as code
+use Rattle.xa_words.specs.code
 use Rattle.xa_tables.specs.declared.call.Verb.TheVariants.{End}
 use Rattle.xa_assoc.specs.Answers.{AnswersCall, Wanted}
 use Rattle.kv_state.specs.Stores.{MovesTables}

@@ -1,6 +1,6 @@
 use Rattle.std.proofs.Common.{◌∙◌, ap, true, false, refl}
 use Rattle.protocol.specs.declared.names.ProcessId.{ProcessId}
-use Rattle.protocol.specs.declared.events.Input.TheVariants.{Act as ActInput}
+use Rattle.protocol_words.specs.Variants.{ActInput}
 use Rattle.protocol.specs.Names.{same_process}
 use Rattle.protocol.specs.Plays.{process_of_act}
 use Rattle.protocol.specs.Trees.{root_of}

@@ -1,5 +1,5 @@
 use Rattle.std.proofs.Common.{◌∙◌, sym, refl}
-use Rattle.protocol.specs.declared.events.Input.TheVariants.{Message as MessageInput}
+use Rattle.protocol_words.specs.Variants.{MessageInput}
 use Rattle.node_engine.specs.Answers.{hears, state_of}
 use Rattle.node_engine.proofs.Answering.{mine_err, mine_ok, others_err, others_ok}
 use Rattle.node_engine.proofs.serving.Serving.hear.Goals as goal

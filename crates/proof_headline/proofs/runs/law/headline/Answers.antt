@@ -1,5 +1,5 @@
-use Rattle.proof_headline.proofs.runs.Headline as runs
+use Rattle.proof_headline.proofs.runs.Headline
 use Rattle.proof_headline.proofs.runs.law.headline.Goals as goal
 
 pub returns : goal.returns
-returns c = λ tree es w is_tree run. runs.headline tree is_tree es w run
+returns c = λ tree es w is_tree run. Headline.headline tree is_tree es w run

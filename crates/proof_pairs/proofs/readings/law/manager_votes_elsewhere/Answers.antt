@@ -1,5 +1,5 @@
-use Rattle.proof_pairs.proofs.readings.OtherSteps as steps
+use Rattle.proof_pairs.proofs.readings.OtherSteps
 use Rattle.proof_pairs.proofs.readings.law.manager_votes_elsewhere.Goals as goal
 
 pub returns : goal.returns
-returns c = record { moves = steps.manager_votes_elsewhere }
+returns c = record { moves = OtherSteps.manager_votes_elsewhere }

@@ -1,5 +1,5 @@
-use Rattle.proof_pairs.proofs.readings.StepLaws as steps
+use Rattle.proof_pairs.proofs.readings.StepLaws
 use Rattle.proof_pairs.proofs.readings.law.manager_votes_yes.Goals as goal
 
 pub returns : goal.returns
-returns c = record { moves = steps.manager_votes_yes }
+returns c = record { moves = StepLaws.manager_votes_yes }

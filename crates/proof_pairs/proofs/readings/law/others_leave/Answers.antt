@@ -1,5 +1,5 @@
-use Rattle.proof_pairs.proofs.readings.OtherSteps as steps
+use Rattle.proof_pairs.proofs.readings.OtherSteps
 use Rattle.proof_pairs.proofs.readings.law.others_leave.Goals as goal
 
 pub returns : goal.returns
-returns c = record { moves = steps.others_leave }
+returns c = record { moves = OtherSteps.others_leave }

@@ -1,5 +1,5 @@
-use Rattle.proof_pairs.proofs.readings.RootStep as steps
+use Rattle.proof_pairs.proofs.readings.RootStep
 use Rattle.proof_pairs.proofs.readings.law.root_decides.Goals as goal
 
 pub returns : goal.returns
-returns c = record { moves = steps.root_decides }
+returns c = record { moves = RootStep.root_decides }

@@ -1,8 +1,8 @@
 use Rattle.std.proofs.Common.{◌≡◌, [], sym, ap, subst}
-use Rattle.xa_tables.specs.declared.call.Call.TheVariants as call
-use Rattle.protocol.specs.declared.names.Outcome.TheVariants.{Aborted as AbortedOutcome}
+use Rattle.xa_words.specs.call
+use Rattle.protocol_words.specs.Variants.{AbortedOutcome}
 use Rattle.protocol.specs.declared.messages.Message.TheVariants.{Abort}
-use Rattle.protocol.specs.declared.records.RecordKind.TheVariants as kind
+use Rattle.protocol_words.specs.record_kind
 use Rattle.sub_work.specs.Deeds.{can_roll_back}
 use Rattle.resource_manager.specs.Sights.{ManagerSight}
 use Rattle.sub_branches.specs.declared.branch.LiveBranch.{LiveBranch}
@@ -85,8 +85,8 @@ returns-in-Ok-clause-ok g c =
     let ends = rolled_row s c.args.key c.args.case c.args.xid.now
     (subst (λ v. IsBranchTable v.table) (sym c.self.view_is) c.requires.kept) at in
     let said : c.in_ok-reaction.reaction
-    ≡ outcome_reply kind.RolledBack c.args.case AbortedOutcome [] c.self.inside.me c.self.inside.parent =
-    subst (λ fs. c.in_ok-reaction.reaction ≡ outcome_reply kind.RolledBack c.args.case AbortedOutcome fs
+    ≡ outcome_reply record_kind.RolledBack c.args.case AbortedOutcome [] c.self.inside.me c.self.inside.parent =
+    subst (λ fs. c.in_ok-reaction.reaction ≡ outcome_reply record_kind.RolledBack c.args.case AbortedOutcome fs
     c.self.inside.me c.self.inside.parent) c.new.ensures c.in_ok-reaction.ensures in
     subst (λ v. Hears (seen g.M.ResourceManager.sight v) (behind s c.remove.new.self m) (Abort c.args.case)
     c.in_ok-reaction.reaction) c.self.view_is

@@ -1,8 +1,8 @@
 use Rattle.std.proofs.Common.{◌≡◌, [], ap, sym, subst}
-use Rattle.xa_tables.specs.declared.call.Call.TheVariants as call
-use Rattle.protocol.specs.declared.names.Outcome.TheVariants.{Committed as CommittedOutcome}
+use Rattle.xa_words.specs.call
+use Rattle.protocol_words.specs.Variants.{CommittedOutcome}
 use Rattle.protocol.specs.declared.messages.Message.TheVariants.{Commit}
-use Rattle.protocol.specs.declared.records.RecordKind.TheVariants as kind
+use Rattle.protocol_words.specs.record_kind
 use Rattle.xa_tables.specs.Tables.{is_in_doubt}
 use Rattle.resource_manager.specs.Sights.{ManagerSight}
 use Rattle.sub_branches.specs.declared.branch.LiveBranch.{LiveBranch}
@@ -85,8 +85,8 @@ returns-in-Ok-clause-ok g c =
     let ends = commit_row s c.args.key c.args.case c.args.xid.now
     (subst (λ v. IsBranchTable v.table) (sym c.self.view_is) c.requires.kept) at in
     let said : c.in_ok-reaction.reaction
-    ≡ outcome_reply kind.Committed c.args.case CommittedOutcome [] c.self.inside.me c.self.inside.parent =
-    subst (λ fs. c.in_ok-reaction.reaction ≡ outcome_reply kind.Committed c.args.case CommittedOutcome fs
+    ≡ outcome_reply record_kind.Committed c.args.case CommittedOutcome [] c.self.inside.me c.self.inside.parent =
+    subst (λ fs. c.in_ok-reaction.reaction ≡ outcome_reply record_kind.Committed c.args.case CommittedOutcome fs
     c.self.inside.me c.self.inside.parent) c.new.ensures c.in_ok-reaction.ensures in
     subst (λ v. Hears (seen g.M.ResourceManager.sight v) (behind s c.remove.new.self m) (Commit c.args.case)
     c.in_ok-reaction.reaction) c.self.view_is

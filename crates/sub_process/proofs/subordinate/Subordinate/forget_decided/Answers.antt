@@ -1,5 +1,5 @@
 use Rattle.std.proofs.Common.{sym, subst}
-use Rattle.xa_tables.specs.declared.call.Call.TheVariants as call
+use Rattle.xa_words.specs.call
 use Rattle.protocol.specs.declared.events.Act.TheVariants.{Forget}
 use Rattle.resource_manager.specs.Sights.{ManagerSight}
 use Rattle.sub_branches.specs.declared.branch.LiveBranch.{LiveBranch}

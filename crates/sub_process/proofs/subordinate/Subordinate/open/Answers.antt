@@ -1,5 +1,5 @@
 use Rattle.std.proofs.Common.{◌≡◌}
-use Rattle.xa_codes.specs.declared.code.Code.TheVariants as code
+use Rattle.xa_words.specs.code
 use Rattle.resource_manager.specs.Sights.{ManagerSight}
 use Rattle.sub_process.proofs.Opened.{opened, opened_data, opened_tied}
 use Rattle.sub_process.proofs.subordinate.Subordinate.open.Goals as goal

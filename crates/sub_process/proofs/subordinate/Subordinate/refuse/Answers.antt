@@ -1,5 +1,5 @@
 use Rattle.std.proofs.Common.{◌∙◌, sym, ap, subst}
-use Rattle.xa_tables.specs.declared.call.Call.TheVariants as call
+use Rattle.xa_words.specs.call
 use Rattle.protocol.specs.declared.messages.Message.TheVariants.{Prepare}
 use Rattle.sub_work.specs.Deeds.{can_roll_back}
 use Rattle.resource_manager.specs.Sights.{ManagerSight}

@@ -1,5 +1,5 @@
 use Rattle.std.proofs.Common.{◌≡◌, ◌∙◌, List, None, refl, ap, sym, subst}
-use Rattle.xa_codes.specs.declared.code.Code.TheVariants as code
+use Rattle.xa_words.specs.code
 use Rattle.protocol.specs.declared.records.ShownRecord.{ShownRecord}
 use Rattle.log_records.specs.Sights.{LogSight}
 use Rattle.process_state.specs.Restarting.{ProcessRestarts}

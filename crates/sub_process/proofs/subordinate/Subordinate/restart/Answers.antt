@@ -1,5 +1,5 @@
 use Rattle.std.proofs.Common.{◌≡◌, ◌+◌, ◌++◌, ◌∷◌, [], None, sym, subst}
-use Rattle.xa_codes.specs.declared.code.Code.TheVariants as code
+use Rattle.xa_words.specs.code
 use Rattle.log_records.specs.Sights.{left_by}
 use Rattle.process_state.specs.Restarting.{ProcessNotRestarted, ProcessRestarts}
 use Rattle.protocol.specs.declared.events.StepError.TheVariants.{Device, Exhausted, Memory}

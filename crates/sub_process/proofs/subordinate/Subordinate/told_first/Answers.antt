@@ -1,5 +1,5 @@
 use Rattle.std.proofs.Common.{◌≡◌, None, refl, sym, ap, subst}
-use Rattle.protocol.specs.declared.records.RecordKind.TheVariants as kind
+use Rattle.protocol_words.specs.record_kind
 use Rattle.protocol.specs.CoordinatorRows.{tells_outcome}
 use Rattle.case_table.specs.Tables.{value_of}
 use Rattle.resource_manager.specs.Sights.{ManagerSight}
@@ -88,9 +88,9 @@ returns-in-Ok-clause-ok g c =
     let found : c.in_ok-found.found ≡ decided_found s c.args.case c.args.outcome =
     subst (λ v. c.in_ok-found.found ≡ decided_found (seen g.M.ResourceManager.sight v)
     c.args.case c.args.outcome) (sym c.self.view_is) c.in_ok-found.ensures in
-    let said : c.in_ok-reaction.reaction ≡ outcome_reply kind.Told c.args.case c.args.outcome
+    let said : c.in_ok-reaction.reaction ≡ outcome_reply record_kind.Told c.args.case c.args.outcome
     (decided_found s c.args.case c.args.outcome) s.me s.parent =
-    subst (λ fs. c.in_ok-reaction.reaction ≡ outcome_reply kind.Told c.args.case c.args.outcome fs
+    subst (λ fs. c.in_ok-reaction.reaction ≡ outcome_reply record_kind.Told c.args.case c.args.outcome fs
     s.me s.parent) found c.in_ok-reaction.ensures in
     subst (λ v. Hears (seen g.M.ResourceManager.sight v) (behind s c.decide.new.self m)
     (tells_outcome c.args.outcome c.args.case) c.in_ok-reaction.reaction) c.self.view_is

@@ -1,7 +1,7 @@
 use Rattle.std.proofs.Common.{ℕ, Result, sym, subst}
 use Rattle.std.specs.Prelude.{IfErr, IfOk}
 use Rattle.protocol.specs.declared.events.StepError.{StepError}
-use Rattle.protocol.specs.declared.events.StepError.TheVariants as error
+use Rattle.protocol_words.specs.step_error
 use Rattle.process_state.specs.Restarting.{ProcessNotTrimmed, ProcessTrims}
 use Rattle.log_records.specs.Sights.{records_of}
 use Rattle.resource_manager.specs.Orders.{AreInOrder}
@@ -80,17 +80,17 @@ returns-clause-err g c =
       | in-Ok w ↦ subst P (sym w.result-is) tt
       | in-Err-Memory w ↦ subst P (sym w.result-is)
           (subst (λ v. ProcessNotTrimmed (state g.M.ResourceManager.sight v) (core_of (behind s s.table m))
-          error.Memory) c.self.view_is
+          step_error.Memory) c.self.view_is
           (not_trimmed s m c.records_are_sound.ensures c.self.invariant.own trim_error.Memory
           (subst (λ e. ManagerNotTrimmed s.manager m e) w.in-Err-Memory.field-0-is w.in-Err-Memory.ensures.err)))
       | in-Err-Device w ↦ subst P (sym w.result-is)
           (subst (λ v. ProcessNotTrimmed (state g.M.ResourceManager.sight v) (core_of (behind s s.table m))
-          error.Device) c.self.view_is
+          step_error.Device) c.self.view_is
           (not_trimmed s m c.records_are_sound.ensures c.self.invariant.own trim_error.Device
           (subst (λ e. ManagerNotTrimmed s.manager m e) w.in-Err-Device.field-0-is w.in-Err-Device.ensures.err)))
       | in-Err-Failed w ↦ subst P (sym w.result-is)
           (subst (λ v. ProcessNotTrimmed (state g.M.ResourceManager.sight v) (core_of (behind s s.table m))
-          error.Failed) c.self.view_is
+          step_error.Failed) c.self.view_is
           (not_trimmed s m c.records_are_sound.ensures c.self.invariant.own trim_error.Failed
           (subst (λ e. ManagerNotTrimmed s.manager m e) w.in-Err-Failed.field-0-is w.in-Err-Failed.ensures.err)))
     ]

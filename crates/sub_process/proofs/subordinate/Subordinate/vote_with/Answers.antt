@@ -5,7 +5,7 @@ use Rattle.protocol.specs.declared.records.Subject.TheVariants as subject
 use Rattle.protocol.specs.CoordinatorRows.{post}
 use Rattle.sub_work.specs.Replies.{shown}
 use Rattle.sub_process.specs.Subordinates.{Hears, IsAt, NotHeard, SubState, active, seen}
-use Rattle.xa_tables.specs.declared.call.Call.TheVariants as call
+use Rattle.xa_words.specs.call
 use Rattle.sub_process.proofs.Ties.{behind}
 use Rattle.sub_process.proofs.Ends.{not_tied}
 use Rattle.resource_manager.specs.Sights.{ManagerSight}

@@ -1,6 +1,5 @@
 use Rattle.std.proofs.Common.{◌≡◌, ◌∙◌, ap, sym, true, ◌++◌, ◌∷◌, [], Some, rules}
-use Rattle.protocol.specs.declared.events.Happening.TheVariants.{Input as Handles}
-use Rattle.protocol.specs.declared.events.Input.TheVariants.{Message as MessageInput}
+use Rattle.protocol_words.specs.Variants.{Handles, MessageInput}
 use Rattle.protocol.specs.Plays.{sent_as}
 use Rattle.tree_state.specs.Worlds.{step_entry}
 use Rattle.tree_journal.specs.Kept.{StepsState, is_placed, parts_of}

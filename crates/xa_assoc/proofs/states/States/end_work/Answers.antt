@@ -1,6 +1,6 @@
 use Rattle.std.proofs.Common.{◌≢◌, ◌∙◌, ap, refl, rules}
 use Rattle.std.specs.Prelude.{◌||◌, not}
-use Rattle.xa_codes.specs.declared.code.Code.TheVariants as code
+use Rattle.xa_words.specs.code
 use Rattle.xa_assoc.specs.Associations.{end_plan, has_active}
 use Rattle.xa_assoc.specs.Answers.{state_at}
 use Rattle.xa_assoc.specs.Reacting.{left_by, end_call}

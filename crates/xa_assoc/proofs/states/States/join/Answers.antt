@@ -1,6 +1,6 @@
 use Rattle.std.proofs.Common.{◌≡◌, rules, subst, sym}
 use Rattle.std.specs.Prelude.{IfOk}
-use Rattle.xa_tables.specs.declared.call.Call.TheVariants as call
+use Rattle.xa_words.specs.call
 use Rattle.xa_tables.specs.declared.states.BranchState.TheVariants.{S1}
 use Rattle.xa_assoc.specs.Answers.{ReactsByRows, state_at}
 use Rattle.xa_assoc.proofs.Reactions.{joins_by}

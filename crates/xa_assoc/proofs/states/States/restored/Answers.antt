@@ -1,6 +1,6 @@
 use Rattle.std.proofs.Common.{◌≡◌, ◌≢◌, ◌∙◌, ◌+◌, ◌++◌, ◌∷◌, [], take, ap, sym, subst, arith, rules}
 use Rattle.std.proofs.lemmas.List.{take_more}
-use Rattle.xa_codes.specs.declared.code.Code.TheVariants as code
+use Rattle.xa_words.specs.code
 use Rattle.xa_branch.specs.Branches.{BeginsState}
 use Rattle.xa_assoc.proofs.Restoring.{is_refused, is_taken}
 use Rattle.xa_assoc.proofs.states.States.restored.Goals as goal

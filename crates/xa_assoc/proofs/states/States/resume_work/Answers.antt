@@ -1,6 +1,6 @@
 use Rattle.std.proofs.Common.{◌≢◌, refl, rules}
-use Rattle.xa_codes.specs.declared.code.Code.TheVariants as code
-use Rattle.xa_tables.specs.declared.call.Call.TheVariants as call
+use Rattle.xa_words.specs.code
+use Rattle.xa_words.specs.call
 use Rattle.xa_assoc.specs.Associations.{resume_plan}
 use Rattle.xa_assoc.specs.Answers.{state_at}
 use Rattle.xa_assoc.specs.Reacting.{resumed}

@@ -1,5 +1,5 @@
 use Rattle.std.proofs.Common.{◌≢◌, refl, rules}
-use Rattle.xa_codes.specs.declared.code.Code.TheVariants as code
+use Rattle.xa_words.specs.code
 use Rattle.xa_assoc.specs.Associations.{suspend_plan, has_active}
 use Rattle.xa_assoc.specs.Answers.{state_at}
 use Rattle.xa_assoc.specs.Reacting.{left_by, suspend_call}
