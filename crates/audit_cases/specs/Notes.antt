@@ -43,8 +43,8 @@ IsRecordAt Manager r = is_coordinators r ≡ false
 
 -- What is noted of a case.
 
--- which records it has, a manager's from the last Prepared on, the tickets that its records name, and what its
--- End reports that was not cleared
+-- which records it has, a manager's from the last Prepared on, the tickets that its records name, and what
+-- its End reports that was not cleared
 pub record CaseNote : Type 0 where
   pub kinds : Kinds
   pub named : List Ticket

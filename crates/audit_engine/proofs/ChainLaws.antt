@@ -187,7 +187,8 @@ module _ (tree : List TreeProcess) (is_tree : IsTree tree) (ns : TreeFounds) (c 
       (sym (finding ∙ found_so tree is_tree logs ns are c t ticket p above))
 
   -- the last step
-  pub step_ends : (old new : List AuditStep) → new ≡ old ++ step ∷ [] → asks_on found ≡ None → (logs : KeptLogs)
+  pub step_ends : (old new : List AuditStep) → new ≡ old ++ step ∷ [] → asks_on found ≡ None
+      → (logs : KeptLogs)
       → AreNamings tree logs ns → new ≡ old ++ steps_within most tree logs c
   step_ends old new is asks = λ logs are.
       is ∙ ap (λ o. old ++ step ∷ steps_on (steps_within (most - 1) tree logs) o) (sym asks)

@@ -30,15 +30,19 @@ pub mend_pushed : (c : Case) (old a b d e f : List ℕ) → a ≡ old ++ codes "
     → b ≡ a ++ decimal (process_of c).0 → d ≡ b ++ codes " right, then forget " → e ≡ d ++ case_text c
     → f ≡ e ++ codes "\n" → f ≡ old ++ mend_text c
 mend_pushed c old a b d e f g h i j k =
-    five old a b d e f (codes "  do: put the data of ") (decimal (process_of c).0) (codes " right, then forget ")
+    five old a b d e f (codes "  do: put the data of ") (decimal (process_of c).0)
+    (codes " right, then forget ")
     (case_text c) (codes "\n") g h i j k
 
 pub nothing_pushed : (x : Presumption) (t : Ticket) (p : ProcessId) (found : StepFound) (old a b d e : List ℕ)
-    → found ≡ Nothing → a ≡ old ++ codes "at " → b ≡ a ++ decimal p.0 → d ≡ b ++ codes ": nothing kept, presumed "
+    → found ≡ Nothing → a ≡ old ++ codes "at " → b ≡ a ++ decimal p.0
+    → d ≡ b ++ codes ": nothing kept, presumed "
     → e ≡ d ++ outcome_word (presumed x) → e ≡ old ++ found_text x t p found
 nothing_pushed x t p found old a b d e is f g h i =
-    four old a b d e (codes "at ") (decimal p.0) (codes ": nothing kept, presumed ") (outcome_word (presumed x)) f g h i
-    ∙ ap (λ t. old ++ t) (joined (codes "at ") (decimal p.0) (codes ": nothing kept, presumed ") (outcome_word (presumed x)))
+    four old a b d e (codes "at ") (decimal p.0) (codes ": nothing kept, presumed ")
+    (outcome_word (presumed x)) f g h i
+    ∙ ap (λ t. old ++ t) (joined (codes "at ") (decimal p.0) (codes ": nothing kept, presumed ")
+    (outcome_word (presumed x)))
     ∙ sym (ap (λ y. old ++ found_text x t p y) is)
   where
     joined : (x y z w : List ℕ) → x ++ (y ++ (z ++ w)) ≡ x ++ y ++ z ++ w
@@ -62,12 +66,14 @@ explanation_pushed tree logs l old a b d ss told steps does is =
     (do_text l.mismatch l.case (steps_of tree logs l.case l.decision))))
 
 -- why a case stands so is told just where it is explained
-pub why_pushed : (tree : List TreeProcess) (logs : KeptLogs) (l : ReportLine) (old new : List ℕ) → is_explained l ≡ true
+pub why_pushed : (tree : List TreeProcess) (logs : KeptLogs) (l : ReportLine) (old new : List ℕ)
+    → is_explained l ≡ true
     → new ≡ old ++ explanation_text tree logs l → new ≡ old ++ why_text tree logs l
 why_pushed tree logs l old new is why =
     why ∙ ap (λ b. old ++ (if b then explanation_text tree logs l else [])) (sym is)
 
-pub none_pushed : (tree : List TreeProcess) (logs : KeptLogs) (l : ReportLine) (old : List ℕ) → is_explained l ≡ false
+pub none_pushed : (tree : List TreeProcess) (logs : KeptLogs) (l : ReportLine) (old : List ℕ)
+    → is_explained l ≡ false
     → old ≡ old ++ why_text tree logs l
 none_pushed tree logs l old is =
     sym (append-nil old) ∙ ap (λ b. old ++ (if b then explanation_text tree logs l else [])) (sym is)
@@ -91,7 +97,8 @@ all_explained tree logs r none mid new ls empty same lines count counted =
     ∙ ap (λ (xs : List ReportLine). flat_map (explained_line tree logs) xs) same)
     ∙ ap (λ n. flat_map (explained_line tree logs) r.lines.items ++ count_text n) counted
 
-pub lines_told : {V E : Type 0} (items : V → List ℕ) (text : Result V E) (d : Detail) (tree : List TreeProcess)
+pub lines_told : {V E : Type 0} (items : V → List ℕ) (text : Result V E) (d : Detail)
+    (tree : List TreeProcess)
     (ts : TreeTables) (r : Report) → d ≡ detail.Lines → r.mismatches ≡ mismatches_in r.lines.items
     → IfOk text (λ t. items t ≡ lines_text r.lines.items ++ count_text r.mismatches)
     → IfOk text (λ t. (logs : KeptLogs) → AreNotes tree logs ts

@@ -32,7 +32,8 @@ pub mixed_pushed : (tree : List TreeProcess) (root : Case) (t : Ticket) (old a b
     → a ≡ old ++ reporter_text tree t (codes " was decided otherwise by an operator")
     → b ≡ a ++ codes "  do: put the data of " → c ≡ b ++ decimal t.child.0
     → d ≡ c ++ codes " right, then forget " → e ≡ d ++ case_text (child_case root.txn t)
-    → f ≡ e ++ codes ", then forget " → g ≡ f ++ case_text root → h ≡ g ++ codes "\n" → h ≡ old ++ mixed_text tree root t
+    → f ≡ e ++ codes ", then forget " → g ≡ f ++ case_text root → h ≡ g ++ codes "\n"
+    → h ≡ old ++ mixed_text tree root t
 mixed_pushed tree root t old a b c d e f g h told puts place right child then named end =
     eight old a b c d e f g h (reporter_text tree t (codes " was decided otherwise by an operator"))
     (codes "  do: put the data of ") (decimal t.child.0) (codes " right, then forget ")
@@ -46,5 +47,6 @@ pub unreported_pushed : (tree : List TreeProcess) (root : Case) (t : Ticket) (ol
     → f ≡ e ++ codes "\n" → f ≡ old ++ unreported_text tree root t
 unreported_pushed tree root t old a b c d e f told look place below named end =
     six old a b c d e f (reporter_text tree t (codes " was no longer known"))
-    (codes "  do: look at the data of ") (decimal t.child.0) (codes " and of what is below it, then forget ") (case_text root) (codes "\n")
+    (codes "  do: look at the data of ") (decimal t.child.0) (codes " and of what is below it, then forget ")
+    (case_text root) (codes "\n")
     told look place below named end

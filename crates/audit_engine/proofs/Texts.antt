@@ -50,7 +50,8 @@ pub count_pushed : (n : ℕ) (old a b c : List ℕ) → a ≡ old ++ codes "mism
 count_pushed n old a b c e f g = three old a b c (codes "mismatches ") (decimal n) (codes "\n") e f g
 
 -- a line is pushed up to its outcome
-pub outcome_pushed : (l : ReportLine) (old a b c d own : List ℕ) → a ≡ old ++ case_text l.case → b ≡ a ++ codes " "
+pub outcome_pushed : (l : ReportLine) (old a b c d own : List ℕ) → a ≡ old ++ case_text l.case
+    → b ≡ a ++ codes " "
     → c ≡ b ++ own → own ≡ own_word l.own → d ≡ c ++ codes " "
     → d ≡ old ++ (case_text l.case ++ (codes " " ++ (own_word l.own ++ codes " ")))
 outcome_pushed l old a b c d own e f g own_is h =
@@ -64,7 +65,8 @@ pub line_pushed : (l : ReportLine) (old d e f r g out mis : List ℕ)
 line_pushed l old d e f r g out mis up_to o out_is m mis_is reported end =
     end ∙ ap (λ t. t ++ codes "\n")
     (four old d e f r (case_text l.case ++ (codes " " ++ (own_word l.own ++ codes " ")))
-    (outcome_word l.outcome) (mismatch_part l.mismatch) (reports_part l.reports) up_to (o ∙ ap (λ t. d ++ t) out_is)
+    (outcome_word l.outcome) (mismatch_part l.mismatch) (reports_part l.reports) up_to
+    (o ∙ ap (λ t. d ++ t) out_is)
     (m ∙ ap (λ t. e ++ t) mis_is) reported)
     ∙ joined old (case_text l.case) (codes " ") (own_word l.own) (codes " ") (outcome_word l.outcome)
     (mismatch_part l.mismatch) (reports_part l.reports) (codes "\n")

@@ -40,7 +40,8 @@ steps_from more t p f = record { ticket = t; process = p; found = f } ∷ steps_
 
 -- the steps of a case with this ticket, where this is the parent of its process; none without a ticket or a
 -- parent
-abbrev pub steps_by : (Case → List AuditStep) → (ProcessId → StepFound) → Option Ticket → Option ProcessId → List AuditStep
+abbrev pub steps_by : (Case → List AuditStep) → (ProcessId → StepFound) → Option Ticket → Option ProcessId
+    → List AuditStep
 steps_by more find None up = []
 steps_by more find (Some t) None = []
 steps_by more find (Some t) (Some p) = steps_from more t p (find p)

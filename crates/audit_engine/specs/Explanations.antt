@@ -63,7 +63,8 @@ found_text x t p (Kept c s) = place_text c p ++ kept_text s t
 -- the line of a step
 abbrev pub step_text : Presumption → AuditStep → List ℕ
 step_text x s =
-    codes "  " ++ ticket_text s.ticket ++ codes " asks " ++ found_text x s.ticket s.process s.found ++ codes "\n"
+    codes "  " ++ ticket_text s.ticket ++ codes " asks " ++ found_text x s.ticket s.process
+    s.found ++ codes "\n"
 
 -- the lines of steps
 abbrev pub steps_text : Presumption → List AuditStep → List ℕ

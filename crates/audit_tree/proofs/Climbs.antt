@@ -71,7 +71,8 @@ unfolding parent_of
 parent_is tree q e found = ap entry_parent found
 
 -- what a process says after its parent is true
-says_here : (tree : List TreeProcess) → IsTree tree → (ts : TreeTables) (logs : KeptLogs) → AreNotes tree logs ts
+says_here : (tree : List TreeProcess) → IsTree tree → (ts : TreeTables) (logs : KeptLogs)
+    → AreNotes tree logs ts
     → (q : ProcessId) → is_listed tree q ≡ true → (o : Option ProcessId) → parent_of tree q ≡ o
     → (above : Option Outcomes) → IsAbove tree logs o above → (t : LogNotes) → lookup (same_id q) ts ≡ Some t
     → (s : Outcomes) → AreSaid above t.table s → SaysTruly tree logs q s
@@ -92,7 +93,8 @@ says_here tree is_tree ts logs notes q listed o up above said t own s are =
 
 -- A process.
 
-pub says_already : (tree : List TreeProcess) (ts : TreeTables) (q : ProcessId) (steps : ℕ) (said : TreeOutcomes)
+pub says_already : (tree : List TreeProcess) (ts : TreeTables) (q : ProcessId) (steps : ℕ)
+    (said : TreeOutcomes)
     → (is_none (level_within steps tree q) ≡ false → has_said said q ≡ true) → Says tree ts q steps said said
 says_already tree ts q steps said has = record {
   still = λ p h. h;
@@ -118,7 +120,8 @@ module _ (tree : List TreeProcess) (t : IsTree tree) (ts : TreeTables) (q : Proc
     still = λ p h. ap (λ said. has_said said p) adds ∙ still p h;
     truly = λ logs notes listed level all. subst (AllTrue tree logs) (sym adds)
         (truly logs notes listed level all);
-    said = λ logs notes listed level. absurd (nothing (log_notes_of (logs q)) (sym is ∙ notes.tables q listed));
+    said = λ logs notes listed level. absurd
+        (nothing (log_notes_of (logs q)) (sym is ∙ notes.tables q listed));
   }
     where
       nothing : (a : LogNotes) → None ≡ Some a → ⊥
@@ -237,7 +240,8 @@ said_all old new still (x ∷ es) e h k =
     by_test false is rest later = absurd (true_not_false (sym rest))
 
 -- the parent of an entry is listed
-none_unlisted : (f : TreeProcess → Bool) (es : List TreeProcess) (i : ℕ) (e : TreeProcess) → list_any f es ≡ false
+none_unlisted : (f : TreeProcess → Bool) (es : List TreeProcess) (i : ℕ) (e : TreeProcess)
+    → list_any f es ≡ false
     → i < length es → e ≡ get_or es i e → f e ≡ false
 none_unlisted f [] i e none lt is = absurd (omega (arith, lt))
 none_unlisted f (x ∷ es) zero e none lt is = ap f is ∙ first (f x) none

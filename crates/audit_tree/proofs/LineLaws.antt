@@ -44,7 +44,8 @@ line_from tree logs rs c = record {
 }
 
 -- what is noted of reports is what the process's list says of them
-reports_are : (t : Option Ticket) (rs : List Record) (c : Case) → reports_at t (note_of rs c) ≡ reports_for t rs c
+reports_are : (t : Option Ticket) (rs : List Record) (c : Case)
+    → reports_at t (note_of rs c) ≡ reports_for t rs c
 reports_are None rs c = refl
 reports_are (Some t) rs c = refl
 

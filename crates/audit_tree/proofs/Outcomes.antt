@@ -135,7 +135,8 @@ child_has Manager None u q h = absurd (cc)
 child_has Coordinator (Some p) u q h = refl
 child_has Manager (Some p) u q h = refl
 
-module _ (tree : List TreeProcess) (t : IsTree tree) (logs : KeptLogs) (e : TreeProcess) (found : IsFound tree e)
+module _ (tree : List TreeProcess) (t : IsTree tree) (logs : KeptLogs) (e : TreeProcess)
+    (found : IsFound tree e)
     (above : Option Outcomes) (said : IsAbove tree logs e.parent above) where
   role : role_of tree e.id ≡ role_by e.kind e.parent
   role = role_if tree e.id e found

@@ -49,7 +49,8 @@ unfolding own_records
 noted_ends tree e t total xs is h =
     ap (λ ys. fold noted t (own_records (place_at tree e) (reads ys))) (sym is) ∙ h
 
-pub noted_goes_on : (tree : List TreeProcess) (e : TreeProcess) (t new total : LogNotes) (at : ℕ) (l : LogRecord)
+pub noted_goes_on : (tree : List TreeProcess) (e : TreeProcess) (t new total : LogNotes)
+    (at : ℕ) (l : LogRecord)
     (xs more : List Placed) → new ≡ fold noted t (own_by (place_at tree e) l (record_case l.entry))
     → xs ≡ placed at l ∷ more → fold noted t (own_records (place_at tree e) (reads xs)) ≡ total
     → fold noted new (own_records (place_at tree e) (reads more)) ≡ total
@@ -106,12 +107,14 @@ no_log p bytes (DamagedError at) place h e = h ∙ ap (λ n. Damaged n) (same_pl
 
 pub sound_more : (e : TreeProcess) (es : List TreeProcess) (logs : List ProcessLog)
     (ls : List LogRecord) (torn : ℕ)
-    → read_as e.id e.kind (bytes_of logs e.id) ≡ Whole ls torn → first_damage (e ∷ es) logs ≡ first_damage es logs
+    → read_as e.id e.kind (bytes_of logs e.id) ≡ Whole ls torn
+    → first_damage (e ∷ es) logs ≡ first_damage es logs
 unfolding first_damage
 sound_more e es logs ls torn is = ap (λ r. damage_or e.id r (first_damage es logs)) is
 
 pub damaged_here : (e : TreeProcess) (es : List TreeProcess) (logs : List ProcessLog) (place : ℕ)
-    → read_as e.id e.kind (bytes_of logs e.id) ≡ Damaged place → first_damage (e ∷ es) logs ≡ Some (e.id, place)
+    → read_as e.id e.kind (bytes_of logs e.id) ≡ Damaged place
+    → first_damage (e ∷ es) logs ≡ Some (e.id, place)
 unfolding first_damage
 damaged_here e es logs place is = ap (λ r. damage_or e.id r (first_damage es logs)) is
 
@@ -133,7 +136,8 @@ kept_is tree logs e ls torn found is =
     (role_if tree e.id e found)
     ∙ ap (λ r. own_records (place_at tree e) (whole_records r)) is
 
-whole_at : (p : LogForm) (bytes : List ℕ) (r : LogReading) → read_log p bytes ≡ r → AllAt p.kind (whole_records r)
+whole_at : (p : LogForm) (bytes : List ℕ) (r : LogReading) → read_log p bytes ≡ r
+    → AllAt p.kind (whole_records r)
 unfolding AllAt
 whole_at p bytes (Whole ls torn) is = all_at p bytes ls torn is
 whole_at p bytes (Damaged place) is = tt
@@ -153,7 +157,8 @@ kept_own tree logs t q listed role =
     (ap (λ o. own_records (place_of tree found.0.id)
     (whole_records (read_as found.0.id (entry_kind o) (bytes_of logs found.0.id)))) at
     ∙ ap (λ r. own_records (record { me = found.0.id; role = r; tree = tree })
-    (whole_records (read_as found.0.id found.0.kind (bytes_of logs found.0.id)))) (role_if tree found.0.id found.0 at))
+    (whole_records (read_as found.0.id found.0.kind (bytes_of logs found.0.id))))
+    (role_if tree found.0.id found.0 at))
     ∙ own_cases tree t found.0 at (whole_records (read_as found.0.id found.0.kind (bytes_of logs found.0.id)))
     (whole_at (form_in (bytes_of logs found.0.id) found.0.id found.0.kind) (bytes_of logs found.0.id)
     (read_as found.0.id found.0.kind (bytes_of logs found.0.id)) refl) role)
@@ -211,13 +216,16 @@ apart_of false n = refl
 -- what is noted of the processes of these entries
 unfoldable pub NotedTo : List TreeProcess → List ProcessLog → List TreeProcess → TreeTables → Type 0
 NotedTo tree logs es ts =
-    (q : ProcessId) → is_listed es q ≡ true → lookup (same_id q) ts ≡ Some (log_notes_of (kept_lists tree logs q))
+    (q : ProcessId) → is_listed es q ≡ true → lookup (same_id q) ts
+    ≡ Some (log_notes_of (kept_lists tree logs q))
 
-pub none_noted : (tree : List TreeProcess) (logs : List ProcessLog) (ts : TreeTables) → NotedTo tree logs [] ts
+pub none_noted : (tree : List TreeProcess) (logs : List ProcessLog) (ts : TreeTables)
+    → NotedTo tree logs [] ts
 unfolding NotedTo is_listed
 none_noted tree logs ts = λ q h. absurd (true_not_false (sym h))
 
-pub listed_more : (es : List TreeProcess) (e : TreeProcess) (q : ProcessId) → is_listed (es ++ e ∷ []) q ≡ true
+pub listed_more : (es : List TreeProcess) (e : TreeProcess) (q : ProcessId)
+    → is_listed (es ++ e ∷ []) q ≡ true
     → same_process e.id q ≡ false → is_listed es q ≡ true
 unfolding is_listed
 listed_more [] e q h apart = absurd (true_not_false (sym h ∙ ap (λ b. b || false) apart))

@@ -109,15 +109,18 @@ manager_fine kind payload =
     (pair_fine (key_at payload))
     (named_fine kind (name_at payload)))
 
-read_fine : (f : LogForm) (kind : ℕ) (payload : List ℕ) → f.kind ≡ Manager → FineLog (read_record f kind payload)
+read_fine : (f : LogForm) (kind : ℕ) (payload : List ℕ) → f.kind ≡ Manager
+    → FineLog (read_record f kind payload)
 unfolding read_record
 read_fine f kind payload is =
-    log_if (kind == 1) (option_map (λ n. unnamed (Opened n)) (opened_boot f payload)) (kind_record f.kind kind payload)
+    log_if (kind == 1) (option_map (λ n. unnamed (Opened n)) (opened_boot f payload))
+    (kind_record f.kind kind payload)
     (log_map (λ n. unnamed (Opened n)) (opened_boot f payload) (λ n. refl))
     (subst (λ k. FineLog (kind_record k kind payload)) (sym is) (manager_fine kind payload))
 
 -- the record of a frame is one that a process of the log's kind writes
-pub record_at : (f : LogForm) (kind : ℕ) (payload : List ℕ) (l : LogRecord) → read_record f kind payload ≡ Some l
+pub record_at : (f : LogForm) (kind : ℕ) (payload : List ℕ) (l : LogRecord)
+    → read_record f kind payload ≡ Some l
     → IsRecordAt f.kind l.entry
 unfolding FineLog
 record_at f kind payload l is = by_kind f.kind refl

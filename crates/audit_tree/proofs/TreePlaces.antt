@@ -72,7 +72,8 @@ passes g (x ∷ es) e h = by_test (g x) refl h (passes g es e)
     by_test false is here rest = rest here
 
 -- what is so of each is so of one that is found
-found_of : (P : TreeProcess → Type 0) (g : TreeProcess → Bool) (es : List TreeProcess) (e : TreeProcess) → Each P es
+found_of : (P : TreeProcess → Type 0) (g : TreeProcess → Bool) (es : List TreeProcess) (e : TreeProcess)
+    → Each P es
     → find g es ≡ Some e → P e
 unfolding Each
 found_of P g [] e all h = no_some e h

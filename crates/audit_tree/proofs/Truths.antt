@@ -89,7 +89,8 @@ module _ (tree : List TreeProcess) (logs : KeptLogs) where
   of_case l at =
       let part = element_part (λ (e : TreeProcess). lines_at tree logs e.id) l tree at in
       let made = element_made (line_of tree logs) l _ part.within in
-      let kept = element_kept (has_line tree logs) made.from (listed_cases (role_of tree part.of.id) (logs part.of.id))
+      let kept = element_kept (has_line tree logs) made.from
+      (listed_cases (role_of tree part.of.id) (logs part.of.id))
       made.listed in
       record { of = made.from; has = kept.passes; is = made.is }
 

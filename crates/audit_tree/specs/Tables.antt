@@ -63,7 +63,8 @@ notes_or (Some n) = n
 
 -- this is what the kept lists say of each listed process's cases, and these are its own, in whatever role
 pub record AreNotes (tree : List TreeProcess) (logs : KeptLogs) (ts : TreeTables) : Type 0 where
-  pub tables : (q : ProcessId) → is_listed tree q ≡ true → lookup (same_id q) ts ≡ Some (log_notes_of (logs q))
+  pub tables : (q : ProcessId) → is_listed tree q ≡ true
+      → lookup (same_id q) ts ≡ Some (log_notes_of (logs q))
   pub own : (q : ProcessId) → is_listed tree q ≡ true → (role : Role)
       → list_all (is_case_at tree q) (listed_cases role (logs q)) ≡ true
 

@@ -15,7 +15,8 @@ use Rattle.audit_tree.specs.declared.report.ReportLine.{ReportLine}
 
 -- these moves are a run of the model to this world, in which no process of the tree is failed, and the list
 -- of each listed process is what that process keeps there
-pub record AreKeptBehind (tree : List TreeProcess) (es : List Made) (w : World) (logs : KeptLogs) : Type 0 where
+pub record AreKeptBehind (tree : List TreeProcess) (es : List Made) (w : World)
+    (logs : KeptLogs) : Type 0 where
   pub is_run : IsRun tree es w
   pub all_up : AllUp tree w
   pub kept_there : (q : ProcessId) → is_listed tree q ≡ true → logs q ≡ kept (w.at q)

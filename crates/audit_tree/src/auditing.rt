@@ -154,10 +154,10 @@ pub fn audit_notes(alloc: Global, tree: &Tree, notes: &TreeNotes) -> Result<Repo
 
 /// Audits the logs of a tree: a line for each case that is still told of, in the order of the tree; in a
 /// coordinator of first records, in a manager of last promises, by the records that are read; with how it
-/// stands by its own process's records and how its transaction ends. The outcome is the case's own decision or
-/// what it was told; else, at the root, abort; else that of the parent's first case of the transaction that
-/// names its ticket; else what is presumed. Cases that are not their process's own in this tree are left out.
-/// Each log is gone through once.
+/// stands by its own process's records and how its transaction ends. The outcome is the case's own decision
+/// or what it was told; else, at the root, abort; else that of the parent's first case of the transaction
+/// that names its ticket; else what is presumed. Cases that are not their process's own in this tree are left
+/// out. Each log is gone through once.
 ///
 /// Where a run of the model left the logs, with no process failed, each outcome is that of its transaction
 /// in the run, and the mismatches that are shown are just those that stand. Damaged: the first log in the

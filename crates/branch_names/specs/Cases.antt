@@ -26,8 +26,8 @@ abbrev pub has_seat : List TreeProcess → Option Ticket → Bool
 has_seat tree None = true
 has_seat tree (Some t) = is_some (parent_of tree t.child)
 
--- the case is of a transaction of the tree's root and of a process of the tree, and has no ticket, or one of a process below the
--- root
+-- the case is of a transaction of the tree's root and of a process of the tree, and has no ticket, or one of
+-- a process below the root
 abbrev pub has_place : List TreeProcess → Case → Bool
 has_place tree c =
     is_listed tree (process_of c) && (same_process c.txn.root (root_of tree) && has_seat tree c.ticket)
@@ -102,8 +102,10 @@ case_below tree x (Some b) =
 -- what an XID in bytes is of: the case of which it is the XID
 abbrev pub IsInBytes : List TreeProcess → XidParts → Naming → Type 0
 IsInBytes tree x n =
-    ((y : Txn) × (b : Option (ProcessId × Ticket)) × (branch_parts y b ≡ x) × (n ≡ placed tree (case_below tree y b)))
-    ⊎ (((y : Txn) (b : Option (ProcessId × Ticket)) → FitsTxn y → FitsBelow b → branch_parts y b ≡ x → ⊥) × (n ≡ Foreign))
+    ((y : Txn) × (b : Option (ProcessId × Ticket)) × (branch_parts y b ≡ x)
+    × (n ≡ placed tree (case_below tree y b)))
+    ⊎ (((y : Txn) (b : Option (ProcessId × Ticket)) → FitsTxn y → FitsBelow b → branch_parts y b ≡ x → ⊥)
+    × (n ≡ Foreign))
 
 -- what an XID is of, by whether it is in words
 abbrev pub OfXid : Bool → List TreeProcess → Option (List ℕ) → XidParts → Naming → Type 0

@@ -89,8 +89,8 @@ or_else None other = other
 abbrev pub IsNoText : List ℕ → Type 0
 IsNoText line = (x : XidParts) → IsXid x → line ≡ xid_text x → ⊥
 
--- This is the XID of a line, if it has one: the one of which it is the text; or, if it is no XID's text, the one that is printed
--- so by a database.
+-- This is the XID of a line, if it has one: the one of which it is the text; or, if it is no XID's text, the
+-- one that is printed so by a database.
 abbrev pub IsXidOf : List ℕ → Option XidParts → Type 0
 IsXidOf line None = IsNoText line × (or_else (sql_at line) (driver_at line) ≡ None)
 IsXidOf line (Some x) = (IsXid x × (line ≡ xid_text x))

@@ -38,8 +38,8 @@ fn has_seat(tree: &Tree, ticket: Option<Ticket>) -> bool
     }
 }
 
-/// Whether a case has its place in a tree: its process is listed, its transaction is of the root, and its ticket of a process
-/// below the root, or it has none.
+/// Whether a case has its place in a tree: its process is listed, its transaction is of the root, and its
+/// ticket of a process below the root, or it has none.
 #[tactic(auto, unfolding(protocol::specs::Names::same_process))]
 fn has_place(tree: &Tree, case: &Case) -> bool
     ensures { result ≡ has_place tree.now case.now }
@@ -60,7 +60,8 @@ fn placed(tree: &Tree, case: Option<Case>) -> Naming
 
 /// What a case of a tree of that name is of, where this tree has this name, if it has one.
 fn of_name(tree: &Tree, name: Option<&str>, of: &str, case: Case) -> Naming
-    ensures naming { result ≡ of_tree (option_map (λ s. s.now) name.entry) of.now (placed tree.now (Some case)) }
+    ensures naming { result ≡ of_tree (option_map (λ s. s.now) name.entry) of.now
+        (placed tree.now (Some case)) }
     ensures placed { IsPlaced tree.now result }
 {
     match name {
@@ -143,7 +144,8 @@ fn in_bytes(tree: &Tree, xid: &Xid) -> Naming
 
 /// What an XID is of.
 fn named_by(tree: &Tree, name: Option<&str>, xid: &Xid) -> Naming
-    ensures naming { OfXid (int_eq xid.now.format (pos 4003)) tree.now (option_map (λ s. s.now) name.entry) xid.now result }
+    ensures naming { OfXid (int_eq xid.now.format (pos 4003)) tree.now (option_map (λ s. s.now) name.entry)
+        xid.now result }
     ensures placed { IsPlaced tree.now result }
 {
     let (format, _, _) = xid.parts();
@@ -184,7 +186,8 @@ pub fn case_named(
     name: Option<&str>,
     line: &str,
 ) -> Result<Naming, AllocError>
-    ensures naming { IfOk result (λ naming. IsNaming tree.now (option_map (λ s. s.now) name.entry) line.now naming) }
+    ensures naming { IfOk result (λ naming. IsNaming tree.now (option_map (λ s. s.now) name.entry)
+        line.now naming) }
     ensures placed { IfOk result (λ naming. IsPlaced tree.now naming) }
 {
     match xid_in(alloc, line)? {

@@ -126,8 +126,8 @@ fn printed_xid(alloc: Global, line: &str) -> Result<Option<Xid>, AllocError>
     }
 }
 
-/// The XID that a line is: in text, as MariaDB prints it, or as PostgreSQL's JDBC driver names it. The form tells which: a
-/// text has two colons, MariaDB's has quotes, and a driver's name two underscores.
+/// The XID that a line is: in text, as MariaDB prints it, or as PostgreSQL's JDBC driver names it. The form
+/// tells which: a text has two colons, MariaDB's has quotes, and a driver's name two underscores.
 pub fn xid_in(alloc: Global, line: &str) -> Result<Option<Xid>, AllocError>
     ensures { IfOk result (λ xid. IsXidOf line.now xid) }
 {

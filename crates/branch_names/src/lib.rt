@@ -10,8 +10,8 @@
 //! JDBC   4003_YmFuazphMS4x_Mi4xLjE=     PostgreSQL, by its JDBC driver
 //! ```
 //!
-//! An XID names a case in one of two ways: in bytes, as the key stores of rstar do (formats 4001 and 4002), or in
-//! words, as the leaves over databases do (format 4003).
+//! An XID names a case in one of two ways: in bytes, as the key stores of rstar do (formats 4001 and 4002),
+//! or in words, as the leaves over databases do (format 4003).
 #![tactic(auto)]
 
 mod cases;

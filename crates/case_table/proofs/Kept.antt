@@ -74,7 +74,8 @@ module _ {V : Type 0} where
 
   pub IsKept-lent : (slots : List (Option (Case × V))) (keys : List (Txn × SmallVec ℕ))
       (key : ℕ) (p : Case × V) (w : V)
-      → IsLiveTable slots keys → entry_at slots key ≡ Some p → IsLiveTable (set slots key (Some (p.0, w))) keys
+      → IsLiveTable slots keys → entry_at slots key ≡ Some p
+      → IsLiveTable (set slots key (Some (p.0, w))) keys
   IsKept-lent slots keys key p w kept was =
       let updates = Updates-set slots key (Some (p.0, w)) (rw was refl) in
       record {

@@ -17,7 +17,8 @@ told_both (x ∷ xs) ys =
     ap (λ l. one ++ l) (told_both xs ys) ∙ sym (append_assoc one (told_in xs) (told_in ys))
 
 -- what is told up to the next entry
-pub told_next : (first : List Told) (xs : List (ℕ × JournalEntry)) (i : ℕ) (d : ℕ × JournalEntry) (old new : List Told)
+pub told_next : (first : List Told) (xs : List (ℕ × JournalEntry)) (i : ℕ) (d : ℕ × JournalEntry)
+    (old new : List Told)
     → i < length xs → new ≡ old ++ option_to_list (get_or xs i d).1.reaction.told
     → old ≡ first ++ told_in (take i xs) → new ≡ first ++ told_in (take (i + 1) xs)
 told_next first xs i d old new lt pushed so =
@@ -26,10 +27,12 @@ told_next first xs i d old new lt pushed so =
     let more : told_in (take (i + 1) xs) ≡ told_in (take i xs) ++ one =
     ap told_in (take_more xs i d lt) ∙ told_both (take i xs) (x ∷ [])
     ∙ ap (λ l. told_in (take i xs) ++ l) (append-nil one) in
-    pushed ∙ ap (λ l. l ++ one) so ∙ append_assoc first (told_in (take i xs)) one ∙ ap (λ l. first ++ l) (sym more)
+    pushed ∙ ap (λ l. l ++ one) so ∙ append_assoc first (told_in (take i xs)) one
+    ∙ ap (λ l. first ++ l) (sym more)
 
 -- what is told up to the next turn
-pub told_turn : (es : List (Vec (ℕ × JournalEntry))) (i : ℕ) (d : Vec (ℕ × JournalEntry)) (old new : List Told) → i < length es
+pub told_turn : (es : List (Vec (ℕ × JournalEntry))) (i : ℕ) (d : Vec (ℕ × JournalEntry))
+    (old new : List Told) → i < length es
     → new ≡ old ++ told_in (get_or es i d).items → old ≡ told_in (all_of (take i es))
     → new ≡ told_in (all_of (take (i + 1) es))
 told_turn es i d old new lt pushed so =
@@ -48,7 +51,8 @@ places_more n (u ∷ ts) t =
     let here : suc n + length ts ≡ n + suc (length ts) = omega arith in
     ap (λ l. record { boot = u.txn.boot; sequence = u.txn.sequence; place = n } ∷ l)
     (places_more (suc n) ts t
-    ∙ ap (λ k. told_places (suc n) ts ++ record { boot = t.txn.boot; sequence = t.txn.sequence; place = k } ∷ []) here)
+    ∙ ap (λ k. told_places (suc n) ts ++ record { boot = t.txn.boot; sequence = t.txn.sequence; place = k }
+    ∷ []) here)
 
 pub place_next : (ts : List Told) (i : ℕ) (d : Told) (old new : List ToldPlace) → i < length ts
     → new ≡ old ++ record {
@@ -59,10 +63,12 @@ pub place_next : (ts : List Told) (i : ℕ) (d : Told) (old new : List ToldPlace
     → old ≡ told_places 0 (take i ts) → new ≡ told_places 0 (take (i + 1) ts)
 place_next ts i d old new lt pushed so =
     let t = get_or ts i d in
-    let here : i ≡ 0 + length (take i ts) = sym (length-take-le i ts (omega arith)) ∙ zero_plus (length (take i ts)) in
+    let here : i ≡ 0 + length (take i ts) = sym (length-take-le i ts (omega arith))
+    ∙ zero_plus (length (take i ts)) in
     pushed
     ∙ ap (λ l. l ++ record { boot = t.txn.boot; sequence = t.txn.sequence; place = i } ∷ []) so
-    ∙ ap (λ k. told_places 0 (take i ts) ++ record { boot = t.txn.boot; sequence = t.txn.sequence; place = k } ∷ []) here
+    ∙ ap (λ k. told_places 0 (take i ts) ++ record { boot = t.txn.boot; sequence = t.txn.sequence; place = k }
+    ∷ []) here
     ∙ sym (places_more 0 (take i ts) t) ∙ ap (told_places 0) (sym (take_more ts i d lt))
   where
     zero_plus : (n : ℕ) → n ≡ 0 + n

@@ -16,7 +16,8 @@ dropped_at : (xs : List (ℕ × JournalEntry)) (i : ℕ) (d : ℕ × JournalEntr
 dropped_at xs i d within = rw add-one (drop-cons xs i d within)
 
 -- the text after one entry more
-pub entry_added : (xs : List (ℕ × JournalEntry)) (i : ℕ) (d : ℕ × JournalEntry) (sent next : ℕ) (old new all : List ℕ)
+pub entry_added : (xs : List (ℕ × JournalEntry)) (i : ℕ) (d : ℕ × JournalEntry) (sent next : ℕ)
+    (old new all : List ℕ)
     → i < length xs → next ≡ sent + length (get_or xs i d).1.reaction.messages
     → new ≡ old ++ entry_text sent (get_or xs i d).1
     → old ++ entries_text sent (entries_in (drop i xs)) ≡ all
@@ -37,10 +38,12 @@ rest_sent : (xs : List (ℕ × JournalEntry)) (i : ℕ) (d : ℕ × JournalEntry
 rest_sent xs i d within =
     let rest = entries_in (drop (i + 1) xs) in
     ap (λ (ys : List (ℕ × JournalEntry)). message_count (entries_in ys)) (dropped_at xs i d within)
-    ∙ length-append (get_or xs i d).1.reaction.messages (flat_map (λ (e : JournalEntry). e.reaction.messages) rest)
+    ∙ length-append (get_or xs i d).1.reaction.messages
+    (flat_map (λ (e : JournalEntry). e.reaction.messages) rest)
 
 -- N are sent after one entry more
-pub sent_more : (xs : List (ℕ × JournalEntry)) (i : ℕ) (d : ℕ × JournalEntry) (sent next total : ℕ) → i < length xs
+pub sent_more : (xs : List (ℕ × JournalEntry)) (i : ℕ) (d : ℕ × JournalEntry) (sent next total : ℕ)
+    → i < length xs
     → next ≡ sent + length (get_or xs i d).1.reaction.messages
     → sent + message_count (entries_in (drop i xs)) ≡ total
     → next + message_count (entries_in (drop (i + 1) xs)) ≡ total
@@ -66,7 +69,8 @@ pub all_added : (xs : List (ℕ × JournalEntry)) (i sent : ℕ) (old all : List
     → old ++ entries_text sent (entries_in (drop i xs)) ≡ all → old ≡ all
 all_added xs i sent old all past so =
     sym (append-nil old)
-    ∙ ap (λ (ys : List (ℕ × JournalEntry)). old ++ entries_text sent (entries_in ys)) (sym (none_past xs i past)) ∙ so
+    ∙ ap (λ (ys : List (ℕ × JournalEntry)). old ++ entries_text sent (entries_in ys))
+    (sym (none_past xs i past)) ∙ so
 
 pub all_sent : (xs : List (ℕ × JournalEntry)) (i sent total : ℕ) → length xs ≤ i
     → sent + message_count (entries_in (drop i xs)) ≡ total → sent ≡ total
@@ -96,7 +100,8 @@ counts_both [] ys = zero_plus (message_count ys)
     zero_plus n = omega arith
 counts_both (x ∷ xs) ys =
     let both = counts_both xs ys in
-    let one = length-append x.reaction.messages (flat_map (λ (e : JournalEntry). e.reaction.messages) (xs ++ ys)) in
+    let one = length-append x.reaction.messages
+    (flat_map (λ (e : JournalEntry). e.reaction.messages) (xs ++ ys)) in
     let two = length-append x.reaction.messages (flat_map (λ (e : JournalEntry). e.reaction.messages) xs) in
     omega (arith, both, one, two)
 
@@ -106,13 +111,15 @@ in_both (x ∷ xs) ys = ap (λ l. x.1 ∷ l) (in_both xs ys)
 
 -- the entries of a turn and of those after it
 rest_entries : (es : List (Vec (ℕ × JournalEntry))) (i : ℕ) (d : Vec (ℕ × JournalEntry)) → i < length es
-    → entries_in (all_of (drop i es)) ≡ entries_in (get_or es i d).items ++ entries_in (all_of (drop (i + 1) es))
+    → entries_in (all_of (drop i es)) ≡ entries_in (get_or es i d).items
+    ++ entries_in (all_of (drop (i + 1) es))
 rest_entries es i d within =
     let rest : drop i es ≡ get_or es i d ∷ drop (i + 1) es = rw add-one (drop-cons es i d within) in
     ap (λ l. entries_in (all_of l)) rest ∙ in_both (get_or es i d).items (all_of (drop (i + 1) es))
 
 -- the text after one turn more
-pub turn_added : (es : List (Vec (ℕ × JournalEntry))) (i : ℕ) (d : Vec (ℕ × JournalEntry)) (sent next : ℕ) (old new all : List ℕ)
+pub turn_added : (es : List (Vec (ℕ × JournalEntry))) (i : ℕ) (d : Vec (ℕ × JournalEntry)) (sent next : ℕ)
+    (old new all : List ℕ)
     → i < length es → next ≡ sent + message_count (entries_in (get_or es i d).items)
     → new ≡ old ++ entries_text sent (entries_in (get_or es i d).items)
     → old ++ entries_text sent (entries_in (all_of (drop i es))) ≡ all
@@ -134,7 +141,8 @@ turns_sent es i d within =
     ∙ counts_both (entries_in (get_or es i d).items) (entries_in (all_of (drop (i + 1) es)))
 
 -- N are sent after one turn more
-pub turn_more : (es : List (Vec (ℕ × JournalEntry))) (i : ℕ) (d : Vec (ℕ × JournalEntry)) (sent next total : ℕ) → i < length es
+pub turn_more : (es : List (Vec (ℕ × JournalEntry))) (i : ℕ) (d : Vec (ℕ × JournalEntry))
+    (sent next total : ℕ) → i < length es
     → next ≡ sent + message_count (entries_in (get_or es i d).items)
     → sent + message_count (entries_in (all_of (drop i es))) ≡ total
     → next + message_count (entries_in (all_of (drop (i + 1) es))) ≡ total
@@ -142,7 +150,8 @@ turn_more es i d sent next total within more so =
     let rest = turns_sent es i d within in omega (arith, rest, more, so)
 
 -- where those of the next turn come to 2^64 all do
-pub turn_past : (es : List (Vec (ℕ × JournalEntry))) (i : ℕ) (d : Vec (ℕ × JournalEntry)) (sent total : ℕ) → i < length es
+pub turn_past : (es : List (Vec (ℕ × JournalEntry))) (i : ℕ) (d : Vec (ℕ × JournalEntry)) (sent total : ℕ)
+    → i < length es
     → 2 ^ 64 ≤ sent + message_count (entries_in (get_or es i d).items)
     → sent + message_count (entries_in (all_of (drop i es))) ≡ total
     → 2 ^ 64 ≤ total
@@ -154,5 +163,6 @@ pub turns_added : (es : List (Vec (ℕ × JournalEntry))) (i sent : ℕ) (old al
     → old ++ entries_text sent (entries_in (all_of (drop i es))) ≡ all → old ≡ all
 turns_added es i sent old all past so =
     sym (append-nil old)
-    ∙ ap (λ (ys : List (Vec (ℕ × JournalEntry))). old ++ entries_text sent (entries_in (all_of ys))) (sym (none_past es i past))
+    ∙ ap (λ (ys : List (Vec (ℕ × JournalEntry))). old ++ entries_text sent (entries_in (all_of ys)))
+    (sym (none_past es i past))
     ∙ so

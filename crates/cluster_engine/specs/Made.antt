@@ -15,9 +15,11 @@ use Rattle.cluster_tree.specs.Settling.{IsSettledPass}
 abbrev pub IsPosted : List TreeProcess → Event → PassState → PassState → Type 0
 IsPosted tree event old new = (number : ℕ) × (begun : Option Txn) × Posts tree event old new number begun
 
--- the event was posted, or it was a settle, in which messages were delivered, until none of the journal was left
+-- the event was posted, or it was a settle, in which messages were delivered, until none of the journal was
+-- left
 abbrev pub IsMade : List TreeProcess → Event → PassState → PassState → Type 0
-IsMade tree event old new = ((event ≡ Settle) × IsLonger old new × IsSettledPass tree new) ⊎ IsPosted tree event old new
+IsMade tree event old new = ((event ≡ Settle) × IsLonger old new × IsSettledPass tree new)
+    ⊎ IsPosted tree event old new
 
 -- these events were made, one after another
 abbrev pub AreMade : List TreeProcess → List Event → PassState → PassState → Type 0
@@ -45,7 +47,8 @@ NotMade tree Settle pass e = NotSettled tree e
 NotMade tree event pass e = IsRefusedPost tree event pass e
 
 -- N of these events were made with a pass, and the next was not, for this reason
-pub record StopsAt (tree : List TreeProcess) (events : List Event) (old : PassState) (made : ℕ) (e : PostError)
+pub record StopsAt (tree : List TreeProcess) (events : List Event) (old : PassState)
+    (made : ℕ) (e : PostError)
     : Type 0 where
   pub event : Event
   pub next : slice_get events made ≡ Some event

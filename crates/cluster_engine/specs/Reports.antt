@@ -26,8 +26,8 @@ use Rattle.cluster_engine.specs.declared.engine.ClusterOutput.TheVariants.{Told,
 use Rattle.cluster_engine.specs.Told.{TellsAll}
 use Rattle.cluster_engine.specs.Made.{AreMade, StopsAt}
 
--- the last line, which is so of each cluster that closes: a tree on one thread that makes the events of the journal leaves
--- the same logs
+-- the last line, which is so of each cluster that closes: a tree on one thread that makes the events of the
+-- journal leaves the same logs
 abbrev pub same_line : List ℕ
 same_line = codes "replay same" ++ 10 ∷ []
 
@@ -46,7 +46,8 @@ Tells Told tree journal text = TellsJournal journal same_line text
 Tells Trace tree journal text = text ≡ journal_text tree journal
 
 -- A cluster of this tree, of N callers, was closed with these passes: the text tells its journal.
-pub record TellsClosed (output : ClusterOutput) (tree : List TreeProcess) (callers : ℕ) (passes : List PassState)
+pub record TellsClosed (output : ClusterOutput) (tree : List TreeProcess) (callers : ℕ)
+    (passes : List PassState)
     (text : List ℕ) : Type 0 where
   pub journal : List (ℕ × JournalEntry)
   pub logs : List (List LogRecord)
@@ -55,15 +56,17 @@ pub record TellsClosed (output : ClusterOutput) (tree : List TreeProcess) (calle
   pub known : AreBelow callers journal
   pub tells : Tells output tree journal text
 
--- each of these entries was asked for: it is under the number of the caller who leads, or a message is delivered in it
+-- each of these entries was asked for: it is under the number of the caller who leads, or a message is
+-- delivered in it
 abbrev pub AreAsked : List (ℕ × JournalEntry) → Type 0
 AreAsked journal = All (λ x. (x.0 ≡ 0) ⊎ IsDelivery x) journal
 
--- The text tells the journal of a closed cluster on this tree. It is a run of the tree, of which the headline holds,
--- and in which mismatches are reported; a tree on one thread that makes its events leaves the same logs. These events were
--- made with one pass, in order; the journal has just the pairs of that pass under its caller's number, and besides
--- deliveries alone.
-pub record RunsTree (output : ClusterOutput) (tree : List TreeProcess) (events : List Event) (text : List ℕ) : Type 0 where
+-- The text tells the journal of a closed cluster on this tree. It is a run of the tree, of which the headline
+-- holds, and in which mismatches are reported; a tree on one thread that makes its events leaves the same
+-- logs. These events were made with one pass, in order; the journal has just the pairs of that pass under its
+-- caller's number, and besides deliveries alone.
+pub record RunsTree (output : ClusterOutput) (tree : List TreeProcess) (events : List Event)
+    (text : List ℕ) : Type 0 where
   pub journal : List (ℕ × JournalEntry)
   pub logs : List (List LogRecord)
   pub closed : IsClosed tree journal logs
@@ -73,8 +76,8 @@ pub record RunsTree (output : ClusterOutput) (tree : List TreeProcess) (events :
   pub asked : AreAsked journal
   pub tells : Tells output tree journal text
 
--- the number of a refusal as it is printed, if it is one of the event itself: a step's own; 9 for what the journal
--- has not; 10 where it is full
+-- the number of a refusal as it is printed, if it is one of the event itself: a step's own; 9 for what the
+-- journal has not; 10 where it is full
 abbrev pub refusal_number : PostError → Option ℕ
 refusal_number Stranger = Some 9
 refusal_number JournalFull = Some 10
@@ -90,8 +93,8 @@ pub record RefusesBehind (made : ℕ) (why : PostError) (text : List ℕ) : Type
   pub number_is : refusal_number why ≡ Some number
   pub line : text ≡ refused_text (made + 1) number
 
--- the text is the one line of that of these events which was refused: those before it were made, and it was not, for
--- the reason whose number is told
+-- the text is the one line of that of these events which was refused: those before it were made, and it was
+-- not, for the reason whose number is told
 pub record RefusesOne (tree : List TreeProcess) (events : List Event) (text : List ℕ) : Type 0 where
   pub made : ℕ
   pub why : PostError
@@ -139,7 +142,8 @@ IsUnnumbered journal = 2 ^ 64 ≤ message_count (entries_in journal)
 -- N were sent in the journal of a closed cluster on this tree
 abbrev pub ClosesUnnumbered : List TreeProcess → Type 0
 ClosesUnnumbered tree =
-    (journal : List (ℕ × JournalEntry)) × (logs : List (List LogRecord)) × IsClosed tree journal logs × IsUnnumbered journal
+    (journal : List (ℕ × JournalEntry)) × (logs : List (List LogRecord)) × IsClosed tree journal logs
+    × IsUnnumbered journal
 
 -- why nothing is written of a tree and these events
 abbrev pub CannotWrite : List TreeProcess → List Event → Failure → Type 0

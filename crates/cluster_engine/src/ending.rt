@@ -106,8 +106,8 @@ fn journal_told(
     }
 }
 
-/// The lines of what was told, and after them that a tree on one thread which makes the events of the journal leaves the
-/// same logs. It is so of each cluster that closes (`Cluster::close`), so it is not tried.
+/// The lines of what was told, and after them that a tree on one thread which makes the events of the journal
+/// leaves the same logs. It is so of each cluster that closes (`Cluster::close`), so it is not tried.
 fn told_text(alloc: Global, journal: &ClosedJournal) -> Result<Vec<u8>, AllocError>
     ensures { IfOk result (λ text. TellsJournal journal.now same_line text.items) }
 {

@@ -40,11 +40,11 @@ pub enum ClusterOutput {
 /// every message by N workers. A refused event is the only line; so is one that says why the script
 /// is refused.
 ///
-/// What is told is that of a journal which is a run of the script's tree in the model, of which the
-/// headline holds, and in which mismatches are reported; it has the script's events in order, each under
-/// one caller's number, and besides deliveries alone. An event is refused as its process stood, once those before it
-/// were made. After a failed read, or where memory is refused, a device fails or numbers are used up,
-/// nothing was written; after a failed write, a beginning of the text. The call may wait.
+/// What is told is that of a journal which is a run of the script's tree in the model, of which the headline
+/// holds, and in which mismatches are reported; it has the script's events in order, each under one caller's
+/// number, and besides deliveries alone. An event is refused as its process stood, once those before it were
+/// made. After a failed read, or where memory is refused, a device fails or numbers are used up, nothing was
+/// written; after a failed write, a beginning of the text. The call may wait.
 pub fn run_cluster<R: Threads + Wait + Sync, G: Gate + Sync, I: Read, W: Write>(
     rt: &R,
     alloc: Global,

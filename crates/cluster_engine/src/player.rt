@@ -160,7 +160,8 @@ fn lead_and_serve<'a, N: Seats + Send + Sync, R: Threads + Wait + Sync, G: Gate 
     refusal
 }
 
-/// Makes these events with the first pass; each other pass is a worker's, and where there is none no thread is made.
+/// Makes these events with the first pass; each other pass is a worker's, and where there is none no thread
+/// is made.
 fn play_first<N: Seats + Send + Sync, R: Threads + Wait + Sync, G: Gate + Sync>(
     rt: &R,
     alloc: Global,

@@ -10,8 +10,8 @@ use protocol::{JournalEntry, Told};
 use std::alloc::{AllocError, Global};
 use trace_lines::push_conclusion;
 
-/// What was told: the boot and the number of its transaction, and its place among all that was told. They are sorted in
-/// this order.
+/// What was told: the boot and the number of its transaction, and its place among all that was told. They are
+/// sorted in this order.
 #[derive(Clone, Copy, PartialEq, Eq, PartialOrd, Ord)]
 pub struct ToldPlace {
     /// The boot of the transaction's root.

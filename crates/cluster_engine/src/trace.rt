@@ -61,8 +61,8 @@ fn push_entry(out: &mut Vec<u8>, sent: u64, entry: &JournalEntry) -> Result<u64,
     Ok(next)
 }
 
-/// The lines of the entries of a turn, before which N messages were sent. How many were with theirs. Exhausted: 2^64 or
-/// more.
+/// The lines of the entries of a turn, before which N messages were sent. How many were with theirs.
+/// Exhausted: 2^64 or more.
 fn push_turn(out: &mut Vec<u8>, before: u64, turn: &[(u64, JournalEntry)]) -> Result<u64, Failure>
     ensures sent { IfOk result (λ next. next ≡ before + message_count (entries_in turn.now)) }
     ensures text { OnOk result (out.new.items ≡ out.old.items ++ entries_text before (entries_in turn.now)) }
@@ -78,7 +78,8 @@ fn push_turn(out: &mut Vec<u8>, before: u64, turn: &[(u64, JournalEntry)]) -> Re
 
 /// The lines of these turns.
 fn push_turns(out: &mut Vec<u8>, turns: &[Entries]) -> Result<(), Failure>
-    ensures text { OnOk result (out.new.items ≡ out.old.items ++ entries_text 0 (entries_in (all_of turns.now))) }
+    ensures text { OnOk result (out.new.items ≡ out.old.items ++ entries_text 0
+        (entries_in (all_of turns.now))) }
     ensures err { IfErr result (λ e. (e ≡ Failure.Memory)
         ⊎ ((e ≡ Failure.Exhausted) × IsUnnumbered (all_of turns.now))) }
 {
@@ -89,8 +90,8 @@ fn push_turns(out: &mut Vec<u8>, turns: &[Entries]) -> Result<(), Failure>
     Ok(())
 }
 
-/// Adds the trace of a journal, as a tree on one thread that makes its events writes it. Exhausted: in it 2^64 messages or
-/// more were sent.
+/// Adds the trace of a journal, as a tree on one thread that makes its events writes it. Exhausted: in it
+/// 2^64 messages or more were sent.
 pub(crate) fn push_trace(
     alloc: Global,
     out: &mut Vec<u8>,

@@ -64,7 +64,8 @@ pub one_cond : (b : Bool) → cond b 1 0 ≡ one_if b
 one_cond true = refl
 one_cond false = refl
 
-pub count_set : {A : Type 0} (f : A → Bool) (ms : List A) (p : ℕ) (m d y : A) → p < length ms → m ≡ get_or ms p d
+pub count_set : {A : Type 0} (f : A → Bool) (ms : List A) (p : ℕ) (m d y : A) → p < length ms
+    → m ≡ get_or ms p d
     → count_by f (slice_set ms p y) + one_if (f m) ≡ count_by f ms + one_if (f y)
 count_set f ms p m d y lt at =
     let moved = sum_by-set (λ x. cond (f x) 1 0) ms p y d lt in
@@ -92,7 +93,8 @@ pub count_at : {A : Type 0} (f : A → Bool) (ms : List A) (p : ℕ) (m d : A) �
     → one_if (f m) ≤ count_by f ms
 count_at f ms p m d lt at =
     let low = get_or-le-sum_by (λ x. cond (f x) 1 0) ms p d lt in
-    let is : cond (f (get_or ms p d)) 1 0 ≡ one_if (f m) = ap (λ x. cond (f x) 1 0) (sym at) ∙ one_cond (f m) in
+    let is : cond (f (get_or ms p d)) 1 0 ≡ one_if (f m) = ap (λ x. cond (f x) 1 0) (sym at) ∙ one_cond (f m)
+    in
     omega (arith, low, is)
 
 zero_is_false : (b : Bool) (n : ℕ) → one_if b ≤ n → n ≡ 0 → b ≡ false
@@ -128,7 +130,8 @@ count_some {A = A} f (m ∷ ms) = by_first (f m) refl (count_some f ms)
     by_first false is (inr (x, so, (k, lt, at))) = inr (x, so, (suc k, omega (arith, lt), at))
 
 -- a count fits once one of them is changed
-pub fits_count : {A : Type 0} (f : A → Bool) (xs : List A) (p : ℕ) (m d y : A) → p < length xs → m ≡ get_or xs p d
+pub fits_count : {A : Type 0} (f : A → Bool) (xs : List A) (p : ℕ) (m d y : A) → p < length xs
+    → m ≡ get_or xs p d
     → (c n : ℕ) → c ≡ count_by f xs → n ≡ length xs → (a b : Bool) → a ≡ f m → b ≡ f y
     → (one_if a ≤ c) × (c + one_if b ≤ n + one_if a)
 fits_count f xs p m d y lt at c n is all a b a_is b_is =
@@ -141,7 +144,8 @@ fits_count f xs p m d y lt at c n is all a b a_is b_is =
     (omega (arith, low, is, one), omega (arith, moved, most, long, is, one, other, all))
 
 -- it is what it says
-pub recounted : {A : Type 0} (f : A → Bool) (xs : List A) (p : ℕ) (m d y : A) → p < length xs → m ≡ get_or xs p d
+pub recounted : {A : Type 0} (f : A → Bool) (xs : List A) (p : ℕ) (m d y : A) → p < length xs
+    → m ≡ get_or xs p d
     → (c n : ℕ) → c ≡ count_by f xs → (a b : Bool) → a ≡ f m → b ≡ f y → n + one_if a ≡ c + one_if b
     → n ≡ count_by f (slice_set xs p y)
 recounted f xs p m d y lt at c n is a b a_is b_is moved =

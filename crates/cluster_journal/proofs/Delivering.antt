@@ -33,7 +33,8 @@ set_get (x ∷ xs) (suc p) (suc k) a o h = next (set_get xs p k a o h)
 
 -- One entry more.
 
-get_more : {A : Type 0} (xs ys : List A) (i : ℕ) (x : A) → slice_get xs i ≡ Some x → slice_get (xs ++ ys) i ≡ Some x
+get_more : {A : Type 0} (xs ys : List A) (i : ℕ) (x : A) → slice_get xs i ≡ Some x
+    → slice_get (xs ++ ys) i ≡ Some x
 get_more [] ys i x h = absurd (cc)
 get_more (y ∷ xs) ys zero x h = h
 get_more (y ∷ xs) ys (suc i) x h = get_more xs ys i x h
@@ -52,11 +53,13 @@ still xs ys n h = record {
   happens = h.happens;
 }
 
-all_still : (ms : List MarkedMessage) (xs ys : List (ℕ × JournalEntry)) → AreDelivered ms xs → AreDelivered ms (xs ++ ys)
+all_still : (ms : List MarkedMessage) (xs ys : List (ℕ × JournalEntry)) → AreDelivered ms xs
+    → AreDelivered ms (xs ++ ys)
 all_still ms xs ys h k to is = still xs ys (suc k) (h k to is)
 
 -- the marks once it is entered
-pub entered : (ms : List MarkedMessage) (xs : List (ℕ × JournalEntry)) (caller : ℕ) (x : JournalEntry) (h : Happening)
+pub entered : (ms : List MarkedMessage) (xs : List (ℕ × JournalEntry)) (caller : ℕ)
+    (x : JournalEntry) (h : Happening)
     → x.step.happening ≡ h → AreDelivered ms xs → AreDelivered (marked_by h ms) (xs ++ (caller, x) ∷ [])
 entered ms xs caller x (Handles (MessageInput zero m)) is so = all_still ms xs ((caller, x) ∷ []) so
 entered ms xs caller x (Handles (MessageInput (suc p) m)) is so = by_old (slice_get ms p)
@@ -85,7 +88,8 @@ pub entered_all : (ms : List MarkedMessage) (xs made : List (ℕ × JournalEntry
     → AreDelivered (marked_by_all made ms) (xs ++ made)
 entered_all ms xs [] so = subst (λ l. AreDelivered ms l) (sym (append-nil xs)) so
 entered_all ms xs (z ∷ made) so =
-    subst (λ l. AreDelivered (marked_by_all made (marked_by z.1.step.happening ms)) l) (append_assoc xs (z ∷ []) made)
+    subst (λ l. AreDelivered (marked_by_all made (marked_by z.1.step.happening ms)) l)
+    (append_assoc xs (z ∷ []) made)
     (entered_all (marked_by z.1.step.happening ms) (xs ++ z ∷ []) made
     (entered ms xs z.0 z.1 z.1.step.happening refl so))
 
@@ -101,14 +105,16 @@ as_many (Handles (ActInput a)) ms = refl
 as_many (Restart k) ms = refl
 as_many Trim ms = refl
 
-pub as_many_all : (made : List (ℕ × JournalEntry)) (ms : List MarkedMessage) → length (marked_by_all made ms) ≡ length ms
+pub as_many_all : (made : List (ℕ × JournalEntry)) (ms : List MarkedMessage)
+    → length (marked_by_all made ms) ≡ length ms
 as_many_all [] ms = refl
 as_many_all (z ∷ made) ms =
     as_many_all made (marked_by z.1.step.happening ms) ∙ as_many z.1.step.happening ms
 
 -- Marks of another kind.
 
-set_other : (ms : List MarkedMessage) (xs : List (ℕ × JournalEntry)) (p : ℕ) (to : ProcessId) (mark : Delivery) → (mark ≡ Delivered → ⊥)
+set_other : (ms : List MarkedMessage) (xs : List (ℕ × JournalEntry)) (p : ℕ) (to : ProcessId)
+    (mark : Delivery) → (mark ≡ Delivered → ⊥)
     → AreDelivered ms xs → AreDelivered (slice_set ms p (record { to = to; mark = mark })) xs
 set_other ms xs p to mark other so k q at =
     elim (set_get ms p k (record { to = to; mark = mark }) (record { to = q; mark = Delivered }) at) [
@@ -149,7 +155,8 @@ given_back_so ms xs (suc p) so = by_old (slice_get ms p)
 
 -- Messages more.
 
-get_sent : (ms : List MarkedMessage) (ls : List Envelope) (k : ℕ) (o : MarkedMessage) → slice_get (ms ++ map sent_to ls) k ≡ Some o
+get_sent : (ms : List MarkedMessage) (ls : List Envelope) (k : ℕ) (o : MarkedMessage)
+    → slice_get (ms ++ map sent_to ls) k ≡ Some o
     → (slice_get ms k ≡ Some o) ⊎ (o.mark ≡ Open)
 get_sent [] [] k o h = inl h
 get_sent [] (l ∷ ls) zero o h = inr (mark_is (sent_to l) o h refl)
@@ -160,7 +167,8 @@ get_sent [] (l ∷ ls) (suc k) o h = get_sent [] ls k o h
 get_sent (m ∷ ms) ls zero o h = inl h
 get_sent (m ∷ ms) ls (suc k) o h = get_sent ms ls k o h
 
-pub sent_so : (ms : List MarkedMessage) (ls : List Envelope) (xs : List (ℕ × JournalEntry)) → AreDelivered ms xs
+pub sent_so : (ms : List MarkedMessage) (ls : List Envelope) (xs : List (ℕ × JournalEntry))
+    → AreDelivered ms xs
     → AreDelivered (ms ++ map sent_to ls) xs
 sent_so ms ls xs so k to at = elim (get_sent ms ls k (record { to = to; mark = Delivered }) at) [
   | inl before ↦ so k to before
@@ -189,9 +197,11 @@ marked_more : (xs : List (ℕ × JournalEntry)) (x : ℕ × JournalEntry) (ms : 
 marked_more [] x ms = refl
 marked_more (y ∷ xs) x ms = marked_more xs x (marked_by y.1.step.happening ms)
 
-pub noted_more : (xs : List (ℕ × JournalEntry)) (i : ℕ) (d : ℕ × JournalEntry) (first now new : List MarkedMessage) → i < length xs
+pub noted_more : (xs : List (ℕ × JournalEntry)) (i : ℕ) (d : ℕ × JournalEntry)
+    (first now new : List MarkedMessage) → i < length xs
     → now ≡ marked_by_all (take i xs) first → new ≡ marked_by (get_or xs i d).1.step.happening now
     → new ≡ marked_by_all (take (i + 1) xs) first
 noted_more xs i d first now new lt so noted =
-    noted ∙ ap (marked_by (get_or xs i d).1.step.happening) so ∙ sym (marked_more (take i xs) (get_or xs i d) first)
+    noted ∙ ap (marked_by (get_or xs i d).1.step.happening) so
+    ∙ sym (marked_more (take i xs) (get_or xs i d) first)
     ∙ ap (λ l. marked_by_all l first) (sym (take_more xs i d lt))

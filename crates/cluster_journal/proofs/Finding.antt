@@ -44,7 +44,8 @@ same_first all rest a b is at = at ∙ ap (λ l. get_or l 0 a) is
 -- Spots of one entry.
 
 -- one spot more
-pub spots_more : (t n m : ℕ) → spots_at t n m ++ record { turn = t; entry = n; message = m } ∷ [] ≡ spots_at t n (m + 1)
+pub spots_more : (t n m : ℕ) → spots_at t n m ++ record { turn = t; entry = n; message = m } ∷ []
+    ≡ spots_at t n (m + 1)
 spots_more t n m = ap (λ k. spots_at t n k) (let s : suc m ≡ m + 1 = omega arith in s)
 
 pub length_spots : (t n m : ℕ) → length (spots_at t n m) ≡ m
@@ -53,7 +54,8 @@ length_spots t n (suc m) =
     length-append (spots_at t n m) (record { turn = t; entry = n; message = m } ∷ [])
     ∙ (let l = length_spots t n m in omega arith)
 
-spot_at : (t n m k : ℕ) → k < m → slice_get (spots_at t n m) k ≡ Some (record { turn = t; entry = n; message = k })
+spot_at : (t n m k : ℕ) → k < m → slice_get (spots_at t n m) k
+    ≡ Some (record { turn = t; entry = n; message = k })
 spot_at t n zero k lt = absurd (omega arith)
 spot_at t n (suc m) k lt =
     let long = length_spots t n m in
@@ -84,7 +86,8 @@ record StandsIn (t n : ℕ) (s : Spot) : Type 0 where
   pub turn : s.turn ≡ t
   pub later : n ≤ s.entry
 
-stands_in : (t n : ℕ) (xs : List (ℕ × JournalEntry)) (k : ℕ) (s : Spot) → slice_get (spots_in t n xs) k ≡ Some s
+stands_in : (t n : ℕ) (xs : List (ℕ × JournalEntry)) (k : ℕ) (s : Spot)
+    → slice_get (spots_in t n xs) k ≡ Some s
     → StandsIn t n s
 stands_in t n [] k s h = absurd (cc)
 stands_in t n (x ∷ xs) k s h =
@@ -154,7 +157,8 @@ found_in t n (x ∷ xs) k =
     ]
 
 -- a turn has as many spots as messages
-length_in : (t n : ℕ) (xs : List (ℕ × JournalEntry)) → length (spots_in t n xs) ≡ length (net_of (entries_of xs))
+length_in : (t n : ℕ) (xs : List (ℕ × JournalEntry))
+    → length (spots_in t n xs) ≡ length (net_of (entries_of xs))
 length_in t n [] = refl
 length_in t n (x ∷ xs) =
     let m = length x.1.reaction.messages in
@@ -180,14 +184,16 @@ net_both (x ∷ xs) ys =
     ∙ sym (append_assoc x.1.reaction.messages (net_of (entries_of xs)) (net_of (entries_of ys)))
 
 -- no spot of later turns names an earlier one
-later_turn : (t : ℕ) (es : List (Vec (ℕ × JournalEntry))) (k : ℕ) (s : Spot) → slice_get (spots_of t es) k ≡ Some s
+later_turn : (t : ℕ) (es : List (Vec (ℕ × JournalEntry))) (k : ℕ) (s : Spot)
+    → slice_get (spots_of t es) k ≡ Some s
     → t ≤ s.turn
 later_turn t [] k s h = absurd (cc)
 later_turn t (e ∷ es) k s h =
     let here = spots_in t 0 e.items in
     elim (less_or k (length here)) [
       | inl less ↦
-          let same = (stands_in t 0 e.items k s (sym (get_left here (spots_of (suc t) es) k less) ∙ h)).turn in
+          let same = (stands_in t 0 e.items k s (sym (get_left here (spots_of (suc t) es) k less) ∙ h)).turn
+          in
           omega (arith, same)
       | inr more ↦
           let j = k - length here in
@@ -231,7 +237,8 @@ found_by t (e ∷ es) k =
       | inl less ↦
           ap (λ l. slice_get l k) both ∙ get_left ls rest k less ∙ found_in t 0 e.items k
           ∙ in_first t e es (slice_get here k) (λ s h. (stands_in t 0 e.items k s h).turn)
-          ∙ ap (λ o. by_turn t (e ∷ es) o) (sym (get_left here (spots_of (suc t) es) k (omega (arith, less, long))))
+          ∙ ap (λ o. by_turn t (e ∷ es) o) (sym (get_left here (spots_of (suc t) es) k
+          (omega (arith, less, long))))
       | inr more ↦
           let j = k - length ls in
           let at : k ≡ length ls + j = omega (arith, more) in
@@ -256,7 +263,8 @@ zeroed es (Some s) =
     ap (λ i. message_of (entry_of (slice_get es i) s.entry) s.message) z
 
 pub found : (es : List (Vec (ℕ × JournalEntry))) (number : ℕ) → 0 < number
-    → sent_as (net_of (entries_of (all_of es))) number ≡ message_by es (slice_get (spots_of 0 es) (number - 1))
+    → sent_as (net_of (entries_of (all_of es))) number
+    ≡ message_by es (slice_get (spots_of 0 es) (number - 1))
 found es zero lt = absurd (omega arith)
 found es (suc k) lt =
     let one : suc k - 1 ≡ k = omega arith in
@@ -280,7 +288,8 @@ spots_sent t (e ∷ es) =
 more_turns : (t : ℕ) (es : List (Vec (ℕ × JournalEntry))) (e : Vec (ℕ × JournalEntry))
     → spots_of t es ++ spots_in (t + length es) 0 e.items ≡ spots_of t (es ++ e ∷ [])
 more_turns t [] e =
-    ap (λ k. spots_in k 0 e.items) (let z : t + 0 ≡ t = omega arith in z) ∙ sym (append-nil (spots_in t 0 e.items))
+    ap (λ k. spots_in k 0 e.items) (let z : t + 0 ≡ t = omega arith in z)
+    ∙ sym (append-nil (spots_in t 0 e.items))
 more_turns t (f ∷ es) e =
     let mine = spots_in t 0 f.items in
     append_assoc mine (spots_of (suc t) es) (spots_in (t + length (f ∷ es)) 0 e.items)
@@ -301,7 +310,8 @@ drop_none [] (suc n) h = refl
 drop_none (x ∷ xs) n h = absurd (cc)
 
 -- if no turn is late all are found
-none_late : (placed late : List (Vec (ℕ × JournalEntry))) (n : ℕ) (spots : List Spot) → AreFound placed late n spots
+none_late : (placed late : List (Vec (ℕ × JournalEntry))) (n : ℕ) (spots : List Spot)
+    → AreFound placed late n spots
     → first_of late ≡ [] → take 1 late ≡ [] → spots ≡ spots_of 0 placed
 none_late placed late n spots h none front =
     sym (append-nil spots)
@@ -313,7 +323,8 @@ pub all_found : (placed late : List (Vec (ℕ × JournalEntry))) (n : ℕ) (spot
 all_found placed late n spots h none = none_late placed late n spots h (ap first_of none) (ap (take 1) none)
 
 -- the next turn is found whole, and placed
-pub turn_found : (placed rest : List (Vec (ℕ × JournalEntry))) (e : Vec (ℕ × JournalEntry)) (xs : List (ℕ × JournalEntry)) (found : ℕ)
+pub turn_found : (placed rest : List (Vec (ℕ × JournalEntry))) (e : Vec (ℕ × JournalEntry))
+    (xs : List (ℕ × JournalEntry)) (found : ℕ)
     (spots : List Spot) → xs ≡ e.items → found ≡ length xs
     → spots ++ spots_in (length placed) found (drop found xs) ≡ spots_of 0 (placed ++ e ∷ [])
     → AreFound (placed ++ e ∷ []) rest 0 spots
@@ -337,11 +348,13 @@ turn_found placed rest e xs found spots same is all =
     }
     next (f ∷ fs) are = record {
       within = omega arith;
-      all = ap (λ l. l ++ spots_in (length (placed ++ e ∷ [])) 0 f.items) are ∙ last_turn (placed ++ e ∷ []) f;
+      all = ap (λ l. l ++ spots_in (length (placed ++ e ∷ [])) 0 f.items) are
+          ∙ last_turn (placed ++ e ∷ []) f;
     }
 
 -- so it is once the first late turn's entries are found
-pub next_turn : (placed late rest : List (Vec (ℕ × JournalEntry))) (e : Vec (ℕ × JournalEntry)) (xs : List (ℕ × JournalEntry)) (n m : ℕ)
+pub next_turn : (placed late rest : List (Vec (ℕ × JournalEntry))) (e : Vec (ℕ × JournalEntry))
+    (xs : List (ℕ × JournalEntry)) (n m : ℕ)
     (old new : List Spot) → late ≡ e ∷ rest → xs ≡ e.items → AreFound placed late n old → m ≡ length xs
     → new ++ spots_in (length placed) m (drop m xs) ≡ old ++ spots_in (length placed) n (drop n xs)
     → AreFound (placed ++ e ∷ []) rest 0 new
@@ -351,7 +364,8 @@ next_turn placed late rest e xs n m old new late_is same h whole all =
     ∙ (subst (λ l. AreFound placed l n old) late_is h).all)
 
 -- a turn more is late
-pub still_found : (placed late : List (Vec (ℕ × JournalEntry))) (e : Vec (ℕ × JournalEntry)) (found : ℕ) (spots : List Spot)
+pub still_found : (placed late : List (Vec (ℕ × JournalEntry))) (e : Vec (ℕ × JournalEntry)) (found : ℕ)
+    (spots : List Spot)
     → AreFound placed late found spots → AreFound placed (late ++ e ∷ []) found spots
 still_found placed [] e found spots h =
     let low = h.within in
@@ -369,7 +383,8 @@ dropped_at : (xs : List (ℕ × JournalEntry)) (i : ℕ) (d : ℕ × JournalEntr
     → drop i xs ≡ get_or xs i d ∷ drop (i + 1) xs
 dropped_at xs i d within = rw add-one (drop-cons xs i d within)
 
-pub found_more : (t : ℕ) (old new total : List Spot) (xs : List (ℕ × JournalEntry)) (i m : ℕ) (d : ℕ × JournalEntry)
+pub found_more : (t : ℕ) (old new total : List Spot) (xs : List (ℕ × JournalEntry)) (i m : ℕ)
+    (d : ℕ × JournalEntry)
     → i < length xs → m ≡ length (get_or xs i d).1.reaction.messages → new ≡ old ++ spots_at t i m
     → old ++ spots_in t i (drop i xs) ≡ total → new ++ spots_in t (i + 1) (drop (i + 1) xs) ≡ total
 found_more t old new total xs i m d lt count added all =

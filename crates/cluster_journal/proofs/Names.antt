@@ -12,12 +12,14 @@ use Rattle.cluster_journal.specs.Marks.{processes_of}
 use Rattle.cluster_journal.proofs.Counts.{is_itself, is_the_one, process_equality}
 
 -- no receiver is a process that is not among the names
-pub absent : (rs : List Receiver) (to : ProcessId) → list_any (processes.ghosts.eq to) (processes_of rs) ≡ false
+pub absent : (rs : List Receiver) (to : ProcessId)
+    → list_any (processes.ghosts.eq to) (processes_of rs) ≡ false
     → All (λ r. r.process ≢ to) rs
 absent [] to h = All-nil (λ r. r.process ≢ to)
 absent (r ∷ rs) to h = by (processes.ghosts.eq to r.process) refl h (λ so. absent rs to so)
   where
-    by : (b : Bool) → processes.ghosts.eq to r.process ≡ b → b || list_any (processes.ghosts.eq to) (processes_of rs) ≡ false
+    by : (b : Bool) → processes.ghosts.eq to r.process ≡ b
+        → b || list_any (processes.ghosts.eq to) (processes_of rs) ≡ false
         → (list_any (processes.ghosts.eq to) (processes_of rs) ≡ false → All (λ x. x.process ≢ to) rs)
         → All (λ x. x.process ≢ to) (r ∷ rs)
     by true is so rest = absurd (cc)

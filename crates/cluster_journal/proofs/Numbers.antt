@@ -16,7 +16,8 @@ number_of : (number place : ℕ) → number ≡ place + 1 → number ≡ suc pla
 number_of number place is = omega arith
 
 -- the message with a number, if there is one
-pub marks_it : (ms : List MarkedMessage) (number place : ℕ) (m d : MarkedMessage) (to : ProcessId) (mark : Delivery)
+pub marks_it : (ms : List MarkedMessage) (number place : ℕ) (m d : MarkedMessage) (to : ProcessId)
+    (mark : Delivery)
     → number ≡ place + 1 → place < length ms → m ≡ get_or ms place d → to ≡ m.to
     → slice_set ms place (record { to = to; mark = mark }) ≡ marked ms number mark
 marks_it ms number place m d to mark is lt at same =
@@ -26,7 +27,8 @@ marks_it ms number place m d to mark is lt at same =
 
 -- Claims that are given back.
 
-there : (ms : List MarkedMessage) (number place : ℕ) (m d : MarkedMessage) → number ≡ place + 1 → place < length ms
+there : (ms : List MarkedMessage) (number place : ℕ) (m d : MarkedMessage) → number ≡ place + 1
+    → place < length ms
     → m ≡ get_or ms place d → given_back ms number ≡ reopened_from ms place m.to m.mark
 there ms number place m d is lt at =
     ap (λ n. given_back ms n) (number_of number place is)
@@ -38,14 +40,16 @@ not_claimed ms place to Open other = refl
 not_claimed ms place to Claimed other = absurd (other refl)
 not_claimed ms place to Delivered other = refl
 
-pub gives_back : (ms : List MarkedMessage) (number place : ℕ) (m d : MarkedMessage) (to : ProcessId) → number ≡ place + 1
+pub gives_back : (ms : List MarkedMessage) (number place : ℕ) (m d : MarkedMessage) (to : ProcessId)
+    → number ≡ place + 1
     → place < length ms → m ≡ get_or ms place d → to ≡ m.to → m.mark ≡ Claimed
     → slice_set ms place (record { to = to; mark = Open }) ≡ given_back ms number
 gives_back ms number place m d to is lt at same claimed =
     ap (λ t. slice_set ms place (record { to = t; mark = Open })) same
     ∙ sym (there ms number place m d is lt at ∙ ap (λ n. reopened_from ms place m.to n) claimed)
 
-pub keeps_back : (ms : List MarkedMessage) (number place : ℕ) (m d : MarkedMessage) → number ≡ place + 1 → place < length ms
+pub keeps_back : (ms : List MarkedMessage) (number place : ℕ) (m d : MarkedMessage) → number ≡ place + 1
+    → place < length ms
     → m ≡ get_or ms place d → (m.mark ≡ Claimed → ⊥) → ms ≡ given_back ms number
 keeps_back ms number place m d is lt at other =
     sym (there ms number place m d is lt at ∙ not_claimed ms place m.to m.mark other)

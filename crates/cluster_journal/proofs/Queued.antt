@@ -30,28 +30,34 @@ same_names (r ∷ rs) (suc k) s d is lt = ap (λ l. r.process ∷ l) (same_names
 
 -- the name at each place stays
 name_set : (rs : List Receiver) (at i : ℕ) (s d e : Receiver) → at < length rs
-    → s.process ≡ (get_or rs at e).process → (get_or (slice_set rs at s) i d).process ≡ (get_or rs i d).process
+    → s.process ≡ (get_or rs at e).process → (get_or (slice_set rs at s) i d).process
+    ≡ (get_or rs i d).process
 name_set rs at i s d e lt same = elim (three i at) [
   | inl before ↦ ap (λ r. r.process) (get_or-set_other rs at i s d (λ x. absurd (omega (arith, before, x))))
   | inr (inl here) ↦
       subst (λ k. (get_or (slice_set rs at s) k d).process ≡ (get_or rs k d).process) (sym here)
-      (ap (λ r. r.process) (get_or-set_same rs at s d lt) ∙ same ∙ ap (λ r. r.process) (one_default rs at e d lt))
-  | inr (inr after) ↦ ap (λ r. r.process) (get_or-set_other rs at i s d (λ x. absurd (omega (arith, after, x))))
+      (ap (λ r. r.process) (get_or-set_same rs at s d lt) ∙ same
+      ∙ ap (λ r. r.process) (one_default rs at e d lt))
+  | inr (inr after) ↦ ap (λ r. r.process)
+      (get_or-set_other rs at i s d (λ x. absurd (omega (arith, after, x))))
 ]
   where
-    one_default : (xs : List Receiver) (k : ℕ) (a b : Receiver) → k < length xs → get_or xs k a ≡ get_or xs k b
+    one_default : (xs : List Receiver) (k : ℕ) (a b : Receiver) → k < length xs
+        → get_or xs k a ≡ get_or xs k b
     one_default [] k a b h = absurd (omega (arith, h))
     one_default (x ∷ xs) zero a b h = refl
     one_default (x ∷ xs) (suc k) a b h = one_default xs k a b (omega (arith, h))
 
-pub apart_set : (rs : List Receiver) (at : ℕ) (s e : Receiver) → at < length rs → s.process ≡ (get_or rs at e).process
+pub apart_set : (rs : List Receiver) (at : ℕ) (s e : Receiver) → at < length rs
+    → s.process ≡ (get_or rs at e).process
     → AreApart rs → AreApart (slice_set rs at s)
 apart_set rs at s e lt same apart i j d f il jl one =
     let long = length-set rs at s in
     apart i j d f (omega (arith, il, long)) (omega (arith, jl, long))
     (sym (name_set rs at i s d e lt same) ∙ one ∙ name_set rs at j s f e lt same)
 
-pub linked_set : (q : ProcessId) (ms : List MarkedMessage) (k : ℕ) (rs : List Receiver) (l : Link) (at : ℕ) (s e : Receiver)
+pub linked_set : (q : ProcessId) (ms : List MarkedMessage) (k : ℕ) (rs : List Receiver) (l : Link) (at : ℕ)
+    (s e : Receiver)
     → at < length rs → s.process ≡ (get_or rs at e).process → IsLinked q ms k rs l
     → IsLinked q ms k (slice_set rs at s) l
 linked_set q ms k rs l at s e lt same h = record {
@@ -61,7 +67,8 @@ linked_set q ms k rs l at s e lt same h = record {
 }
 
 -- the link of a message
-pub linked_at : (ms : List MarkedMessage) (q : Queues) (p : ℕ) (m : MarkedMessage) (l : Link) → p < length ms → m ≡ get_or ms p m
+pub linked_at : (ms : List MarkedMessage) (q : Queues) (p : ℕ) (m : MarkedMessage) (l : Link) → p < length ms
+    → m ≡ get_or ms p m
     → l ≡ get_or q.links.items p l → AreQueued ms q → IsLinked m.to ms p q.receivers.items l
 linked_at ms q p m l lt at there h =
     subst (λ x. IsLinked x.to ms p q.receivers.items l) (sym at)
@@ -81,7 +88,8 @@ to_at (x ∷ ms) zero (suc k) m y d at same = refl
 to_at (x ∷ ms) (suc p) zero m y d at same = refl
 to_at (x ∷ ms) (suc p) (suc k) m y d at same = to_at ms p k m y d at same
 
-linked_mark : (ms : List MarkedMessage) (p : ℕ) (m y : MarkedMessage) (rs : List Receiver) (ls : List Link) → slice_get ms p ≡ Some m
+linked_mark : (ms : List MarkedMessage) (p : ℕ) (m y : MarkedMessage) (rs : List Receiver) (ls : List Link)
+    → slice_get ms p ≡ Some m
     → y.to ≡ m.to → AreLinked ms rs ls → AreLinked (slice_set ms p y) rs ls
 linked_mark ms p m y rs ls at same h k d e lt =
     let long = length-set ms p y in
@@ -94,9 +102,11 @@ linked_mark ms p m y rs ls at same h k d e lt =
     })
 
 -- the receivers once one of them tells of a message that is marked so
-told_all : (ms : List MarkedMessage) (p : ℕ) (m d : MarkedMessage) (mark : Delivery) (rs : List Receiver) (at : ℕ) (s e : Receiver)
+told_all : (ms : List MarkedMessage) (p : ℕ) (m d : MarkedMessage) (mark : Delivery) (rs : List Receiver)
+    (at : ℕ) (s e : Receiver)
     → p < length ms → m ≡ get_or ms p d → at < length rs → (get_or rs at e).process ≡ m.to → AreApart rs
-    → IsTold (marked ms (p + 1) mark) s → All (IsTold ms) rs → All (IsTold (marked ms (p + 1) mark)) (slice_set rs at s)
+    → IsTold (marked ms (p + 1) mark) s → All (IsTold ms) rs
+    → All (IsTold (marked ms (p + 1) mark)) (slice_set rs at s)
 told_all ms p m d mark rs at s e lt is less to apart told all k f kl = elim (three k at) [
   | inl before ↦ others (λ x. absurd (omega (arith, before, x)))
   | inr (inl here) ↦
@@ -114,10 +124,12 @@ told_all ms p m d mark rs at s e lt is less to apart told all k f kl = elim (thr
         (λ one. other (apart k at f e kr less (one ∙ sym to))) (all k f kr))
 
 -- the queues once a message is marked so
-pub queued_mark : (ms : List MarkedMessage) (p : ℕ) (m d : MarkedMessage) (mark : Delivery) (q new : Queues) (at : ℕ) (s e : Receiver)
+pub queued_mark : (ms : List MarkedMessage) (p : ℕ) (m d : MarkedMessage) (mark : Delivery) (q new : Queues)
+    (at : ℕ) (s e : Receiver)
     → p < length ms → m ≡ get_or ms p d → AreQueued ms q → at < length q.receivers.items
     → (get_or q.receivers.items at e).process ≡ m.to → s.process ≡ (get_or q.receivers.items at e).process
-    → IsTold (marked ms (p + 1) mark) s → new.links ≡ q.links → new.receivers.items ≡ slice_set q.receivers.items at s
+    → IsTold (marked ms (p + 1) mark) s → new.links ≡ q.links
+    → new.receivers.items ≡ slice_set q.receivers.items at s
     → new.free ≡ count_by is_free new.receivers.items
     → new.undelivered ≡ count_by is_undelivered (slice_set ms p (record { to = m.to; mark = mark }))
     → AreQueued (slice_set ms p (record { to = m.to; mark = mark })) new
@@ -129,10 +141,12 @@ queued_mark ms p m d mark q new at s e lt is h less to same told links receivers
       long = ap (λ l. length l.items) links ∙ h.long ∙ sym (length-set ms p y);
       linked = subst (λ l. AreLinked (slice_set ms p y) l new.links.items) (sym receivers)
           (subst (λ l. AreLinked (slice_set ms p y) (slice_set rs at s) l.items) (sym links)
-          (λ k f g kl. linked_set (get_or (slice_set ms p y) k f).to (slice_set ms p y) k rs (get_or q.links.items k g) at
+          (λ k f g kl. linked_set (get_or (slice_set ms p y) k f).to (slice_set ms p y) k rs
+          (get_or q.links.items k g) at
           s e less same (linked_mark ms p m y rs q.links.items here refl h.linked k f g kl)));
       told = subst (λ l. All (IsTold (slice_set ms p y)) l) (sym receivers)
-          (subst (λ l. All (IsTold l) (slice_set rs at s)) (sym (marks_it ms (p + 1) p m d m.to mark refl lt is refl))
+          (subst (λ l. All (IsTold l) (slice_set rs at s))
+          (sym (marks_it ms (p + 1) p m d m.to mark refl lt is refl))
           (told_all ms p m d mark rs at s e lt is less to h.apart told h.told));
       apart = subst AreApart (sym receivers) (apart_set rs at s e less same h.apart);
       free = free;
@@ -161,8 +175,10 @@ queued_begin ms q new at s e h less same told links receivers free undelivered =
 
 -- Room alone changes nothing.
 
-pub queued_same : (ms : List MarkedMessage) (q new : Queues) → AreQueued ms q → new.links.items ≡ q.links.items
-    → new.receivers.items ≡ q.receivers.items → new.free ≡ q.free → new.undelivered ≡ q.undelivered → AreQueued ms new
+pub queued_same : (ms : List MarkedMessage) (q new : Queues) → AreQueued ms q
+    → new.links.items ≡ q.links.items
+    → new.receivers.items ≡ q.receivers.items → new.free ≡ q.free → new.undelivered ≡ q.undelivered
+    → AreQueued ms new
 queued_same ms q new h links receivers free undelivered = record {
   long = ap length links ∙ h.long;
   linked = subst (λ l. AreLinked ms l new.links.items) (sym receivers)
@@ -176,7 +192,8 @@ queued_same ms q new h links receivers free undelivered = record {
 -- What is open.
 
 -- a receiver with messages that are open has one
-pub has_open : (ms : List MarkedMessage) (r : Receiver) → IsTold ms r → 0 < r.waiting → NoneOpen r.process ms 0 (length ms) → ⊥
+pub has_open : (ms : List MarkedMessage) (r : Receiver) → IsTold ms r → 0 < r.waiting
+    → NoneOpen r.process ms 0 (length ms) → ⊥
 has_open ms r h some none =
     let count = count_none (is_open_to r.process) ms
     (λ k d lt. ap (is_open_by r.process) (sym (slice_get-get_or ms k d lt)) ∙ none k (omega arith) lt) in
@@ -187,7 +204,8 @@ pub not_free : (r : Receiver) → is_free r ≡ false → IsNotFree r
 not_free r h = grind (arith, nat_tests)
 
 -- nothing is to be claimed if no receiver is free
-pub none_free : (ms : List MarkedMessage) (q : Queues) → AreQueued ms q → All IsNotFree q.receivers.items → NoneToClaim ms
+pub none_free : (ms : List MarkedMessage) (q : Queues) → AreQueued ms q → All IsNotFree q.receivers.items
+    → NoneToClaim ms
 none_free ms q h busy p = elim (count_some (is_open_to p) ms) [
   | inl none ↦ inl (first_is_none p 1 ms (none_open ms none))
   | inr (m, so, (k, lt, at)) ↦
@@ -195,7 +213,8 @@ none_free ms q h busy p = elim (count_some (is_open_to p) ms) [
       let some = count_at (is_open_to p) ms k m m lt (sym at) in
       let one : one_if (is_open_to p m) ≡ 1 = ap one_if so in
       let l : Link = record { receiver = 0; next = None } in
-      let link = subst (λ x. IsLinked x.to ms k q.receivers.items (get_or q.links.items k l)) at (h.linked k m l lt) in
+      let link = subst (λ x. IsLinked x.to ms k q.receivers.items (get_or q.links.items k l)) at
+      (h.linked k m l lt) in
       let e : Receiver = record { process = p; first = 0; last = 0; waiting = 0; claimed = 0 } in
       let r = get_or q.receivers.items (get_or q.links.items k l).receiver e in
       by_receiver r (link.named e ∙ sym to) (h.told (get_or q.links.items k l).receiver e link.within)
@@ -205,7 +224,8 @@ none_free ms q h busy p = elim (count_some (is_open_to p) ms) [
     none_open : (xs : List MarkedMessage) → open_to p xs ≡ 0 → NoneOpen p xs 0 (length xs)
     none_open xs none k low lt =
         let d : MarkedMessage = record { to = p; mark = Open } in
-        ap (is_open_by p) (slice_get-get_or xs k d lt) ∙ none_at (is_open_to p) xs k (get_or xs k d) d lt refl none
+        ap (is_open_by p) (slice_get-get_or xs k d lt) ∙ none_at (is_open_to p) xs k (get_or xs k d) d lt refl
+        none
 
     by_receiver : (r : Receiver) → r.process ≡ p → IsTold ms r → IsNotFree r → 0 < open_to p ms
         → (first_open p 1 ms ≡ None) ⊎ (0 < claimed_to p ms)

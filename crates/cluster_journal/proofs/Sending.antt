@@ -28,7 +28,13 @@ abbrev pub receiver_from : ProcessId → ℕ → Receiver
 receiver_from to n = record { process = to; first = n; last = n; waiting = 1; claimed = 0 }
 
 abbrev pub receiver_until : Receiver → ℕ → Receiver
-receiver_until r n = record { process = r.process; first = r.first; last = n; waiting = r.waiting + 1; claimed = r.claimed }
+receiver_until r n = record {
+  process = r.process;
+  first = r.first;
+  last = n;
+  waiting = r.waiting + 1;
+  claimed = r.claimed;
+}
 
 -- A message more.
 
@@ -72,8 +78,10 @@ queued_first ms to q new s h fresh is links receivers free undelivered =
           (subst (λ x. AreLinked (ms ++ y ∷ []) (rs ++ s ∷ []) x) (sym links) linked);
       told = subst (λ x. All (IsTold (ms ++ y ∷ [])) x) (sym receivers)
           (All-push (IsTold (ms ++ y ∷ [])) rs s told
-          (told_first ms to s (none_to ms to none) (counts_none is_open ms to none) (counts_none is_claimed ms to none)
-          process (ap (λ r. r.first) is) (ap (λ r. r.last) is) (ap (λ r. r.waiting) is) (ap (λ r. r.claimed) is)));
+          (told_first ms to s (none_to ms to none) (counts_none is_open ms to none)
+          (counts_none is_claimed ms to none)
+          process (ap (λ r. r.first) is) (ap (λ r. r.last) is) (ap (λ r. r.waiting) is)
+          (ap (λ r. r.claimed) is)));
       apart = subst AreApart (sym receivers) apart;
       free = free ∙ ap (λ n. n + 1) h.free
           ∙ sym (ap (λ x. count_by is_free x) receivers ∙ count_push is_free rs s
@@ -113,8 +121,10 @@ queued_first ms to q new s h fresh is links receivers free undelivered =
           (subst (λ x. IsLinked (get_or ms k d).to (ms ++ y ∷ []) k (rs ++ s ∷ []) x)
           (sym (get_or_append_left ls (l ∷ []) e k (omega (arith, before, long))))
           (record {
-            within = let more = length-append rs (s ∷ []) in let less = link.within in omega (arith, more, less);
-            named = λ f. ap (λ r. r.process) (get_or_append_left rs (s ∷ []) f (get_or ls k e).receiver link.within)
+            within =
+                let more = length-append rs (s ∷ []) in let less = link.within in omega (arith, more, less);
+            named = λ f. ap (λ r. r.process) (get_or_append_left rs (s ∷ []) f
+                (get_or ls k e).receiver link.within)
                 ∙ link.named f;
             next = next_push (get_or ms k d).to ms y k (get_or ls k e).next link.next
                 (λ x. is_other (get_or ms k d).to to (none k d before));
@@ -161,9 +171,16 @@ queued_first ms to q new s h fresh is links receivers free undelivered =
         by (inr (ir, ip)) (inr (jr, jp)) = ir ∙ sym jr
 
 -- a message more to a receiver
-pub queued_next : (ms : List MarkedMessage) (to : ProcessId) (q new : Queues) (at : ℕ) (r s : Receiver) → AreQueued ms q
+pub queued_next : (ms : List MarkedMessage) (to : ProcessId) (q new : Queues) (at : ℕ) (r s : Receiver)
+    → AreQueued ms q
     → at < length q.receivers.items → r ≡ get_or q.receivers.items at r → r.process ≡ to
-    → s ≡ record { process = r.process; first = r.first; last = length ms; waiting = r.waiting + 1; claimed = r.claimed }
+    → s ≡ record {
+      process = r.process;
+      first = r.first;
+      last = length ms;
+      waiting = r.waiting + 1;
+      claimed = r.claimed;
+    }
     → new.links.items ≡ slice_set q.links.items r.last (record { receiver = at; next = Some (length ms) })
     ++ record { receiver = at; next = None } ∷ []
     → new.receivers.items ≡ slice_set q.receivers.items at s → new.free ≡ count_by is_free new.receivers.items
@@ -243,20 +260,23 @@ queued_next ms to q new at r s h less here named is links receivers free undeliv
     none_after : NoneTo to ms (suc r.last) (length ms)
     none_after = subst (λ x. NoneTo x ms (suc r.last) (length ms)) named was.last
 
-    sent_to_it : (k : ℕ) (d : MarkedMessage) → k < length ms → is_to (get_or ms k d).to (slice_get ms k) ≡ true
+    sent_to_it : (k : ℕ) (d : MarkedMessage) → k < length ms
+        → is_to (get_or ms k d).to (slice_get ms k) ≡ true
     sent_to_it k d lt =
         ap (is_to (get_or ms k d).to) (slice_get-get_or ms k d lt)
         ∙ is_itself (get_or ms k d).to (get_or ms k d).to refl
 
     -- the link of an earlier message
     linked_before : (k : ℕ) (d : MarkedMessage) (e : Link) → k < length ms
-        → IsLinked (get_or ms k d).to (ms ++ y ∷ []) k (slice_set rs at s) (get_or (slice_set ls r.last before_it) k e)
+        → IsLinked (get_or ms k d).to (ms ++ y ∷ []) k (slice_set rs at s)
+        (get_or (slice_set ls r.last before_it) k e)
     linked_before k d e lt = elim (three k r.last) [
       | inl before ↦ others (λ x. absurd (omega (arith, before, x)))
       | inr (inl it) ↦
           let last_long : r.last < length ls = (let long = h.long in omega (arith, last_less, long)) in
           let there : get_or (slice_set ls r.last before_it) k e ≡ before_it =
-          ap (λ i. get_or (slice_set ls r.last before_it) i e) it ∙ get_or-set_same ls r.last before_it e last_long in
+          ap (λ i. get_or (slice_set ls r.last before_it) i e) it
+          ∙ get_or-set_same ls r.last before_it e last_long in
           let mine : to ≡ (get_or ms k d).to =
           is_the_one to (get_or ms k d).to (sym (ap (is_to to) (slice_get-get_or ms k d lt))
           ∙ ap (λ i. is_to to (slice_get ms i)) it ∙ ends) in
@@ -294,10 +314,12 @@ queued_next ms to q new at r s h less here named is links receivers free undeliv
           let set = length-set ls r.last before_it in
           let m_at : (get_or (ms ++ y ∷ []) k d).to ≡ (get_or ms k d).to =
           ap (λ m. m.to) (get_or_append_left ms (y ∷ []) d k before) in
-          subst (λ x. IsLinked x (ms ++ y ∷ []) k (slice_set rs at s) (get_or (slice_set ls r.last before_it ++ l ∷ []) k e))
+          subst (λ x. IsLinked x (ms ++ y ∷ []) k (slice_set rs at s)
+          (get_or (slice_set ls r.last before_it ++ l ∷ []) k e))
           (sym m_at)
           (subst (λ x. IsLinked (get_or ms k d).to (ms ++ y ∷ []) k (slice_set rs at s) x)
-          (sym (get_or_append_left (slice_set ls r.last before_it) (l ∷ []) e k (omega (arith, before, long, set))))
+          (sym (get_or_append_left (slice_set ls r.last before_it) (l ∷ []) e k
+          (omega (arith, before, long, set))))
           (linked_before k d e before))
       | inr (inl it) ↦
           let set = length-set ls r.last before_it in

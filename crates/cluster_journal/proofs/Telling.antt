@@ -18,7 +18,8 @@ use Rattle.cluster_journal.proofs.Numbers.{closed_to, marks_it}
 -- A mark that is set.
 
 -- what its receiver counts, by this test of marks
-counts : (f : Delivery → Bool) (q : ProcessId) (ms : List MarkedMessage) (p : ℕ) (m d y : MarkedMessage) → p < length ms → m ≡ get_or ms p d
+counts : (f : Delivery → Bool) (q : ProcessId) (ms : List MarkedMessage) (p : ℕ) (m d y : MarkedMessage)
+    → p < length ms → m ≡ get_or ms p d
     → same_process q m.to ≡ true → y.to ≡ m.to
     → count_by (λ x. f x.mark && same_process q x.to) (slice_set ms p y) + one_if (f m.mark)
     ≡ count_by (λ x. f x.mark && same_process q x.to) ms + one_if (f y.mark)
@@ -31,7 +32,8 @@ counts f q ms p m d y lt at mine same =
     omega (arith, moved, was, is)
 
 -- another counts as many
-counts_other : (f : Delivery → Bool) (q : ProcessId) (ms : List MarkedMessage) (p : ℕ) (m d y : MarkedMessage) → p < length ms
+counts_other : (f : Delivery → Bool) (q : ProcessId) (ms : List MarkedMessage) (p : ℕ) (m d y : MarkedMessage)
+    → p < length ms
     → m ≡ get_or ms p d → same_process q m.to ≡ false → y.to ≡ m.to
     → count_by (λ x. f x.mark && same_process q x.to) (slice_set ms p y)
     ≡ count_by (λ x. f x.mark && same_process q x.to) ms
@@ -44,27 +46,32 @@ counts_other f q ms p m d y lt at other same =
     omega (arith, moved, was, is)
 
 -- where its queue begins, none is open before
-begins_after : (b : Bool) (q : ProcessId) (ms : List MarkedMessage) (p first new : ℕ) (y : MarkedMessage) → is_open y.mark ≡ b
-    → new ≤ first → (is_open y.mark ≡ true → new ≤ p) → NoneOpen q ms 0 first → NoneOpen q (slice_set ms p y) 0 new
+begins_after : (b : Bool) (q : ProcessId) (ms : List MarkedMessage) (p first new : ℕ) (y : MarkedMessage)
+    → is_open y.mark ≡ b
+    → new ≤ first → (is_open y.mark ≡ true → new ≤ p) → NoneOpen q ms 0 first
+    → NoneOpen q (slice_set ms p y) 0 new
 begins_after true q ms p first new y is le opened none =
     before_set q ms p 0 new y (opened is) (λ k low less. none k low (omega (arith, less, le)))
 begins_after false q ms p first new y is le opened none =
     closed_set q ms p 0 new y (closed_to q y is) (λ k low less. none k low (omega (arith, less, le)))
 
 -- the message is to this receiver
-to_it : (q : ProcessId) (ms : List MarkedMessage) (p : ℕ) (m d : MarkedMessage) → p < length ms → m ≡ get_or ms p d
+to_it : (q : ProcessId) (ms : List MarkedMessage) (p : ℕ) (m d : MarkedMessage) → p < length ms
+    → m ≡ get_or ms p d
     → is_to q (slice_get ms p) ≡ true → same_process q m.to ≡ true
 to_it q ms p m d lt at mine =
     ap (λ x. same_process q x.to) at ∙ sym (ap (is_to q) (slice_get-get_or ms p d lt)) ∙ mine
 
 -- what its receiver tells
-pub told_same : (ms : List MarkedMessage) (p : ℕ) (m d : MarkedMessage) (mark : Delivery) (r s : Receiver) → p < length ms → m ≡ get_or ms p d
+pub told_same : (ms : List MarkedMessage) (p : ℕ) (m d : MarkedMessage) (mark : Delivery) (r s : Receiver)
+    → p < length ms → m ≡ get_or ms p d
     → is_to r.process (slice_get ms p) ≡ true → IsTold ms r → s.process ≡ r.process → s.last ≡ r.last
     → (s.first ≡ r.first) ⊎ (s.first ≡ p) → s.first ≤ r.first → (is_open mark ≡ true → s.first ≤ p)
     → (a b : Bool) → a ≡ is_open m.mark → b ≡ is_open mark → s.waiting + one_if a ≡ r.waiting + one_if b
     → (e f : Bool) → e ≡ is_claimed m.mark → f ≡ is_claimed mark → s.claimed + one_if e ≡ r.claimed + one_if f
     → IsTold (marked ms (p + 1) mark) s
-told_same ms p m d mark r s lt at to h same last either le opened a b a_is b_is waiting e f e_is f_is claimed =
+told_same ms p m d mark r s lt at to h same last either le opened a b a_is b_is waiting e f
+    e_is f_is claimed =
     let q = r.process in
     let y : MarkedMessage = record { to = m.to; mark = mark } in
     let mine = to_it q ms p m d lt at to in
@@ -100,7 +107,8 @@ told_same ms p m d mark r s lt at to h same last either le opened a b a_is b_is 
     })
 
 -- what another tells stays
-pub told_other : (ms : List MarkedMessage) (p : ℕ) (m d : MarkedMessage) (mark : Delivery) (r : Receiver) → p < length ms
+pub told_other : (ms : List MarkedMessage) (p : ℕ) (m d : MarkedMessage) (mark : Delivery) (r : Receiver)
+    → p < length ms
     → m ≡ get_or ms p d → r.process ≢ m.to → IsTold ms r → IsTold (marked ms (p + 1) mark) r
 told_other ms p m d mark r lt at other h =
     let q = r.process in
@@ -119,8 +127,10 @@ told_other ms p m d mark r lt at other h =
     })
 
 -- what its receiver counts fits
-fits : (f : Delivery → Bool) (q : ProcessId) (ms : List MarkedMessage) (p : ℕ) (m d : MarkedMessage) (mark : Delivery) (c : ℕ) → p < length ms
-    → m ≡ get_or ms p d → is_to q (slice_get ms p) ≡ true → c ≡ count_by (λ x. f x.mark && same_process q x.to) ms
+fits : (f : Delivery → Bool) (q : ProcessId) (ms : List MarkedMessage) (p : ℕ) (m d : MarkedMessage)
+    (mark : Delivery) (c : ℕ) → p < length ms
+    → m ≡ get_or ms p d → is_to q (slice_get ms p) ≡ true
+    → c ≡ count_by (λ x. f x.mark && same_process q x.to) ms
     → (n : ℕ) (a b : Bool) → n ≡ length ms → a ≡ f m.mark → b ≡ f mark
     → (one_if a ≤ c) × (c + one_if b ≤ n + one_if a)
 fits f q ms p m d mark c lt at to is n a b all a_is b_is =
@@ -136,13 +146,15 @@ fits f q ms p m d mark c lt at to is n a b all a_is b_is =
     let other = ap one_if b_is in
     (omega (arith, low, was, is, one), omega (arith, moved, most, long, is, one, other, all))
 
-pub fits_open : (ms : List MarkedMessage) (p : ℕ) (m d : MarkedMessage) (mark : Delivery) (r : Receiver) → p < length ms → m ≡ get_or ms p d
+pub fits_open : (ms : List MarkedMessage) (p : ℕ) (m d : MarkedMessage) (mark : Delivery) (r : Receiver)
+    → p < length ms → m ≡ get_or ms p d
     → is_to r.process (slice_get ms p) ≡ true → IsTold ms r
     → (n : ℕ) (a b : Bool) → n ≡ length ms → a ≡ is_open m.mark → b ≡ is_open mark
     → (one_if a ≤ r.waiting) × (r.waiting + one_if b ≤ n + one_if a)
 fits_open ms p m d mark r lt at to h = fits is_open r.process ms p m d mark r.waiting lt at to h.waiting
 
-pub fits_claimed : (ms : List MarkedMessage) (p : ℕ) (m d : MarkedMessage) (mark : Delivery) (r : Receiver) → p < length ms
+pub fits_claimed : (ms : List MarkedMessage) (p : ℕ) (m d : MarkedMessage) (mark : Delivery) (r : Receiver)
+    → p < length ms
     → m ≡ get_or ms p d → is_to r.process (slice_get ms p) ≡ true → IsTold ms r
     → (n : ℕ) (a b : Bool) → n ≡ length ms → a ≡ is_claimed m.mark → b ≡ is_claimed mark
     → (one_if a ≤ r.claimed) × (r.claimed + one_if b ≤ n + one_if a)
@@ -150,13 +162,16 @@ fits_claimed ms p m d mark r lt at to h = fits is_claimed r.process ms p m d mar
 
 -- A queue begins at another place.
 
-pub told_here : (ms : List MarkedMessage) (p : ℕ) (r s : Receiver) → IsTold ms r → s.process ≡ r.process → s.first ≡ p
-    → s.last ≡ r.last → s.waiting ≡ r.waiting → s.claimed ≡ r.claimed → is_to r.process (slice_get ms p) ≡ true
+pub told_here : (ms : List MarkedMessage) (p : ℕ) (r s : Receiver) → IsTold ms r → s.process ≡ r.process
+    → s.first ≡ p
+    → s.last ≡ r.last → s.waiting ≡ r.waiting → s.claimed ≡ r.claimed
+    → is_to r.process (slice_get ms p) ≡ true
     → NoneOpen r.process ms 0 p → IsTold ms s
 told_here ms p r s h same place last waiting claimed begins none = record {
   begins = subst (λ x. is_to x (slice_get ms s.first) ≡ true) (sym same)
       (ap (λ k. is_to r.process (slice_get ms k)) place ∙ begins);
-  none = subst (λ x. NoneOpen x ms 0 s.first) (sym same) (subst (λ k. NoneOpen r.process ms 0 k) (sym place) none);
+  none = subst (λ x. NoneOpen x ms 0 s.first) (sym same)
+      (subst (λ k. NoneOpen r.process ms 0 k) (sym place) none);
   ends = subst (λ x. is_to x (slice_get ms s.last) ≡ true) (sym same)
       (ap (λ k. is_to r.process (slice_get ms k)) last ∙ h.ends);
   last = subst (λ x. NoneTo x ms (suc s.last) (length ms)) (sym same)
@@ -168,8 +183,10 @@ told_here ms p r s h same place last waiting claimed begins none = record {
 -- A message more.
 
 -- its receiver tells one more
-pub told_more : (ms : List MarkedMessage) (r s : Receiver) (to : ProcessId) → IsTold ms r → s.process ≡ r.process
-    → s.first ≡ r.first → s.last ≡ length ms → s.waiting ≡ r.waiting + 1 → s.claimed ≡ r.claimed → r.process ≡ to
+pub told_more : (ms : List MarkedMessage) (r s : Receiver) (to : ProcessId) → IsTold ms r
+    → s.process ≡ r.process
+    → s.first ≡ r.first → s.last ≡ length ms → s.waiting ≡ r.waiting + 1 → s.claimed ≡ r.claimed
+    → r.process ≡ to
     → IsTold (ms ++ record { to = to; mark = Open } ∷ []) s
 told_more ms r s to h same first last waiting claimed is_to_it =
     let q = r.process in
@@ -184,7 +201,8 @@ told_more ms r s to h same first last waiting claimed is_to_it =
           (none_open_push q ms y 0 r.first (omega (arith, lt)) h.none));
       ends = subst (λ x. is_to x (slice_get (ms ++ y ∷ []) s.last) ≡ true) (sym same)
           (ap (λ k. is_to q (slice_get (ms ++ y ∷ []) k)) last ∙ ap (is_to q) (get_last ms y) ∙ mine);
-      last = λ k low less. let long = length-append ms (y ∷ []) in absurd (omega (arith, low, less, long, last));
+      last =
+          λ k low less. let long = length-append ms (y ∷ []) in absurd (omega (arith, low, less, long, last));
       waiting = subst (λ x. s.waiting ≡ open_to x (ms ++ y ∷ [])) (sym same)
           (let pushed = count_push (is_open_to q) ms y in
           let is : one_if (is_open_to q y) ≡ 1 = ap one_if (and_true true (same_process q to) mine) in
@@ -223,8 +241,10 @@ told_still ms r to h other =
     }
 
 -- the first message to a process
-pub told_first : (ms : List MarkedMessage) (to : ProcessId) (s : Receiver) → NoneTo to ms 0 (length ms) → open_to to ms ≡ 0
-    → claimed_to to ms ≡ 0 → s.process ≡ to → s.first ≡ length ms → s.last ≡ length ms → s.waiting ≡ 1 → s.claimed ≡ 0
+pub told_first : (ms : List MarkedMessage) (to : ProcessId) (s : Receiver) → NoneTo to ms 0 (length ms)
+    → open_to to ms ≡ 0
+    → claimed_to to ms ≡ 0 → s.process ≡ to → s.first ≡ length ms → s.last ≡ length ms → s.waiting ≡ 1
+    → s.claimed ≡ 0
     → IsTold (ms ++ record { to = to; mark = Open } ∷ []) s
 told_first ms to s none opens claims same first last waiting claimed =
     let y : MarkedMessage = record { to = to; mark = Open } in
@@ -237,7 +257,8 @@ told_first ms to s none opens claims same first last waiting claimed =
           (none k low (omega (arith, less, first)))));
       ends = subst (λ x. is_to x (slice_get (ms ++ y ∷ []) s.last) ≡ true) (sym same)
           (ap (λ k. is_to to (slice_get (ms ++ y ∷ []) k)) last ∙ ap (is_to to) (get_last ms y) ∙ mine);
-      last = λ k low less. let long = length-append ms (y ∷ []) in absurd (omega (arith, low, less, long, last));
+      last =
+          λ k low less. let long = length-append ms (y ∷ []) in absurd (omega (arith, low, less, long, last));
       waiting = subst (λ x. s.waiting ≡ open_to x (ms ++ y ∷ [])) (sym same)
           (let pushed = count_push (is_open_to to) ms y in
           let one : one_if (is_open_to to y) ≡ 1 = ap one_if (and_true true (same_process to to) mine) in

@@ -130,9 +130,10 @@ abbrev pub IsNextTo : ProcessId → List MarkedMessage → ℕ → Option ℕ �
 IsNextTo q ms k None = NoneTo q ms (suc k) (length ms)
 IsNextTo q ms k (Some next) = (k < next) × (is_to q (slice_get ms next) ≡ true) × NoneTo q ms (suc k) next
 
--- The link of the message at this place, which is sent to this process: its receiver is there, and so is the next
--- message to it.
-pub record IsLinked (q : ProcessId) (ms : List MarkedMessage) (k : ℕ) (rs : List Receiver) (l : Link) : Type 0 where
+-- The link of the message at this place, which is sent to this process: its receiver is there, and so is the
+-- next message to it.
+pub record IsLinked (q : ProcessId) (ms : List MarkedMessage) (k : ℕ) (rs : List Receiver)
+    (l : Link) : Type 0 where
   pub within : l.receiver < length rs
   pub named : HoldsAt (λ r. r.process ≡ q) rs l.receiver
   pub next : IsNextTo q ms k l.next
@@ -142,8 +143,8 @@ abbrev pub AreLinked : List MarkedMessage → List Receiver → List Link → Ty
 AreLinked ms rs ls = (k : ℕ) (d : MarkedMessage) (e : Link) → k < length ms
     → IsLinked (get_or ms k d).to ms k rs (get_or ls k e)
 
--- Of these messages: one to this receiver stands where it says that its queue begins, and none to it is open before
--- that place; its last one stands where it says; and N to it are open, and claimed, as it says.
+-- Of these messages: one to this receiver stands where it says that its queue begins, and none to it is open
+-- before that place; its last one stands where it says; and N to it are open, and claimed, as it says.
 pub record IsTold (ms : List MarkedMessage) (r : Receiver) : Type 0 where
   pub begins : is_to r.process (slice_get ms r.first) ≡ true
   pub none : NoneOpen r.process ms 0 r.first
@@ -173,8 +174,8 @@ abbrev pub AreApart : List Receiver → Type 0
 AreApart rs = (i j : ℕ) (d e : Receiver) → i < length rs → j < length rs
     → (get_or rs i d).process ≡ (get_or rs j e).process → i ≡ j
 
--- These are the queues of the messages: each message is linked to its receiver and to the next one to it; what the
--- receivers tell is so, each is told of once, and the counts are right.
+-- These are the queues of the messages: each message is linked to its receiver and to the next one to it;
+-- what the receivers tell is so, each is told of once, and the counts are right.
 pub record AreQueued (ms : List MarkedMessage) (q : Queues) : Type 0 where
   pub long : length q.links.items ≡ length ms
   pub linked : AreLinked ms q.receivers.items q.links.items

@@ -39,7 +39,10 @@ abbrev pub first_of : List (Vec (ℕ × JournalEntry)) → List (ℕ × JournalE
 first_of [] = []
 first_of (e ∷ es) = e.items
 
--- These are the places of all messages of the placed turns, and of those of the first N entries of the next turn.
-pub record AreFound (placed late : List (Vec (ℕ × JournalEntry))) (found : ℕ) (spots : List Spot) : Type 0 where
+-- These are the places of all messages of the placed turns, and of those of the first N entries of the next
+-- turn.
+pub record AreFound (placed late : List (Vec (ℕ × JournalEntry))) (found : ℕ)
+    (spots : List Spot) : Type 0 where
   pub within : found ≤ length (first_of late)
-  pub all : spots ++ spots_in (length placed) found (drop found (first_of late)) ≡ spots_of 0 (placed ++ take 1 late)
+  pub all : spots ++ spots_in (length placed) found (drop found (first_of late))
+      ≡ spots_of 0 (placed ++ take 1 late)

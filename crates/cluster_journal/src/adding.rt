@@ -25,7 +25,8 @@ pub(crate) fn add_all(
     queues: &mut Queues,
     messages: &[Envelope],
 )
-    requires room { HasRoom marks.old queues.old (length messages.now) × (length messages.now ≤ spare names.old) }
+    requires room { HasRoom marks.old queues.old (length messages.now)
+        × (length messages.now ≤ spare names.old) }
     requires queued { AreQueued marks.old.items queues.old }
     requires named { names.old.keys ≡ processes_of queues.old.receivers.items }
     ensures queued { AreQueued marks.new.items queues.new }
@@ -50,7 +51,8 @@ fn add_message(
     ensures queued { AreQueued marks.new.items queues.new }
     ensures named { names.new.keys ≡ processes_of queues.new.receivers.items }
     ensures marks { marks.new.items ≡ marks.old.items ++ record { to = to; mark = kinds.Open } ∷ [] }
-    ensures room { TakesRoom marks.old queues.old marks.new queues.new × (spare names.old ≤ spare names.new + 1) }
+    ensures room { TakesRoom marks.old queues.old marks.new queues.new
+        × (spare names.old ≤ spare names.new + 1) }
 {
     let Ok((at, is_new)) = names.insert_full(to) else {
         unreachable!()
@@ -68,7 +70,8 @@ fn add_first(marks: &mut Vec<MarkedMessage>, queues: &mut Queues, to: ProcessId)
     requires queued { AreQueued marks.old.items queues.old }
     requires fresh { All (λ r. r.process ≢ to) queues.old.receivers.items }
     ensures queued { AreQueued marks.new.items queues.new }
-    ensures names { processes_of queues.new.receivers.items ≡ processes_of queues.old.receivers.items ++ to ∷ [] }
+    ensures names { processes_of queues.new.receivers.items
+        ≡ processes_of queues.old.receivers.items ++ to ∷ [] }
     ensures marks { marks.new.items ≡ marks.old.items ++ record { to = to; mark = kinds.Open } ∷ [] }
     ensures room { TakesRoom marks.old queues.old marks.new queues.new }
 {
@@ -90,7 +93,8 @@ fn add_first(marks: &mut Vec<MarkedMessage>, queues: &mut Queues, to: ProcessId)
 fn add_next(marks: &mut Vec<MarkedMessage>, queues: &mut Queues, at: usize, to: ProcessId)
     requires room { HasRoom marks.old queues.old 1 }
     requires queued { AreQueued marks.old.items queues.old }
-    requires at { (at < length queues.old.receivers.items) × HoldsAt (λ r. r.process ≡ to) queues.old.receivers.items at }
+    requires at { (at < length queues.old.receivers.items)
+        × HoldsAt (λ r. r.process ≡ to) queues.old.receivers.items at }
     ensures queued { AreQueued marks.new.items queues.new }
     ensures names { processes_of queues.new.receivers.items ≡ processes_of queues.old.receivers.items }
     ensures marks { marks.new.items ≡ marks.old.items ++ record { to = to; mark = kinds.Open } ∷ [] }

@@ -19,7 +19,8 @@ use std::collections::LinkedList;
 use std::marker::Model;
 use std::sync::Wait;
 
-/// Every entry with its caller's number, and what became of each message. It is a list of turns, of which no entry moves.
+/// Every entry with its caller's number, and what became of each message. It is a list of turns, of which no
+/// entry moves.
 #[derive(Drop)]
 pub struct ClusterJournal {
     /// The turns that are placed, the oldest first.
@@ -113,7 +114,8 @@ impl ClusterJournal {
         Ok(())
     }
 
-    /// Places the next turn, if there is one. It goes from one list to the other, and its entries stay where they are.
+    /// Places the next turn, if there is one. It goes from one list to the other, and its entries stay where
+    /// they are.
     fn place_one(&mut self) -> Result<(), AllocError>
         ensures entries { self.new.entries ≡ self.old.entries }
         ensures ok { OnOk result (self.new.late ≡ self.old.late - 1) }
@@ -151,8 +153,8 @@ impl ClusterJournal {
         }
     }
 
-    /// Claims the first open message of a process to which nobody delivers, of those that are placed: of this process, if
-    /// it has one, or else of the one with the most.
+    /// Claims the first open message of a process to which nobody delivers, of those that are placed: of this
+    /// process, if it has one, or else of the one with the most.
     pub fn claim(&mut self, near: ProcessId) -> Option<Claim>
         ensures entries { (self.new.entries ≡ self.old.entries) × (self.new.late ≡ self.old.late) }
         ensures found { IfSome result (λ c. (first_open c.to 1 self.old.marks ≡ Some c.number)
@@ -163,7 +165,8 @@ impl ClusterJournal {
         self.marks.claim(near)
     }
 
-    /// The number of the next open message to this process after the one with this number, of those that are placed.
+    /// The number of the next open message to this process after the one with this number, of those that are
+    /// placed.
     pub fn open_after(&self, to: ProcessId, number: u64) -> Option<u64>
         ensures { IfSome result (λ next. IsNextOpen to number next self.now.marks) }
     {
@@ -197,8 +200,8 @@ impl ClusterJournal {
         self.marks.give_back(number);
     }
 
-    /// The entries of a turn more, in the room that was made for it: it takes no memory, and moves none of them. The messages
-    /// that they deliver are marked so.
+    /// The entries of a turn more, in the room that was made for it: it takes no memory, and moves none of
+    /// them. The messages that they deliver are marked so.
     pub fn enter<R: Wait>(&mut self, rt: &R, made: Turn)
         ensures entries { self.new.entries ≡ self.old.entries ++ made }
         ensures marks { self.new.marks ≡ marked_by_all made self.old.marks }
@@ -209,8 +212,8 @@ impl ClusterJournal {
         made.link(rt, &mut self.late);
     }
 
-    /// The turns, as they were made, where all of them are placed. To a contract they are their entries, one after another,
-    /// with their callers' numbers.
+    /// The turns, as they were made, where all of them are placed. To a contract they are their entries, one
+    /// after another, with their callers' numbers.
     pub fn into_turns(self) -> Vec<Entries>
         requires { self.late ≡ 0 }
         ensures { all_of result.items ≡ self.entries }

@@ -10,8 +10,8 @@
 //! queues of processes     for each process its messages, each linked to the next one to it: found by the process's name
 //! ```
 //!
-//! A turn is entered in one piece and without a growth, in room that was made before. `place` hands it from one list to the
-//! other: its entries stay where they were made.
+//! A turn is entered in one piece and without a growth, in room that was made before. `place` hands it from
+//! one list to the other: its entries stay where they were made.
 #![tactic(auto)]
 
 mod adding;

@@ -52,7 +52,8 @@ pub struct Claim {
     pub to: ProcessId,
 }
 
-/// A mark for each message in order of sending, and a queue for each process. Contracts see the list of marks.
+/// A mark for each message in order of sending, and a queue for each process. Contracts see the list of
+/// marks.
 #[derive(Drop)]
 pub(crate) struct Deliveries {
     pub(crate) marks: Vec<MarkedMessage>,
@@ -98,8 +99,8 @@ impl Deliveries {
         Ok(())
     }
 
-    /// Claims the first open message of a process to which nobody delivers: of this process, if it has one, or else of
-    /// the one with the most. Only there all receivers are gone through.
+    /// Claims the first open message of a process to which nobody delivers: of this process, if it has one,
+    /// or else of the one with the most. Only there all receivers are gone through.
     pub(crate) fn claim(&mut self, near: ProcessId) -> Option<Claim>
         ensures found { IfSome result (λ c. (first_open c.to 1 self.old ≡ Some c.number)
             × (claimed_to c.to self.old ≡ 0) × (self.new ≡ marked self.old c.number kinds.Claimed)) }
@@ -132,8 +133,8 @@ impl Deliveries {
         }
     }
 
-    /// The number of the next open message to this process after the one with this number. It goes along the chain of the
-    /// messages to this process, from that one on, if it is one of these.
+    /// The number of the next open message to this process after the one with this number. It goes along the
+    /// chain of the messages to this process, from that one on, if it is one of these.
     pub(crate) fn open_after(&self, to: ProcessId, number: u64) -> Option<u64>
         ensures { IfSome result (λ next. IsNextOpen to number next self.now) }
     {
@@ -144,8 +145,9 @@ impl Deliveries {
         }
     }
 
-    /// The place of a message to this process, from which the next open one after this number is found: of the message with
-    /// this number, if it is one, or of the first of the process's queue. None: there is no open message after that number.
+    /// The place of a message to this process, from which the next open one after this number is found: of
+    /// the message with this number, if it is one, or of the first of the process's queue. None: there is no
+    /// open message after that number.
     fn start_of(&self, to: ProcessId, number: u64) -> Option<usize>
         ensures { IfSome result (λ place. (number < length self.now)
             × (is_to to (slice_get self.now place) ≡ true) × NoneOpen to self.now number place) }

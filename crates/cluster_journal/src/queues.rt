@@ -1,8 +1,9 @@
 //! The queue of each process: the open messages to it, in order of sending.
 //!
-//! Each message is linked to the next one to its receiver, whatever becomes of either, so links of sent messages stay. A queue
-//! is what is open along these links, from where its receiver says that it begins: at the first message at first, and
-//! after a claim at the claimed one. So a message that is delivered is passed once, and one that is given back is in its place.
+//! Each message is linked to the next one to its receiver, whatever becomes of either, so links of sent
+//! messages stay. A queue is what is open along these links, from where its receiver says that it begins: at
+//! the first message at first, and after a claim at the claimed one. So a message that is delivered is passed
+//! once, and one that is given back is in its place.
 
 ghost use Rattle.std.specs.Prelude.{◌≡◌, ◌≢◌, ◌+◌, ◌<◌, ◌≤◌, ◌⊎◌, ◌∷◌, [], All, HoldsAt, IfNone, IfSome, OnOk, None, Some, count_by, get_or, length, not, slice_get, slice_set, true};
 ghost use Rattle.std.specs.Vec.{vec_capacity, vec_len};
@@ -99,7 +100,8 @@ impl Queues {
     }
 }
 
-/// Claims the first open message of the receiver at this place, to which nobody delivers. Its queue begins there now.
+/// Claims the first open message of the receiver at this place, to which nobody delivers. Its queue begins
+/// there now.
 pub(crate) fn claim_for(marks: &mut Vec<MarkedMessage>, queues: &mut Queues, place: usize) -> Claim
     requires queued { (place < length queues.old.receivers.items) × AreQueued marks.old.items queues.old }
     requires free { HoldsAt IsFree queues.old.receivers.items place }
@@ -131,8 +133,8 @@ pub(crate) fn claim_for(marks: &mut Vec<MarkedMessage>, queues: &mut Queues, pla
     }
 }
 
-/// The place of the first open message to this process that is not before the lowest place, where its chain is
-/// gone along from a message to it, and none between the two places is open.
+/// The place of the first open message to this process that is not before the lowest place, where its chain
+/// is gone along from a message to it, and none between the two places is open.
 pub(crate) fn open_from(
     marks: &[MarkedMessage],
     queues: &Queues,
@@ -157,12 +159,14 @@ pub(crate) fn open_from(
     None
 }
 
-/// The place of the receiver at which a worker is to deliver: this one, if it is free, or else the free one with the most
-/// open messages. It goes through all receivers only where this one is not free, and another is.
+/// The place of the receiver at which a worker is to deliver: this one, if it is free, or else the free one
+/// with the most open messages. It goes through all receivers only where this one is not free, and another
+/// is.
 pub(crate) fn picked(receivers: &[Receiver], free: usize, near: Option<usize>) -> Option<usize>
     requires free { free ≡ count_by is_free receivers.now }
     requires near { IfSome near (λ place. place < length receivers.now) }
-    ensures found { IfSome result (λ place. (place < length receivers.now) × HoldsAt IsFree receivers.now place) }
+    ensures found { IfSome result (λ place. (place < length receivers.now)
+        × HoldsAt IsFree receivers.now place) }
     ensures none { IfNone result (All IsNotFree receivers.now) }
 {
     if free == 0 {
@@ -176,7 +180,8 @@ pub(crate) fn picked(receivers: &[Receiver], free: usize, near: Option<usize>) -
 
 /// The place of the free receiver with the most open messages.
 fn fullest(receivers: &[Receiver]) -> Option<usize>
-    ensures found { IfSome result (λ place. (place < length receivers.now) × HoldsAt IsFree receivers.now place) }
+    ensures found { IfSome result (λ place. (place < length receivers.now)
+        × HoldsAt IsFree receivers.now place) }
     ensures none { IfNone result (All IsNotFree receivers.now) }
 {
     let mut fullest = None;

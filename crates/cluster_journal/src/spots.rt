@@ -11,8 +11,8 @@ use crate::marks::Deliveries;
 use protocol::{Envelope, JournalEntry};
 use std::alloc::AllocError;
 
-/// Where a message stands: the place of its turn, the place of its entry in that turn, and its place among that entry's
-/// messages, each from 0.
+/// Where a message stands: the place of its turn, the place of its entry in that turn, and its place among
+/// that entry's messages, each from 0.
 #[derive(Clone, Copy)]
 pub(crate) struct Spot {
     /// The place of the turn.
@@ -47,7 +47,8 @@ fn add_spots(spots: &mut Vec<Spot>, turn: usize, entry: usize, count: usize)
     }
 }
 
-/// Adds the places and the marks of the messages of one entry. Memory: a growth was refused, and none is added.
+/// Adds the places and the marks of the messages of one entry. Memory: a growth was refused, and none is
+/// added.
 fn find_one(
     spots: &mut Vec<Spot>,
     marks: &mut Deliveries,
@@ -66,8 +67,8 @@ fn find_one(
     Ok(())
 }
 
-/// Adds the places and the marks of the messages of a turn's entries, but for the first N, of which they were added, and
-/// counts these. Memory: a growth was refused, and those of some entries are not added.
+/// Adds the places and the marks of the messages of a turn's entries, but for the first N, of which they were
+/// added, and counts these. Memory: a growth was refused, and those of some entries are not added.
 pub(crate) fn find_rest(
     spots: &mut Vec<Spot>,
     marks: &mut Deliveries,

@@ -14,7 +14,8 @@ use Rattle.cluster_process.specs.Makes.{FitsNode}
 use Rattle.cluster_process.specs.Marks.{ActsHere, Happens, IsNotFor}
 use Rattle.cluster_process.specs.Posts.{AsksAt}
 
-sent_finds : (net : List Envelope) (me : ProcessId) (k : ℕ) (l : Envelope) → sent_as net k ≡ Some l → l.to ≡ me
+sent_finds : (net : List Envelope) (me : ProcessId) (k : ℕ) (l : Envelope) → sent_as net k ≡ Some l
+    → l.to ≡ me
     → FindsMessage net me (Handles (MessageInput k l.message))
 sent_finds net me zero l sent to = absurd (cc)
 sent_finds net me (suc k) l sent to = record {
@@ -27,7 +28,8 @@ sent_finds net me (suc k) l sent to = record {
     same : (k : ℕ) → 0 + (suc k - 1) ≡ k
     same k = omega arith
 
-pub finds_it : (net : List Envelope) (me : ProcessId) (s : CoreState) (event : Event) (h : Happening) (keep : ℕ)
+pub finds_it : (net : List Envelope) (me : ProcessId) (s : CoreState) (event : Event)
+    (h : Happening) (keep : ℕ)
     → Happens net me s event h keep → FindsMessage net me h
 finds_it net me s (ActOf a) h keep is = subst (λ x. FindsMessage net me x) (sym is) tt
 finds_it net me s (Deliver k) h keep is =
@@ -36,7 +38,8 @@ finds_it net me s Settle h keep is = absurd is
 finds_it net me s (Restart p bytes) h keep is = subst (λ x. FindsMessage net me x) (sym is.2) tt
 finds_it net me s (Trim p) h keep is = subst (λ x. FindsMessage net me x) (sym is.1) tt
 
-pub fits_it : (net : List Envelope) (me : ProcessId) (s : CoreState) (event : Event) (h : Happening) (keep : ℕ)
+pub fits_it : (net : List Envelope) (me : ProcessId) (s : CoreState) (event : Event)
+    (h : Happening) (keep : ℕ)
     → Happens net me s event h keep → FitsNode s keep h
 fits_it net me s (ActOf a) h keep is = subst (λ x. FitsNode s keep x) (sym is) tt
 fits_it net me s (Deliver k) h keep is = subst (λ x. FitsNode s keep x) (sym is.happens) tt
@@ -45,7 +48,8 @@ fits_it net me s (Restart p bytes) h keep is = subst (λ x. FitsNode s keep x) (
 fits_it net me s (Trim p) h keep is = subst (λ x. FitsNode s keep x) (sym is.1) tt
 
 -- what happens by an event is what it asks of the process
-pub asks_it : (net : List Envelope) (me : ProcessId) (s : CoreState) (event : Event) (h : Happening) (keep : ℕ)
+pub asks_it : (net : List Envelope) (me : ProcessId) (s : CoreState) (event : Event)
+    (h : Happening) (keep : ℕ)
     → Happens net me s event h keep → AsksAt s event h
 asks_it net me s (ActOf a) h keep is = is
 asks_it net me s (Deliver k) h keep is = (is.envelope.message, is.happens)
@@ -54,7 +58,8 @@ asks_it net me s (Restart p bytes) h keep is = (keep, is.1, is.2)
 asks_it net me s (Trim p) h keep is = is.1
 
 -- an act of this process
-pub mine_it : (root me : ProcessId) (net : List Envelope) (s : CoreState) (event : Event) (h : Happening) (keep : ℕ)
+pub mine_it : (root me : ProcessId) (net : List Envelope) (s : CoreState) (event : Event)
+    (h : Happening) (keep : ℕ)
     → ActsHere root me event → Happens net me s event h keep → IsMine root me h
 mine_it root me net s (ActOf a) h keep acts is = subst (λ x. IsMine root me x) (sym is) (sym acts)
 mine_it root me net s (Deliver k) h keep acts is = subst (λ x. IsMine root me x) (sym is.happens) tt

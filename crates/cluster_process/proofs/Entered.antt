@@ -19,12 +19,14 @@ use Rattle.cluster_process.specs.Locked.{HasCut}
 use Rattle.cluster_process.specs.Turns.{MadeTurn}
 
 -- the journal with the entries is a run, and the process's entries in it are its own
-pub record Entered (tree : List TreeProcess) (me : ProcessId) (all zs : List (ℕ × JournalEntry)) (own : List JournalEntry)
+pub record Entered (tree : List TreeProcess) (me : ProcessId) (all zs : List (ℕ × JournalEntry))
+    (own : List JournalEntry)
     (new : CoreState) : Type 0 where
   pub has_cut : HasCut tree (entries_in (all ++ zs))
   pub runs : OwnRun tree me (own ++ entries_in zs) new
 
-pub entering : (tree : List TreeProcess) (me : ProcessId) (v : View) (c : ℕ) (zs : List (ℕ × JournalEntry)) (new : CoreState)
+pub entering : (tree : List TreeProcess) (me : ProcessId) (v : View) (c : ℕ) (zs : List (ℕ × JournalEntry))
+    (new : CoreState)
     → IsTree tree → is_listed tree me ≡ true → v.process.name ≡ Some me → IsUpTo v
     → MadeTurn tree v.process.net me c v.process.own zs new → HasCut tree (entries_in v.journal.all)
     → Entered tree me v.journal.all zs v.process.own new

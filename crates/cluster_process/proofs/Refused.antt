@@ -22,38 +22,42 @@ use Rattle.cluster_process.specs.Posts.{NotPosted, post_error}
 
 -- its step was not marked
 pub not_marked : (tree : List TreeProcess) (q : ProcessId) (event : Event) (pass : PassState) (e : PostError)
-    (journal : List (ℕ × JournalEntry)) → CutHolds tree (entries_in journal) → pass.pairs ≡ pairs_by pass.caller 0 journal
+    (journal : List (ℕ × JournalEntry)) → CutHolds tree (entries_in journal)
+    → pass.pairs ≡ pairs_by pass.caller 0 journal
     → NotMarked (net_of (entries_in journal)) (length journal) q event e → NotPosted tree q event pass e
-not_marked tree q event pass e journal run met not = record { journal = journal; run = run; met = met; why = inl not }
+not_marked tree q event pass e journal run met not =
+    record { journal = journal; run = run; met = met; why = inl not }
 
 -- it was marked, and the process refused to make it
 pub not_made : (tree : List TreeProcess) (q : ProcessId) (event : Event) (pass : PassState) (e : PostError)
-    (journal : List (ℕ × JournalEntry)) (own : List JournalEntry) (old new : CoreState) (before behind : ManagerData) (m : MarkedStep)
+    (journal : List (ℕ × JournalEntry)) (own : List JournalEntry) (old new : CoreState)
+    (before behind : ManagerData) (m : MarkedStep)
     (why : StepError) → CutHolds tree (entries_in journal) → pass.pairs ≡ pairs_by pass.caller 0 journal
     → own ≡ entries_of q (entries_in journal) → RunsAlone tree q own old before
     → IsMarked (net_of (entries_in journal)) q old event m
     → NotMadeIt old new before behind m.wanted.step.happening why → e ≡ post_error why
     → NotPosted tree q event pass e
-not_made tree q event pass e journal own old new before behind m why run met is ran marked not answered = record {
-  journal = journal;
-  run = run;
-  met = met;
-  why = inr (record {
-    stood = old;
-    held = before;
-    ran = subst (λ l. RunsAlone tree q l old before) is ran;
-    refuses = record {
-      happening = m.wanted.step.happening;
-      keep = m.keep;
-      asks = marked.happens;
-      why = why;
-      left = new;
-      left_data = behind;
-      not_made = not;
-      answered = answered;
-    };
-  });
-}
+not_made tree q event pass e journal own old new before behind m why run met is ran marked
+    not answered = record {
+      journal = journal;
+      run = run;
+      met = met;
+      why = inr (record {
+        stood = old;
+        held = before;
+        ran = subst (λ l. RunsAlone tree q l old before) is ran;
+        refuses = record {
+          happening = m.wanted.step.happening;
+          keep = m.keep;
+          asks = marked.happens;
+          why = why;
+          left = new;
+          left_data = behind;
+          not_made = not;
+          answered = answered;
+        };
+      });
+    }
 
 -- what the exit of a refused call answers
 pub answered_so : {A : Type 0} (Why : PostError → Type 0) (e : PostError) (r : Result A PostError)

@@ -19,13 +19,15 @@ use Rattle.tree_process.specs.Restarts.{NoTrim, TrimsNode}
 use Rattle.cluster_process.specs.Makes.{NotMadeIt}
 
 one_refused : (old new : CoreState) (before behind : ManagerData) (i : Input) (e : StepError)
-    → new.log.failures ≡ 0 → NotHandled old new before behind i e → NotMadeIt old new before behind (Handles i) e
+    → new.log.failures ≡ 0 → NotHandled old new before behind i e
+    → NotMadeIt old new before behind (Handles i) e
 one_refused old new before behind i step_error.Memory to h = record {
   same = h.not_made;
   rests = h.keeps (λ d. absurd (cc));
   why = record { answer = h.answer; answers = h.answers; why = h.not_made; no_device = λ d. absurd (cc) };
 }
-one_refused old new before behind i step_error.Device to h = absurd (omega (arith, to, h.not_made.breaks.2.log.cause))
+one_refused old new before behind i step_error.Device to h =
+    absurd (omega (arith, to, h.not_made.breaks.2.log.cause))
 one_refused old new before behind i step_error.UnknownTxn to h = record {
   same = h.not_made.same;
   rests = h.keeps (λ d. absurd (cc));
@@ -67,7 +69,8 @@ one_refused old new before behind i step_error.Exhausted to h = record {
   why = record { answer = h.answer; answers = h.answers; why = h.not_made; no_device = λ d. absurd (cc) };
 }
 
-pub input_refused : (r : Result Reaction StepError) (old new : CoreState) (before behind : ManagerData) (i : Input)
+pub input_refused : (r : Result Reaction StepError) (old new : CoreState)
+    (before behind : ManagerData) (i : Input)
     → new.log.failures ≡ 0 → IfErr r (NotHandled old new before behind i)
     → IfErr r (NotMadeIt old new before behind (Handles i))
 input_refused (Ok x) old new before behind i to h = h
@@ -80,13 +83,16 @@ pub restarted : (r : Result Reaction StepError) (old new : CoreState) (behind : 
 restarted (Ok x) old new behind keep k kept h holds = record { restarts = h; holdings = holds; kept = kept }
 restarted (Err e) old new behind keep k kept h holds = h
 
-pub restart_refused : (r : Result Reaction StepError) (old new : CoreState) (before behind : ManagerData) (keep k : ℕ)
-    → new.log.failures ≡ 0 → IfErr r (ProcessNotRestarted old keep new) → IfErr r (KeepsDataUnlessFailed before behind)
+pub restart_refused : (r : Result Reaction StepError) (old new : CoreState)
+    (before behind : ManagerData) (keep k : ℕ)
+    → new.log.failures ≡ 0 → IfErr r (ProcessNotRestarted old keep new)
+    → IfErr r (KeepsDataUnlessFailed before behind)
     → IfErr r (NotMadeIt old new before behind (Restart k))
 restart_refused (Ok x) old new before behind keep k to h holds = h
 restart_refused (Err step_error.Memory) old new before behind keep k to h holds =
     record { same = h; rests = holds (λ d. absurd (cc)); why = tt }
-restart_refused (Err step_error.Device) old new before behind keep k to h holds = absurd (omega (arith, to, h.0.cause))
+restart_refused (Err step_error.Device) old new before behind keep k to h holds =
+    absurd (omega (arith, to, h.0.cause))
 restart_refused (Err step_error.Exhausted) old new before behind keep k to h holds =
     record { same = h.0; rests = holds (λ d. absurd (cc)); why = (keep, h.1) }
 restart_refused (Err e) old new before behind keep k to h holds = absurd h
@@ -107,5 +113,6 @@ pub trim_refused : (r : Result ℕ StepError) (old new : CoreState) (before behi
 trim_refused (Ok n) old new before behind to h = h
 trim_refused (Err step_error.Memory) old new before behind to h = record { same = h.0; rests = h.1; why = tt }
 trim_refused (Err step_error.Device) old new before behind to h = absurd (omega (arith, to, h.broken.cause))
-trim_refused (Err step_error.Failed) old new before behind to h = record { same = h.0; rests = h.1; why = h.2 }
+trim_refused (Err step_error.Failed) old new before behind to h =
+    record { same = h.0; rests = h.1; why = h.2 }
 trim_refused (Err e) old new before behind to h = absurd h

@@ -24,4 +24,5 @@ marked_still net me s event m n wanted keep h = record {
 
 pub mine_still : (tree : List TreeProcess) (me : ProcessId) (m n : MarkedStep) → n.wanted ≡ m.wanted
     → IsMine (root_of tree) me m.wanted.step.happening → IsMine (root_of tree) me n.wanted.step.happening
-mine_still tree me m n wanted h = subst (λ (x : JournalEntry). IsMine (root_of tree) me x.step.happening) (sym wanted) h
+mine_still tree me m n wanted h = subst
+    (λ (x : JournalEntry). IsMine (root_of tree) me x.step.happening) (sym wanted) h

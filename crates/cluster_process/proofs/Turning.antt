@@ -35,7 +35,8 @@ use Rattle.cluster_process.proofs.OwnSteps.{step_alone}
 
 -- Seats.
 
-pub of_worker : (me : View × List (ℕ × List (ℕ × JournalEntry))) (p : ProcessView) → me ≡ (worker p, []) → p.works ≡ true
+pub of_worker : (me : View × List (ℕ × List (ℕ × JournalEntry))) (p : ProcessView) → me ≡ (worker p, [])
+    → p.works ≡ true
     → IsProcessSeat me
 of_worker me p is works =
     let same : me.0.process ≡ p = ap (λ m. m.0.process) is in
@@ -53,7 +54,8 @@ by_more c [] ys a b = b
 by_more c (x ∷ xs) ys a b = (a.0, by_more c xs ys a.1 b)
 
 -- a delivery may come after the net
-given_one : (tree : List TreeProcess) (net : List Envelope) (q : ProcessId) (x : JournalEntry) → is_listed tree q ≡ true
+given_one : (tree : List TreeProcess) (net : List Envelope) (q : ProcessId) (x : JournalEntry)
+    → is_listed tree q ≡ true
     → IsAt q x → FindsMessage net q x.step.happening → IsGivenEntry tree net x
 given_one tree net q x listed is finds = record {
   listed = ap (λ p. is_listed tree p) is.process ∙ listed;
@@ -61,7 +63,8 @@ given_one tree net q x listed is finds = record {
   unfailed = is.unfailed;
 }
 
-pub all_given : (tree : List TreeProcess) (net : List Envelope) (q : ProcessId) (s : CoreState) (xs : List JournalEntry)
+pub all_given : (tree : List TreeProcess) (net : List Envelope) (q : ProcessId) (s : CoreState)
+    (xs : List JournalEntry)
     → is_listed tree q ≡ true → All (IsDeliveryAt net q) xs → AllGiven tree net q xs
 all_given tree net q s [] listed all = tt
 all_given tree net q s (x ∷ xs) listed all =
@@ -74,8 +77,10 @@ all_given tree net q s (x ∷ xs) listed all =
 
 -- One turn after another.
 
-pub goes_still : (tree : List TreeProcess) (q : ProcessId) (s : CoreState) (d : ManagerData) (xs : List JournalEntry)
-    (t : CoreState) (e : ManagerData) (ys : List JournalEntry) (u : CoreState) (f : ManagerData) → GoesAlone tree q s d xs t e
+pub goes_still : (tree : List TreeProcess) (q : ProcessId) (s : CoreState) (d : ManagerData)
+    (xs : List JournalEntry)
+    (t : CoreState) (e : ManagerData) (ys : List JournalEntry) (u : CoreState) (f : ManagerData)
+    → GoesAlone tree q s d xs t e
     → GoesAlone tree q t e ys u f → GoesAlone tree q s d (xs ++ ys) u f
 goes_still tree q s d xs t e _ _ _ one begins_alone =
     subst (λ l. GoesAlone tree q s d l t e) (sym (append-nil xs)) one
@@ -98,7 +103,8 @@ module _ (tree : List TreeProcess) (net : List Envelope) (q : ProcessId) (caller
   }
 
   -- the next was refused
-  pub further_rests : (zs : List (ℕ × JournalEntry)) (s t : CoreState) (d e : ManagerData) → SameCore s t → DataRests d e
+  pub further_rests : (zs : List (ℕ × JournalEntry)) (s t : CoreState) (d e : ManagerData) → SameCore s t
+      → DataRests d e
       → GoesFurther tree net q caller zs zs s t d e
   further_rests zs s t d e same rests = record {
     more = [];
@@ -138,11 +144,14 @@ module _ (tree : List TreeProcess) (net : List Envelope) (q : ProcessId) (caller
   }
 
   -- an act of this process, which a message is not
-  mine_delivery : (w : JournalEntry) (s : CoreState) → IsDeliveryAt net q w → IsMine (root_of tree) q w.step.happening
-  mine_delivery w s is = mine_it (root_of tree) q net s (Deliver is.number) w.step.happening 0 tt is.is.delivers
+  mine_delivery : (w : JournalEntry) (s : CoreState) → IsDeliveryAt net q w
+      → IsMine (root_of tree) q w.step.happening
+  mine_delivery w s is = mine_it (root_of tree) q net s (Deliver is.number) w.step.happening 0
+      tt is.is.delivers
 
   -- one more
-  pub further_one : (zs new : List (ℕ × JournalEntry)) (w x : JournalEntry) (s t : CoreState) (d e : ManagerData) (keep : ℕ)
+  pub further_one : (zs new : List (ℕ × JournalEntry)) (w x : JournalEntry) (s t : CoreState)
+      (d e : ManagerData) (keep : ℕ)
       → new ≡ zs ++ (caller, x) ∷ [] → x.step ≡ w.step → IsDeliveryAt net q w
       → MakesAlone s t d e keep x.step.happening x.reaction → GoesFurther tree net q caller zs new s t d e
   further_one zs new w x s t d e keep are same is made = record {
@@ -163,7 +172,8 @@ module _ (tree : List TreeProcess) (net : List Envelope) (q : ProcessId) (caller
     pub deliver : All (IsDeliveryAt net q) (entries_in more)
     pub by_caller : AreBy caller ((caller, entry) ∷ more)
 
-  pub whole : (w : JournalEntry) (keep : ℕ) (s t u : CoreState) (d e f : ManagerData) (m : Made) (new : List (ℕ × JournalEntry))
+  pub whole : (w : JournalEntry) (keep : ℕ) (s t u : CoreState) (d e f : ManagerData) (m : Made)
+      (new : List (ℕ × JournalEntry))
       → IsAt q w → IsMine (root_of tree) q w.step.happening → MakesStep caller w keep s t d e m
       → GoesFurther tree net q caller m.turn.entries new t u e f → WholeTurn new s u d f
   whole w keep s t u d e f m new is mine step further = record {
@@ -179,9 +189,11 @@ module _ (tree : List TreeProcess) (net : List Envelope) (q : ProcessId) (caller
   }
 
   -- what a process that stood so made of it may be entered
-  made_of : (own : List JournalEntry) (w x : JournalEntry) (new : List (ℕ × JournalEntry)) (s u : CoreState) (d f : ManagerData)
+  made_of : (own : List JournalEntry) (w x : JournalEntry) (new : List (ℕ × JournalEntry)) (s u : CoreState)
+      (d f : ManagerData)
       → is_listed tree q ≡ true → OwnRun tree q own s → IsAt q w → FindsMessage net q w.step.happening
-      → (turn : WholeTurn new s u d f) → turn.entry ≡ x → x.step ≡ w.step → MadeTurn tree net q caller own new u
+      → (turn : WholeTurn new s u d f) → turn.entry ≡ x → x.step ≡ w.step
+      → MadeTurn tree net q caller own new u
   made_of own w x new s u d f listed run is finds turn same step =
       let same_step : turn.entry.step ≡ w.step = ap (λ (y : JournalEntry). y.step) same ∙ step in
       let zs : List (ℕ × JournalEntry) = (caller, turn.entry) ∷ turn.more in
@@ -200,18 +212,21 @@ module _ (tree : List TreeProcess) (net : List Envelope) (q : ProcessId) (caller
         by_caller = turn.by_caller;
       })
 
-  pub turn_made : (own : List JournalEntry) (w : JournalEntry) (keep : ℕ) (s t u : CoreState) (d e f : ManagerData) (m : Made)
+  pub turn_made : (own : List JournalEntry) (w : JournalEntry) (keep : ℕ) (s t u : CoreState)
+      (d e f : ManagerData) (m : Made)
       (new : List (ℕ × JournalEntry)) → is_listed tree q ≡ true → OwnRun tree q own s → IsAt q w
       → IsMine (root_of tree) q w.step.happening → FindsMessage net q w.step.happening
       → MakesStep caller w keep s t d e m → GoesFurther tree net q caller m.turn.entries new t u e f
       → MadeTurn tree net q caller own new u
   unfolding whole
   turn_made own w keep s t u d e f m new listed run is mine finds step further =
-      made_of own w step.entry new s u d f listed run is finds (whole w keep s t u d e f m new is mine step further) refl
+      made_of own w step.entry new s u d f listed run is finds
+      (whole w keep s t u d e f m new is mine step further) refl
       step.step
 
   -- and it made it by itself
-  pub turn_runs : (own : List JournalEntry) (w : JournalEntry) (keep : ℕ) (s t u : CoreState) (d e f : ManagerData) (m : Made)
+  pub turn_runs : (own : List JournalEntry) (w : JournalEntry) (keep : ℕ) (s t u : CoreState)
+      (d e f : ManagerData) (m : Made)
       (new : List (ℕ × JournalEntry)) → IsAt q w → IsMine (root_of tree) q w.step.happening
       → MakesStep caller w keep s t d e m → GoesFurther tree net q caller m.turn.entries new t u e f
       → RunsAlone tree q own s d → RunsAlone tree q (own ++ entries_in new) u f
@@ -221,14 +236,16 @@ module _ (tree : List TreeProcess) (net : List Envelope) (q : ProcessId) (caller
       (runs_on tree q own s d (entries_in ((caller, turn.entry) ∷ turn.more)) u f ran turn.goes)
 
   -- a turn of deliveries
-  pub turn_delivers : (own : List JournalEntry) (number : ℕ) (w : JournalEntry) (keep : ℕ) (s t u : CoreState) (d e f : ManagerData)
+  pub turn_delivers : (own : List JournalEntry) (number : ℕ) (w : JournalEntry) (keep : ℕ) (s t u : CoreState)
+      (d e f : ManagerData)
       (m : Made) (new : List (ℕ × JournalEntry)) (old_pass new_pass : PassState) (place : ℕ) → IsAt q w
       → IsMine (root_of tree) q w.step.happening → Delivers net q number w.step.happening
       → MakesStep caller w keep s t d e m → GoesFurther tree net q caller m.turn.entries new t u e f
       → RunsAlone tree q own s d → NotesAll old_pass new_pass place new
       → DeliversTurn tree q number old_pass new_pass place
   unfolding whole
-  turn_delivers own number w keep s t u d e f m new old_pass new_pass place is mine delivers step further ran notes =
+  turn_delivers own number w keep s t u d e f m new old_pass new_pass place is mine delivers step
+      further ran notes =
       let turn = whole w keep s t u d e f m new is mine step further in
       record {
         net = net;
@@ -251,7 +268,8 @@ module _ (tree : List TreeProcess) (net : List Envelope) (q : ProcessId) (caller
 
 -- The first of what is marked.
 
-pub popped : (old new : List JournalEntry) (o : Option JournalEntry) (x : JournalEntry) → old ≡ option_to_list o ++ new → o ≡ Some x
+pub popped : (old new : List JournalEntry) (o : Option JournalEntry) (x : JournalEntry)
+    → old ≡ option_to_list o ++ new → o ≡ Some x
     → old ≡ x ∷ new
 popped old new o x is some = is ∙ ap (λ y. option_to_list y ++ new) some
 
@@ -266,7 +284,8 @@ rest_of net q old new x all is =
     All-tail (IsDeliveryAt net q) x new (subst (λ l. All (IsDeliveryAt net q) l) is all)
 
 -- one is less to be made than were, and there is room for one less
-pub room_of : (old new : List JournalEntry) (x : JournalEntry) (was now : ℕ) → old ≡ x ∷ new → length old ≤ was → now + 1 ≡ was
+pub room_of : (old new : List JournalEntry) (x : JournalEntry) (was now : ℕ) → old ≡ x ∷ new
+    → length old ≤ was → now + 1 ≡ was
     → length new ≤ now
 room_of old new x was now is fits pushed =
     let long : length old ≡ length new + 1 = ap length is ∙ one (length new) in
@@ -276,7 +295,8 @@ room_of old new x was now is fits pushed =
     one n = omega arith
 
 -- What a pass notes of one entry.
-pub notes_one : (old new : PassState) (place c : ℕ) (x : JournalEntry) (zs : List (ℕ × JournalEntry)) → NotesAll old new place zs
+pub notes_one : (old new : PassState) (place c : ℕ) (x : JournalEntry) (zs : List (ℕ × JournalEntry))
+    → NotesAll old new place zs
     → zs ≡ (c, x) ∷ [] → NotesOne old new place x
 notes_one old new place c x zs notes are = record {
   caller = notes.caller;
@@ -285,7 +305,8 @@ notes_one old new place c x zs notes are = record {
 
 -- Deliveries in order of sending.
 
-pub deliveries_of : (net : List Envelope) (q : ProcessId) (ns : List ℕ) (xs : List JournalEntry) → AreNumbered net q ns xs
+pub deliveries_of : (net : List Envelope) (q : ProcessId) (ns : List ℕ) (xs : List JournalEntry)
+    → AreNumbered net q ns xs
     → All (IsDeliveryAt net q) xs
 deliveries_of net q [] [] are = All-nil (IsDeliveryAt net q)
 deliveries_of net q [] (x ∷ xs) are = absurd are
@@ -299,7 +320,8 @@ last_of k [] = k
 last_of k (n ∷ ns) = last_of n ns
 
 -- those that are marked so far, of which this number is the last
-pub record NextSoFar (net : List Envelope) (q : ProcessId) (marks : List MarkedMessage) (after : ℕ) (xs : List JournalEntry)
+pub record NextSoFar (net : List Envelope) (q : ProcessId) (marks : List MarkedMessage) (after : ℕ)
+    (xs : List JournalEntry)
     (last : ℕ) : Type 0 where
   pub next : AreNext net q marks after xs
   pub last_is : last_of after next.numbers ≡ last
@@ -320,14 +342,16 @@ last_more : (k : ℕ) (ns : List ℕ) (n : ℕ) → last_of k (ns ++ n ∷ []) �
 last_more k [] n = refl
 last_more k (m ∷ ns) n = last_more m ns n
 
-numbered_more : (net : List Envelope) (q : ProcessId) (ns : List ℕ) (xs : List JournalEntry) (n : ℕ) (x : JournalEntry)
+numbered_more : (net : List Envelope) (q : ProcessId) (ns : List ℕ) (xs : List JournalEntry) (n : ℕ)
+    (x : JournalEntry)
     → AreNumbered net q ns xs → IsNext net q n x → AreNumbered net q (ns ++ n ∷ []) (xs ++ x ∷ [])
 numbered_more net q [] [] n x are is = (is, tt)
 numbered_more net q [] (y ∷ xs) n x are is = absurd are
 numbered_more net q (m ∷ ns) [] n x are is = absurd are
 numbered_more net q (m ∷ ns) (y ∷ xs) n x are is = (are.0, numbered_more net q ns xs n x are.1 is)
 
-pub one_next : (net : List Envelope) (q : ProcessId) (marks : List MarkedMessage) (after last n : ℕ) (xs new : List JournalEntry)
+pub one_next : (net : List Envelope) (q : ProcessId) (marks : List MarkedMessage) (after last n : ℕ)
+    (xs new : List JournalEntry)
     (x : JournalEntry) → NextSoFar net q marks after xs last → IsNextOpen q last n marks → IsNext net q n x
     → new ≡ xs ++ x ∷ [] → NextSoFar net q marks after new n
 one_next net q marks after last n xs new x far is_next is are =

@@ -30,15 +30,16 @@ pub record SeatedState : Type 0 where
   pub node : Process MemoryStore
 
 -- the log is that of the process, as it is once it has made just the journal's entries of it, with its data
-pub record LeavesLog (tree : List TreeProcess) (xs : List JournalEntry) (q : ProcessId) (log : List LogRecord) : Type 0 where
+pub record LeavesLog (tree : List TreeProcess) (xs : List JournalEntry) (q : ProcessId)
+    (log : List LogRecord) : Type 0 where
   pub core : CoreState
   pub held : ManagerData
   pub own : OwnRun tree q (entries_of q xs) core
   pub alone : RunsAlone tree q (entries_of q xs) core held
   pub log_is : log ≡ records_of core.log.kept
 
--- This message to this process is claimed, which leaves these marks: it was the first open one to it, and nobody
--- delivered another.
+-- This message to this process is claimed, which leaves these marks: it was the first open one to it, and
+-- nobody delivered another.
 pub record IsClaimed (to : ProcessId) (number : ℕ) (marks : List MarkedMessage) : Type 0 where
   pub before : List MarkedMessage
   pub first : first_open to 1 before ≡ Some number

@@ -26,8 +26,8 @@ abbrev pub FitsNode : CoreState → ℕ → Happening → Type 0
 FitsNode s keep (Restart k) = k ≡ records_kept s keep
 FitsNode s keep _ = ⊤
 
--- an input is refused by the table of reactions, as the process's data answer it, or for memory or for numbers that are
--- used up
+-- an input is refused by the table of reactions, as the process's data answer it, or for memory or for
+-- numbers that are used up
 pub record RefusesIt (old new : CoreState) (before : ManagerData) (i : Input) (e : StepError) : Type 0 where
   pub answer : DataAnswer
   pub answers : AnswersData old.place.role before old answer i
@@ -53,7 +53,8 @@ WhyNot old new before (Restart k) e = NotRestartedFor old e
 WhyNot old new before Trim e = NotTrimmedIt old e
 
 -- what happens was not made, and the process is as it was, with its data
-pub record NotMadeIt (old new : CoreState) (before behind : ManagerData) (h : Happening) (e : StepError) : Type 0 where
+pub record NotMadeIt (old new : CoreState) (before behind : ManagerData) (h : Happening)
+    (e : StepError) : Type 0 where
   pub same : SameCore old new
   pub rests : DataRests before behind
   pub why : WhyNot old new before h e

@@ -41,7 +41,8 @@ abbrev pub IsNotFor : ProcessId → Option Envelope → Type 0
 IsNotFor me None = ⊤
 IsNotFor me (Some l) = l.to ≢ me
 
--- the event is none of this process's: a settle, a message that was not sent to it, or another's restart or trim
+-- the event is none of this process's: a settle, a message that was not sent to it, or another's restart or
+-- trim
 abbrev pub IsStrange : List Envelope → ProcessId → Event → Type 0
 IsStrange net me (ActOf a) = ⊥
 IsStrange net me (Deliver k) = IsNotFor me (sent_as net k)
@@ -58,7 +59,8 @@ NotMarked net entries me event (Step e) = ⊥
 NotMarked net entries me event Memory = ⊤
 
 -- the marked step is the one that the event asks of the process
-pub record IsMarked (net : List Envelope) (me : ProcessId) (s : CoreState) (event : Event) (m : MarkedStep) : Type 0 where
+pub record IsMarked (net : List Envelope) (me : ProcessId) (s : CoreState) (event : Event)
+    (m : MarkedStep) : Type 0 where
   pub at : IsAt me m.wanted
   pub happens : Happens net me s event m.wanted.step.happening m.keep
   pub fits : FitsNode s m.keep m.wanted.step.happening

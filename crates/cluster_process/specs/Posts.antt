@@ -45,10 +45,11 @@ abbrev pub AsksAt : CoreState → Event → Happening → Type 0
 AsksAt s (Restart p bytes) h = (keep : ℕ) × KeepsBytes s bytes keep × (h ≡ restart_of s keep)
 AsksAt s event h = AsksFor event h
 
--- The event was posted at this process: the pass has one pair more, of the answered place, from 0, and an entry of
--- the event, whose transaction begun is the one answered. Before it the process had made these entries by itself, with
--- its data, and then it made this one, as the event asks of it there.
-pub record PostsOne (tree : List TreeProcess) (q : ProcessId) (event : Event) (old new : PassState) (place : ℕ)
+-- The event was posted at this process: the pass has one pair more, of the answered place, from 0, and an
+-- entry of the event, whose transaction begun is the one answered. Before it the process had made these
+-- entries by itself, with its data, and then it made this one, as the event asks of it there.
+pub record PostsOne (tree : List TreeProcess) (q : ProcessId) (event : Event)
+    (old new : PassState) (place : ℕ)
     (begun : Option Txn) : Type 0 where
   pub entry : JournalEntry
   pub notes : NotesOne old new place entry
@@ -62,9 +63,10 @@ pub record PostsOne (tree : List TreeProcess) (q : ProcessId) (event : Event) (o
   pub is_for : AsksAt before event entry.step.happening
   pub begun_is : begun ≡ entry.reaction.begun
 
--- A turn of deliveries at this process: the pass has the pairs of these entries more, of which the first is at the
--- answered place. Before them the process had made these entries by itself, with its data, and then it made these, one
--- after another: the first delivers the message with this number, and each of the others some message to the process.
+-- A turn of deliveries at this process: the pass has the pairs of these entries more, of which the first is
+-- at the answered place. Before them the process had made these entries by itself, with its data, and then it
+-- made these, one after another: the first delivers the message with this number, and each of the others some
+-- message to the process.
 pub record DeliversTurn (tree : List TreeProcess) (q : ProcessId) (number : ℕ) (old new : PassState)
     (place : ℕ) : Type 0 where
   pub net : List Envelope
@@ -81,9 +83,10 @@ pub record DeliversTurn (tree : List TreeProcess) (q : ProcessId) (number : ℕ)
   pub delivers_it : AsksFor (Deliver number) first.1.step.happening
   pub deliver : All (IsDeliveryAt net q) (entries_in more)
 
--- Of what the event asks of a process that stands so, where these messages were sent, nothing was made: the process
--- refused it, as its data answer, and is as it was.
-pub record RefusesThere (net : List Envelope) (q : ProcessId) (stood : CoreState) (held : ManagerData) (event : Event)
+-- Of what the event asks of a process that stands so, where these messages were sent, nothing was made: the
+-- process refused it, as its data answer, and is as it was.
+pub record RefusesThere (net : List Envelope) (q : ProcessId) (stood : CoreState)
+    (held : ManagerData) (event : Event)
     (e : PostError) : Type 0 where
   pub happening : Happening
   pub keep : ℕ
@@ -95,18 +98,21 @@ pub record RefusesThere (net : List Envelope) (q : ProcessId) (stood : CoreState
   pub answered : e ≡ post_error why
 
 -- The process refused the event: it had made just the entries that this journal has of it, by itself.
-pub record RefusedBy (tree : List TreeProcess) (q : ProcessId) (journal : List (ℕ × JournalEntry)) (event : Event)
+pub record RefusedBy (tree : List TreeProcess) (q : ProcessId)
+    (journal : List (ℕ × JournalEntry)) (event : Event)
     (e : PostError) : Type 0 where
   pub stood : CoreState
   pub held : ManagerData
   pub ran : RunsAlone tree q (entries_of q (entries_in journal)) stood held
   pub refuses : RefusesThere (net_of (entries_in journal)) q stood held event e
 
--- Why an event was not posted at this process with this pass: when its step was to be marked, the journal was a run of
--- the tree, and had just the pass's pairs under its number; and either the step was not marked, or the process refused it.
+-- Why an event was not posted at this process with this pass: when its step was to be marked, the journal was
+-- a run of the tree, and had just the pass's pairs under its number; and either the step was not marked, or
+-- the process refused it.
 pub record NotPosted (tree : List TreeProcess) (q : ProcessId) (event : Event) (pass : PassState)
     (e : PostError) : Type 0 where
   pub journal : List (ℕ × JournalEntry)
   pub run : CutHolds tree (entries_in journal)
   pub met : pass.pairs ≡ pairs_by pass.caller 0 journal
-  pub why : NotMarked (net_of (entries_in journal)) (length journal) q event e ⊎ RefusedBy tree q journal event e
+  pub why : NotMarked (net_of (entries_in journal)) (length journal) q event e
+      ⊎ RefusedBy tree q journal event e

@@ -38,14 +38,16 @@ abbrev pub AreOpen : ProcessId → List MarkedMessage → ℕ → List ℕ → T
 AreOpen q marks k [] = ⊤
 AreOpen q marks k (n ∷ ns) = IsNextOpen q k n marks × AreOpen q marks n ns
 
--- the entries are of the deliveries of the open messages to the process after the one with this number, in order of sending
-pub record AreNext (net : List Envelope) (q : ProcessId) (marks : List MarkedMessage) (after : ℕ) (xs : List JournalEntry) : Type 0 where
+-- the entries are of the deliveries of the open messages to the process after the one with this number, in
+-- order of sending
+pub record AreNext (net : List Envelope) (q : ProcessId) (marks : List MarkedMessage) (after : ℕ)
+    (xs : List JournalEntry) : Type 0 where
   pub numbers : List ℕ
   pub in_order : AreOpen q marks after numbers
   pub deliver : AreNumbered net q numbers xs
 
--- The process made the step of this marked entry by itself, which is a turn of one entry, under this caller's number; a
--- restart keeps N bytes after the forced front.
+-- The process made the step of this marked entry by itself, which is a turn of one entry, under this caller's
+-- number; a restart keeps N bytes after the forced front.
 pub record MakesStep (caller : ℕ) (wanted : JournalEntry) (keep : ℕ) (s t : CoreState) (d e : ManagerData)
     (made : Made) : Type 0 where
   pub entry : JournalEntry
@@ -54,8 +56,8 @@ pub record MakesStep (caller : ℕ) (wanted : JournalEntry) (keep : ℕ) (s t : 
   pub begun_is : made.begun ≡ entry.reaction.begun
   pub makes : MakesAlone s t d e keep entry.step.happening entry.reaction
 
--- The turn has more entries, or as many: those of messages to the process that it delivered by itself, from the first
--- state and data to the second, under this caller's number.
+-- The turn has more entries, or as many: those of messages to the process that it delivered by itself, from
+-- the first state and data to the second, under this caller's number.
 pub record GoesFurther (tree : List TreeProcess) (net : List Envelope) (q : ProcessId) (caller : ℕ)
     (old new : List (ℕ × JournalEntry)) (s t : CoreState) (d e : ManagerData) : Type 0 where
   pub more : List (ℕ × JournalEntry)
@@ -64,9 +66,10 @@ pub record GoesFurther (tree : List TreeProcess) (net : List Envelope) (q : Proc
   pub deliver : All (IsDeliveryAt net q) (entries_in more)
   pub by_caller : AreBy caller more
 
--- What a process made in a turn, under this caller's number: it stood in some run of the tree with its entries, it made
--- these by itself, and each of them may come after the messages that it noted.
-pub record MadeTurn (tree : List TreeProcess) (net : List Envelope) (q : ProcessId) (caller : ℕ) (own : List JournalEntry)
+-- What a process made in a turn, under this caller's number: it stood in some run of the tree with its
+-- entries, it made these by itself, and each of them may come after the messages that it noted.
+pub record MadeTurn (tree : List TreeProcess) (net : List Envelope) (q : ProcessId) (caller : ℕ)
+    (own : List JournalEntry)
     (zs : List (ℕ × JournalEntry)) (t : CoreState) : Type 0 where
   pub stood : CoreState
   pub held : ManagerData

@@ -23,8 +23,8 @@ use protocol::ProcessId;
 use std::sync::Wait;
 use tree_process::Process;
 
-/// The journal's seat takes the entries of a turn, and the pass notes them: what all three seats know of it. The journal is
-/// a run with them, and the process's entries in it are its own again.
+/// The journal's seat takes the entries of a turn, and the pass notes them: what all three seats know of it.
+/// The journal is a run with them, and the process's entries in it are its own again.
 fn enter_seats<N: Seats>(
     ties: &Ties,
     me: ProcessId,
@@ -65,8 +65,9 @@ fn enter_seats<N: Seats>(
     put(ties, journal, seat, pass, entries);
 }
 
-/// Enters what a process made in a turn, under its lock and the journal's, in the room that was taken at its mark, and
-/// notes it in the caller's pass. It takes no memory. Gives the place of the first entry, from 0; the others come after it.
+/// Enters what a process made in a turn, under its lock and the journal's, in the room that was taken at its
+/// mark, and notes it in the caller's pass. It takes no memory. Gives the place of the first entry, from 0;
+/// the others come after it.
 pub fn enter<N: Seats, R: Wait>(
     rt: &R,
     ties: &Ties,
@@ -77,15 +78,18 @@ pub fn enter<N: Seats, R: Wait>(
     pass: &mut Pass<N>,
     made: Made,
 ) -> usize
-    requires here { (ties.now.shared.table_id ≡ N.table) × (seat.old.table_id ≡ N.table) × (0 < N.table.words) }
+    requires here { (ties.now.shared.table_id ≡ N.table) × (seat.old.table_id ≡ N.table)
+        × (0 < N.table.words) }
     requires seat { IsProcessSeat seat.old.me × (seat.old.me.0.process.name ≡ Some me) }
     requires listed { is_listed N.tree me ≡ true }
-    requires made { MadeTurn N.tree seat.old.me.0.process.net me pass.old.caller seat.old.me.0.process.own made.turn.entries
+    requires made { MadeTurn N.tree seat.old.me.0.process.net me pass.old.caller seat.old.me.0.process.own
+        made.turn.entries
         (core_of node.now) }
     ensures entered { ledger.new.entries ≡ ledger.old.entries ++ made.turn.entries }
     ensures seat { (seat.new.table_id ≡ seat.old.table_id)
         × (seat.new.me ≡ (worker (entered_by seat.old.me.0.process made.turn.entries), [])) }
-    ensures own { OwnRun N.tree me (seat.old.me.0.process.own ++ entries_in made.turn.entries) (core_of node.now) }
+    ensures own { OwnRun N.tree me (seat.old.me.0.process.own ++ entries_in made.turn.entries)
+        (core_of node.now) }
     ensures pass { NotesAll pass.old pass.new result made.turn.entries }
     ensures place { result ≡ length ledger.old.entries }
 {

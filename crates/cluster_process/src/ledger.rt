@@ -57,8 +57,8 @@ pub struct PassClaim {
     pub wakes: bool,
 }
 
-/// The journal, and its seat. To a contract it is its entries, each with its caller's number, and the marks of
-/// its messages.
+/// The journal, and its seat. To a contract it is its entries, each with its caller's number, and the marks
+/// of its messages.
 pub struct Ledger<N: Seats> {
     pub(crate) journal: ClusterJournal,
     pub(crate) seat: Place,
@@ -145,9 +145,9 @@ impl<N: Seats> Ledger<N> {
         self.journal.message(number)
     }
 
-    /// Claims the first open message of a process to which nobody delivers, if there is one: of this process, if it has
-    /// one. None: each process has no open message, or somebody delivers another to it. Where a gate holds steps, a worker
-    /// is to be woken for each message that is left. Memory: a growth was refused.
+    /// Claims the first open message of a process to which nobody delivers, if there is one: of this process,
+    /// if it has one. None: each process has no open message, or somebody delivers another to it. Where a
+    /// gate holds steps, a worker is to be woken for each message that is left. Memory: a growth was refused.
     pub fn claim(&mut self, near: ProcessId, holds: bool) -> Result<Option<PassClaim>, AllocError>
         ensures entries { self.new.entries ≡ self.old.entries }
         ensures placed { OnOk result (self.new.late ≡ 0) }
@@ -170,7 +170,8 @@ impl<N: Seats> Ledger<N> {
         }))
     }
 
-    /// The number of the next open message to this process after the one with this number, of those that are placed.
+    /// The number of the next open message to this process after the one with this number, of those that are
+    /// placed.
     pub(crate) fn open_after(&self, to: ProcessId, number: u64) -> Option<u64>
         ensures { IfSome result (λ next. IsNextOpen to number next self.now.marks) }
     {
@@ -182,8 +183,8 @@ impl<N: Seats> Ledger<N> {
         self.journal.waiting_for(to)
     }
 
-    /// Whether a worker that waits was not called, and enough messages are left for it. Where a gate holds steps, one is
-    /// enough.
+    /// Whether a worker that waits was not called, and enough messages are left for it. Where a gate holds
+    /// steps, one is enough.
     fn is_much(&self, holds: bool) -> bool {
         if self.turns.sleepers <= self.turns.called {
             return false;

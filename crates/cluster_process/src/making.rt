@@ -22,8 +22,8 @@ use std::collections::LinkedList;
 use std::sync::Wait;
 use tree_process::Process;
 
-/// What a process has made in a turn: the entries, each with its caller's number, in the room that was made for them; and
-/// the transaction that the first of them began, if it began one.
+/// What a process has made in a turn: the entries, each with its caller's number, in the room that was made
+/// for them; and the transaction that the first of them began, if it began one.
 #[derive(Drop)]
 pub struct Made {
     pub(crate) turn: Room,
@@ -67,7 +67,8 @@ fn handle(node: &mut Process<MemoryStore>, input: InputRef<'_>) -> Result<Reacti
 /// A process restarts, and keeps `keep` bytes after its forced front, which are `kept` records.
 fn restart(node: &mut Process<MemoryStore>, kept: u64, keep: usize) -> Result<Reaction, StepError>
     requires { kept ≡ records_kept (core_of node.old) keep }
-    ensures ok { IfOk result (RestartsAlone (core_of node.old) (core_of node.new) (data_of node.new) keep kept) }
+    ensures ok { IfOk result (RestartsAlone (core_of node.old) (core_of node.new)
+        (data_of node.new) keep kept) }
     ensures err { IfErr result (NotMadeIt (core_of node.old) (core_of node.new) (data_of node.old)
         (data_of node.new) (kinds.Restart kept)) }
 {
@@ -125,9 +126,9 @@ fn make_it(
     }
 }
 
-/// Makes the marked step under the process's lock alone, whatever the others do meanwhile, as the process's data answer
-/// it: a turn of one entry, under the caller's number, in the room that was taken at the mark. A refusal, which is never
-/// Device, leaves the process and its data as they were.
+/// Makes the marked step under the process's lock alone, whatever the others do meanwhile, as the process's
+/// data answer it: a turn of one entry, under the caller's number, in the room that was taken at the mark. A
+/// refusal, which is never Device, leaves the process and its data as they were.
 pub fn make_step(
     alloc: Global,
     node: &mut Process<MemoryStore>,
@@ -153,8 +154,9 @@ pub fn make_step(
     Ok(Made { turn, begun })
 }
 
-/// Makes the next of these deliveries, and adds its entry to the turn, which has room for all of them. Whether it was made:
-/// not if there is none, or if it is refused, which leaves the process as it was. The seat is the process's.
+/// Makes the next of these deliveries, and adds its entry to the turn, which has room for all of them.
+/// Whether it was made: not if there is none, or if it is refused, which leaves the process as it was. The
+/// seat is the process's.
 fn make_next<N: Seats, R: Wait, G: Gate>(
     rt: &R,
     alloc: Global,
@@ -170,7 +172,8 @@ fn make_next<N: Seats, R: Wait, G: Gate>(
     requires room { length more.old ≤ made.old.turn.more }
     ensures rest { All (IsDeliveryAt seat.now.me.0.process.net me) more.new }
     ensures room { length more.new ≤ made.new.turn.more }
-    ensures further { GoesFurther N.tree seat.now.me.0.process.net me caller made.old.turn.entries made.new.turn.entries
+    ensures further { GoesFurther N.tree seat.now.me.0.process.net me caller made.old.turn.entries
+        made.new.turn.entries
         (core_of node.old) (core_of node.new) (data_of node.old) (data_of node.new) }
 {
     let _ = seat;
@@ -189,8 +192,8 @@ fn make_next<N: Seats, R: Wait, G: Gate>(
     true
 }
 
-/// Makes these deliveries one after another, until one is refused, and adds their entries to the turn, which has room for
-/// them. The seat is the process's.
+/// Makes these deliveries one after another, until one is refused, and adds their entries to the turn, which
+/// has room for them. The seat is the process's.
 pub(crate) fn make_more<N: Seats, R: Wait, G: Gate>(
     rt: &R,
     alloc: Global,
@@ -204,7 +207,8 @@ pub(crate) fn make_more<N: Seats, R: Wait, G: Gate>(
 )
     requires deliveries { All (IsDeliveryAt seat.now.me.0.process.net me) more }
     requires room { length more ≤ made.old.turn.more }
-    ensures { GoesFurther N.tree seat.now.me.0.process.net me caller made.old.turn.entries made.new.turn.entries
+    ensures { GoesFurther N.tree seat.now.me.0.process.net me caller made.old.turn.entries
+        made.new.turn.entries
         (core_of node.old) (core_of node.new) (data_of node.old) (data_of node.new) }
 {
     for _ in 0..more.len() {

@@ -185,7 +185,8 @@ pub fn mark<N: Seats>(
     ledger: &mut Ledger<N>,
     event: Event,
 ) -> Result<MarkedStep, PostError>
-    requires here { (ties.now.shared.table_id ≡ N.table) × (seat.old.table_id ≡ N.table) × (0 < N.table.words) }
+    requires here { (ties.now.shared.table_id ≡ N.table) × (seat.old.table_id ≡ N.table)
+        × (0 < N.table.words) }
     requires seat { IsProcessSeat seat.old.me × (seat.old.me.0.process.name ≡ Some me) }
     requires acts { ActsHere (root_of N.tree) me event }
     ensures ledger { (ledger.new.entries ≡ ledger.old.entries) × OnOk result (ledger.new.late ≡ 0) }
@@ -207,7 +208,8 @@ pub fn mark<N: Seats>(
     Ok(marked)
 }
 
-/// The delivery of the message with this number, as a step that its receiver wants; None if memory for it was refused.
+/// The delivery of the message with this number, as a step that its receiver wants; None if memory for it was
+/// refused.
 fn mark_next<N: Seats>(
     alloc: Global,
     me: ProcessId,
@@ -229,8 +231,8 @@ fn is_added(more: &mut LinkedList<JournalEntry>, wanted: JournalEntry) -> bool
     more.push_back(wanted).is_ok()
 }
 
-/// The deliveries of the open messages to a process after the one with this number, in order of sending, as steps that it
-/// wants: at most N, and fewer if memory is refused.
+/// The deliveries of the open messages to a process after the one with this number, in order of sending, as
+/// steps that it wants: at most N, and fewer if memory is refused.
 pub(crate) fn mark_more<N: Seats>(
     alloc: Global,
     me: ProcessId,
@@ -259,8 +261,8 @@ pub(crate) fn mark_more<N: Seats>(
     more
 }
 
-/// How many more steps a turn may have whose first is marked: none where a gate holds steps, and no more than the journal
-/// takes.
+/// How many more steps a turn may have whose first is marked: none where a gate holds steps, and no more than
+/// the journal takes.
 fn most_more<N: Seats>(ledger: &Ledger<N>, me: ProcessId, holds: bool) -> usize
     requires { length ledger.now.entries < 1000000 }
     ensures room { length ledger.now.entries + 1 + result ≤ 1000000 }
@@ -273,8 +275,8 @@ fn most_more<N: Seats>(ledger: &Ledger<N>, me: ProcessId, holds: bool) -> usize
     ledger.waiting_for(me).min(MOST_STEPS - 1).min(room)
 }
 
-/// Takes room for the whole turn, whose first step is marked: for how many more steps there is room. Where it is refused, the
-/// turn has the one step.
+/// Takes room for the whole turn, whose first step is marked: for how many more steps there is room. Where it
+/// is refused, the turn has the one step.
 pub(crate) fn room_for_more<N: Seats>(
     ledger: &Ledger<N>,
     me: ProcessId,

@@ -6,8 +6,8 @@ ghost use Rattle.cluster_ties.specs.Views.{holder};
 use cluster_ties::seats::{Place, Seats};
 use std::marker::{Model, PhantomData};
 
-/// A caller's pass: what it was told of the journal. To a contract it is its number and its pairs of a place and
-/// an entry.
+/// A caller's pass: what it was told of the journal. To a contract it is its number and its pairs of a place
+/// and an entry.
 pub struct Pass<N: Seats> {
     pub(crate) seat: Place,
     pub(crate) caller: u64,

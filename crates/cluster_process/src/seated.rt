@@ -68,7 +68,8 @@ pub struct Delivered {
     pub is_quiet: bool,
 }
 
-/// A worker's claim ends, and it makes the next, if there is one and memory for it: of this process, if it has one.
+/// A worker's claim ends, and it makes the next, if there is one and memory for it: of this process, if it
+/// has one.
 fn next_of<N: Seats>(ledger: &mut Ledger<N>, process: ProcessId, holds: bool) -> Option<PassClaim>
     ensures { ledger.new.entries ≡ ledger.old.entries }
 {
@@ -76,7 +77,8 @@ fn next_of<N: Seats>(ledger: &mut Ledger<N>, process: ProcessId, holds: bool) ->
     ledger.claim(process, holds).unwrap_or(None)
 }
 
-/// A process and its seat, between two events. To a contract it is its name, its entries, and the process itself.
+/// A process and its seat, between two events. To a contract it is its name, its entries, and the process
+/// itself.
 pub struct Seated<N: Seats> {
     pub(crate) me: ProcessId,
     pub(crate) node: Process<MemoryStore>,
@@ -122,9 +124,11 @@ impl<N: Seats> Seated<N> {
     /// A process that has made nothing.
     pub fn new(me: ProcessId, node: Process<MemoryStore>, seat: Place) -> Seated<N>
         requires here { (seat.table_id ≡ N.table) × (0 < N.table.words) }
-        requires seat { IsProcessSeat seat.me × (seat.me.0.process.name ≡ Some me) × (seat.me.0.process.own ≡ []) }
+        requires seat { IsProcessSeat seat.me × (seat.me.0.process.name ≡ Some me)
+            × (seat.me.0.process.own ≡ []) }
         requires tree { IsTree N.tree × (is_listed N.tree me ≡ true) }
-        requires own { OwnRun N.tree me [] (core_of node) × RunsAlone N.tree me [] (core_of node) (data_of node) }
+        requires own { OwnRun N.tree me [] (core_of node)
+            × RunsAlone N.tree me [] (core_of node) (data_of node) }
         ensures { result ≡ record { me = me; own = []; node = node } }
     {
         Seated {
@@ -142,9 +146,9 @@ impl<N: Seats> Seated<N> {
         self.me
     }
 
-    /// Marks, makes and enters an event of this process, under its lock, which the caller has; the journal's is
-    /// taken for the mark and for the entry. An act is this process's. After a refusal the pass and the process are as
-    /// before.
+    /// Marks, makes and enters an event of this process, under its lock, which the caller has; the journal's
+    /// is taken for the mark and for the entry. An act is this process's. After a refusal the pass and the
+    /// process are as before.
     pub fn post<R: Wait, G: Gate>(
         &mut self,
         rt: &R,
@@ -196,10 +200,11 @@ impl<N: Seats> Seated<N> {
         }
     }
 
-    /// A turn of a worker, which has claimed the message with this number to this process: marks its delivery and those of
-    /// the open messages to the process after it, makes them, and enters them, under the process's lock, which the worker
-    /// has; the journal's is taken for the mark and for the entry. The claim ends with the entry, and the worker makes the
-    /// next there. If the first is refused, the pass and the process are as before. If another is, the turn ends before it.
+    /// A turn of a worker, which has claimed the message with this number to this process: marks its delivery
+    /// and those of the open messages to the process after it, makes them, and enters them, under the
+    /// process's lock, which the worker has; the journal's is taken for the mark and for the entry. The claim
+    /// ends with the entry, and the worker makes the next there. If the first is refused, the pass and the
+    /// process are as before. If another is, the turn ends before it.
     pub fn deliver<R: Wait, G: Gate>(
         &mut self,
         rt: &R,
@@ -271,12 +276,15 @@ impl<N: Seats> Seated<N> {
     }
 
     /// Whoever has the process's lock and the journal's knows: the process's entries are the journal's of it,
-    /// it stands where some run of the whole journal leaves it, and it made them by itself, with the data that it has.
+    /// it stands where some run of the whole journal leaves it, and it made them by itself, with the data
+    /// that it has.
     pub fn stands(&mut self, ties: &Ties, ledger: &mut Ledger<N>)
         requires { ties.now.shared.table_id ≡ N.table }
         ensures own { self.old.own ≡ entries_of self.old.me (entries_in ledger.old.entries) }
-        ensures stands { StandsInRun N.tree (entries_in ledger.old.entries) self.old.me (core_of self.old.node) }
-        ensures alone { RunsAlone N.tree self.old.me self.old.own (core_of self.old.node) (data_of self.old.node) }
+        ensures stands { StandsInRun N.tree (entries_in ledger.old.entries) self.old.me
+            (core_of self.old.node) }
+        ensures alone { RunsAlone N.tree self.old.me self.old.own (core_of self.old.node)
+            (data_of self.old.node) }
         ensures same { (self.new ≡ self.old) × (ledger.new ≡ ledger.old) }
     {
         compare(ties, &mut self.seat, &mut ledger.seat);
@@ -289,7 +297,8 @@ impl<N: Seats> Seated<N> {
         ledger: &mut Ledger<N>,
     ) -> Result<Vec<LogRecord>, AllocError>
         requires { ties.now.shared.table_id ≡ N.table }
-        ensures left { IfOk result (λ log. LeavesLog N.tree (entries_in ledger.old.entries) self.old.me log.items) }
+        ensures left { IfOk result (λ log. LeavesLog N.tree (entries_in ledger.old.entries)
+            self.old.me log.items) }
         ensures same { ledger.new ≡ ledger.old }
     {
         compare(ties, &mut self.seat, &mut ledger.seat);

@@ -62,7 +62,8 @@ some_one : {A : Type 0} (a b : A) → Some a ≡ Some b → a ≡ b
 some_one a b h = cc
 
 -- the entry is one of its own process's
-own_one : (o : Option ProcessId) (ls : List (ℕ × JournalEntry)) (c : ℕ) (x : JournalEntry) → o ≡ Some x.step.process
+own_one : (o : Option ProcessId) (ls : List (ℕ × JournalEntry)) (c : ℕ) (x : JournalEntry)
+    → o ≡ Some x.step.process
     → own_of o (entries_in (ls ++ (c, x) ∷ [])) ≡ own_of o (entries_in ls) ++ x ∷ []
 own_one o ls c x is =
     ap (λ es. own_of o es) (in_one ls c x)

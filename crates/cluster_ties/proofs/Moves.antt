@@ -88,7 +88,8 @@ module _ (names : List ProcessId) (views : List View) (id : ℕ) (v : View)
   pub up_to : v.journal.keeps ≡ true → v.process.works ≡ true → IsUpTo v
   up_to keeps works = record {
     own = sees keeps works;
-    sent = subst (λ l. IsFront v.process.net (net_of (entries_in l))) (sym (keeps_at keeps).1) (sent_at works);
+    sent = subst (λ l. IsFront v.process.net (net_of (entries_in l))) (sym (keeps_at keeps).1)
+        (sent_at works);
   }
 
   -- The process notes the journal's messages.
@@ -137,7 +138,8 @@ module _ (names : List ProcessId) (views : List View) (id : ℕ) (v : View)
       }
 
   -- The journal enters what a process made in a turn, and the pass notes it.
-  pub puts : (zs : List (ℕ × JournalEntry)) → v.journal.keeps ≡ true → v.process.works ≡ true → v.pass.holds ≡ true
+  pub puts : (zs : List (ℕ × JournalEntry)) → v.journal.keeps ≡ true → v.process.works ≡ true
+      → v.pass.holds ≡ true
       → AreOf v.process.name zs → AreBy v.pass.caller zs → IsTied names (set views id (entered v zs))
   puts zs keeps works holds mine by_it =
       let p = v.process.place in
@@ -150,8 +152,10 @@ module _ (names : List ProcessId) (views : List View) (id : ℕ) (v : View)
       let now : ℕ → ProcessView = upd h.now p new in
       let longer : net_of (entries_in log) ≡ net_of (entries_in h.log) ++ net_of (entries_in zs) =
       net_in v.journal.all zs ∙ ap (λ l. net_of (entries_in l) ++ net_of (entries_in zs)) k.1 in
-      let grows : (ls : List Envelope) → IsFront ls (net_of (entries_in h.log)) → IsFront ls (net_of (entries_in log)) =
-      λ ls f. front_grows ls (net_of (entries_in h.log)) (net_of (entries_in zs)) (net_of (entries_in log)) longer f in
+      let grows : (ls : List Envelope) → IsFront ls (net_of (entries_in h.log))
+      → IsFront ls (net_of (entries_in log)) =
+      λ ls f. front_grows ls (net_of (entries_in h.log)) (net_of (entries_in zs))
+      (net_of (entries_in log)) longer f in
       record {
         js = h.js;
         o = h.o;

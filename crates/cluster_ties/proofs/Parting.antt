@@ -257,7 +257,8 @@ module _ (names : List ProcessId) (views : List View) (id : ℕ) (v : View)
       }
 
   -- A pass beside the journal.
-  pub met : v.journal.keeps ≡ true → v.pass.holds ≡ true → v.pass.pairs ≡ pairs_by v.pass.caller 0 v.journal.all
+  pub met : v.journal.keeps ≡ true → v.pass.holds ≡ true
+      → v.pass.pairs ≡ pairs_by v.pass.caller 0 v.journal.all
   met keeps holds =
       let k = keeps_at names views id v h at keeps in
       let d = holds_at names views id v h at holds in d.1 ∙ ap (pairs_by v.pass.caller 0) (sym k.1)

@@ -8,14 +8,16 @@ use Rattle.cluster_ties.specs.declared.views.View.{View}
 use Rattle.cluster_ties.specs.Views.{AreBelow, IsFront, entered, entries_in, own_of, pairs_by, with_net}
 
 abbrev pub Telling : Type 1
-Telling = Step (List (ℕ × JournalEntry)) → Me (List (ℕ × JournalEntry)) View → ℕ → Me (List (ℕ × JournalEntry)) View → Type 0
+Telling = Step (List (ℕ × JournalEntry)) → Me (List (ℕ × JournalEntry)) View → ℕ
+    → Me (List (ℕ × JournalEntry)) View → Type 0
 
 -- the process notes the journal's messages, and its entries are the journal's
 abbrev pub NotesNet : Telling
 NotesNet s v found w = (w ≡ (with_net v.0, v.1))
     × (v.0.process.own ≡ own_of v.0.process.name (entries_in v.0.journal.all))
 
--- the process's entries are the journal's of it, and the messages that it noted are the first of the journal's
+-- the process's entries are the journal's of it, and the messages that it noted are the first of the
+-- journal's
 pub record IsUpTo (v : View) : Type 0 where
   pub own : v.process.own ≡ own_of v.process.name (entries_in v.journal.all)
   pub sent : IsFront v.process.net (net_of (entries_in v.journal.all))

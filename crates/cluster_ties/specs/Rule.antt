@@ -1,5 +1,5 @@
--- The rule of the table: each process's entries are the journal's of it, and the messages that it noted are the first of the
--- journal's; each pass's pairs are the journal's under its number.
+-- The rule of the table: each process's entries are the journal's of it, and the messages that it noted are
+-- the first of the journal's; each pass's pairs are the journal's under its number.
 use Rattle.std.specs.Prelude.{◌≡◌, ◌<◌, ◌≤◌, ℕ, true, Some, List, [], length, slice_get}
 use mathlib.Core.Option.{some}
 use lib.ListN.{get_elem?}
@@ -13,7 +13,8 @@ use Rattle.cluster_ties.specs.Views.{AreBelow, IsFront, entries_in, own_of, pair
 -- of the seat with this number: if it keeps the journal, it is the one that does
 abbrev pub KeepsLog : List ProcessId → ℕ → ℕ → ℕ → List (ℕ × JournalEntry) → ℕ → View → Type 0
 KeepsLog names js o g log by v = v.journal.keeps ≡ true
-    → (by ≡ js) × (v.journal.all ≡ log) × (v.journal.opened ≡ o) × (v.journal.given ≡ g) × (v.journal.names ≡ names)
+    → (by ≡ js) × (v.journal.all ≡ log) × (v.journal.opened ≡ o) × (v.journal.given ≡ g)
+    × (v.journal.names ≡ names)
 
 -- if it works for a process, it is the one that does
 abbrev pub Works : ℕ → (ℕ → ℕ) → (ℕ → ProcessView) → ℕ → View → Type 0
@@ -26,14 +27,16 @@ Holds g log hs by v = v.pass.holds ≡ true
     → (by ≡ hs v.pass.caller) × (v.pass.pairs ≡ pairs_by v.pass.caller 0 log) × (v.pass.caller < g)
 
 -- what the rule says of one view
-abbrev pub Fits : List ProcessId → ℕ → ℕ → ℕ → List (ℕ × JournalEntry) → (ℕ → ℕ) → (ℕ → ℕ) → (ℕ → ProcessView) → ℕ → View
+abbrev pub Fits : List ProcessId → ℕ → ℕ → ℕ → List (ℕ × JournalEntry) → (ℕ → ℕ) → (ℕ → ℕ) → (ℕ → ProcessView)
+    → ℕ → View
     → Type 0
-Fits names js o g log ps hs now by v = KeepsLog names js o g log by v × Works o ps now by v × Holds g log hs by v
+Fits names js o g log ps hs now by v = KeepsLog names js o g log by v × Works o ps now by v
+    × Holds g log hs by v
 
 -- Each process's entries are the journal's of it; each pass has its own.
 pub record IsTied (names : List ProcessId) (views : List View) : Type 0 where
-  -- the seat of the journal, how many processes have a seat, how many passes were given, and the entries with their
-  -- callers
+  -- the seat of the journal, how many processes have a seat, how many passes were given, and the entries with
+  -- their callers
   pub js : ℕ
   pub o : ℕ
   pub g : ℕ
@@ -55,4 +58,5 @@ pub record IsTied (names : List ProcessId) (views : List View) : Type 0 where
 
 -- the names are all different
 abbrev pub AreApartProcesses : List ProcessId → Type 0
-AreApartProcesses names = (p q : ℕ) (d : ProcessId) → slice_get names p ≡ Some d → slice_get names q ≡ Some d → p ≡ q
+AreApartProcesses names = (p q : ℕ) (d : ProcessId) → slice_get names p ≡ Some d → slice_get names q ≡ Some d
+    → p ≡ q

@@ -12,8 +12,8 @@ use protocol::ProcessId;
 use std::alloc::{AllocError, Global};
 use std::marker::Brand;
 
-/// Names one table, the tree whose processes have seats there, and how many passes are given. What works with seats is
-/// generic over it, and is called with `Brand`.
+/// Names one table, the tree whose processes have seats there, and how many passes are given. What works with
+/// seats is generic over it, and is called with `Brand`.
 pub trait Seats {
     ghost use Rattle.std.specs.Prelude.{List, ℕ};
     ghost use Rattle.atomic_table.specs.Seated.{TableId};
@@ -37,8 +37,8 @@ impl Seats for Brand {
     ghost callers = { 0 };
 }
 
-/// The rule of the table: each process's entries are the journal's of it, and the messages that it noted are the first of
-/// the journal's; each pass's pairs are the journal's under its number.
+/// The rule of the table: each process's entries are the journal's of it, and the messages that it noted are
+/// the first of the journal's; each pass's pairs are the journal's under its number.
 pub struct Tie;
 
 impl TableRule<ToldEntries, View, Vec<ProcessId>> for Tie {

@@ -1,6 +1,7 @@
 //! The steps: each one atomic operation, and what it tells of what others know.
 //!
-//! A step is told one seat. Where it speaks of more, the others are lent to the journal's for the time of the step.
+//! A step is told one seat. Where it speaks of more, the others are lent to the journal's for the time of the
+//! step.
 
 ghost use Rattle.std.specs.Prelude.{◌≡◌, ◌++◌, true, []};
 ghost use Rattle.tree_state.specs.Cuts.{net_of};
@@ -51,8 +52,8 @@ fn lend_pass(ties: &Ties, journal: &mut Place, pass: &mut Place)
     ties.shared.join_seat::<WithPass>(journal, taken);
 }
 
-/// A process notes the messages of the journal: what delivers one of these may come after all that the journal will have
-/// then. The process's entries are the journal's of it.
+/// A process notes the messages of the journal: what delivers one of these may come after all that the
+/// journal will have then. The process's entries are the journal's of it.
 pub fn note_net(ties: &Ties, seat: &mut Place, journal: &mut Place)
     requires here { SitTogether ties.now.shared.table_id journal.old.table_id seat.old.table_id }
     requires journal { KeepsJournal journal.old.me }
@@ -71,8 +72,9 @@ pub fn note_net(ties: &Ties, seat: &mut Place, journal: &mut Place)
     *seat = ties.shared.split_seat::<WithProcess>(journal);
 }
 
-/// The journal enters what the process made in a turn, under the pass's number, and the pass notes it, with its places. The
-/// process's entries before were the journal's of it, and the messages that it noted are the journal's first.
+/// The journal enters what the process made in a turn, under the pass's number, and the pass notes it, with
+/// its places. The process's entries before were the journal's of it, and the messages that it noted are the
+/// journal's first.
 pub fn put(
     ties: &Ties,
     journal: &mut Place,
@@ -131,7 +133,8 @@ pub fn meet(ties: &Ties, journal: &mut Place, pass: &mut Place)
     requires here { SitTogether ties.now.shared.table_id journal.old.table_id pass.old.table_id }
     requires journal { KeepsJournal journal.old.me }
     requires pass { IsPass pass.old.me }
-    ensures met { pass.old.me.0.pass.pairs ≡ pairs_by pass.old.me.0.pass.caller 0 journal.old.me.0.journal.all }
+    ensures met { pass.old.me.0.pass.pairs ≡ pairs_by pass.old.me.0.pass.caller 0
+        journal.old.me.0.journal.all }
     ensures journal { (journal.new.table_id ≡ journal.old.table_id) × (journal.new.me ≡ journal.old.me) }
     ensures pass { (pass.new.table_id ≡ pass.old.table_id) × (pass.new.me ≡ pass.old.me) }
 {

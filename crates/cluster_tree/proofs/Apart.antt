@@ -94,7 +94,8 @@ listed_name : (es : List TreeProcess) (i : ℕ) (d : ProcessId) → slice_get (m
 unfolding is_listed
 listed_name [] i d at = absurd (cc)
 listed_name (x ∷ es) zero d at =
-    let same : x.id ≡ d = cc in ap (λ q. same_process q d || is_listed es d) same ∙ ap (λ b. b || is_listed es d) (self d)
+    let same : x.id ≡ d = cc in ap (λ q. same_process q d || is_listed es d) same
+    ∙ ap (λ b. b || is_listed es d) (self d)
 listed_name (x ∷ es) (suc i) d at = or_true (same_process x.id d) (is_listed es d) (listed_name es i d at)
   where
     or_true : (b c : Bool) → c ≡ true → (b || c) ≡ true

@@ -42,7 +42,8 @@ core_some (Some k) = Some k.core
 
 module _ (tree : List TreeProcess) (xs : List JournalEntry) where
   -- what the process keeps, by the first entry of its name
-  pub kept_in : (es : List TreeProcess) (ls : List (List LogRecord)) → LeaveLogs tree xs es ls → ProcessId → Option Kept
+  pub kept_in : (es : List TreeProcess) (ls : List (List LogRecord)) → LeaveLogs tree xs es ls → ProcessId
+      → Option Kept
   kept_in [] [] h q = None
   kept_in [] (l ∷ ls) h q = None
   kept_in (e ∷ es) [] h q = None
@@ -135,7 +136,8 @@ module _ (tree : List TreeProcess) (xs : List JournalEntry) where
     some_or None is = absurd (cc)
     some_or (Some k) is = refl
 
-    pub some_at : (q : ProcessId) → is_listed tree q ≡ true → Some (core_at q) ≡ core_some (kept_in tree ls h q)
+    pub some_at : (q : ProcessId) → is_listed tree q ≡ true
+        → Some (core_at q) ≡ core_some (kept_in tree ls h q)
     some_at q is = some_or (kept_in tree ls h q) (listed_in tree ls h q ∙ is)
 
     pub logs_at : (f : ProcessId → Option CoreState) → IsTree tree
@@ -155,7 +157,8 @@ cut_of tree xs h = record {
 }
 
 -- the state that a tree on one thread comes to has them all
-at_end : (tree : List TreeProcess) (xs : List JournalEntry) (core : ProcessId → CoreState) (held : ProcessId → ManagerData)
+at_end : (tree : List TreeProcess) (xs : List JournalEntry) (core : ProcessId → CoreState)
+    (held : ProcessId → ManagerData)
     (left : ProcessId → Node) → IsCut tree xs left → (again : MadeTogether tree xs core held)
     → ((q : ProcessId) → is_listed tree q ≡ true → OwnRun tree q (entries_of q xs) (core q))
     → IsAtEnd again.end left
@@ -165,10 +168,12 @@ at_end tree xs core held left cut again own = record {
   net = again.net ∙ ap net_of (sym again.entries);
   listed = λ q. listed_by q (is_listed tree q) refl ∙ ap (λ t. is_listed t q) (sym again.tree_is);
   own = λ q c at. subst (λ t. OwnRun t q (entries_of q again.end.entries) c) (sym again.tree_is)
-      (subst (λ l. OwnRun tree q (entries_of q l) c) (sym again.entries) (own_by q (is_listed tree q) refl c at));
+      (subst (λ l. OwnRun tree q (entries_of q l) c) (sym again.entries)
+      (own_by q (is_listed tree q) refl c at));
 }
   where
-    listed_by : (q : ProcessId) (b : Bool) → is_listed tree q ≡ b → is_some (again.end.node_at q) ≡ is_listed tree q
+    listed_by : (q : ProcessId) (b : Bool) → is_listed tree q ≡ b
+        → is_some (again.end.node_at q) ≡ is_listed tree q
     listed_by q true is = ap is_some (again.nodes q is) ∙ sym is
     listed_by q false is = ap is_some (again.listed q is) ∙ sym is
 
@@ -178,14 +183,17 @@ at_end tree xs core held left cut again own = record {
     nothing : (c : CoreState) → None ≡ Some c → ⊥
     nothing c h = cc
 
-    own_by : (q : ProcessId) (b : Bool) → is_listed tree q ≡ b → (c : CoreState) → again.end.node_at q ≡ Some c
+    own_by : (q : ProcessId) (b : Bool) → is_listed tree q ≡ b → (c : CoreState)
+        → again.end.node_at q ≡ Some c
         → OwnRun tree q (entries_of q xs) c
     own_by q true is c at =
-        subst (λ d. OwnRun tree q (entries_of q xs) d) (some_core (core q) c (sym (again.nodes q is) ∙ at)) (own q is)
+        subst (λ d. OwnRun tree q (entries_of q xs) d)
+        (some_core (core q) c (sym (again.nodes q is) ∙ at)) (own q is)
     own_by q false is c at = absurd (nothing c (sym (again.listed q is) ∙ at))
 
 -- a closed cluster, of which some process keeps this
-closes_with : (d : Kept) (tree : List TreeProcess) (journal : List (ℕ × JournalEntry)) (logs : List (List LogRecord))
+closes_with : (d : Kept) (tree : List TreeProcess) (journal : List (ℕ × JournalEntry))
+    (logs : List (List LogRecord))
     → IsTree tree → CutHolds tree (entries_in journal) → LeaveLogs tree (entries_in journal) tree logs
     → IsClosed tree journal logs
 closes_with d tree journal logs is_tree run left =
@@ -212,7 +220,8 @@ closes_with d tree journal logs is_tree run left =
     }
 
 -- a closed cluster
-pub closes : (tree : List TreeProcess) (journal : List (ℕ × JournalEntry)) (logs : List (List LogRecord)) → IsTree tree
+pub closes : (tree : List TreeProcess) (journal : List (ℕ × JournalEntry)) (logs : List (List LogRecord))
+    → IsTree tree
     → CutHolds tree (entries_in journal) → LeaveLogs tree (entries_in journal) tree logs
     → IsClosed tree journal logs
 closes [] journal logs is_tree run left = absurd (never is_tree.not_empty)
@@ -224,7 +233,8 @@ closes (e ∷ es) journal (l ∷ ls) is_tree run left =
     closes_with (record { core = left.0.core; held = left.0.held }) (e ∷ es) journal (l ∷ ls) is_tree run left
 
 -- the logs of one process more
-pub leave_more : (tree : List TreeProcess) (xs : List JournalEntry) (es : List TreeProcess) (ls : List (List LogRecord))
+pub leave_more : (tree : List TreeProcess) (xs : List JournalEntry) (es : List TreeProcess)
+    (ls : List (List LogRecord))
     (e : TreeProcess) (l : List LogRecord) → LeaveLogs tree xs es ls
     → LeavesLog tree xs e.id l
     → LeaveLogs tree xs (es ++ e ∷ []) (ls ++ l ∷ [])
@@ -234,7 +244,8 @@ leave_more tree xs (d ∷ es) [] e l h one = absurd h
 leave_more tree xs (d ∷ es) (k ∷ ls) e l h one = (h.0, leave_more tree xs es ls e l h.1 one)
 
 -- the log of the process at this place, after those before it
-pub leave_at : (tree : List TreeProcess) (xs : List JournalEntry) (es : List TreeProcess) (ls more : List (List LogRecord)) (i : ℕ)
+pub leave_at : (tree : List TreeProcess) (xs : List JournalEntry) (es : List TreeProcess)
+    (ls more : List (List LogRecord)) (i : ℕ)
     (e : TreeProcess) (l : List LogRecord) → i < length es → e ≡ get_or es i e → more ≡ ls ++ l ∷ []
     → LeavesLog tree xs e.id l → LeaveLogs tree xs (take i es) ls → LeaveLogs tree xs (take (i + 1) es) more
 leave_at tree xs es ls more i e l lt is pushed one h =
@@ -256,11 +267,13 @@ closed tree listed met left placed journal logs passes is_tree same behind stay 
     )
 
 -- passes of which one is put back as it was
-pub same_put : (ps : List PassState) (i : ℕ) (d new : PassState) → new ≡ get_or ps i d → slice_set ps i new ≡ ps
+pub same_put : (ps : List PassState) (i : ℕ) (d new : PassState) → new ≡ get_or ps i d
+    → slice_set ps i new ≡ ps
 same_put ps i d new same = ap (slice_set ps i) same ∙ set-get_or ps i d
 
 -- one pass more is met
-pub met_more : (journal : List (ℕ × JournalEntry)) (ps : List PassState) (i : ℕ) (d : PassState) → i < length ps
+pub met_more : (journal : List (ℕ × JournalEntry)) (ps : List PassState) (i : ℕ) (d : PassState)
+    → i < length ps
     → All (IsMet journal) (take i ps) → IsMet journal (get_or ps i d) → All (IsMet journal) (take (i + 1) ps)
 met_more journal ps i d lt met one =
     rw (take_more ps i d lt) (All-push (IsMet journal) (take i ps) (get_or ps i d) met one)

@@ -34,7 +34,8 @@ received (Ok q) tree pass k journal found was same h = record {
 received (Err e) tree pass k journal found was same h = h
 
 -- a message may be of any
-pub of_any : {E : Type 0} (r : Result ProcessId E) (root : ProcessId) (k : ℕ) → IfOk r (λ q. IsOf root q (Deliver k))
+pub of_any : {E : Type 0} (r : Result ProcessId E) (root : ProcessId) (k : ℕ)
+    → IfOk r (λ q. IsOf root q (Deliver k))
 of_any (Ok q) root k = tt
 of_any (Err e) root k = tt
 
@@ -56,7 +57,8 @@ not_received (Err e) tree pass k journal found was same (inr none) = inr (record
 
 -- so the event was refused
 pub no_receiver : (r : Result ProcessId PostError) (tree : List TreeProcess) (pass : PassState) (k : ℕ)
-    → IfErr r (λ e. (e ≡ Memory) ⊎ NoMessage tree (Deliver k) pass e) → IfErr r (IsRefusedPost tree (Deliver k) pass)
+    → IfErr r (λ e. (e ≡ Memory) ⊎ NoMessage tree (Deliver k) pass e)
+    → IfErr r (IsRefusedPost tree (Deliver k) pass)
 no_receiver (Ok q) tree pass k h = h
 no_receiver (Err e) tree pass k (inl memory) = inr (inl memory)
 no_receiver (Err e) tree pass k (inr none) = inr (inr (inl none))
@@ -68,12 +70,14 @@ not_at (Ok a) tree q event pass h = h
 not_at (Err e) tree q event pass h = inr h
 
 -- there is no such process
-pub no_such : (tree : List TreeProcess) (entries : List TreeProcess) (q : ProcessId) (event : Event) (pass : PassState)
+pub no_such : (tree : List TreeProcess) (entries : List TreeProcess) (q : ProcessId) (event : Event)
+    (pass : PassState)
     → entries ≡ tree → is_listed entries q ≡ false → NotAt tree q event pass (Step NoSuch)
 no_such tree entries q event pass same none = inl (ap (λ t. is_listed t q) (sym same) ∙ none, refl)
 
 -- it was not posted at its process
-pub not_there : (tree : List TreeProcess) (event : Event) (q : ProcessId) (old pass : PassState) (e : PostError)
+pub not_there : (tree : List TreeProcess) (event : Event) (q : ProcessId)
+    (old pass : PassState) (e : PostError)
     → pass ≡ old → IsAddressed tree old q event → NotAt tree q event pass e → IsRefusedPost tree event old e
 not_there tree event q old pass e same addressed h = inr (inr (inr (record {
   process = q;

@@ -16,7 +16,8 @@ use Rattle.cluster_process.specs.Locked.{LeavesLog}
 use Rattle.cluster_process.specs.Passes.{PassState}
 
 -- for each of these processes, in order, one log
-abbrev pub LeaveLogs : List TreeProcess → List JournalEntry → List TreeProcess → List (List LogRecord) → Type 0
+abbrev pub LeaveLogs : List TreeProcess → List JournalEntry → List TreeProcess → List (List LogRecord)
+    → Type 0
 LeaveLogs tree xs [] [] = Unit {0}
 LeaveLogs tree xs [] (l ∷ ls) = ⊥
 LeaveLogs tree xs (e ∷ es) [] = ⊥
@@ -31,10 +32,11 @@ log_by (Some s) = records_of s.log.kept
 abbrev pub logs_in : WorldState → List TreeProcess → List (List LogRecord)
 logs_in s tree = map (λ e. log_by (s.node_at e.id)) tree
 
--- Of a closed cluster: the journal is a run, of which the headline holds, and the logs are those of a state that
--- stands for a run with this journal. A tree on one thread that has opened comes to that state by the events of the
--- journal, and makes just these entries.
-pub record IsClosed (tree : List TreeProcess) (journal : List (ℕ × JournalEntry)) (logs : List (List LogRecord)) : Type 0 where
+-- Of a closed cluster: the journal is a run, of which the headline holds, and the logs are those of a state
+-- that stands for a run with this journal. A tree on one thread that has opened comes to that state by the
+-- events of the journal, and makes just these entries.
+pub record IsClosed (tree : List TreeProcess) (journal : List (ℕ × JournalEntry))
+    (logs : List (List LogRecord)) : Type 0 where
   pub run : CutHolds tree (entries_in journal)
   pub start : WorldState
   pub state : WorldState

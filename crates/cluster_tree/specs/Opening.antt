@@ -13,8 +13,8 @@ use Rattle.cluster_ties.specs.Views.{keeper}
 abbrev pub names_of : List TreeProcess → List ProcessId
 names_of tree = map (λ e. e.id) tree
 
--- The table, of which these are the number and the names, is the one that is meant; its names are those of a tree's
--- processes, and the tree is the one that is meant.
+-- The table, of which these are the number and the names, is the one that is meant; its names are those of a
+-- tree's processes, and the tree is the one that is meant.
 pub record SeatsTree (table : TableId) (meant tree : List TreeProcess) (id : TableId)
     (names : List ProcessId) : Type 0 where
   pub is_tree : IsTree tree
@@ -23,7 +23,8 @@ pub record SeatsTree (table : TableId) (meant tree : List TreeProcess) (id : Tab
   pub names_are : names ≡ names_of tree
 
 -- the table is this one, and has the names of the tree's processes
-pub record IsTableOf (table : TableId) (tree : List TreeProcess) (id : TableId) (names : List ProcessId) : Type 0 where
+pub record IsTableOf (table : TableId) (tree : List TreeProcess) (id : TableId)
+    (names : List ProcessId) : Type 0 where
   pub here : id ≡ table
   pub names_are : names ≡ names_of tree
   pub words : 0 < table.words

@@ -19,8 +19,8 @@ IsOf root q Settle = ⊥
 IsOf root q (Restart p bytes) = q ≡ p
 IsOf root q (Trim p) = q ≡ p
 
--- The event was posted at its process in this tree: the pass has one pair more, of an entry of this event and its place,
--- which is answered from 1.
+-- The event was posted at its process in this tree: the pass has one pair more, of an entry of this event and
+-- its place, which is answered from 1.
 pub record Posts (tree : List TreeProcess) (event : Event) (old new : PassState) (number : ℕ)
     (begun : Option Txn) : Type 0 where
   pub process : ProcessId

@@ -20,7 +20,8 @@ use Rattle.cluster_process.specs.Posts.{NotPosted}
 use Rattle.cluster_tree.specs.Posts.{IsOf}
 
 -- The journal was this one once: a run of the tree, which had just the pass's pairs under its number.
-pub record WasJournal (tree : List TreeProcess) (pass : PassState) (journal : List (ℕ × JournalEntry)) : Type 0 where
+pub record WasJournal (tree : List TreeProcess) (pass : PassState)
+    (journal : List (ℕ × JournalEntry)) : Type 0 where
   pub run : CutHolds tree (entries_in journal)
   pub met : pass.pairs ≡ pairs_by pass.caller 0 journal
 
@@ -33,7 +34,8 @@ pub record IsReceiver (tree : List TreeProcess) (pass : PassState) (q : ProcessI
   pub receiver : q ≡ envelope.to
 
 -- it had no message with the number of this event
-pub record NoMessage (tree : List TreeProcess) (event : Event) (pass : PassState) (e : PostError) : Type 0 where
+pub record NoMessage (tree : List TreeProcess) (event : Event) (pass : PassState)
+    (e : PostError) : Type 0 where
   pub number : ℕ
   pub is : event ≡ Deliver number
   pub journal : List (ℕ × JournalEntry)
@@ -52,13 +54,14 @@ NotAt tree q event pass e =
     ((is_listed tree q ≡ false) × (e ≡ Step NoSuch)) ⊎ NotPosted tree q event pass e
 
 -- the process whose event it is has not made it
-pub record NotPostedBy (tree : List TreeProcess) (event : Event) (pass : PassState) (e : PostError) : Type 0 where
+pub record NotPostedBy (tree : List TreeProcess) (event : Event) (pass : PassState)
+    (e : PostError) : Type 0 where
   pub process : ProcessId
   pub addressed : IsAddressed tree pass process event
   pub refused : NotAt tree process event pass e
 
--- Why an event was not posted with this pass: it is a settle; memory was refused; there is no message with its number;
--- or its process has not made it.
+-- Why an event was not posted with this pass: it is a settle; memory was refused; there is no message with
+-- its number; or its process has not made it.
 abbrev pub IsRefusedPost : List TreeProcess → Event → PassState → PostError → Type 0
 IsRefusedPost tree event pass e =
     ((event ≡ Settle) × (e ≡ Stranger))

@@ -8,8 +8,8 @@ use Rattle.cluster_ties.specs.Views.{entries_in}
 use Rattle.cluster_process.specs.Passes.{PassState}
 use Rattle.cluster_tree.specs.Closing.{IsMet}
 
--- A settle with this pass came to its end: the journal was a run of the tree, it had just the pass's pairs under its
--- number, and each message that it sent was delivered in it.
+-- A settle with this pass came to its end: the journal was a run of the tree, it had just the pass's pairs
+-- under its number, and each message that it sent was delivered in it.
 pub record IsSettledPass (tree : List TreeProcess) (pass : PassState) : Type 0 where
   pub journal : List (ℕ × JournalEntry)
   pub run : CutHolds tree (entries_in journal)

@@ -25,8 +25,8 @@ use std::alloc::{AllocError, Global};
 use std::sync::{Condvar, Mutex, Wait};
 use tree_process::ProcessOpenError;
 
-/// A tree whose processes run at the same time, each under a lock of its own, and the journal under one of its
-/// own. Its callers have passes. Its table of seats and its tree are those that `N` names.
+/// A tree whose processes run at the same time, each under a lock of its own, and the journal under one of
+/// its own. Its callers have passes. Its table of seats and its tree are those that `N` names.
 #[derive(Drop)]
 pub struct Cluster<N: Seats> {
     pub(crate) alloc: Global,
@@ -88,16 +88,17 @@ fn number_of<R: Wait>(rt: &R, place: usize) -> usize
 }
 
 impl<N: Seats> Cluster<N> {
-    /// A tree that has opened, and a pass for each of N callers, whose numbers begin at 0. The table has
-    /// the names of the tree's processes, in the order of the tree, and is the one for N callers. Memory is the only
-    /// refusal that comes.
+    /// A tree that has opened, and a pass for each of N callers, whose numbers begin at 0. The table has the
+    /// names of the tree's processes, in the order of the tree, and is the one for N callers. Memory is the
+    /// only refusal that comes.
     pub fn new(
         alloc: Global,
         tree: Tree,
         opened: Opened,
         callers: usize,
     ) -> Result<(Cluster<N>, Vec<Pass<N>>), ProcessOpenError>
-        requires seats { SeatsTree N.table N.tree tree opened.ties.shared.table_id opened.ties.shared.key.items }
+        requires seats { SeatsTree N.table N.tree tree opened.ties.shared.table_id
+            opened.ties.shared.key.items }
         requires callers { (0 < callers) × (callers ≤ 64) × (callers ≡ N.callers) }
         ensures passes { IfOk result (λ r. r.1.items ≡ new_passes callers) }
         ensures err { IfErr result (λ e. e ≡ ProcessOpenError.Memory) }
@@ -117,8 +118,8 @@ impl<N: Seats> Cluster<N> {
         Ok((cluster, passes))
     }
 
-    /// The process of an event: an act's, the receiver of a message, or the one that is named. Stranger: there is
-    /// none. Memory: a growth was refused.
+    /// The process of an event: an act's, the receiver of a message, or the one that is named. Stranger:
+    /// there is none. Memory: a growth was refused.
     fn process_by<R: Wait>(
         &self,
         rt: &R,
@@ -157,8 +158,8 @@ impl<N: Seats> Cluster<N> {
         receiver_in(&mut *ledger, number)
     }
 
-    /// Posts an event of this process, or of none if no process has this name. An act is this process's. The processes
-    /// lie in the order of the tree, so what waits for ever here never comes.
+    /// Posts an event of this process, or of none if no process has this name. An act is this process's. The
+    /// processes lie in the order of the tree, so what waits for ever here never comes.
     pub(crate) fn post_at<R: Wait, G: Gate>(
         &self,
         rt: &R,
@@ -205,8 +206,9 @@ impl<N: Seats> Cluster<N> {
         seated.post(rt, self.alloc, &self.ties, &self.ledger, event, pass, gate)
     }
 
-    /// A turn of a worker, which has claimed the message with this number to this process: the message and those after it
-    /// are delivered. The processes lie in the order of the tree, so what waits for ever here never comes.
+    /// A turn of a worker, which has claimed the message with this number to this process: the message and
+    /// those after it are delivered. The processes lie in the order of the tree, so what waits for ever here
+    /// never comes.
     pub(crate) fn deliver_at<R: Wait, G: Gate>(
         &self,
         rt: &R,
@@ -251,12 +253,13 @@ impl<N: Seats> Cluster<N> {
         seated.deliver(rt, self.alloc, &self.ties, &self.ledger, number, pass, gate)
     }
 
-    /// Posts an event. At Ok the pass has one pair more, of the entry of this event and its place; the place is
-    /// answered from 1, and the transaction that was begun, if one was.
+    /// Posts an event. At Ok the pass has one pair more, of the entry of this event and its place; the place
+    /// is answered from 1, and the transaction that was begun, if one was.
     ///
-    /// Stranger: a settle, or a message that the journal has not. JournalFull: the journal has 1,000,000 entries
-    /// or more. Step: the process refused it, as it stood with just the entries that the journal had of it, or there is
-    /// none of its name. Memory: a growth was refused. After a refusal the pass is as before.
+    /// Stranger: a settle, or a message that the journal has not. JournalFull: the journal has 1,000,000
+    /// entries or more. Step: the process refused it, as it stood with just the entries that the journal had
+    /// of it, or there is none of its name. Memory: a growth was refused. After a refusal the pass is as
+    /// before.
     pub fn post<R: Wait, G: Gate>(
         &self,
         rt: &R,
@@ -275,9 +278,9 @@ impl<N: Seats> Cluster<N> {
     }
 
     /// The journal, which is a run, with the caller's number beside each entry; and the logs that this run
-    /// leaves, in the order of the tree. A tree on one thread that makes the events of the journal leaves them, too. The
-    /// journal has just the pairs of each of these passes under its caller's number, and no entry under that of no
-    /// caller. Memory: a growth was refused, and the cluster goes on.
+    /// leaves, in the order of the tree. A tree on one thread that makes the events of the journal leaves
+    /// them, too. The journal has just the pairs of each of these passes under its caller's number, and no
+    /// entry under that of no caller. Memory: a growth was refused, and the cluster goes on.
     pub fn close(
         self,
         passes: &mut [Pass<N>],

@@ -1,7 +1,7 @@
 //! Floor: the world.
 //!
-//! A tree whose processes run at the same time: each lies under a lock of its own, and the journal under one of
-//! its own. Callers post events, workers deliver messages, and a cluster that is closed gives plain data.
+//! A tree whose processes run at the same time: each lies under a lock of its own, and the journal under one
+//! of its own. Callers post events, workers deliver messages, and a cluster that is closed gives plain data.
 #![tactic(auto)]
 
 mod closing;

@@ -27,8 +27,8 @@ fn names(alloc: Global, tree: &[TreeProcess]) -> Result<Vec<ProcessId>, AllocErr
     Ok(names)
 }
 
-/// A table of seats for the processes of a tree, and the journal's seat. It takes the place of no other: what a
-/// cluster keeps is tied at one table alone.
+/// A table of seats for the processes of a tree, and the journal's seat. It takes the place of no other: what
+/// a cluster keeps is tied at one table alone.
 pub fn seats(alloc: Global, tree: &Tree) -> Result<Opened, AllocError>
     requires { IsTree tree.now }
     ensures { IfOk result (λ opened. opened.ties.shared.key.items ≡ names_of tree.now) }
@@ -56,8 +56,8 @@ fn opened(
     }
 }
 
-/// Opens the process of the entry at this place of the tree over an empty store in memory, and gives it the next
-/// seat.
+/// Opens the process of the entry at this place of the tree over an empty store in memory, and gives it the
+/// next seat.
 fn open_seated<N: Seats>(
     alloc: Global,
     ties: &Ties,

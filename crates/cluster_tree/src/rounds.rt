@@ -46,8 +46,8 @@ impl<N: Seats> Stop<N> {
     }
 }
 
-/// What the workers of one call, or of one run of a script, share: whether they are to deliver now, whether all
-/// is done, and the first refusal. It changes under the journal's lock alone, so that no wake is lost.
+/// What the workers of one call, or of one run of a script, share: whether they are to deliver now, whether
+/// all is done, and the first refusal. It changes under the journal's lock alone, so that no wake is lost.
 #[derive(Drop)]
 pub struct Rounds<N: Seats> {
     begun: AtomicBool,

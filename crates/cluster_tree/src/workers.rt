@@ -56,8 +56,8 @@ fn next_in<N: Seats>(
 }
 
 impl<N: Seats> Cluster<N> {
-    /// A message that is open at a process to which nobody delivers; or none, once all are delivered or a delivery was
-    /// refused. It waits while others deliver.
+    /// A message that is open at a process to which nobody delivers; or none, once all are delivered or a
+    /// delivery was refused. It waits while others deliver.
     fn next_claim<R: Wait>(
         &self,
         rt: &R,
@@ -88,8 +88,8 @@ impl<N: Seats> Cluster<N> {
         unreachable!()
     }
 
-    /// Delivers a message that is claimed, and those after it to its receiver, in one turn. Gives the next claim, if there is
-    /// an open message at a process to which nobody delivers.
+    /// Delivers a message that is claimed, and those after it to its receiver, in one turn. Gives the next
+    /// claim, if there is an open message at a process to which nobody delivers.
     fn deliver<R: Wait, G: Gate>(
         &self,
         rt: &R,
@@ -171,9 +171,9 @@ impl<N: Seats> Cluster<N> {
         unreachable!()
     }
 
-    /// Delivers every message, as the call that leads the workers, and calls those that are served to help. At Ok each
-    /// message of the journal was delivered, and the journal had just the pairs of the pass under its number. Else memory
-    /// was refused, or a delivery, as its process stood.
+    /// Delivers every message, as the call that leads the workers, and calls those that are served to help.
+    /// At Ok each message of the journal was delivered, and the journal had just the pairs of the pass under
+    /// its number. Else memory was refused, or a delivery, as its process stood.
     pub fn settle<R: Wait, G: Gate>(
         &self,
         rt: &R,
@@ -228,8 +228,8 @@ impl<N: Seats> Cluster<N> {
         unreachable!()
     }
 
-    /// Delivers messages in each round, until all is done. A worker leaves where the call that leads it does not
-    /// begin, since then both may be one thread's.
+    /// Delivers messages in each round, until all is done. A worker leaves where the call that leads it does
+    /// not begin, since then both may be one thread's.
     #[tactic(auto, using(crate::proofs::Passing::as_long))]
     pub fn serve<R: Wait, G: Gate>(&self, rt: &R, rounds: &Rounds<N>, pass: &mut Pass<N>, gate: &G)
         ensures { IsLonger pass.old pass.new }
@@ -245,10 +245,10 @@ impl<N: Seats> Cluster<N> {
         }
     }
 
-    /// Delivers every message of the journal that was not delivered, by as many workers as there are passes, the
-    /// calling thread among them; where a thread cannot be made, its worker comes after another. At Ok each message of
-    /// the journal was delivered, and the journal had just the pairs of the first pass under its number. At the first
-    /// refusal the workers stop, and it is answered.
+    /// Delivers every message of the journal that was not delivered, by as many workers as there are passes,
+    /// the calling thread among them; where a thread cannot be made, its worker comes after another. At Ok
+    /// each message of the journal was delivered, and the journal had just the pairs of the first pass under
+    /// its number. At the first refusal the workers stop, and it is answered.
     pub fn run_workers<R: Threads + Wait + Sync, G: Gate + Sync>(
         &self,
         rt: &R,
@@ -260,7 +260,8 @@ impl<N: Seats> Cluster<N> {
         requires { (0 < length passes.old) × (length passes.old ≤ 16) }
         ensures longer { (i : ℕ) (d : PassState) → i < length passes.old
             → IsLonger (slice_index_or passes.old i d) (slice_index_or passes.new i d) }
-        ensures settled { OnOk result ((d : PassState) → IsSettledPass N.tree (slice_index_or passes.new 0 d)) }
+        ensures settled { OnOk result ((d : PassState) → IsSettledPass N.tree
+            (slice_index_or passes.new 0 d)) }
         ensures refused { IfErr result (NotSettled N.tree) }
     {
         let rounds = Rounds::new();
@@ -269,7 +270,8 @@ impl<N: Seats> Cluster<N> {
         rounds.ended(rt, is_settled)
     }
 
-    /// A worker for each of these passes delivers messages until every one is delivered, or a delivery was refused.
+    /// A worker for each of these passes delivers messages until every one is delivered, or a delivery was
+    /// refused.
     fn work_each<R: Threads + Wait + Sync, G: Gate + Sync>(
         &self,
         rt: &R,

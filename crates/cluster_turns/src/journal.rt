@@ -6,8 +6,8 @@ ghost use Rattle.cluster_turns.specs.Turns.{all_of};
 use crate::turn::Entries;
 use std::marker::Model;
 
-/// The journal of a run that has ended: its turns, the oldest first, as they were made. To a contract it is the list of its
-/// entries, each with its caller's number.
+/// The journal of a run that has ended: its turns, the oldest first, as they were made. To a contract it is
+/// the list of its entries, each with its caller's number.
 #[derive(Drop)]
 pub struct ClosedJournal {
     turns: Vec<Entries>,

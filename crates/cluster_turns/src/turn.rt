@@ -12,7 +12,8 @@ use std::sync::Wait;
 /// The entries of a turn, each with its caller's number.
 pub type Entries = Vec<(u64, JournalEntry)>;
 
-/// Room for the entries of a turn, and those that were made. To a contract it is these, and for how many more there is room.
+/// Room for the entries of a turn, and those that were made. To a contract it is these, and for how many more
+/// there is room.
 #[derive(Drop)]
 pub struct Room {
     entries: Entries,
@@ -48,7 +49,8 @@ impl Room {
         Ok(Room { entries, node })
     }
 
-    /// Makes room for N entries more, made to measure. Whether there was memory for it; else the room is as before.
+    /// Makes room for N entries more, made to measure. Whether there was memory for it; else the room is as
+    /// before.
     pub fn widen(&mut self, more: usize) -> bool
         ensures entries { self.new.entries ≡ self.old.entries }
         ensures more { self.old.more ≤ self.new.more }
@@ -67,7 +69,8 @@ impl Room {
     }
 }
 
-/// A turn: entries that were made one after another, in room that was taken before. To a contract it is their list.
+/// A turn: entries that were made one after another, in room that was taken before. To a contract it is their
+/// list.
 #[derive(Drop)]
 pub struct Turn {
     room: Room,

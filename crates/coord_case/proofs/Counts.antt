@@ -141,7 +141,8 @@ none_missing [] = refl
 none_missing (c ∷ cs) =
     ap (λ n. n == 0) (counted-cons is_missing c cs) ∙ by_vote c.vote (missing_in cs) _ (none_missing cs)
   where
-    by_vote : (w : Option Vote) (n : ℕ) (b : Bool) → (n == 0) ≡ b → (one_if is_missing w + n == 0) ≡ (is_cast w && b)
+    by_vote : (w : Option Vote) (n : ℕ) (b : Bool) → (n == 0) ≡ b
+        → (one_if is_missing w + n == 0) ≡ (is_cast w && b)
     by_vote None n b h = grind (arith, common_steps)
     by_vote (Some w) n b h = ap (λ m. m == 0) (no_more n) ∙ h
 

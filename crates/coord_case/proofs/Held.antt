@@ -17,7 +17,8 @@ use Rattle.coord_case.proofs.Children.{accepted-changing, accepted_in-push, each
 use Rattle.coord_case.proofs.Works.{works-sending, works_each, works_of-push}
 
 -- the first vote of a ticket
-pub counts-vote : (s : Standing) (cs : List Child) (promised named owed : List Ticket) (found : List Finding) (t : Ticket) (w : Vote)
+pub counts-vote : (s : Standing) (cs : List Child) (promised named owed : List Ticket) (found : List Finding)
+    (t : Ticket) (w : Vote)
     → is_counted (accepted_in cs) (votes_in cs) t ≡ true
     → SameView (meant s (changing t (voting (Some w)) cs) promised named owed found)
     (record (meant s cs promised named owed found) { votes = votes_in cs ++ (t, w) ∷ [] })
@@ -38,9 +39,11 @@ counts-vote s cs promised named owed found t w counted =
     }
 
 -- the vote of a ticket is taken back
-pub uncounts-vote : (s : Standing) (cs : List Child) (promised named owed : List Ticket) (found : List Finding)
+pub uncounts-vote : (s : Standing) (cs : List Child) (promised named owed : List Ticket)
+    (found : List Finding)
     (t : Ticket) → are_distinct cs ≡ true
-    → Uncounts t (meant s cs promised named owed found) (meant s (changing t (voting None) cs) promised named owed found)
+    → Uncounts t (meant s cs promised named owed found)
+    (meant s (changing t (voting None) cs) promised named owed found)
 uncounts-vote s cs promised named owed found t distinct =
     record {
       standing = refl;
@@ -65,7 +68,8 @@ votes-sending t n (c ∷ cs) = by_test (same_ticket c.ticket t) (votes-sending t
     by_test false rest = ap (cons_option (vote_of c)) rest
 
 -- one work more to the ticket
-pub sends-work : (s : Standing) (cs : List Child) (promised named owed : List Ticket) (found : List Finding) (t : Ticket)
+pub sends-work : (s : Standing) (cs : List Child) (promised named owed : List Ticket)
+    (found : List Finding) (t : Ticket)
     (n : ℕ) → are_distinct cs ≡ true
     → in_list (accepted_in cs) t ≡ true → n ≡ works_of (works_in cs) t + 1
     → SameView (meant s (changing t (sending n) cs) promised named owed found)
@@ -83,7 +87,8 @@ sends-work s cs promised named owed found t n distinct there is =
     }
 
 -- a child more
-pub accepts : (s : Standing) (cs ds : List Child) (promised named owed : List Ticket) (found : List Finding) (t : Ticket)
+pub accepts : (s : Standing) (cs ds : List Child) (promised named owed : List Ticket)
+    (found : List Finding) (t : Ticket)
     → ds ≡ cs ++ record { ticket = t; works = 0; vote = None } ∷ []
     → meant s ds promised named owed found ≡ record (meant s cs promised named
     owed found) { accepted = accepted_in cs ++ t ∷ [] }

@@ -35,7 +35,8 @@ abbrev pub works_in : List Child → List Ticket
 works_in cs = flat_map (λ c. replicate c.works c.ticket) cs
 
 -- the view that a standing, children, lists of tickets and findings stand for
-abbrev pub meant : Standing → List Child → List Ticket → List Ticket → List Ticket → List Finding → CoordinatorView
+abbrev pub meant : Standing → List Child → List Ticket → List Ticket → List Ticket → List Finding
+    → CoordinatorView
 meant s cs promised named owed found =
     record {
       standing = s;

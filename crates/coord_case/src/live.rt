@@ -74,7 +74,8 @@ fn prepare_each(
     children: &[Child],
 ) -> Result<Envelopes, AllocError>
     ensures { IfOk result (λ messages. messages
-        ≡ map (λ c. post me c.ticket.child (Message.Prepare (child_case txn c.ticket) c.works)) children.now) }
+        ≡ map (λ c. post me c.ticket.child (Message.Prepare (child_case txn c.ticket) c.works))
+        children.now) }
 {
     let mut messages = Vec::new(alloc);
     for child in children {

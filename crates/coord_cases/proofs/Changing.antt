@@ -58,7 +58,8 @@ one_more n (Some h) is = absurd (cc)
 pub puts_again : (old new : Slots) (c : Case) (before h : Held) (key : ℕ) → AreApart old
     → entry_at old key ≡ Some (c, before) → Updates old new key (Some (c, h)) → Puts old new c h
 puts_again old new c before h key apart was updates =
-    let live : live_value old c ≡ Some before = live_at old c key (c, before) apart was (same_case-itself c) in
+    let live : live_value old c ≡ Some before = live_at old c key (c, before) apart was (same_case-itself c)
+    in
     record {
       key = key;
       was = inr (before, was, live);
@@ -144,7 +145,8 @@ fits_begun old new c h fits ungiven puts = fits_with old new puts.key (Some (c, 
     nobody d p at is =
         let entry : (c, h) ≡ p = cc in
         let no : false ≡ true =
-        sym (ap (is_for d) ungiven) ∙ ap (λ (q : Case × Held). is_for d q.1.given_for) entry ∙ is in absurd (cc)
+        sym (ap (is_for d) ungiven) ∙ ap (λ (q : Case × Held). is_for d q.1.given_for) entry ∙ is
+        in absurd (cc)
 
 -- an entry that was given for nobody, and whose case is in some way
 pub restores : (old new : Slots) (c : Case) (v : CoordinatorView) (key : ℕ) → FitsGiven old
@@ -363,7 +365,8 @@ Relives-with_live slots key c h v fits apart was =
     relives slots (with_live slots key v) key c h v fits was (updates_live slots key c h v was) apart
 
 -- an entry that goes
-pub ends : (old new : Slots) (key : ℕ) (h : Held) → FitsGiven old → Removes old new key h → EndsCase old new key
+pub ends : (old new : Slots) (key : ℕ) (h : Held) → FitsGiven old → Removes old new key h
+    → EndsCase old new key
 ends old new key h fits removes =
     record {
       owner = removes.owner;

@@ -37,13 +37,15 @@ pub held_at : (slots : Slots) (key : ℕ) (c : Case) (v : CoordinatorView) → I
 held_at slots key c v of is = entry_held slots key c v (entry_at slots key) refl of is
 
 -- the case of a key stands as what is live there
-pub view_here : (slots : Slots) (key : ℕ) (c : Case) (v : CoordinatorView) → AreApart slots → IsLiveAt slots key c
+pub view_here : (slots : Slots) (key : ℕ) (c : Case) (v : CoordinatorView) → AreApart slots
+    → IsLiveAt slots key c
     → live_at slots key ≡ Some v → view_in slots c ≡ v
 view_here slots key c v apart of is =
     let at = held_at slots key c v of is in
     ap held_view (value_of_case slots c key (c, at.held) apart at.was (same_case-itself c)) ∙ at.live
 
-module _ (slots : Slots) (key : ℕ) (s : OwnCase) (asked : CaseInput) (v : CoordinatorView) (fits : FitsGiven slots)
+module _ (slots : Slots) (key : ℕ) (s : OwnCase) (asked : CaseInput) (v : CoordinatorView)
+    (fits : FitsGiven slots)
     (apart : AreApart slots) (at : HeldAt slots key s.case v) where
   pub view_at : view_in slots s.case ≡ v
   view_at = ap held_view (value_of_case slots s.case key (s.case, at.held) apart at.was

@@ -47,7 +47,8 @@ found_view rs m k c = ap (λ t. view_found (lookup (same c) t)) k.table ∙ by_t
         → view_found (lookup (same c) (entries_of k.keeps (reading_of rs).table)) ≡ recorded_view rs c
     by_test true kept = ap view_found (found_kept k.keeps c kept (reading_of rs).table)
         ∙ by_found (lookup (same c) (reading_of rs).table) ∙ view_is rs c
-    by_test false out = ap view_found (found_out k.keeps c out (reading_of rs).table) ∙ sym (no_view rs m k c out)
+    by_test false out = ap view_found (found_out k.keeps c out (reading_of rs).table)
+        ∙ sym (no_view rs m k c out)
 
 viewed_at : (parent : Option ProcessId) (rs : List Record) (c : Case)
     → recorded_view rs c ≡ recorded_view_at (role_below parent) rs c
@@ -65,13 +66,15 @@ resumes_role me None rs = refl
 resumes_role me (Some p) rs = refl
 
 -- a case that is left out sends nothing
-no_resume : (me : ProcessId) (parent : Option ProcessId) (rs : List Record) (m : LogMemory) (k : RemembersCases rs m)
+no_resume : (me : ProcessId) (parent : Option ProcessId) (rs : List Record) (m : LogMemory)
+    (k : RemembersCases rs m)
     (c : Case) → k.keeps c ≡ false → resumed_of me parent (c, summary_of rs c) ≡ []
 no_resume me parent rs m k c out =
     ap (λ (v : CoordinatorView). resumes_by (record { me = me; parent = parent; own = c }) v v.standing)
     (sym (view_recorded rs c) ∙ no_view rs m k c out)
 
-resumes_so : (me : ProcessId) (parent : Option ProcessId) (rs : List Record) (m : LogMemory) → RemembersCases rs m
+resumes_so : (me : ProcessId) (parent : Option ProcessId) (rs : List Record) (m : LogMemory)
+    → RemembersCases rs m
     → flat_map (resumed_of me parent) m.said.table ≡ resumes (role_below parent) me rs
 resumes_so me parent rs m k =
     ap (flat_map (resumed_of me parent)) k.table
@@ -101,7 +104,8 @@ module _ (me : ProcessId) (parent : Option ProcessId) (tree : List TreeProcess) 
   behind_so = subst (λ rs. RemembersCases rs behind) (ap (λ rs. mine ++ rs) (sym (reopens_role parent mine))
       ∙ sym (read_again_is me parent tree ls)) reads
 
-  pub rebuilds : (r : RebuiltCases) (written : List ShownRecord) (messages : List Envelope) → r.boot ≡ behind.said.boot
+  pub rebuilds : (r : RebuiltCases) (written : List ShownRecord) (messages : List Envelope)
+      → r.boot ≡ behind.said.boot
       → map frame_record r.frames.items ≡ map (in_log parent) new
       → AreRecords Coordinator (map frame_record r.frames.items)
       → written ≡ map logged_of (forced_all new) → RestoresAll me parent behind.said r.cases messages
@@ -145,9 +149,11 @@ not_planned me parent tree ls e h = absurd h
 
 -- what it appends has no frames
 pub not_framed : (me : ProcessId) (parent : Option ProcessId) (tree : List TreeProcess) (ls : List LogRecord)
-    (rs : List Record) (e : StepError) → rs ≡ coordinator_reopens (own_records (place_below me parent tree) ls)
+    (rs : List Record) (e : StepError) → rs ≡ coordinator_reopens
+    (own_records (place_below me parent tree) ls)
     → NotFramed parent rs e → CasesNotRebuilt (place_below me parent tree) ls e
 not_framed me parent tree ls rs step_error.Memory is h = tt
 not_framed me None tree ls rs step_error.Exhausted is h = λ held. h (subst (AreHeld None) (sym is) held)
-not_framed me (Some p) tree ls rs step_error.Exhausted is h = λ held. h (subst (AreHeld (Some p)) (sym is) held)
+not_framed me (Some p) tree ls rs step_error.Exhausted is h =
+    λ held. h (subst (AreHeld (Some p)) (sym is) held)
 not_framed me parent tree ls rs e is h = absurd h

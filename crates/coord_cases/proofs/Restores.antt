@@ -69,7 +69,8 @@ module _ (s : OwnCase) (summary : Summary) (old : Slots) (sent : List Envelope)
       → RestoresNext s summary old new sent now_sent
   next_live st live new now_sent stands known is restores sends =
       record {
-        messages = sends ∙ ap (λ (v : CoordinatorView). sent ++ resumes_by (seat_meant s) v v.standing) viewed;
+        messages = sends ∙ ap (λ (v : CoordinatorView). sent ++ resumes_by (seat_meant s) v v.standing)
+            viewed;
         own = restores.moves.own ∙ viewed;
         others = restores.moves.others;
         only = restores.only;

@@ -283,7 +283,8 @@ module _ (old mid later new : Slots) (key : ℕ) (s : OwnCase) (asked : CaseInpu
   taken left gone here_known =
       record {
         does =
-            subst (λ v. DoesRow s (asked_row (seat_meant s) asked (view_in old s.case)) effect v) (sym left.own)
+            subst (λ v. DoesRow s (asked_row (seat_meant s) asked (view_in old s.case)) effect v)
+            (sym left.own)
             (subst (λ v. DoesRow s (asked_row (seat_meant s) asked v) effect live.behind)
             (sym (stood old mid key s.case live.held live.behind live.was live.relives)) live.does);
         others = left.others;

@@ -141,8 +141,8 @@ pub record Restores (old new : Slots) (c : Case) (view : CoordinatorView) : Type
   pub key : ℕ
   pub updates : Updates old new key (Some (c, record { given_for = None; live = view }))
 
--- the case of a ticket begins, in place of one of its name, if one was live; and the ticket is active for the parent's
--- case
+-- the case of a ticket begins, in place of one of its name, if one was live; and the ticket is active for the
+-- parent's case
 pub record GivesTicket (old new : Slots) (parent : Case) (t : Ticket) : Type 0 where
   pub moves : MovesCase old new (child_case parent.txn t) open_view
   pub ticket : ticket_in new parent ≡ Some t

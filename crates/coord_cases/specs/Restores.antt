@@ -79,8 +79,8 @@ appended_to place ls = map (in_log (parent_of place.role)) (reopens place.role (
 abbrev pub read_again : Place → List LogRecord → List Record
 read_again place ls = own_records place (ls ++ appended_to place ls)
 
--- what a restart makes of these records of a log: the boot, the frames that it appends, the live cases, what it
--- shows, and what it remembers of them and of those that it appends
+-- what a restart makes of these records of a log: the boot, the frames that it appends, the live cases, what
+-- it shows, and what it remembers of them and of those that it appends
 pub record RebuildsCases (place : Place) (ls : List LogRecord) (r : RebuiltCases) : Type 0 where
   pub boot : r.boot ≡ boot_of (read_again place ls)
   pub frames : map frame_record r.frames.items ≡ appended_to place ls

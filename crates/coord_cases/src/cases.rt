@@ -178,8 +178,8 @@ impl LiveCases {
         }
     }
 
-    /// The case of a transaction begins, without a ticket. One of its name that was live, which only a log has that
-    /// no run left, is forgotten. Memory: nothing changed.
+    /// The case of a transaction begins, without a ticket. One of its name that was live, which only a log
+    /// has that no run left, is forgotten. Memory: nothing changed.
     pub fn begin(&mut self, alloc: Global, txn: Txn) -> Result<(), AllocError>
         ensures ok { OnOk result (BeginsCase self.old self.new (root_case txn)) }
         ensures err { OnErr result (self.new ≡ self.old) }
@@ -207,8 +207,8 @@ impl LiveCases {
         Ok(())
     }
 
-    /// The case of a ticket begins, which was just given for the parent's case. One of its name that was live, which
-    /// only a log has that no run left, is forgotten. Memory: nothing changed.
+    /// The case of a ticket begins, which was just given for the parent's case. One of its name that was
+    /// live, which only a log has that no run left, is forgotten. Memory: nothing changed.
     pub fn give(&mut self, alloc: Global, parent: Case, ticket: Ticket) -> Result<(), AllocError>
         requires fresh { IsFreshTicket self.old ticket }
         requires ungiven { ticket_in self.old parent ≡ None }

@@ -27,9 +27,9 @@ pub struct RebuiltCases {
     pub remembered: RememberedCases,
 }
 
-/// What the coordinator `me` below this parent is, as it restarts with the records of its log of which this is
-/// remembered. Exhausted: no log holds a record that it would append, since the next boot would be 2^63, or an Abort
-/// would name more than 255 tickets.
+/// What the coordinator `me` below this parent is, as it restarts with the records of its log of which this
+/// is remembered. Exhausted: no log holds a record that it would append, since the next boot would be 2^63,
+/// or an Abort would name more than 255 tickets.
 pub fn rebuild(
     alloc: Global,
     me: ProcessId,

@@ -47,7 +47,8 @@ fn push_frame(frames: &mut Vec<Frame>, frame: Frame) -> Result<(), AllocError>
     Ok(())
 }
 
-/// The frames of these records in the log of a process below this parent. Exhausted: no log holds one of them.
+/// The frames of these records in the log of a process below this parent. Exhausted: no log holds one of
+/// them.
 pub(crate) fn framed(
     alloc: Global,
     parent: Option<ProcessId>,

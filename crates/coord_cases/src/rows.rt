@@ -116,8 +116,8 @@ fn on_prepare(alloc: Global, seat: OwnCase, live: &mut Live) -> Result<RowEffect
     }
 }
 
-/// The live case takes the row that it meets. Memory; Exhausted, if the row is beyond the bounds of numbers: it
-/// says the same as before.
+/// The live case takes the row that it meets. Memory; Exhausted, if the row is beyond the bounds of numbers:
+/// it says the same as before.
 pub fn take_row(
     alloc: Global,
     seat: OwnCase,

@@ -83,7 +83,8 @@ pub fn prepared_abort(alloc: Global, seat: OwnCase, live: &mut Live) -> Result<R
 
 /// Prepared, PREPARE again: YES again.
 pub fn prepared_prepare(alloc: Global, seat: OwnCase, live: &Live) -> Result<RowEffect, AllocError>
-    ensures { IfOk result (λ effect. DoesRow seat (prepared_prepare (seat_meant seat) live.now) effect live.now) }
+    ensures { IfOk result (λ effect. DoesRow seat (prepared_prepare (seat_meant seat) live.now)
+        effect live.now) }
 {
     let messages = up(alloc, seat, Message::Yes(seat.case))?;
     Ok(RowEffect::sends(alloc, messages))

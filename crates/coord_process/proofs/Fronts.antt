@@ -30,7 +30,10 @@ front_more old new size first more f e =
 
 wrote_front : (s : LogSight) (b : Bool) (ls : List LogRecord) (size : ℕ) (first : List LogRecord)
     → IsLogFront s size first
-    → IsLogFront (if b then record s { kept = record { forced = records_of s.kept ++ ls; unforced = [] }; behind = 0 }
+    → IsLogFront (if b then record s {
+      kept = record { forced = records_of s.kept ++ ls; unforced = [] };
+      behind = 0;
+    }
     else record s { kept = record { forced = s.kept.forced; unforced = s.kept.unforced ++ ls } }) size first
 wrote_front s true ls size first f =
     front_more s (record s { kept = record { forced = records_of s.kept ++ ls; unforced = [] }; behind = 0 })
@@ -38,7 +41,8 @@ wrote_front s true ls size first f =
 wrote_front s false ls size first f = record { rest = f.rest; split = f.split; sized = f.sized }
 
 -- of two lists with one whole the longer begins with the other
-longer : {A : Type 0} (a b xs ys : List A) → a ++ b ≡ xs ++ ys → length a ≤ length xs → (m : List A) × (xs ≡ a ++ m)
+longer : {A : Type 0} (a b xs ys : List A) → a ++ b ≡ xs ++ ys → length a ≤ length xs → (m : List A)
+    × (xs ≡ a ++ m)
 longer [] b xs ys e h = (xs, refl)
 longer (x ∷ a) b [] ys e h = absurd (omega (arith, h))
 longer (x ∷ a) b (y ∷ xs) ys e h =
@@ -46,19 +50,22 @@ longer (x ∷ a) b (y ∷ xs) ys e h =
     let heads : x ≡ y = cc in
     let rest = longer a b xs ys tails (omega (arith, h)) in (rest.0, λ i. sym heads i ∷ rest.1 i)
 
-breaks_front : (old new : LogState) (ls : List LogRecord) (size : ℕ) (first : List LogRecord) → Breaks old new ls
+breaks_front : (old new : LogState) (ls : List LogRecord) (size : ℕ) (first : List LogRecord)
+    → Breaks old new ls
     → IsLogFront old.sight size first → IsLogFront new.sight size first
 breaks_front old new ls size first b f =
     let m = longer old.sight.kept.forced (old.sight.kept.unforced ++ take b.appended ls) new.sight.kept.forced
     new.sight.kept.unforced
-    (sym (append_assoc old.sight.kept.forced old.sight.kept.unforced (take b.appended ls)) ∙ sym b.stand) b.no_less in
+    (sym (append_assoc old.sight.kept.forced old.sight.kept.unforced (take b.appended ls)) ∙ sym b.stand)
+    b.no_less in
     front_more old.sight new.sight size first m.0 f m.1
 
 -- What is remembered.
 
 -- what is remembered of a log is remembered of another with its fronts
 pub remembered_over : (v w : CoordinatorValue) (o : Option Front) → place_of w ≡ place_of v
-    → ((size : ℕ) (first : List LogRecord) → IsLogFront v.log.sight size first → IsLogFront w.log.sight size first)
+    → ((size : ℕ) (first : List LogRecord) → IsLogFront v.log.sight size first
+    → IsLogFront w.log.sight size first)
     → IsRemembered v o → IsRemembered w o
 remembered_over v w None same fronts r = tt
 remembered_over v w (Some f) same fronts r =
@@ -75,7 +82,8 @@ remembered_still v w o same log = remembered_over v w o same
     (λ size first f. subst (λ (s : LogSight). IsLogFront s size first) (sym log) f)
 
 -- a row's record was written
-pub remembered_written : (v w : CoordinatorValue) (o : Option Front) (made : LogState) (written : Option RowFrame)
+pub remembered_written : (v w : CoordinatorValue) (o : Option Front) (made : LogState)
+    (written : Option RowFrame)
     → place_of w ≡ place_of v → made.sight ≡ v.log.sight → WritesDown made w.log written
     → IsRemembered v o → IsRemembered w o
 remembered_written v w o made written same log writes = remembered_over v w o same
@@ -115,7 +123,8 @@ remembered_restarted v keep r log size rebuilds restarted long =
 -- It is read on.
 
 -- what is remembered of the front, and of the records after it, is remembered of what a crash leaves
-pub read_on : (v : CoordinatorValue) (f : Front) (records left : List LogRecord) (now : LogMemory) → IsFrontOf v f
+pub read_on : (v : CoordinatorValue) (f : Front) (records left : List LogRecord) (now : LogMemory)
+    → IsFrontOf v f
     → ((first : List LogRecord) → IsLogFront v.log.sight f.size first → first ++ records ≡ left)
     → ((front : List LogRecord) → own_records (place_of v) (front ++ records)
     ≡ own_records (place_of v) front ++ own_records (place_of v) records)

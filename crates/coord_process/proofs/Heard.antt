@@ -186,7 +186,8 @@ module _ (v : CoordinatorValue) (d : Case) where
   pub by_ticket : (turn : Met) (t : Ticket) (asked : CaseInput) (otherwise : Met)
       (says : Ticket → Option Case → Turn)
       → d.ticket ≡ Some t → ((found : Option Case) → says t found ≡ met_by_child v asked otherwise found)
-      → HearsOf v d.txn t asked otherwise turn → HearsFrom v d (λ found. child_turn d (λ t. says t found)) turn
+      → HearsOf v d.txn t asked otherwise turn → HearsFrom v d (λ found. child_turn d (λ t. says t found))
+      turn
   by_ticket turn t asked otherwise says is same hears =
       record {
         found = hears.found;
@@ -330,7 +331,8 @@ meets_message v n m turn up hears =
 -- Forget.
 
 -- forget at the root, of a case of which nothing is known
-pub meets_forget : (v : CoordinatorValue) (c : Case) → (view_in v.slots c).standing ≡ Unknown → v.parent ≡ None
+pub meets_forget : (v : CoordinatorValue) (c : Case) → (view_in v.slots c).standing ≡ Unknown
+    → v.parent ≡ None
     → v.log.sight.failed ≡ false → MeetsAct v (ForgetAct c) (Clears c)
 meets_forget v c unknown root up =
     let w = view_in v.slots c in
@@ -345,7 +347,8 @@ meets_forget v c unknown root up =
 
 -- below the root nothing is reported
 pub meets_forget_below : (v : CoordinatorValue) (c : Case) (p : ProcessId)
-    → (view_in v.slots c).standing ≡ Unknown → v.parent ≡ Some p → MeetsAct v (ForgetAct c) (Refuses UnknownTxn)
+    → (view_in v.slots c).standing ≡ Unknown → v.parent ≡ Some p
+    → MeetsAct v (ForgetAct c) (Refuses UnknownTxn)
 meets_forget_below v c p unknown below =
     let w = view_in v.slots c in
     let s = seat_in (state v) c in

@@ -29,12 +29,15 @@ use Rattle.coord_process.proofs.Opened.{none_given}
 -- Active tickets.
 
 -- the ticket that is given next is active for no case
-pub fresh_ticket : (v : CoordinatorValue) → IsCoordinator v → IsFreshTicket v.slots (own_ticket v (v.given + 1))
-fresh_ticket v kept d is = let clash : v.given + 1 ≤ v.given = kept.given d (v.given + 1) is in absurd (omega (arith, clash))
+pub fresh_ticket : (v : CoordinatorValue) → IsCoordinator v
+    → IsFreshTicket v.slots (own_ticket v (v.given + 1))
+fresh_ticket v kept d is =
+    let clash : v.given + 1 ≤ v.given = kept.given d (v.given + 1) is in absurd (omega (arith, clash))
 
 -- a ticket that is active after a row was active before it
 pub active_before : (old new : Slots) (b : Bool) (c d : Case) (t : Ticket)
-    → ticket_in new d ≡ retired_if b c d (ticket_in old d) → ticket_in new d ≡ Some t → ticket_in old d ≡ Some t
+    → ticket_in new d ≡ retired_if b c d (ticket_in old d) → ticket_in new d ≡ Some t
+    → ticket_in old d ≡ Some t
 active_before old new b c d t retires is = by_ticket (ticket_in old d) (sym retires ∙ is)
   where
     by_ticket : (o : Option Ticket) → retired_if b c d o ≡ Some t → o ≡ Some t
@@ -83,7 +86,8 @@ none_given_yet v form bare =
       known = λ k p at.
           let none : None ≡ Some p = sym (ap (λ (s : Slots). entry_at s k) bare) ∙ at in absurd (cc);
       given = λ d n is.
-          let none : None ≡ Some (own_ticket v n) = sym (none_given d) ∙ sym (ap (λ s. ticket_in s d) bare) ∙ is in
+          let none : None ≡ Some (own_ticket v n) = sym (none_given d) ∙ sym (ap (λ s. ticket_in s d) bare)
+          ∙ is in
           absurd (cc);
     }
 
@@ -114,14 +118,17 @@ opened_keeps me parent tree old new slots form writes bare =
 -- A ticket that is given.
 
 -- the case of a ticket that was given is active
-pub given_active : (old new : Slots) (parent : Case) (t : Ticket) → GivenAreActive old → GivesTicket old new parent t
+pub given_active : (old new : Slots) (parent : Case) (t : Ticket) → GivenAreActive old
+    → GivesTicket old new parent t
     → GivenAreActive new
 given_active old new parent t active gives k d p at is =
     elim (cases_eq k gives.key) [
       | inl same ↦
-          let entry : Some (child_case parent.txn t, record { given_for = Some parent; live = open_view }) ≡ Some p =
+          let entry : Some (child_case parent.txn t, record { given_for = Some parent; live = open_view })
+          ≡ Some p =
           sym gives.updates.changed ∙ sym (ap (entry_at new) same) ∙ at in
-          let held : (child_case parent.txn t, record { given_for = Some parent; live = open_view }) ≡ p = cc in
+          let held : (child_case parent.txn t, record { given_for = Some parent; live = open_view }) ≡ p = cc
+          in
           ap (λ (q : Case × Held). q.1.live.standing) (sym held)
       | inr differs ↦ active k d p (sym (gives.updates.others k differs) ∙ at) is
     ]
@@ -132,9 +139,11 @@ pub given_known : (old new : Slots) (parent : Case) (t : Ticket) → AreKnown ol
 given_known old new parent t known gives k p at =
     elim (cases_eq k gives.key) [
       | inl same ↦
-          let entry : Some (child_case parent.txn t, record { given_for = Some parent; live = open_view }) ≡ Some p =
+          let entry : Some (child_case parent.txn t, record { given_for = Some parent; live = open_view })
+          ≡ Some p =
           sym gives.updates.changed ∙ sym (ap (entry_at new) same) ∙ at in
-          let held : (child_case parent.txn t, record { given_for = Some parent; live = open_view }) ≡ p = cc in
+          let held : (child_case parent.txn t, record { given_for = Some parent; live = open_view }) ≡ p = cc
+          in
           ap (λ (q : Case × Held). is_known q.1.live.standing) (sym held)
       | inr differs ↦ known k p (sym (gives.updates.others k differs) ∙ at)
     ]

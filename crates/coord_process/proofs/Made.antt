@@ -116,7 +116,8 @@ not_made v new i turn NoSuch meets stopped = record {
 }
 not_made v new i turn Exhausted meets stopped = record {
   same = stopped.0;
-  why = Unbounded meets.found meets.finds stopped.1.effect (ap reacted meets.is ∙ stopped.1.does) stopped.1.beyond;
+  why = Unbounded meets.found meets.finds stopped.1.effect (ap reacted meets.is ∙ stopped.1.does)
+      stopped.1.beyond;
 }
 
 pub same_core : (s : CoreState) → SameCore s s
@@ -444,13 +445,15 @@ module _ (v : CoordinatorValue) (log : LogState) (slots : Slots) (c : Case) (ask
 
 module _ (v : CoordinatorValue) (log : LogState) (c : Case) (effect : RowEffect) (mid : LogState)
     (room : mid.sight ≡ v.log.sight)
-    (does : (view : CoordinatorView) → DoesRow (seat_for v c) (unknown_forget (seat_meant (seat_for v c)) view) effect view)
+    (does : (view : CoordinatorView) → DoesRow (seat_for v c)
+    (unknown_forget (seat_meant (seat_for v c)) view) effect view)
     (reported : is_reported (kept_records (state v)) c ≡ true) where
   abbrev cleared : Row
   cleared = unknown_forget (seat_in (state v) c) (view_in v.slots c)
 
   does_clear : DoesRow (seat_for v c) cleared effect (view_in v.slots c)
-  does_clear = subst (λ s. DoesRow (seat_for v c) (unknown_forget s (view_in v.slots c)) effect (view_in v.slots c))
+  does_clear = subst (λ s. DoesRow (seat_for v c) (unknown_forget s (view_in v.slots c)) effect
+      (view_in v.slots c))
       (seat_is v c) (does (view_in v.slots c))
 
   is_clearing : Takes c cleared ≡ meant v (Clears c)
@@ -469,7 +472,8 @@ module _ (v : CoordinatorValue) (log : LogState) (c : Case) (effect : RowEffect)
   pub cleared_turn : WritesDown mid log effect.written → (i : Input) → RetiresNone i
       → Turned (state v) (state (record v { log = log })) i (meant v (Clears c)) (reaction_by effect)
   cleared_turn writes i none =
-      subst (λ t. Turned (state v) (state (record v { log = log })) i t (reaction_by effect)) is_clearing (record {
+      subst (λ t. Turned (state v) (state (record v { log = log })) i t (reaction_by effect))
+      is_clearing (record {
         moves = record {
           log = clear_sight writes;
           own = same_view (view_in v.slots c);
@@ -495,7 +499,8 @@ module _ (v : CoordinatorValue) (log : LogState) (c : Case) (effect : RowEffect)
   clear_breaks some breaks =
       let at : Breaks (record mid { sight = v.log.sight }) log
       (logged (state v) (entries_written cleared.written)) =
-      subst (λ s. Breaks (record mid { sight = s }) log (logged (state v) (entries_written cleared.written))) room
+      subst (λ s. Breaks (record mid { sight = s }) log (logged (state v) (entries_written cleared.written)))
+      room
       (subst (Breaks mid log) clear_records breaks) in
       subst (BreaksUnder (state v) (state (record v { log = log }))) is_clearing
       (record {
@@ -549,13 +554,15 @@ same_cases v log slots room same = record {
 
 -- the bounds of a coordinator below this parent
 coordinator_bounds : (p : Option ProcessId) (ws : List Written) (ls : List Envelope)
-    → FitsBounds (kind_of_role (role_below p)) (parent_of (role_below p)) ws ls → FitsBounds Coordinator p ws ls
+    → FitsBounds (kind_of_role (role_below p)) (parent_of (role_below p)) ws ls
+    → FitsBounds Coordinator p ws ls
 coordinator_bounds None ws ls fits = fits
 coordinator_bounds (Some q) ws ls fits = fits
 
 -- the row was not taken: so its turn was stopped
 pub row_untaken : (v : CoordinatorValue) (new : CoreState) (c : Case) (asked : CaseInput) (e : StepError)
-    → SameCore (state v) new → RowNotTaken (seat_for v c) (asked_row (seat_meant (seat_for v c)) asked (view_in v.slots c)) e
+    → SameCore (state v) new → RowNotTaken (seat_for v c)
+    (asked_row (seat_meant (seat_for v c)) asked (view_in v.slots c)) e
     → Stopped (state v) new (Takes c (met v c asked)) e
 row_untaken v new c asked Memory same h = same
 row_untaken v new c asked Exhausted same h = (
@@ -571,7 +578,8 @@ row_untaken v new c asked Exhausted same h = (
 row_untaken v new c asked e same h = absurd h
 
 -- a report was not cleared
-pub clear_untaken : (v : CoordinatorValue) (new : CoreState) (c : Case) (e : StepError) → SameCore (state v) new
+pub clear_untaken : (v : CoordinatorValue) (new : CoreState) (c : Case) (e : StepError)
+    → SameCore (state v) new
     → is_reported (kept_records (state v)) c ≡ true
     → ((view : CoordinatorView)
     → NotWritten v.parent (unknown_forget (seat_meant (seat_for v c)) view).written e)

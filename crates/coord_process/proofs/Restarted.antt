@@ -221,7 +221,8 @@ not_trimmed v log log_error.Device breaks =
 pub no_own_data : (s : LogSight) → s.form.kind ≡ Coordinator → own_data s ≡ []
 no_own_data s kind = ap (λ k. data_by k (records_of s.kept)) kind
 
-pub trimmed_again : (old new : LogState) (count : ℕ) → old.sight.form.kind ≡ Coordinator → StaysTrimmed old count
+pub trimmed_again : (old new : LogState) (count : ℕ) → old.sight.form.kind ≡ Coordinator
+    → StaysTrimmed old count
     → Rewritten old new (records_of old.sight.kept) → LogTrimmed old new [] count
 trimmed_again old new count kind s r =
     subst (λ rs. LogTrimmed old new rs count) (no_own_data old.sight kind) (settled_trimmed old new count s r)

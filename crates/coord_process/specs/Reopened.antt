@@ -9,8 +9,8 @@ use Rattle.process_state.specs.Restarting.{CannotReopen, ProcessNotRestarted}
 use Rattle.coord_process.specs.declared.restarting.CoordinatorReopenError.{CoordinatorReopenError}
 use Rattle.coord_process.specs.declared.restarting.CoordinatorReopenError.TheVariants.{Memory, Device, Exhausted}
 
--- the device failed as a process that sat here over this log restarted, where all its records were kept; and that
--- left the other log
+-- the device failed as a process that sat here over this log restarted, where all its records were kept; and
+-- that left the other log
 pub record BreaksOver (place : Place) (old new : LogSight) : Type 0 where
   pub before : CoreState
   pub place_is : before.place ≡ place
@@ -21,7 +21,8 @@ pub record BreaksOver (place : Place) (old new : LogSight) : Type 0 where
   pub log_left : behind.log ≡ new
   pub broke : ProcessNotRestarted before keep behind step_error.Device
 
--- a process that sits here over this log cannot append to it what its restart would, where all its records are kept
+-- a process that sits here over this log cannot append to it what its restart would, where all its records
+-- are kept
 pub record CannotReopenOver (place : Place) (log : LogSight) : Type 0 where
   pub before : CoreState
   pub place_is : before.place ≡ place
@@ -30,8 +31,8 @@ pub record CannotReopenOver (place : Place) (log : LogSight) : Type 0 where
   pub left : left_by log keep ≡ records_of log.kept
   pub beyond : CannotReopen before keep
 
--- why no coordinator that sits here goes on over this log, and what log is handed back: it is as it was, unless the
--- device failed
+-- why no coordinator that sits here goes on over this log, and what log is handed back: it is as it was,
+-- unless the device failed
 abbrev pub CoordinatorNotReopened : Place → LogSight → LogSight → CoordinatorReopenError → Type 0
 CoordinatorNotReopened place old new Memory = new ≡ old
 CoordinatorNotReopened place old new Device = BreaksOver place old new

@@ -63,8 +63,8 @@ own_txn v p n = record { root = v.me; boot = v.boot; sequence = n; presumption =
 abbrev pub own_ticket : CoordinatorValue → ℕ → Ticket
 own_ticket v n = record { child = v.me; boot = v.boot; number = n }
 
--- what a coordinator keeps: its log is its own; a case whose ticket is active takes children and work; of each
--- live case something is known; and no ticket is active that it did not give yet
+-- what a coordinator keeps: its log is its own; a case whose ticket is active takes children and work; of
+-- each live case something is known; and no ticket is active that it did not give yet
 pub record IsCoordinator (v : CoordinatorValue) : Type 0 where
   pub form : v.log.sight.form ≡ log_form v.me Coordinator
   pub active : GivenAreActive v.slots

@@ -38,8 +38,8 @@ pub record IsBrokenUnder (old new : CoreState) (i : Input) : Type 0 where
   pub broken : IsBroken old new no_answer i
   pub writes : broken.breaks.0.written ≢ []
 
--- what stopped the turn: for want of memory nothing changed, nor where it does not fit the bounds of numbers; or the
--- device failed; or the turn is this refusal, and nothing changed
+-- what stopped the turn: for want of memory nothing changed, nor where it does not fit the bounds of numbers;
+-- or the device failed; or the turn is this refusal, and nothing changed
 abbrev pub Stopped : CoreState → CoreState → Turn → StepError → Type 0
 Stopped old new turn Memory = SameCore old new
 Stopped old new turn Device = BreaksUnder old new turn

@@ -160,8 +160,10 @@ impl<L: LogStore> Coordinator<L> {
 
     /// The store under its log, to be read.
     pub fn store(&self) -> &L
-        ensures { (log_state (log_form self.now.me kind.Coordinator) (L.bytes result.now) (L.forced result.now)
-            (L.failures result.now) (L.room result.now) (state self.now).log.failed).sight ≡ (state self.now).log }
+        ensures { (log_state (log_form self.now.me kind.Coordinator) (L.bytes result.now)
+            (L.forced result.now)
+            (L.failures result.now) (L.room result.now) (state self.now).log.failed).sight
+            ≡ (state self.now).log }
     {
         self.log.store()
     }

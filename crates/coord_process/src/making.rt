@@ -32,8 +32,10 @@ impl<L: LogStore> Coordinator<L> {
     /// coordinator answers Failed until its restart.
     pub fn step(&mut self, input: InputRef<'_>) -> Result<Reaction, StepError>
         requires { HasNumbers (state self.old) }
-        ensures ok { IfOk result (ProcessMakes (state self.old) (state self.new) no_answer (input_of input.entry)) }
-        ensures err { IfErr result (NotMade (state self.old) (state self.new) no_answer (input_of input.entry)) }
+        ensures ok { IfOk result (ProcessMakes (state self.old) (state self.new) no_answer
+            (input_of input.entry)) }
+        ensures err { IfErr result (NotMade (state self.old) (state self.new) no_answer
+            (input_of input.entry)) }
         ensures under { IfErr result (λ e. e ≡ StepError.Device
             → IsBrokenUnder (state self.old) (state self.new) (input_of input.entry)) }
     {
@@ -92,7 +94,8 @@ impl<L: LogStore> Coordinator<L> {
     }
 
     /// The case under the key takes the row that it meets. Room for the row's record is made first. Memory;
-    /// Exhausted, if the row is beyond the bounds of numbers: nothing changed. Device: the device failed under the record.
+    /// Exhausted, if the row is beyond the bounds of numbers: nothing changed. Device: the device failed
+    /// under the record.
     fn takes(&mut self, key: usize, case: Case, asked: CaseInput) -> Result<Reaction, StepError>
         requires at { IsLiveAt self.old.slots key case }
         requires accepted { Accepts asked (view_in self.old.slots case) }

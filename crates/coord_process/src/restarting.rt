@@ -84,11 +84,13 @@ fn trim_again<L: LogStore>(log: &mut RecLog<L>, count: usize, alloc: Global) -> 
 }
 
 impl<L: LogStore> Coordinator<L> {
-    /// What the records say that a crash leaves that keeps N of the log's unforced bytes. It reads on from the front
-    /// that is remembered. If none is, or it cannot be read on from, it goes through all records once.
+    /// What the records say that a crash leaves that keeps N of the log's unforced bytes. It reads on from
+    /// the front that is remembered. If none is, or it cannot be read on from, it goes through all records
+    /// once.
     fn left(&self, front: Option<Front>, keep: usize) -> Result<RememberedCases, AllocError>
         requires { IsRemembered self.now front }
-        ensures { IfOk result (RemembersCases (own_records (place_of self.now) (left_by self.now.log.sight keep))) }
+        ensures { IfOk result (RemembersCases (own_records (place_of self.now)
+            (left_by self.now.log.sight keep))) }
     {
         if let Some(front) = front {
             let Front {
@@ -104,14 +106,13 @@ impl<L: LogStore> Coordinator<L> {
         RememberedCases::of(self.alloc, self.me, self.parent, &self.tree, &records)
     }
 
-    /// Restarts after a crash that keeps N of the log's unforced bytes: what is left of the log is
-    /// read, Opened with the next boot is appended, and an Abort record of each case that collected votes
-    /// after a record, all of it forced by one write. Decisions go out again, and cases in doubt ask. All
-    /// memory is taken before the crash. The records are gone through that came after its last restart, or all of them
-    /// after a trim. Memory: nothing changed.
-    /// Exhausted: no log holds what it would append, since 2^63 - 1 boots are used up, or an Abort would name
-    /// more than 255 tickets; nothing changed. Device: the crash took place and the device failed under it; the coordinator has failed until it is
-    /// restarted.
+    /// Restarts after a crash that keeps N of the log's unforced bytes: what is left of the log is read,
+    /// Opened with the next boot is appended, and an Abort record of each case that collected votes after a
+    /// record, all of it forced by one write. Decisions go out again, and cases in doubt ask. All memory is
+    /// taken before the crash. The records are gone through that came after its last restart, or all of them
+    /// after a trim. Memory: nothing changed. Exhausted: no log holds what it would append, since 2^63 - 1
+    /// boots are used up, or an Abort would name more than 255 tickets; nothing changed. Device: the crash
+    /// took place and the device failed under it; the coordinator has failed until it is restarted.
     pub fn restart(&mut self, keep: usize) -> Result<Reaction, StepError>
         ensures ok { IfOk result (ProcessRestarts (state self.old) keep (state self.new)) }
         ensures err { IfErr result (ProcessNotRestarted (state self.old) keep (state self.new)) }
@@ -133,9 +134,10 @@ impl<L: LogStore> Coordinator<L> {
         Ok(rebuilt.reaction)
     }
 
-    /// Trims its log: the last Opened and the records of the cases that are not forgotten stay, forced by
-    /// one write. Gives how many they are. A log that its last trim left as it was is not read. Failed, Memory: nothing
-    /// changed. Device: the log stands as it was or trimmed, and the coordinator has failed until it is restarted.
+    /// Trims its log: the last Opened and the records of the cases that are not forgotten stay, forced by one
+    /// write. Gives how many they are. A log that its last trim left as it was is not read. Failed, Memory:
+    /// nothing changed. Device: the log stands as it was or trimmed, and the coordinator has failed until it
+    /// is restarted.
     pub fn trim(&mut self) -> Result<u64, StepError>
         ensures ok { IfOk result (ProcessTrims (state self.old) (state self.new)) }
         ensures err { IfErr result (ProcessNotTrimmed (state self.old) (state self.new)) }
@@ -198,7 +200,8 @@ impl<L: LogStore + Drop> Coordinator<L> {
 
     /// The store under its log, as it is.
     pub fn into_store(self) -> L
-        ensures { (log_state (log_form self.me kind.Coordinator) (L.bytes result) (L.forced result) (L.failures result)
+        ensures { (log_state (log_form self.me kind.Coordinator) (L.bytes result) (L.forced result)
+            (L.failures result)
             (L.room result) (state self).log.failed).sight ≡ (state self).log }
     {
         self.into_log().into_store()

@@ -160,7 +160,8 @@ module _ {A : Type 0} (f g : Case → A) (d : Case) (v : A)
 -- What records say of each case.
 
 -- what is said of a case follows from what was said and the case's own records
-pub record IsSaying {A : Type 0} (none : A) (after : A → Record → A) (say : List Record → Case → A) : Type 0 where
+pub record IsSaying {A : Type 0} (none : A) (after : A → Record → A)
+    (say : List Record → Case → A) : Type 0 where
   pub nothing : (c : Case) → say [] c ≡ none
   pub more : (rs : List Record) (c : Case) (r : Record)
       → say (rs ++ r ∷ []) c ≡ (if is_of c r then after (say rs c) r else say rs c)

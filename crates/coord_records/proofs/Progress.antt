@@ -31,7 +31,12 @@ none_more (t ∷ ts) us = refl
 module _ (s : Summary) where
   decided : (t : CaseStage) (ts : List Ticket) (b : Bool)
       → (if b then decides t ts (progress_of s) else progress_of s)
-      ≡ progress_of (if b then record { stage = furthest s.stage t; promised = s.promised; named = s.named ++ ts; owing = s.owing ++ ts } else s)
+      ≡ progress_of (if b then record {
+        stage = furthest s.stage t;
+        promised = s.promised;
+        named = s.named ++ ts;
+        owing = s.owing ++ ts;
+      } else s)
   decided t ts true = λ i. record { stage = furthest s.stage t; nobody = none_more s.owing ts i }
   decided t ts false = refl
 
@@ -39,7 +44,8 @@ module _ (s : Summary) where
   silent true = refl
   silent false = refl
 
-  reached : (r : Record) (t : CaseStage) (b : Bool) → progress_of (summary_after s r) ≡ record { stage = furthest s.stage t; nobody = none_of s.owing }
+  reached : (r : Record) (t : CaseStage) (b : Bool)
+      → progress_of (summary_after s r) ≡ record { stage = furthest s.stage t; nobody = none_of s.owing }
       → (if b then record { stage = furthest s.stage t; nobody = none_of s.owing } else progress_of s)
       ≡ progress_of (if b then summary_after s r else s)
   reached r t true h = sym h
@@ -67,7 +73,8 @@ module _ (s : Summary) where
 
 -- how far it has come after more records
 more_progress : (c : Case) (done rest : List Record)
-    → fold (progress_after c) (progress_of (summary_of done c)) rest ≡ progress_of (summary_of (done ++ rest) c)
+    → fold (progress_after c) (progress_of (summary_of done c)) rest
+    ≡ progress_of (summary_of (done ++ rest) c)
 more_progress c done [] = ap (λ rs. progress_of (summary_of rs c)) (sym (append-nil done))
 more_progress c done (r ∷ rest) =
     ap (λ p. fold (progress_after c) p rest) (by_record (summary_of done c) c r

@@ -33,7 +33,8 @@ use Rattle.coord_records.proofs.CaseTables.{other_stays}
 
 module _ (keeps : Case → Bool) where
   -- what is found of a case that passes
-  pub found_kept : (c : Case) → keeps c ≡ true → (t : SummaryTable) → lookup (same c) (entries_of keeps t) ≡ lookup (same c) t
+  pub found_kept : (c : Case) → keeps c ≡ true → (t : SummaryTable)
+      → lookup (same c) (entries_of keeps t) ≡ lookup (same c) t
   found_kept c kept [] = refl
   found_kept c kept (e ∷ t) = by_test (keeps e.0) refl (same c e.0) refl (found_kept c kept t)
     where
@@ -41,7 +42,8 @@ module _ (keeps : Case → Bool) where
           → lookup (same c) (entries_of keeps t) ≡ lookup (same c) t
           → lookup (same c) (cond k (e ∷ entries_of keeps t) (entries_of keeps t))
           ≡ (if b then Some e.1 else lookup (same c) t)
-      by_test true k b is rest = ap (λ d. if d then Some e.1 else lookup (same c) (entries_of keeps t)) is ∙ either b
+      by_test true k b is rest = ap (λ d. if d then Some e.1 else lookup (same c) (entries_of keeps t)) is
+          ∙ either b
         where
           either : (d : Bool) → (if d then Some e.1 else lookup (same c) (entries_of keeps t))
               ≡ (if d then Some e.1 else lookup (same c) t)
@@ -51,7 +53,8 @@ module _ (keeps : Case → Bool) where
       by_test false k false is rest = rest
 
   -- a case that does not pass is not found
-  pub found_out : (c : Case) → keeps c ≡ false → (t : SummaryTable) → lookup (same c) (entries_of keeps t) ≡ None
+  pub found_out : (c : Case) → keeps c ≡ false → (t : SummaryTable)
+      → lookup (same c) (entries_of keeps t) ≡ None
   found_out c out [] = refl
   found_out c out (e ∷ t) = by_test (keeps e.0) refl (found_out c out t)
     where
@@ -66,7 +69,8 @@ module _ (keeps : Case → Bool) where
       by_test false k rest = rest
 
   -- a case that is found passes
-  pub passes : (c : Case) (t : SummaryTable) → is_some (lookup (same c) (entries_of keeps t)) ≡ true → keeps c ≡ true
+  pub passes : (c : Case) (t : SummaryTable) → is_some (lookup (same c) (entries_of keeps t)) ≡ true
+      → keeps c ≡ true
   passes c t there = by_test (keeps c) refl
     where
       by_test : (b : Bool) → keeps c ≡ b → b ≡ true
@@ -84,7 +88,8 @@ module _ (keeps : Case → Bool) where
           → insert_entry same (cond k (e ∷ entries_of keeps t) (entries_of keeps t)) c s
           ≡ entries_of keeps (if b then (e.0, s) ∷ t else e ∷ insert_entry same t c s)
       by_test true k b is rest =
-          ap (λ d. if d then (e.0, s) ∷ entries_of keeps t else e ∷ insert_entry same (entries_of keeps t) c s) is
+          ap (λ d. if d then (e.0, s) ∷ entries_of keeps t else e ∷ insert_entry same (entries_of keeps t) c
+          s) is
           ∙ either b
         where
           either : (d : Bool)
@@ -108,7 +113,8 @@ module _ (keeps : Case → Bool) where
       → noted_by (entries_of keeps t) r o ≡ entries_of keeps (noted_by t r o)
   table_kept t r None kept = refl
   table_kept t r (Some c) kept =
-      ap (λ f. insert_entry same (entries_of keeps t) c (summary_after (unwrap_or f no_records) r)) (found_kept c kept t)
+      ap (λ f. insert_entry same (entries_of keeps t) c (summary_after (unwrap_or f no_records) r))
+      (found_kept c kept t)
       ∙ written_kept c (summary_after (summary_in t c) r) kept t
 
   apart_from : (o : Option Case) (d : Case) → passes_by o ≡ true → keeps d ≡ false → is_case d o ≡ false
@@ -125,15 +131,18 @@ noted_more rs r m k kept =
     record {
       keeps = k.keeps;
       boot = ap (λ b. boot_after b r) k.boot ∙ sym (boot_more rs r);
-      table = ap (λ t. noted_by t r (record_case r)) k.table ∙ table_kept k.keeps (reading_of rs).table r (record_case r) kept
+      table = ap (λ t. noted_by t r (record_case r)) k.table
+          ∙ table_kept k.keeps (reading_of rs).table r (record_case r) kept
           ∙ ap (entries_of k.keeps) (table_more rs r (record_case r) refl);
-      unknown = λ c out. ap standing_of (other_stays no_records summary_after summary_of says rs r (record_case r) c refl
+      unknown = λ c out. ap standing_of (other_stays no_records summary_after summary_of says rs r
+          (record_case r) c refl
           (apart_from k.keeps (record_case r) c kept out)) ∙ k.unknown c out;
       early = k.early;
     }
 
 -- the case of a record that may follow passes
-pub may_follow : (rs : List Record) (m : LogMemory) (k : RemembersCases rs m) (o : Option Case) → MayFollow m o
+pub may_follow : (rs : List Record) (m : LogMemory) (k : RemembersCases rs m) (o : Option Case)
+    → MayFollow m o
     → passes_by k.keeps o ≡ true
 may_follow rs m k None may = refl
 may_follow rs m k (Some c) (inl there) =
@@ -169,7 +178,8 @@ unfolding noted_more
 noted_all [] rs m k all = subst (λ ns. RemembersCases ns m) (sym (append-nil rs)) k
 noted_all (r ∷ new) rs m k all =
     let next = noted_more rs r m k all.0 in
-    subst (λ ns. RemembersCases ns (record { said = fold noted m.said (r ∷ new); reached = m.reached })) (one_then rs r new)
+    subst (λ ns. RemembersCases ns (record { said = fold noted m.said (r ∷ new); reached = m.reached }))
+    (one_then rs r new)
     (noted_all new (rs ++ r ∷ []) (record { said = noted m.said r; reached = m.reached }) next all.1)
 
 -- What a restart appends.
@@ -184,7 +194,8 @@ module _ {A : Type 0} (f : Case × Summary → List A) (keeps : Case → Bool) (
     where
       by_test : (b : Bool) → keeps c ≡ b
           → flat_map f (entries_of keeps (map (entry_by g) cs)) ≡ flat_map f (map (entry_by g) cs)
-          → flat_map f (cond b ((c, g c) ∷ entries_of keeps (map (entry_by g) cs)) (entries_of keeps (map (entry_by g) cs)))
+          → flat_map f (cond b ((c, g c) ∷ entries_of keeps (map (entry_by g) cs))
+          (entries_of keeps (map (entry_by g) cs)))
           ≡ f (c, g c) ++ flat_map f (map (entry_by g) cs)
       by_test true is rest = ap (λ more. f (c, g c) ++ more) rest
       by_test false is rest = rest ∙ ap (λ more. more ++ flat_map f (map (entry_by g) cs)) (sym (none c is))
@@ -194,7 +205,8 @@ pub no_abort : (rs : List Record) (m : LogMemory) (k : RemembersCases rs m) (c :
 no_abort rs m k c out = ap (abort_by c (summary_of rs c).named) (k.unknown c out)
 
 -- it is what a restart with all these records appends
-pub appends : (rs : List Record) (m : LogMemory) → RemembersCases rs m → reopened_by m.said ≡ coordinator_reopens rs
+pub appends : (rs : List Record) (m : LogMemory) → RemembersCases rs m
+    → reopened_by m.said ≡ coordinator_reopens rs
 appends rs m k =
     ap reopened_by (λ i. record { boot = k.boot i; table = k.table i })
     ∙ ap (λ more. Opened (boot_of rs + 1) ∷ more)
@@ -211,7 +223,8 @@ abort_passes keeps c s Committing kept = tt
 abort_passes keeps c s Aborting kept = tt
 abort_passes keeps c s Heuristic kept = tt
 
-aborts_pass : (keeps : Case → Bool) (t : SummaryTable) → AllPass keeps (flat_map abort_of (entries_of keeps t))
+aborts_pass : (keeps : Case → Bool) (t : SummaryTable)
+    → AllPass keeps (flat_map abort_of (entries_of keeps t))
 aborts_pass keeps [] = tt
 aborts_pass keeps (e ∷ t) = by_test (keeps e.0) refl (aborts_pass keeps t)
   where
@@ -222,7 +235,8 @@ aborts_pass keeps (e ∷ t) = by_test (keeps e.0) refl (aborts_pass keeps t)
     by_test false is rest = rest
 
 -- what is remembered after what a restart appends
-pub planned : (rs new : List Record) (m : LogMemory) (said : ReadLog) → RemembersCases rs m → new ≡ reopened_by m.said
+pub planned : (rs new : List Record) (m : LogMemory) (said : ReadLog) → RemembersCases rs m
+    → new ≡ reopened_by m.said
     → said ≡ fold noted m.said new
     → (new ≡ coordinator_reopens rs)
     × RemembersCases (rs ++ coordinator_reopens rs) (record { said = said; reached = m.reached })
@@ -279,14 +293,17 @@ module _ (keeps : Case → Bool) (needed : Case × Summary → Bool) (g : Case �
   forgotten (c ∷ cs) = by_test (keeps c) (forgotten cs)
     where
       by_test : (b : Bool)
-          → filter needed (entries_of keeps (map (entry_by g) cs)) ≡ entries_of still_keeps (map (entry_by g) cs)
-          → filter needed (cond b ((c, g c) ∷ entries_of keeps (map (entry_by g) cs)) (entries_of keeps (map (entry_by g) cs)))
+          → filter needed (entries_of keeps (map (entry_by g) cs))
+          ≡ entries_of still_keeps (map (entry_by g) cs)
+          → filter needed (cond b ((c, g c) ∷ entries_of keeps (map (entry_by g) cs))
+          (entries_of keeps (map (entry_by g) cs)))
           ≡ cond (b && needed (c, g c)) ((c, g c) ∷ entries_of still_keeps (map (entry_by g) cs))
           (entries_of still_keeps (map (entry_by g) cs))
       by_test true rest = ap (λ es. cond (needed (c, g c)) ((c, g c) ∷ es) es) rest
       by_test false rest = rest
 
-pub still_remembers : (rs : List Record) (m : LogMemory) (reached boot : ℕ) (t : SummaryTable) → RemembersCases rs m
+pub still_remembers : (rs : List Record) (m : LogMemory) (reached boot : ℕ) (t : SummaryTable)
+    → RemembersCases rs m
     → t ≡ filter (is_needed boot) m.said.table → m.reached ≤ reached → boot ≤ reached
     → RemembersCases rs (record { said = record { boot = m.said.boot; table = t }; reached = reached })
 still_remembers rs m reached boot t k is more less =
@@ -298,7 +315,8 @@ still_remembers rs m reached boot t k is more less =
           ∙ forgotten k.keeps (is_needed boot) (summary_of rs) (cases_in rs);
       unknown = λ c out. elim (and_out (k.keeps c) (is_needed boot (c, summary_of rs c)) out) [
         | inl was ↦ k.unknown c was
-        | inr none ↦ (not_needed boot (c, summary_of rs c) (is_known (standing_of (summary_of rs c))) refl none).0
+        | inr none ↦ (not_needed boot (c, summary_of rs c)
+            (is_known (standing_of (summary_of rs c))) refl none).0
       ];
       early = λ c out. elim (and_out (k.keeps c) (is_needed boot (c, summary_of rs c)) out) [
         | inl was ↦ omega (arith, k.early c was, more)
@@ -344,7 +362,8 @@ none_left [] few = refl
 none_left (x ∷ xs) few = absurd (omega arith)
 
 -- what was remembered of any records is remembered of them and of those in front of the rest
-pub record ReadsFrom (place : Place) (now : LogMemory) (all rest : List LogRecord) (rs : List Record) : Type 0 where
+pub record ReadsFrom (place : Place) (now : LogMemory) (all rest : List LogRecord)
+    (rs : List Record) : Type 0 where
   pub read : List Record
   pub remembers : RemembersCases read now
   pub split : read ++ own_records place rest ≡ rs ++ own_records place all
@@ -357,7 +376,8 @@ reading_begins place old all rs k = record { read = rs; remembers = k; split = r
 
 pub reading_goes_on : (place : Place) (old now next : LogMemory) (all rest : List LogRecord) (l : LogRecord)
     → ReadsOn place old now all (l ∷ rest)
-    → ((rs : List Record) → RemembersCases rs now → RemembersCases (rs ++ own_by place l (record_case l.entry)) next)
+    → ((rs : List Record) → RemembersCases rs now → RemembersCases
+    (rs ++ own_by place l (record_case l.entry)) next)
     → ReadsOn place old next all rest
 unfolding own_records
 reading_goes_on place old now next all rest l so_far step rs k =
@@ -365,7 +385,8 @@ reading_goes_on place old now next all rest l so_far step rs k =
     record {
       read = from.read ++ own_by place l (record_case l.entry);
       remembers = step from.read from.remembers;
-      split = append_assoc from.read (own_by place l (record_case l.entry)) (own_records place rest) ∙ from.split;
+      split = append_assoc from.read (own_by place l (record_case l.entry)) (own_records place rest)
+          ∙ from.split;
     }
 
 pub reading_ends : (place : Place) (old now : LogMemory) (all : List LogRecord) → ReadsOn place old now all []
@@ -377,7 +398,8 @@ reading_ends place old now all so_far rs k =
 
 -- One record more of the log.
 
-own_of : (b : Bool) (me : ProcessId) (parent : Option ProcessId) (tree : List TreeProcess) (l : LogRecord) (c : Case)
+own_of : (b : Bool) (me : ProcessId) (parent : Option ProcessId) (tree : List TreeProcess)
+    (l : LogRecord) (c : Case)
     → is_own (place_below me parent tree) l.parent c ≡ b
     → own_by (place_below me parent tree) l (Some c) ≡ (if b then l.entry ∷ [] else [])
 own_of b me None tree l c is =
@@ -386,8 +408,10 @@ own_of b me (Some p) tree l c is =
     ap (λ k. if k then l.entry ∷ [] else foreign_to (Below p) l.parent c l.entry) is
 
 -- a record of a case that is not its own the process leaves out
-pub foreign_is : (b : Bool) (me : ProcessId) (parent : Option ProcessId) (tree : List TreeProcess) (l : LogRecord)
-    (c : Case) → record_case l.entry ≡ Some c → is_own (place_below me parent tree) l.parent c ≡ b → not b ≡ true
+pub foreign_is : (b : Bool) (me : ProcessId) (parent : Option ProcessId)
+    (tree : List TreeProcess) (l : LogRecord)
+    (c : Case) → record_case l.entry ≡ Some c → is_own (place_below me parent tree) l.parent c ≡ b
+    → not b ≡ true
     → own_by (place_below me parent tree) l (record_case l.entry) ≡ []
 foreign_is true me parent tree l c is own not_own = absurd (cc)
 foreign_is false me parent tree l c is own not_own =
@@ -395,7 +419,8 @@ foreign_is false me parent tree l c is own not_own =
 
 -- a record of its own it reads
 pub own_is : (b : Bool) (me : ProcessId) (parent : Option ProcessId) (tree : List TreeProcess) (l : LogRecord)
-    (c : Case) → record_case l.entry ≡ Some c → is_own (place_below me parent tree) l.parent c ≡ b → not b ≡ false
+    (c : Case) → record_case l.entry ≡ Some c → is_own (place_below me parent tree) l.parent c ≡ b
+    → not b ≡ false
     → own_by (place_below me parent tree) l (record_case l.entry) ≡ l.entry ∷ []
 own_is true me parent tree l c is own not_own =
     ap (own_by (place_below me parent tree) l) is ∙ own_of true me parent tree l c own
@@ -406,6 +431,8 @@ pub none_is : (place : Place) (l : LogRecord) → record_case l.entry ≡ None
 none_is place l is = ap (own_by place l) is
 
 -- a record that is left out
-pub left_out : (rs more : List Record) (m : LogMemory) → more ≡ [] → RemembersCases rs m → RemembersCases (rs ++ more) m
+pub left_out : (rs more : List Record) (m : LogMemory) → more ≡ [] → RemembersCases rs m
+    → RemembersCases (rs ++ more) m
 left_out rs more m is k =
-    subst (λ ms. RemembersCases (rs ++ ms) m) (sym is) (subst (λ ns. RemembersCases ns m) (sym (append-nil rs)) k)
+    subst (λ ms. RemembersCases (rs ++ ms) m) (sym is)
+    (subst (λ ns. RemembersCases ns m) (sym (append-nil rs)) k)

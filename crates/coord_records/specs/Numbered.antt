@@ -20,8 +20,8 @@ abbrev pub is_reached : ℕ → Option Case → Bool
 is_reached b None = true
 is_reached b (Some c) = nat_le (numbered_in c) b
 
--- the record may stand where the log has reached this boot: it is of a case that was numbered by then, and takes
--- no boot back
+-- the record may stand where the log has reached this boot: it is of a case that was numbered by then, and
+-- takes no boot back
 abbrev pub may_stand : ℕ → Record → Bool
 may_stand b r = is_reached b (record_case r) && nat_le b (boot_after b r)
 

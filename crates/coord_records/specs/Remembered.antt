@@ -10,7 +10,8 @@ use Rattle.coord_records.specs.Numbered.{numbered_in}
 use Rattle.coord_records.specs.Readings.{ReadLog, SummaryTable, reading_of, same}
 use Rattle.coord_records.specs.Summaries.{Summary, standing_of, summary_of}
 
--- what is remembered of a log: what its records say, but for cases that were numbered in a boot before this one
+-- what is remembered of a log: what its records say, but for cases that were numbered in a boot before this
+-- one
 pub record LogMemory : Type 0 where
   pub said : ReadLog
   pub reached : ℕ
@@ -24,13 +25,13 @@ abbrev pub is_known : Standing → Bool
 is_known Unknown = false
 is_known _ = true
 
--- the entry must be remembered, if the log has reached this boot: its case is not Unknown, or its first records may
--- still come
+-- the entry must be remembered, if the log has reached this boot: its case is not Unknown, or its first
+-- records may still come
 abbrev pub is_needed : ℕ → Case × Summary → Bool
 is_needed boot e = is_known (standing_of e.1) || nat_le boot (numbered_in e.0)
 
--- it is remembered what these records say, but for cases that are Unknown by them and were numbered in a boot before
--- the one that was reached
+-- it is remembered what these records say, but for cases that are Unknown by them and were numbered in a boot
+-- before the one that was reached
 pub record RemembersCases (rs : List Record) (m : LogMemory) : Type 0 where
   pub keeps : Case → Bool
   pub boot : m.said.boot ≡ boot_of rs
@@ -38,8 +39,8 @@ pub record RemembersCases (rs : List Record) (m : LogMemory) : Type 0 where
   pub unknown : (c : Case) → keeps c ≡ false → standing_of (summary_of rs c) ≡ Unknown
   pub early : (c : Case) → keeps c ≡ false → numbered_in c < m.reached
 
--- a record of this case, if it is of any, may follow: the case is found, or was numbered in the boot that was reached
--- or a later one
+-- a record of this case, if it is of any, may follow: the case is found, or was numbered in the boot that was
+-- reached or a later one
 abbrev pub MayFollow : LogMemory → Option Case → Type 0
 MayFollow m None = ⊤
 MayFollow m (Some c) = (is_some (lookup (same c) m.said.table) ≡ true) ⊎ (m.reached ≤ numbered_in c)

@@ -55,11 +55,12 @@ fn reopens(alloc: Global, reading: &CaseReading) -> Result<Vec<Record>, AllocErr
     Ok(records)
 }
 
-/// What a restart makes of the records of a log of which this is remembered. Exhausted: the next boot would be 2^63 or
-/// more.
+/// What a restart makes of the records of a log of which this is remembered. Exhausted: the next boot would
+/// be 2^63 or more.
 pub fn plan(alloc: Global, remembered: RememberedCases) -> Result<RestartPlan, StepError>
     ensures ok { IfOk result (λ plan. (rs : List AnyRecord) → RemembersCases rs remembered → IsPlan rs plan) }
-    ensures err { IfErr result (λ e. (rs : List AnyRecord) → RemembersCases rs remembered → NotPlanned (boot_of rs) e) }
+    ensures err { IfErr result (λ e. (rs : List AnyRecord) → RemembersCases rs remembered
+        → NotPlanned (boot_of rs) e) }
 {
     let mut remembered = remembered;
     if remembered.reading.boot >= LAST_BOOT {

@@ -14,9 +14,9 @@ use protocol::{Case, LogRecord, ProcessId, Record, Standing, Tree};
 use std::alloc::{AllocError, Global};
 use std::marker::Model;
 
-/// What the records of a log say, to be read on from. Cases may be left out that were Unknown when `forget` was called
-/// and were numbered in a boot before `reached`: a process writes no more of most of them, and `read_on` looks for
-/// records that it wrote none the less.
+/// What the records of a log say, to be read on from. Cases may be left out that were Unknown when `forget`
+/// was called and were numbered in a boot before `reached`: a process writes no more of most of them, and
+/// `read_on` looks for records that it wrote none the less.
 #[derive(Drop)]
 pub struct RememberedCases {
     pub(crate) reading: CaseReading,
@@ -77,8 +77,8 @@ impl CaseReading {
 }
 
 impl RememberedCases {
-    /// What the records of a log say to the coordinator `me` below this parent, whose log it is. It goes through them
-    /// once.
+    /// What the records of a log say to the coordinator `me` below this parent, whose log it is. It goes
+    /// through them once.
     pub fn of(
         alloc: Global,
         me: ProcessId,
@@ -135,7 +135,8 @@ impl RememberedCases {
         record: &LogRecord,
     ) -> Result<bool, AllocError>
         ensures { IfOk result (λ noted. noted ≡ true → (rs : List AnyRecord) → RemembersCases rs self.old
-            → RemembersCases (rs ++ own_by (place_below me parent tree.now) record.now (record_case record.now.entry))
+            → RemembersCases (rs ++ own_by (place_below me parent tree.now) record.now
+            (record_case record.now.entry))
             self.new) }
     {
         if is_foreign(me, parent, tree, record) {
@@ -144,8 +145,8 @@ impl RememberedCases {
         self.note(&record.entry)
     }
 
-    /// Reads on, in these records of the log, which come after those that were read. False: one of them is of a case
-    /// that may be left out, so that the log must be read from its start, and this must be dropped.
+    /// Reads on, in these records of the log, which come after those that were read. False: one of them is of
+    /// a case that may be left out, so that the log must be read from its start, and this must be dropped.
     pub fn read_on(
         &mut self,
         me: ProcessId,
@@ -166,7 +167,8 @@ impl RememberedCases {
         Ok(true)
     }
 
-    /// Leaves out the cases that are Unknown and were numbered in a boot before the last one. It takes no memory.
+    /// Leaves out the cases that are Unknown and were numbered in a boot before the last one. It takes no
+    /// memory.
     pub fn forget(&mut self)
         ensures { (rs : List AnyRecord) → RemembersCases rs self.old → RemembersCases rs self.new }
     {

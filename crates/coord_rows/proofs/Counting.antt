@@ -104,7 +104,8 @@ does_vote s t w old mid new effect counted counts does =
     let after = record old { votes = old.votes ++ (t, w) ∷ [] } in
     let same : SameRow (collecting_after (seat_meant s) mid w) (collecting_after (seat_meant s) after w) =
     collecting_after-same mid after counts (seat_meant s) w in
-    let done : DoesRow s (collecting_after (seat_meant s) after w) effect new = does_same s _ _ effect new same does in
+    let done : DoesRow s (collecting_after (seat_meant s) after w) effect new =
+    does_same s _ _ effect new same does in
     rw counted (record {
       written = done.written;
       framed = done.framed;

@@ -40,7 +40,8 @@ does_shown s w ms effect view shows gone =
     }
 
 -- what shows this record and leaves nothing of the case does the row that says so
-pub does_ending : {E : Type 0} (s : OwnCase) (w : RowRecord) (ms : List Envelope) (row : Row) (view : CoordinatorView)
+pub does_ending : {E : Type 0} (s : OwnCase) (w : RowRecord) (ms : List Envelope) (row : Row)
+    (view : CoordinatorView)
     (made : Result RowEffect E) → row ≡ ending w ms
     → IfOk made (λ effect. ShowsRecord s.parent effect w None ms) → OnOk made (view ≡ unknown_view)
     → IfOk made (λ effect. DoesRow s row effect view)
@@ -61,7 +62,8 @@ root_ending s o fs v root =
 pub ending_below : (s : OwnCase) (p : ProcessId) (o : Outcome) (fs : List Finding) (v : CoordinatorView)
     → s.parent ≡ Some p
     → decided_ack_by this_version (seat_meant s) o [] fs v
-    ≡ ending (record { entry = EndRecord s.case None; forced = false }) (up (seat_meant s) (Ack s.case o (in_order fs)))
+    ≡ ending (record { entry = EndRecord s.case None; forced = false })
+    (up (seat_meant s) (Ack s.case o (in_order fs)))
 unfolding none_of
 ending_below s p o fs v below =
     ap (λ q. ending (end_written s.case (end_reports this_version q fs))

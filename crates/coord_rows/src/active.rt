@@ -23,7 +23,8 @@ pub fn active_join(
     child: ProcessId,
     live: &Live,
 ) -> Result<RowEffect, AllocError>
-    ensures { IfOk result (λ effect. DoesRow seat (active_join (seat_meant seat) child live.now) effect live.now) }
+    ensures { IfOk result (λ effect. DoesRow seat (active_join (seat_meant seat) child live.now)
+        effect live.now) }
 {
     if live.has_child(child) {
         return Ok(RowEffect::quiet(alloc));
@@ -76,9 +77,11 @@ pub fn active_work(
 /// Active, the commit act or PREPARE: where nobody takes part the case has read only, else each child is
 /// asked for its vote. Memory, Exhausted: nothing changed.
 pub fn active_commit(alloc: Global, seat: OwnCase, live: &mut Live) -> Result<RowEffect, StepError>
-    ensures ok { IfOk result (λ effect. DoesRow seat (active_commit (seat_meant seat) live.old) effect live.new) }
+    ensures ok { IfOk result (λ effect. DoesRow seat (active_commit (seat_meant seat) live.old)
+        effect live.new) }
     ensures err { OnErr result (live.new ≡ live.old) }
-    ensures unwritten { IfErr result (NotWritten seat.parent (active_commit (seat_meant seat) live.old).written) }
+    ensures unwritten { IfErr result (NotWritten seat.parent
+        (active_commit (seat_meant seat) live.old).written) }
 {
     if !live.is_alone() {
         return active_commit_with(alloc, seat, live);
@@ -116,7 +119,8 @@ fn active_commit_with(alloc: Global, seat: OwnCase, live: &mut Live) -> Result<R
 /// Active, the abort act or ABORT: the children are told, and nothing is written, since none can have
 /// promised. Memory: nothing changed.
 pub fn active_abort(alloc: Global, seat: OwnCase, live: &mut Live) -> Result<RowEffect, AllocError>
-    ensures ok { IfOk result (λ effect. DoesRow seat (active_abort (seat_meant seat) live.old) effect live.new) }
+    ensures ok { IfOk result (λ effect. DoesRow seat (active_abort (seat_meant seat) live.old)
+        effect live.new) }
     ensures err { OnErr result (live.new ≡ live.old) }
 {
     let tickets = live.tickets(alloc)?;

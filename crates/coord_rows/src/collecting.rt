@@ -91,11 +91,13 @@ fn abort_undecided(
     undecided: Vec<Ticket>,
     live: &mut Live,
 ) -> Result<RowEffect, StepError>
-    ensures ok { IfOk result (λ effect. DoesRow seat (collecting_abort_by (seat_meant seat) (reason_meant reason)
+    ensures ok { IfOk result (λ effect. DoesRow seat
+        (collecting_abort_by (seat_meant seat) (reason_meant reason)
         live.old undecided.items seat.case.txn.presumption) effect live.new) }
     ensures err { OnErr result (live.new ≡ live.old) }
     ensures unwritten { IfErr result (NotWritten seat.parent
-        (collecting_abort_by (seat_meant seat) (reason_meant reason) live.old undecided.items seat.case.txn.presumption).written) }
+        (collecting_abort_by (seat_meant seat) (reason_meant reason) live.old undecided.items
+        seat.case.txn.presumption).written) }
 {
     let mut messages = heard_above(alloc, seat, reason, &undecided)?;
     tell_each(&mut messages, seat, Outcome::Aborted, &undecided)?;
@@ -115,9 +117,11 @@ fn abort_undecided(
 /// The last vote, and none was NO: with nobody that promised the case has read only; else the root commits,
 /// and a coordinator below it promises.
 fn collecting_full(alloc: Global, seat: OwnCase, live: &mut Live) -> Result<RowEffect, StepError>
-    ensures ok { IfOk result (λ effect. DoesRow seat (collecting_full (seat_meant seat) live.old) effect live.new) }
+    ensures ok { IfOk result (λ effect. DoesRow seat (collecting_full (seat_meant seat) live.old)
+        effect live.new) }
     ensures err { OnErr result (live.new ≡ live.old) }
-    ensures unwritten { IfErr result (NotWritten seat.parent (collecting_full (seat_meant seat) live.old).written) }
+    ensures unwritten { IfErr result (NotWritten seat.parent
+        (collecting_full (seat_meant seat) live.old).written) }
 {
     if live.none_voted_yes() {
         return collecting_read_only(alloc, seat, live);
@@ -135,9 +139,11 @@ fn collecting_read_only(
     seat: OwnCase,
     live: &mut Live,
 ) -> Result<RowEffect, StepError>
-    ensures ok { IfOk result (λ effect. DoesRow seat (collecting_read_only (seat_meant seat)) effect live.new) }
+    ensures ok { IfOk result (λ effect. DoesRow seat (collecting_read_only (seat_meant seat))
+        effect live.new) }
     ensures err { OnErr result (live.new ≡ live.old) }
-    ensures unwritten { IfErr result (NotWritten seat.parent (collecting_read_only (seat_meant seat)).written) }
+    ensures unwritten { IfErr result (NotWritten seat.parent
+        (collecting_read_only (seat_meant seat)).written) }
 {
     let messages = up(alloc, seat, Message::Read(seat.case))?;
     let told = seat.told(Conclusion::ReadOnly);

@@ -73,7 +73,8 @@ pub fn decided_ack(
         effect live.new) }
     ensures err { OnErr result (live.new ≡ live.old) }
     ensures unwritten { IfErr result (NotWritten seat.parent
-        (decided_ack this_version (seat_meant seat) outcome ticket (live.old.found ++ findings.now) live.old).written) }
+        (decided_ack this_version (seat_meant seat) outcome ticket (live.old.found ++ findings.now)
+        live.old).written) }
 {
     if !live.owes(&ticket) {
         return Ok(RowEffect::quiet(alloc));

@@ -29,14 +29,14 @@
 //! | none | PREPARE, COMMIT, ABORT, INQUIRE | `unknown_prepare`, `unknown_commit`, `unknown_abort`, `unknown_inquiry` |
 //! | none, reported at the root | forget | `clears` |
 //!
-//! A coordinator below the root acknowledges an outcome after the last ACK that it is owed, with what was found
-//! below it: `decided_ack`. So its ACK speaks for its whole subtree, and `committing_commit` and `aborting_abort`
-//! say nothing. Of a case of which nothing is known the own ticket is unreported.
+//! A coordinator below the root acknowledges an outcome after the last ACK that it is owed, with what was
+//! found below it: `decided_ack`. So its ACK speaks for its whole subtree, and `committing_commit` and
+//! `aborting_abort` say nothing. Of a case of which nothing is known the own ticket is unreported.
 //!
 //! A case that aborted without anybody left to acknowledge, or that ended, is gone: it is Unknown.
 //!
-//! What a row makes, and the rows of a case in doubt (Prepared), are in `coord_effects`; what the crates above
-//! take of it is passed on from here.
+//! What a row makes, and the rows of a case in doubt (Prepared), are in `coord_effects`; what the crates
+//! above take of it is passed on from here.
 #![tactic(auto)]
 
 mod active;

@@ -82,13 +82,15 @@ crash_breaks o events crash p first why opens of_crash cannot =
 starts_at : (tree : List TreeProcess) (logs : Option (List ProcessLog)) (first : Run) (now : WorldState)
     (given : List Event) (refusal : Refusal) (n : ℕ) (begins : BeginsBy tree logs first)
     (come : ComesTo (state first.world) given refusal n now)
-    → start_by tree logs given refusal now (ran_by tree logs first now given refusal n begins come) ≡ state first.world
+    → start_by tree logs given refusal now (ran_by tree logs first now given refusal n begins come)
+    ≡ state first.world
 unfolding ran_by ran replayed
 starts_at tree None first now given refusal n begins come = refl
 starts_at tree (Some logs) first now given refusal n begins come = refl
 
 -- the questions after a crash cannot all be made, with all that comes of them
-settled_breaks : (o : Origin) (events : List Event) (p : Option Point) (r : Report) (first : Run) (now : WorldState)
+settled_breaks : (o : Origin) (events : List Event) (p : Option Point) (r : Report) (first : Run)
+    (now : WorldState)
     (refusal : Refusal) (n : ℕ) (why : Failure) → Opens o first
     → ComesTo (state first.world) (events ++ crash_of p) refusal n now → refusal ≡ None → Audits now r
     → CannotMake (state first.world) (tried_events events p r) why → QuestionsBreakOff o events p why
@@ -103,7 +105,8 @@ settled_breaks o events p r first now None n why opens come none audits cannot =
 }
 
 -- all that comes of them cannot be made
-pub settle_breaks : (o : Origin) (events crash asks : List Event) (p : Option Point) (r : Report) (first : Run)
+pub settle_breaks : (o : Origin) (events crash asks : List Event) (p : Option Point)
+    (r : Report) (first : Run)
     (now : WorldState) (refusal : Refusal) (n : ℕ) (why : Failure) → Opens o first
     → ComesTo (state first.world) (events ++ crash) refusal n now → crash ≡ crash_of p → refusal ≡ None
     → Audits now r
@@ -111,19 +114,24 @@ pub settle_breaks : (o : Origin) (events crash asks : List Event) (p : Option Po
     → TrialBreaksOff o events p why
 settle_breaks o events crash asks p r first now refusal n why opens come of_crash none audits of_asks cannot =
     inr (settled_breaks o events p r first now refusal n why opens
-    (subst (λ (es : List Event). ComesTo (state first.world) (events ++ es) refusal n now) of_crash come) none audits
-    (subst (λ (es : List Event). CannotMake (state first.world) (((events ++ es) ++ asks_by r) ++ Settle ∷ []) why) of_crash
-    (subst (λ (es : List Event). CannotMake (state first.world) (((events ++ crash) ++ es) ++ Settle ∷ []) why) of_asks
+    (subst (λ (es : List Event). ComesTo (state first.world) (events ++ es) refusal n now) of_crash come) none
+    audits
+    (subst (λ (es : List Event). CannotMake (state first.world)
+    (((events ++ es) ++ asks_by r) ++ Settle ∷ []) why) of_crash
+    (subst (λ (es : List Event). CannotMake (state first.world)
+    (((events ++ crash) ++ es) ++ Settle ∷ []) why) of_asks
     cannot)))
 
 -- the questions after a crash cannot all be made
-pub questions_break : (o : Origin) (events crash asks : List Event) (p : Option Point) (r : Report) (first : Run)
+pub questions_break : (o : Origin) (events crash asks : List Event) (p : Option Point)
+    (r : Report) (first : Run)
     (now : WorldState) (refusal : Refusal) (n : ℕ) (why : Failure) → Opens o first
     → ComesTo (state first.world) (events ++ crash) refusal n now → crash ≡ crash_of p → refusal ≡ None
     → Audits now r
     → asks ≡ asks_by r → CannotMake (state first.world) ((events ++ crash) ++ asks) why
     → TrialBreaksOff o events p why
-questions_break o events crash asks p r first now refusal n why opens come of_crash none audits of_asks cannot =
+questions_break o events crash asks p r first now refusal n why opens come of_crash none audits
+    of_asks cannot =
     settle_breaks o events crash asks p r first now refusal n why opens come of_crash none audits of_asks
     (cannot_longer (state first.world) ((events ++ crash) ++ asks) (Settle ∷ []) why cannot)
 
@@ -163,7 +171,8 @@ pub on_breaks : (o : Origin) (events : List Event) (n : ℕ) (why : Failure) →
 on_breaks o events n why within cannot = record { before = n; within = within; cannot = cannot }
 
 -- nothing is written of a script
-pub script_breaks : (input : List ℕ) (tree : List TreeProcess) (logs : Option (List ProcessLog)) (events : List Event)
+pub script_breaks : (input : List ℕ) (tree : List TreeProcess) (logs : Option (List ProcessLog))
+    (events : List Event)
     (why : Failure) → IsReopenScript input tree logs events
     → CannotTry (record { tree = tree; logs = logs }) events why → CannotReport input why
 script_breaks input tree logs events why script cannot =

@@ -22,7 +22,8 @@ use Rattle.crash_engine.specs.Settles.{SettlesBy, deliveries_in}
 use Rattle.crash_engine.specs.Trials.{Adds, GoesDown, GoesOn, GoesWithin, Known, after_event, within_event}
 
 -- one delivery more
-pub one_delivery_more : (o : Origin) (known : Known) (number : ℕ) (events deliveries : List Event) (d : ℕ) (at : CrashPlace)
+pub one_delivery_more : (o : Origin) (known : Known) (number : ℕ) (events deliveries : List Event) (d : ℕ)
+    (at : CrashPlace)
     (front : List Event) (refusal : Refusal) (old middle new : List Trial)
     → at ≡ within_event number (suc d) → front ≡ events ++ take (suc d) deliveries
     → Adds o known at front refusal middle new
@@ -37,14 +38,17 @@ one_delivery_more o known number events deliveries d at front refusal old middle
 )
 
 -- one event more, at its place
-one_more_taken : (events : List Event) (n : ℕ) (event at : Event) → n < length events → event ≡ at → at ≡ get_or events n at
+one_more_taken : (events : List Event) (n : ℕ) (event at : Event) → n < length events → event ≡ at
+    → at ≡ get_or events n at
     → take n events ++ event ∷ [] ≡ take (suc n) events
 one_more_taken events n event at within same is =
     let more : n + 1 ≡ suc n = omega arith in
-    ap (λ e. take n events ++ e ∷ []) (same ∙ is) ∙ sym (take_more events n at within) ∙ ap (λ k. take k events) more
+    ap (λ e. take n events ++ e ∷ []) (same ∙ is) ∙ sym (take_more events n at within)
+    ∙ ap (λ k. take k events) more
 
 -- the same, counted otherwise
-pub one_taken : (events : List Event) (n : ℕ) (event at : Event) → n < length events → event ≡ at → at ≡ get_or events n at
+pub one_taken : (events : List Event) (n : ℕ) (event at : Event) → n < length events → event ≡ at
+    → at ≡ get_or events n at
     → take n events ++ event ∷ [] ≡ take (n + 1) events
 one_taken events n event at within same is =
     ap (λ e. take n events ++ e ∷ []) (same ∙ is) ∙ sym (take_more events n at within)
@@ -57,21 +61,25 @@ taken_on (e ∷ events) zero = refl
 taken_on (e ∷ events) (suc n) = ap (λ es. e ∷ es) (taken_on events n)
 
 -- one of the first events was refused
-pub front_refused : (o : Origin) (known : Known) (events : List Event) (n : ℕ) (first run : Run) (old : List Trial)
+pub front_refused : (o : Origin) (known : Known) (events : List Event) (n : ℕ) (first run : Run)
+    (old : List Trial)
     → Opens o first → HasCome (state first.world) (take n events) run → is_some run.refusal ≡ true
     → GoesOn o known events n run.refusal old old
 front_refused o known events n first run old opens come is =
     refused_by run.refusal is (subst (λ es. PlaysFrom o es run.refusal (state run.world)) (taken_on events n)
     (comes_to o first run (take n events ++ take 1 (drop n events)) opens
-    (none_more (state first.world) (state run.world) (take n events) (take 1 (drop n events)) run.refusal run.made is come)))
+    (none_more (state first.world) (state run.world) (take n events) (take 1 (drop n events)) run.refusal
+    run.made is come)))
   where
-    refused_by : (refusal : Refusal) → is_some refusal ≡ true → PlaysFrom o (take (suc n) events) refusal (state run.world)
+    refused_by : (refusal : Refusal) → is_some refusal ≡ true
+        → PlaysFrom o (take (suc n) events) refusal (state run.world)
         → GoesOn o known events n refusal old old
     refused_by None is ran = absurd (cc)
     refused_by (Some r) is ran = (refl, (state run.world, ran))
 
 -- an event was refused
-pub event_refused : (o : Origin) (known : Known) (events : List Event) (n : ℕ) (event at : Event) (first run : Run)
+pub event_refused : (o : Origin) (known : Known) (events : List Event) (n : ℕ) (event at : Event)
+    (first run : Run)
     (old : List Trial) → n < length events → event ≡ at → at ≡ get_or events n at → Opens o first
     → HasCome (state first.world) (take n events ++ event ∷ []) run → is_some run.refusal ≡ true
     → GoesOn o known events n run.refusal old old
@@ -80,7 +88,8 @@ event_refused o known events n event at first run old within same is opens come 
     (one_more_taken events n event at within same is)
     (comes_to o first run (take n events ++ event ∷ []) opens come))
   where
-    refused_by : (refusal : Refusal) → is_some refusal ≡ true → PlaysFrom o (take (suc n) events) refusal (state run.world)
+    refused_by : (refusal : Refusal) → is_some refusal ≡ true
+        → PlaysFrom o (take (suc n) events) refusal (state run.world)
         → GoesOn o known events n refusal old old
     refused_by None some ran = absurd (cc)
     refused_by (Some r) some ran = (refl, (state run.world, ran))
@@ -92,7 +101,8 @@ none_by (Some refused) is = absurd (cc)
 -- a settle was made after the first events, and these are its deliveries
 pub settle_made : (o : Origin) (events deliveries : List Event) (event : Event) (first before after : Run)
     → Opens o first → HasCome (state first.world) events before → is_some before.refusal ≡ false
-    → HasCome (state first.world) (events ++ event ∷ []) after → is_some after.refusal ≡ false → event ≡ Settle
+    → HasCome (state first.world) (events ++ event ∷ []) after → is_some after.refusal ≡ false
+    → event ≡ Settle
     → deliveries ≡ deliveries_in (drop (length (state before.world).entries) (state after.world).entries)
     → SettlesBy o events deliveries
 settle_made o events deliveries event first before after opens come none came none_then is are = record {
@@ -100,56 +110,72 @@ settle_made o events deliveries event first before after opens come none came no
   after = state after.world;
   ran = subst (λ r. PlaysFrom o events r (state before.world)) (none_by before.refusal none)
       (comes_to o first before events opens come);
-  settled = subst (λ r. PlaysFrom o (events ++ Settle ∷ []) r (state after.world)) (none_by after.refusal none_then)
+  settled = subst (λ r. PlaysFrom o (events ++ Settle ∷ []) r (state after.world))
+      (none_by after.refusal none_then)
       (subst (λ e. PlaysFrom o (events ++ e ∷ []) after.refusal (state after.world)) is
       (comes_to o first after (events ++ event ∷ []) opens came));
   are = are;
 }
 
--- what is known of the deliveries of an event that was made after the first events: those of a settle are read off its
--- steps, and others have none
+-- what is known of the deliveries of an event that was made after the first events: those of a settle are
+-- read off its steps, and others have none
 pub record HasDelivered (o : Origin) (events deliveries : List Event) (at : Event) : Type 0 where
   pub settle : at ≡ Settle → SettlesBy o events deliveries
   pub other : at ≢ Settle → deliveries ≡ []
 
-pub has_delivered : (o : Origin) (events deliveries : List Event) (event at : Event) (first before after : Run)
+pub has_delivered : (o : Origin) (events deliveries : List Event) (event at : Event)
+    (first before after : Run)
     → Opens o first → HasCome (state first.world) events before → is_some before.refusal ≡ false
     → HasCome (state first.world) (events ++ event ∷ []) after → is_some after.refusal ≡ false → event ≡ at
-    → (at ≡ Settle → deliveries ≡ deliveries_in (drop (length (state before.world).entries) (state after.world).entries))
+    → (at ≡ Settle → deliveries ≡ deliveries_in
+    (drop (length (state before.world).entries) (state after.world).entries))
     → (at ≢ Settle → deliveries ≡ []) → HasDelivered o events deliveries at
-has_delivered o events deliveries event at first before after opens come none came none_then same settle other = record {
-  settle = λ is. settle_made o events deliveries event first before after opens come none came none_then (same ∙ is) (settle is);
-  other = other;
-}
+has_delivered o events deliveries event at first before after opens come none came none_then same settle
+    other = record {
+      settle = λ is. settle_made o events deliveries event first before after opens come none came none_then
+          (same ∙ is) (settle is);
+      other = other;
+    }
 
 -- it was gone through, within
-goes_within : (o : Origin) (known : Known) (number : ℕ) (events deliveries : List Event) (at : Event) (old new : List Trial)
-    → HasDelivered o events deliveries at → GoesDown o known number events deliveries (pred (length deliveries)) old new
+goes_within : (o : Origin) (known : Known) (number : ℕ) (events deliveries : List Event) (at : Event)
+    (old new : List Trial)
+    → HasDelivered o events deliveries at → GoesDown o known number events deliveries
+    (pred (length deliveries)) old new
     → GoesWithin o known number events (Some at) old new
 goes_within o known number events deliveries Settle old new has goes = (deliveries, has.settle refl, goes)
 goes_within o known number events deliveries (Act a) old new has goes =
-    subst (λ ds. GoesDown o known number events ds (pred (length ds)) old new) (has.other (λ is. absurd (cc))) goes
+    subst (λ ds. GoesDown o known number events ds (pred (length ds)) old new)
+    (has.other (λ is. absurd (cc))) goes
 goes_within o known number events deliveries (Deliver k) old new has goes =
-    subst (λ ds. GoesDown o known number events ds (pred (length ds)) old new) (has.other (λ is. absurd (cc))) goes
+    subst (λ ds. GoesDown o known number events ds (pred (length ds)) old new)
+    (has.other (λ is. absurd (cc))) goes
 goes_within o known number events deliveries (Restart q bytes) old new has goes =
-    subst (λ ds. GoesDown o known number events ds (pred (length ds)) old new) (has.other (λ is. absurd (cc))) goes
+    subst (λ ds. GoesDown o known number events ds (pred (length ds)) old new)
+    (has.other (λ is. absurd (cc))) goes
 goes_within o known number events deliveries (Trim q) old new has goes =
-    subst (λ ds. GoesDown o known number events ds (pred (length ds)) old new) (has.other (λ is. absurd (cc))) goes
+    subst (λ ds. GoesDown o known number events ds (pred (length ds)) old new)
+    (has.other (λ is. absurd (cc))) goes
 
 -- an event was gone through, within and after it
-pub gone_on : (o : Origin) (known : Known) (events deliveries : List Event) (n number : ℕ) (at : Event) (place : CrashPlace)
-    (front : List Event) (run : Run) (r : Result Refusal Failure) (old middle new : List Trial) → n < length events
+pub gone_on : (o : Origin) (known : Known) (events deliveries : List Event) (n number : ℕ) (at : Event)
+    (place : CrashPlace)
+    (front : List Event) (run : Run) (r : Result Refusal Failure) (old middle new : List Trial)
+    → n < length events
     → at ≡ get_or events n at → number ≡ suc n → place ≡ after_event (suc n) → front ≡ take (suc n) events
     → HasDelivered o (take n events) deliveries at
     → GoesDown o known number (take n events) deliveries (pred (length deliveries)) old middle
     → is_some run.refusal ≡ false → IfOk r (λ refusal. Adds o known place front refusal middle new)
     → IfOk r (λ refusal. refusal ≡ run.refusal)
     → IfOk r (λ refusal. GoesOn o known events n refusal old new)
-gone_on o known events deliveries n number at place front run (Err e) old middle new within is numbered there taken has goes none adds
+gone_on o known events deliveries n number at place front run (Err e) old middle new within is numbered there
+    taken has goes none adds
     same = tt
-gone_on o known events deliveries n number at place front run (Ok (Some refused)) old middle new within is numbered there taken has goes
+gone_on o known events deliveries n number at place front run (Ok (Some refused)) old middle new within is
+    numbered there taken has goes
     none adds same = absurd (true≢false (ap (λ (x : Refusal). is_some x) same ∙ none))
-gone_on o known events deliveries n number at place front run (Ok None) old middle new within is numbered there taken has goes none adds
+gone_on o known events deliveries n number at place front run (Ok None) old middle new within is numbered
+    there taken has goes none adds
     same = (
       middle,
       subst (λ e. GoesWithin o known (suc n) (take n events) e old middle)
@@ -176,7 +202,8 @@ pub event_breaks : (o : Origin) (events : List Event) (n : ℕ) (event at : Even
     → CannotMake (state first.world) (take n events ++ event ∷ []) why → CannotGoOn o events n why
 event_breaks o events n event at first why within same is opens cannot =
     inl (inl (run_breaks o (take (suc n) events) first why opens
-    (subst (λ es. CannotMake (state first.world) es why) (one_more_taken events n event at within same is) cannot)))
+    (subst (λ es. CannotMake (state first.world) es why)
+    (one_more_taken events n event at within same is) cannot)))
 
 no_deliveries : (o : Origin) (events deliveries : List Event) (why : Failure) → deliveries ≡ []
     → CannotGoDown o events deliveries why → ⊥
@@ -185,7 +212,8 @@ no_deliveries o events (d ∷ deliveries) why is down = absurd (cc)
 
 -- not each crash within it is tried
 pub within_breaks : (o : Origin) (events deliveries : List Event) (n : ℕ) (at : Event) (why : Failure)
-    → HasDelivered o (take n events) deliveries at → CannotGoDown o (take n events) deliveries why → CannotGoOn o events n why
+    → HasDelivered o (take n events) deliveries at → CannotGoDown o (take n events) deliveries why
+    → CannotGoOn o events n why
 within_breaks o events deliveries n Settle why has down = inr (deliveries, has.settle refl, down)
 within_breaks o events deliveries n (Act a) why has down =
     absurd (no_deliveries o (take n events) deliveries why (has.other (λ is. absurd (cc))) down)

@@ -49,7 +49,8 @@ never_by : (clean : Bool) → ending.Refused ≡ (if clean then ending.Clean els
 never_by true is = absurd (cc)
 never_by false is = absurd (cc)
 
-never : (alone : CrashEnd) (ts : List Trial) (refusal : Refusal) → ending.Refused ≡ ending_by alone ts refusal → ⊥
+never : (alone : CrashEnd) (ts : List Trial) (refusal : Refusal) → ending.Refused ≡ ending_by alone ts refusal
+    → ⊥
 never alone ts None is = never_by (is_clean alone && are_clean ts) is
 never alone ts (Some r) is = absurd (cc)
 
@@ -62,9 +63,11 @@ ends_so ending.Finds input text alone ts refusal is tries = tries
 ends_so ending.Refused input text alone ts refusal is tries = absurd (never alone ts refusal is)
 
 -- crashes were tried
-pub tried_from : (o : Origin) (e : CrashStatus) (text : List ℕ) (events : List Event) (alone : CrashEnd) (known : Known)
+pub tried_from : (o : Origin) (e : CrashStatus) (text : List ℕ) (events : List Event)
+    (alone : CrashEnd) (known : Known)
     (ts : List Trial) (refusal : Refusal) → EndsAlone o events alone → known ≡ known_of alone
-    → GoesOver o known events refusal ts → e ≡ ending_by alone ts refusal → text ≡ crashes_text alone ts refusal
+    → GoesOver o known events refusal ts → e ≡ ending_by alone ts refusal
+    → text ≡ crashes_text alone ts refusal
     → TriesFrom o events e text
 tried_from o e text events alone known ts refusal so left goes ends is = record {
   refusal = refusal;
@@ -77,7 +80,8 @@ tried_from o e text events alone known ts refusal so left goes ends is = record 
 }
 
 -- the report of a script
-pub reported : (e : CrashStatus) (input text : List ℕ) (tree : List TreeProcess) (logs : Option (List ProcessLog))
+pub reported : (e : CrashStatus) (input text : List ℕ) (tree : List TreeProcess)
+    (logs : Option (List ProcessLog))
     (events : List Event) → IsReopenScript input tree logs events
     → TriesFrom (record { tree = tree; logs = logs }) events e text → IsCrashReport e input text
 reported e input text tree logs events script tries =

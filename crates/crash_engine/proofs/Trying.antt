@@ -35,12 +35,14 @@ pub comes_to : (o : Origin) (first run : Run) (given : List Event) → Opens o f
 comes_to o first run given opens h =
     ran_by o.tree o.logs first (state run.world) given run.refusal run.made opens h
 
-plays_tree : (tree : List TreeProcess) (logs : Option (List ProcessLog)) (events : List Event) (refusal : Refusal)
+plays_tree : (tree : List TreeProcess) (logs : Option (List ProcessLog)) (events : List Event)
+    (refusal : Refusal)
     (end : WorldState) → PlaysBy tree logs events refusal end → end.tree ≡ tree
 plays_tree tree None events refusal end plays = plays.run.tree_is
 plays_tree tree (Some logs) events refusal end plays = plays.tree_is
 
-opens_tree : (tree : List TreeProcess) (logs : Option (List ProcessLog)) (first : Run) → BeginsBy tree logs first
+opens_tree : (tree : List TreeProcess) (logs : Option (List ProcessLog)) (first : Run)
+    → BeginsBy tree logs first
     → IsTree tree
 opens_tree tree None first begins = begins.is_tree
 opens_tree tree (Some logs) first begins = begins.is_tree
@@ -53,7 +55,8 @@ begun o first opens = begun_by o.tree o.logs first opens
 pub still_tree : (o : Origin) (first run : Run) (given : List Event) → Opens o first
     → HasCome (state first.world) given run → IsTree run.world.tree
 still_tree o first run given opens h =
-    subst IsTree (sym (plays_tree o.tree o.logs given run.refusal (state run.world) (comes_to o first run given opens h)))
+    subst IsTree (sym (plays_tree o.tree o.logs given run.refusal (state run.world)
+    (comes_to o first run given opens h)))
     (opens_tree o.tree o.logs first opens)
 
 -- these events and a crash after them were run
@@ -106,7 +109,8 @@ no_run is never =
     subst (λ (x : WorldValue MemoryStore). (tree : List TreeProcess) (given : List Event)
     → Plays tree given None (state x) → ⊥) is never
 
-pub stopped_damaged : (o : Origin) (known : Known) (events : List Event) (p : Option Point) (crash : List Event)
+pub stopped_damaged : (o : Origin) (known : Known) (events : List Event) (p : Option Point)
+    (crash : List Event)
     (first run : Run) (process : ProcessId) (place : ℕ) → Opens o first
     → HasCome (state first.world) (events ++ crash) run → crash ≡ crash_of p → run.refusal ≡ None
     → IsDamagedThen (state run.world) process place
@@ -126,7 +130,8 @@ found_leaves o known w r f audits leaves = by_logs o.logs
     by_logs None = (r, audits, leaves)
     by_logs (Some logs) = inl (r, audits, leaves)
 
-found_damaged_by : (tree : List TreeProcess) (logs : Option (List ProcessLog)) (known : Known) (w : WorldState)
+found_damaged_by : (tree : List TreeProcess) (logs : Option (List ProcessLog)) (known : Known)
+    (w : WorldState)
     (events : List Event) (process : ProcessId) (place : ℕ) → PlaysBy tree logs events None w
     → IsDamagedThen w process place
     → ((tree : List TreeProcess) (given : List Event) → Plays tree given None w → ⊥)
@@ -151,10 +156,12 @@ pub tried_so : (o : Origin) (known : Known) (events : List Event) (p : Option Po
     → ((given : List Event) → PlaysFrom o given end.refusal (state end.world)
     → EndsWith o known (state end.world) end.refusal f)
     → Tries o known events p f
-tried_so o known events p r crash asks first middle end f opens crashes of_crash none audits of_asks ends found =
+tried_so o known events p r crash asks first middle end f opens crashes of_crash none audits
+    of_asks ends found =
     let ran = comes_to o first end (((events ++ crash_of p) ++ asks_by r) ++ Settle ∷ []) opens
     (subst (λ es. HasCome (state first.world) (((events ++ es) ++ asks_by r) ++ Settle ∷ []) end) of_crash
-    (subst (λ es. HasCome (state first.world) (((events ++ crash) ++ es) ++ Settle ∷ []) end) of_asks ends)) in
+    (subst (λ es. HasCome (state first.world) (((events ++ crash) ++ es) ++ Settle ∷ []) end) of_asks ends))
+    in
     Asked (record {
       middle = state middle.world;
       crashes = subst (λ r. PlaysFrom o (events ++ crash_of p) r (state middle.world)) none
@@ -167,7 +174,8 @@ tried_so o known events p r crash asks first middle end f opens crashes of_crash
       ends = found _ ran;
     })
 
-one_more : (o : Origin) (known : Known) (at : CrashPlace) (events : List Event) (ps : List Point) (ts : List Trial) (p : Point)
+one_more : (o : Origin) (known : Known) (at : CrashPlace) (events : List Event) (ps : List Point)
+    (ts : List Trial) (p : Point)
     (t : Trial) → AreTried o known at events ps ts
     → t.place ≡ at → t.point ≡ p → Tries o known events (Some p) t.found
     → AreTried o known at events (ps ++ p ∷ []) (ts ++ t ∷ [])
@@ -181,11 +189,13 @@ pub none_tried : (o : Origin) (known : Known) (at : CrashPlace) (events : List E
     → AddsTrials o known at events [] old old
 none_tried o known at events old = ([], sym (append-nil old), tt)
 
-pub tried_more : (o : Origin) (known : Known) (at : CrashPlace) (events : List Event) (ps : List Point) (i : ℕ) (p : Point)
+pub tried_more : (o : Origin) (known : Known) (at : CrashPlace) (events : List Event) (ps : List Point)
+    (i : ℕ) (p : Point)
     (t : Trial) (old mid new : List Trial)
     → i < length ps → p ≡ get_or ps i p → new ≡ mid ++ t ∷ [] → t.place ≡ at → t.point ≡ p
     → Tries o known events (Some p) t.found
-    → AddsTrials o known at events (take i ps) old mid → AddsTrials o known at events (take (i + 1) ps) old new
+    → AddsTrials o known at events (take i ps) old mid
+    → AddsTrials o known at events (take (i + 1) ps) old new
 tried_more o known at events ps i p t old mid new within is pushed there point tries before = (
   before.0 ++ t ∷ [],
   pushed ∙ ap (λ xs. xs ++ t ∷ []) before.1 ∙ append_assoc old before.0 (t ∷ []),
@@ -195,7 +205,8 @@ tried_more o known at events ps i p t old mid new within is pushed there point t
 )
 
 -- all points after these events were tried
-pub all_tried : (o : Origin) (known : Known) (at : CrashPlace) (events : List Event) (now : WorldState) (refusal : Refusal)
+pub all_tried : (o : Origin) (known : Known) (at : CrashPlace) (events : List Event) (now : WorldState)
+    (refusal : Refusal)
     (ps : List Point) (old new : List Trial)
     → is_some refusal ≡ false → PlaysFrom o events refusal now → ps ≡ points_in now
     → AddsTrials o known at events ps old new → Adds o known at events None old new
@@ -218,7 +229,8 @@ refused_adds o known at events now None old is ran = absurd (cc)
 refused_adds o known at events now (Some r) old is ran = (refl, (now, ran))
 
 -- all of these points were
-pub all_points : (o : Origin) (known : Known) (at : CrashPlace) (events : List Event) (ps : List Point) (i : ℕ)
+pub all_points : (o : Origin) (known : Known) (at : CrashPlace) (events : List Event)
+    (ps : List Point) (i : ℕ)
     (old new : List Trial) → length ps ≤ i
     → AddsTrials o known at events (take i ps) old new → AddsTrials o known at events ps old new
 all_points o known at events ps i old new past tried =

@@ -14,8 +14,8 @@ use Rattle.crash_engine.specs.Texts.{crashes_text, ending_by}
 use Rattle.crash_engine.specs.declared.ending.CrashStatus.{CrashStatus}
 use Rattle.crash_engine.specs.declared.ending.CrashStatus.TheVariants as ending
 
--- each crash after each of these events was tried, up to the first that is refused, and the text is that of what they
--- leave without any, and of what crashes leave beyond that
+-- each crash after each of these events was tried, up to the first that is refused, and the text is that of
+-- what they leave without any, and of what crashes leave beyond that
 pub record TriesFrom (o : Origin) (events : List Event) (e : CrashStatus) (text : List ℕ) : Type 0 where
   pub refusal : Refusal
   pub alone : CrashEnd
@@ -33,7 +33,8 @@ pub record TriesScript (e : CrashStatus) (input text : List ℕ) : Type 0 where
   pub script : IsReopenScript input tree logs events
   pub tries : TriesFrom (record { tree = tree; logs = logs }) events e text
 
--- what is written of an input, by how it ends: the line of the fault that is there, or of the damaged log, or what crashes end with
+-- what is written of an input, by how it ends: the line of the fault that is there, or of the damaged log, or
+-- what crashes end with
 abbrev pub IsCrashReport : CrashStatus → List ℕ → List ℕ → Type 0
 IsCrashReport ending.Refused input text = RefusesInput input text ⊎ TellsLogDamage input text
 IsCrashReport ending.Clean input text = TriesScript ending.Clean input text

@@ -24,7 +24,8 @@ pub record EventsBreakOff (o : Origin) (events : List Event) (why : Failure) : T
   pub opens : StartsFrom o start
   pub cannot : CannotMake start events why
 
--- a run of these events breaks off for this reason: its tree does not open once more, or they cannot all be made
+-- a run of these events breaks off for this reason: its tree does not open once more, or they cannot all be
+-- made
 abbrev pub RunBreaksOff : Origin → List Event → Failure → Type 0
 RunBreaksOff o events why = OpensNot o why ⊎ EventsBreakOff o events why
 
@@ -63,7 +64,8 @@ pub record PointsBreakOff (o : Origin) (events : List Event) (why : Failure) : T
 abbrev pub CannotTryAll : Origin → List Event → Failure → Type 0
 CannotTryAll o events why = RunBreaksOff o events why ⊎ PointsBreakOff o events why
 
--- not each crash after these events and the first of these deliveries, or the first two, and so on, is tried, for this reason
+-- not each crash after these events and the first of these deliveries, or the first two, and so on, is tried,
+-- for this reason
 pub record CannotGoDown (o : Origin) (events deliveries : List Event) (why : Failure) : Type 0 where
   pub before : ℕ
   pub within : before < length deliveries
@@ -71,13 +73,15 @@ pub record CannotGoDown (o : Origin) (events deliveries : List Event) (why : Fai
 
 -- the same of the deliveries of a settle after these events
 abbrev pub CannotSettle : Origin → List Event → Failure → Type 0
-CannotSettle o events why = (deliveries : List Event) × SettlesBy o events deliveries × CannotGoDown o events deliveries why
+CannotSettle o events why = (deliveries : List Event) × SettlesBy o events deliveries
+    × CannotGoDown o events deliveries why
 
 -- not each crash within the event that comes after the first n, or after it, is tried, for this reason
 abbrev pub CannotGoOn : Origin → List Event → ℕ → Failure → Type 0
 CannotGoOn o events n why = CannotTryAll o (take (suc n) events) why ⊎ CannotSettle o (take n events) why
 
--- not each crash within the first of these events and after it, within the second, and so on, is tried, for this reason
+-- not each crash within the first of these events and after it, within the second, and so on, is tried, for
+-- this reason
 pub record CannotGoOver (o : Origin) (events : List Event) (why : Failure) : Type 0 where
   pub before : ℕ
   pub within : before < length events

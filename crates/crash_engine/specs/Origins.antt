@@ -35,6 +35,7 @@ start_by tree (Some logs) events refusal end plays = plays.start
 abbrev pub IsDamagedAt : Origin → ProcessId → ℕ → Type 0
 IsDamagedAt o process place = IsDamageBy o.tree o.logs process place
 
--- its tree does not open, since one of its logs is damaged; where it opened before, this is told as a failed device
+-- its tree does not open, since one of its logs is damaged; where it opened before, this is told as a failed
+-- device
 abbrev pub OpensNot : Origin → Failure → Type 0
 OpensNot o why = (why ≡ Device) × (process : ProcessId) × (place : ℕ) × IsDamagedAt o process place

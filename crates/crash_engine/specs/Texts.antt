@@ -56,7 +56,8 @@ cases_text word cs = if is_none cs then [] else word ++ flat_map case_word cs
 
 -- the cases in doubt, and those with a mismatch
 unfoldable pub left_text : Leftover → List ℕ
-left_text l = cases_text (codes " in-doubt") l.in_doubt.items ++ cases_text (codes " mismatch") l.mismatches.items
+left_text l = cases_text (codes " in-doubt") l.in_doubt.items
+    ++ cases_text (codes " mismatch") l.mismatches.items
 
 -- what a crash ends with
 unfoldable pub found_text : CrashEnd → List ℕ
@@ -74,7 +75,8 @@ place_text at = (codes "event" ++ number_word at.event) ++ delivery_text at.deli
 
 -- the crash: there this process restarts, and keeps this many bytes
 unfoldable pub point_text : CrashPlace → Point → List ℕ
-point_text at p = place_text at ++ (codes " restart" ++ number_word p.process.0 ++ number_word p.keep) ++ codes ":"
+point_text at p = place_text at ++ (codes " restart" ++ number_word p.process.0 ++ number_word p.keep)
+    ++ codes ":"
 
 -- the line of a crash, where something is left
 unfoldable pub trial_text : Trial → List ℕ

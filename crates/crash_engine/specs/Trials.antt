@@ -54,15 +54,17 @@ CrashLeaves known r _ = ⊥
 
 -- what an audit of the logs that the processes keep finds: one of them is damaged
 abbrev pub FindsDamage : WorldState → CrashEnd → Type 0
-FindsDamage w f = (process : ProcessId) × (place : ℕ) × IsDamagedThen w process place × (f ≡ found.Damaged process place)
+FindsDamage w f = (process : ProcessId) × (place : ℕ) × IsDamagedThen w process place
+    × (f ≡ found.Damaged process place)
 
--- what it leaves beyond what is known; of a tree that was opened over logs also that a log is damaged: no run leaves
--- logs that come to that
+-- what it leaves beyond what is known; of a tree that was opened over logs also that a log is damaged: no run
+-- leaves logs that come to that
 abbrev pub Finds : Option (List ProcessLog) → Known → WorldState → CrashEnd → Type 0
 Finds None known w f = (r : Report) × Audits w r × CrashLeaves known r f
 Finds (Some logs) known w f = ((r : Report) × Audits w r × CrashLeaves known r f) ⊎ FindsDamage w f
 
--- what a run ends with: what an audit of its logs finds, or where an event was refused that, by the event's number from 1
+-- what a run ends with: what an audit of its logs finds, or where an event was refused that, by the event's
+-- number from 1
 abbrev pub EndsWith : Origin → Known → WorldState → Refusal → CrashEnd → Type 0
 EndsWith o known w None f = Finds o.logs known w f
 EndsWith o known w (Some refused) f = f ≡ found.Refused (refused.0 + 1) refused.1
@@ -77,13 +79,14 @@ pub record StopsEarly (o : Origin) (events : List Event) (p : Option Point) (f :
   pub stops : IsRefused o (events ++ crash_of p) refused
   pub is : f ≡ found.Refused (refused.0 + 1) refused.1
 
--- these events, a crash after them or none, the questions for all cases that an audit then shows in doubt, and all
--- that comes of them
+-- these events, a crash after them or none, the questions for all cases that an audit then shows in doubt,
+-- and all that comes of them
 abbrev pub tried_events : List Event → Option Point → Report → List Event
 tried_events events p r = ((events ++ crash_of p) ++ asks_by r) ++ Settle ∷ []
 
 -- these events and the crash after them were made, and after the questions the run ends so
-pub record EndsAsked (o : Origin) (known : Known) (events : List Event) (p : Option Point) (f : CrashEnd) : Type 0 where
+pub record EndsAsked (o : Origin) (known : Known) (events : List Event) (p : Option Point)
+    (f : CrashEnd) : Type 0 where
   pub middle : WorldState
   pub crashes : PlaysFrom o (events ++ crash_of p) None middle
   pub report : Report
@@ -102,7 +105,8 @@ pub record StopsDamaged (o : Origin) (events : List Event) (p : Option Point) (f
   pub finds : FindsDamage middle f
 
 -- a crash at this point after these events was tried, or none, and the run leaves that beyond what is known
-pub data Tries (o : Origin) (known : Known) (events : List Event) (p : Option Point) (f : CrashEnd) : Type 0 where
+pub data Tries (o : Origin) (known : Known) (events : List Event) (p : Option Point)
+    (f : CrashEnd) : Type 0 where
   Early : StopsEarly o events p f → Tries o known events p f
   Asked : EndsAsked o known events p f → Tries o known events p f
   Broken : StopsDamaged o events p f → Tries o known events p f
@@ -119,19 +123,22 @@ AreTried o known at events (p ∷ ps) (t ∷ ts) =
 AreTried o known at events _ _ = ⊥
 
 -- each of these points after these events was tried, after what was tried before
-abbrev pub AddsTrials : Origin → Known → CrashPlace → List Event → List Point → List Trial → List Trial → Type 0
+abbrev pub AddsTrials : Origin → Known → CrashPlace → List Event → List Point → List Trial → List Trial
+    → Type 0
 AddsTrials o known at events ps old new = (behind : List Trial) × (new ≡ old ++ behind)
     × AreTried o known at events ps behind
 
 -- these events lead to a state of which each point was tried
-pub record TriesAll (o : Origin) (known : Known) (at : CrashPlace) (events : List Event) (ts : List Trial) : Type 0 where
+pub record TriesAll (o : Origin) (known : Known) (at : CrashPlace) (events : List Event)
+    (ts : List Trial) : Type 0 where
   pub state : WorldState
   pub ran : PlaysFrom o events None state
   pub tried : AreTried o known at events (points_in state) ts
 
 -- each point was tried after these events, or one of them is refused, and none was
 abbrev pub Adds : Origin → Known → CrashPlace → List Event → Refusal → List Trial → List Trial → Type 0
-Adds o known at events None old new = (behind : List Trial) × (new ≡ old ++ behind) × TriesAll o known at events behind
+Adds o known at events None old new = (behind : List Trial) × (new ≡ old ++ behind)
+    × TriesAll o known at events behind
 Adds o known at events (Some refused) old new = (new ≡ old) × IsRefused o events refused
 
 -- after the event with this number; within it, after this many of its deliveries
@@ -141,8 +148,8 @@ after_event n = record { event = n; delivery = 0 }
 abbrev pub within_event : ℕ → ℕ → CrashPlace
 within_event n d = record { event = n; delivery = d }
 
--- each point was tried after the first of these deliveries of the event with this number, after the first two, and so on
--- to this many, these events being those before it
+-- each point was tried after the first of these deliveries of the event with this number, after the first
+-- two, and so on to this many, these events being those before it
 abbrev pub GoesDown : Origin → Known → ℕ → List Event → List Event → ℕ → List Trial → List Trial → Type 0
 GoesDown o known number events deliveries zero old new = new ≡ old
 GoesDown o known number events deliveries (suc d) old new =
@@ -150,15 +157,16 @@ GoesDown o known number events deliveries (suc d) old new =
     × GoesDown o known number events deliveries d old middle
     × Adds o known (within_event number (suc d)) (events ++ take (suc d) deliveries) refusal middle new
 
--- each point was tried after each delivery of a settle, the event with this number, but the last, after which the settle
--- is over
+-- each point was tried after each delivery of a settle, the event with this number, but the last, after which
+-- the settle is over
 abbrev pub GoesWithin : Origin → Known → ℕ → List Event → Option Event → List Trial → List Trial → Type 0
 GoesWithin o known number events (Some Settle) old new =
     (deliveries : List Event) × SettlesBy o events deliveries
     × GoesDown o known number events deliveries (pred (length deliveries)) old new
 GoesWithin o known number events event old new = new ≡ old
 
--- each point was tried within the event that comes after the first n, and after it; or one of them is refused, and none was
+-- each point was tried within the event that comes after the first n, and after it; or one of them is
+-- refused, and none was
 abbrev pub GoesOn : Origin → Known → List Event → ℕ → Refusal → List Trial → List Trial → Type 0
 GoesOn o known events n None old new =
     (middle : List Trial) × GoesWithin o known (suc n) (take n events) (slice_get events n) old middle

@@ -40,8 +40,8 @@ impl Leftover {
     }
 }
 
-/// Audits the logs that the processes of a tree keep; or tells the first that is damaged, and where. None is damaged of
-/// a tree that opened over empty logs and whose events were all made.
+/// Audits the logs that the processes of a tree keep; or tells the first that is damaged, and where. None is
+/// damaged of a tree that opened over empty logs and whose events were all made.
 pub(crate) fn audit_of(
     alloc: Global,
     world: &World<MemoryStore>,
@@ -49,7 +49,8 @@ pub(crate) fn audit_of(
     requires { IsTree (state world.now).tree }
     ensures audits { IfOk result (λ audited. IfOk audited (Audits (state world.now))) }
     ensures damaged { IfOk result (λ audited. IfErr audited (λ d. IsDamagedThen (state world.now) d.0 d.1)) }
-    ensures never { IfOk result (λ audited. IfErr audited (λ _. (tree : List TreeProcess) (events : List AnyEvent)
+    ensures never { IfOk result (λ audited.
+        IfErr audited (λ _. (tree : List TreeProcess) (events : List AnyEvent)
         → Plays tree events None (state world.now) → ⊥)) }
     ensures memory { IfErr result (λ e. e ≡ Failure.Memory) }
 {

@@ -52,8 +52,8 @@ fn show<P: Write>(
     Ok(())
 }
 
-/// Tries each crash within each event of a script and after it, up to the first that is refused. The errors are those of
-/// `show` and `try_event`.
+/// Tries each crash within each event of a script and after it, up to the first that is refused. The errors
+/// are those of `show` and `try_event`.
 fn try_events<P: Write>(
     alloc: Global,
     origin: &Origin,
@@ -130,22 +130,23 @@ fn answer<P: Write>(
     }
 }
 
-/// Reads a tree script and tries each crash of it: after each of its events and after each delivery of a settle, of each
-/// process, with each number of its unforced records that the crash may leave. Each is a run of its own of the script's events
-/// so far and the crash; then everything is delivered, every case that the logs show in doubt asks its
-/// parent, everything is delivered again, and the logs are audited. Writes first what the script leaves
-/// without any crash, where it leaves a case in doubt or a mismatch; then a line for each crash that leaves
-/// more than that, and the numbers of crashes; after them which event was refused, if one was, or alone why
-/// the script was. Where the script begins its events with logs, each run opens over them, and a damaged one is told alone.
+/// Reads a tree script and tries each crash of it: after each of its events and after each delivery of a
+/// settle, of each process, with each number of its unforced records that the crash may leave. Each is a run
+/// of its own of the script's events so far and the crash; then everything is delivered, every case that the
+/// logs show in doubt asks its parent, everything is delivered again, and the logs are audited. Writes first
+/// what the script leaves without any crash, where it leaves a case in doubt or a mismatch; then a line for
+/// each crash that leaves more than that, and the numbers of crashes; after them which event was refused, if
+/// one was, or alone why the script was. Where the script begins its events with logs, each run opens over
+/// them, and a damaged one is told alone.
 ///
-/// Each of these runs is one of the model: the headline holds of it, and mismatches are reported in it; over logs, so
-/// it is from each run that left them, and a log that is damaged after a crash is told: no run leaves such logs. The
-/// time goes with the square of the number of events and deliveries. `progress` gets a line for each percent of them; a
-/// failed write there is no failure of the run.
-/// After a failed read, or where memory is refused, a device fails or numbers are used up, nothing was
-/// written; after a failed write, a beginning of the text. Device and Exhausted come only of a script, one of
-/// whose runs cannot go on for that; Exhausted also where a process's records that a crash may take come to
-/// 2^64 bytes or more, and Device if the tree does not open once more over its logs.
+/// Each of these runs is one of the model: the headline holds of it, and mismatches are reported in it; over
+/// logs, so it is from each run that left them, and a log that is damaged after a crash is told: no run
+/// leaves such logs. The time goes with the square of the number of events and deliveries. `progress` gets a
+/// line for each percent of them; a failed write there is no failure of the run. After a failed read, or
+/// where memory is refused, a device fails or numbers are used up, nothing was written; after a failed write,
+/// a beginning of the text. Device and Exhausted come only of a script, one of whose runs cannot go on for
+/// that; Exhausted also where a process's records that a crash may take come to 2^64 bytes or more, and
+/// Device if the tree does not open once more over its logs.
 pub fn run_crash<R: Read, W: Write, P: Write>(
     alloc: Global,
     reader: &mut R,

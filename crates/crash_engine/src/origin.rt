@@ -12,7 +12,8 @@ use std::alloc::Global;
 use tree_engine::Run;
 use tree_world::copied_tree;
 
-/// A tree, and the logs over which it opens, where the script begins its events with them; else it opens over empty ones.
+/// A tree, and the logs over which it opens, where the script begins its events with them; else it opens over
+/// empty ones.
 #[derive(Drop)]
 pub struct Origin {
     pub tree: Tree,
@@ -41,8 +42,8 @@ pub(crate) fn damage_of(
     }
 }
 
-/// A run of the tree that opens. Device: one of the logs is damaged. That the tree opens over logs over which it
-/// opened before no contract says, and nothing else is told of it.
+/// A run of the tree that opens. Device: one of the logs is damaged. That the tree opens over logs over which
+/// it opened before no contract says, and nothing else is told of it.
 pub(crate) fn opened(alloc: Global, origin: &Origin) -> Result<Run, Failure>
     requires { IsTree origin.now.tree }
     ensures begins { IfOk result (λ run. Opens origin.now run) }

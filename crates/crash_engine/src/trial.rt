@@ -29,8 +29,8 @@ pub enum CrashEnd {
     Ended(Leftover),
     /// The event with this number, from 1, of its run was refused.
     Refused(u64, StepError),
-    /// The log of this process, of a tree that was opened over logs, is damaged there: no run leaves logs that come to
-    /// that.
+    /// The log of this process, of a tree that was opened over logs, is damaged there: no run leaves logs
+    /// that come to that.
     Damaged(ProcessId, usize),
 }
 
@@ -75,10 +75,10 @@ fn found_of(alloc: Global, known: &Leftover, run: &Run) -> Result<CrashEnd, Fail
     }
 }
 
-/// Runs these events and the crash after them, if there is one, in a tree that has just opened, settles,
-/// asks for every case that is in doubt by the logs, settles again, and audits the logs. Where one of these
-/// events or of the crash is refused, or then a log is damaged, that is all. Memory; Device, Exhausted: one of these events cannot be
-/// made for that.
+/// Runs these events and the crash after them, if there is one, in a tree that has just opened, settles, asks
+/// for every case that is in doubt by the logs, settles again, and audits the logs. Where one of these events
+/// or of the crash is refused, or then a log is damaged, that is all. Memory; Device, Exhausted: one of these
+/// events cannot be made for that.
 fn crash(
     alloc: Global,
     known: &Leftover,
@@ -108,7 +108,8 @@ fn crash(
 }
 
 /// Tries this crash after these events, or none, in a run of its own: what it leaves beyond what is known.
-/// Memory; Device, Exhausted: one of the run's events cannot be made for that, or the tree does not open once more.
+/// Memory; Device, Exhausted: one of the run's events cannot be made for that, or the tree does not open once
+/// more.
 pub fn try_point(
     alloc: Global,
     origin: &Origin,

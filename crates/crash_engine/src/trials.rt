@@ -72,8 +72,8 @@ fn try_points(
     Ok(())
 }
 
-/// Tries each crash after the events that a run has made, or tells which of them was refused, and tries none. The errors
-/// are those of `try_after`.
+/// Tries each crash after the events that a run has made, or tells which of them was refused, and tries none.
+/// The errors are those of `try_after`.
 fn try_here(
     alloc: Global,
     origin: &Origin,
@@ -111,7 +111,8 @@ fn try_run(
     trials: &mut Vec<Trial>,
 ) -> Result<(), Failure>
     requires { Opens origin.now run.old }
-    ensures adds { OnOk result ((refusal : AnyRefusal) × Adds origin.now (known_by known.now) place events.now refusal
+    ensures adds { OnOk result ((refusal : AnyRefusal)
+        × Adds origin.now (known_by known.now) place events.now refusal
         trials.old.items trials.new.items) }
     ensures err { IfErr result (λ why. (why ≡ Failure.Memory) ⊎ CannotTryAll origin.now events.now why) }
     ensures why { IfErr result IsOfRun }
@@ -121,9 +122,9 @@ fn try_run(
     Ok(())
 }
 
-/// Tries each crash after these events; none, if one of them is refused. Memory; Device, Exhausted: the run of the events
-/// breaks off for that, or that of a crash after them, or the records of a process that a crash may take come to 2^64 bytes
-/// or more.
+/// Tries each crash after these events; none, if one of them is refused. Memory; Device, Exhausted: the run
+/// of the events breaks off for that, or that of a crash after them, or the records of a process that a crash
+/// may take come to 2^64 bytes or more.
 fn try_after(
     alloc: Global,
     origin: &Origin,
@@ -133,7 +134,8 @@ fn try_after(
     trials: &mut Vec<Trial>,
 ) -> Result<(), Failure>
     requires { IsTree origin.now.tree }
-    ensures adds { OnOk result ((refusal : AnyRefusal) × Adds origin.now (known_by known.now) place events.now refusal
+    ensures adds { OnOk result ((refusal : AnyRefusal)
+        × Adds origin.now (known_by known.now) place events.now refusal
         trials.old.items trials.new.items) }
     ensures err { IfErr result (λ why. (why ≡ Failure.Memory) ⊎ CannotTryAll origin.now events.now why) }
     ensures why { IfErr result IsOfRun }
@@ -164,8 +166,8 @@ fn joined(alloc: Global, events: &[Event], deliveries: &[Event]) -> Result<Vec<E
     Ok(all)
 }
 
-/// Tries each crash within a settle, which is the event with this number: after each of these deliveries but the last. The
-/// errors are those of `try_after`.
+/// Tries each crash within a settle, which is the event with this number: after each of these deliveries but
+/// the last. The errors are those of `try_after`.
 fn try_within(
     alloc: Global,
     origin: &Origin,
@@ -210,8 +212,8 @@ fn deliveries_of(
     }
 }
 
-/// Makes one event after these in a tree that has just opened, and tries each crash within it and after it. The errors are
-/// those of `try_event`.
+/// Makes one event after these in a tree that has just opened, and tries each crash within it and after it.
+/// The errors are those of `try_event`.
 fn try_last(
     alloc: Global,
     origin: &Origin,
@@ -257,9 +259,9 @@ fn try_last(
     )
 }
 
-/// Tries each crash within the event that comes after this many, and after it; or tells which of them is refused, and tries
-/// none. Memory; Device, Exhausted: the run of the events breaks off for that, or that of a crash, or the records of a
-/// process that a crash may take come to 2^64 bytes or more.
+/// Tries each crash within the event that comes after this many, and after it; or tells which of them is
+/// refused, and tries none. Memory; Device, Exhausted: the run of the events breaks off for that, or that of
+/// a crash, or the records of a process that a crash may take come to 2^64 bytes or more.
 pub fn try_event(
     alloc: Global,
     origin: &Origin,

@@ -33,16 +33,19 @@ unfolding asked_at
 empty_asks root = refl
 
 -- a line without bytes changes nothing, whether it is text or not
-stays_by : (root : ProcessId) (old new : NodeState) (text : List ℕ) (a : NodeLine) → AsksLine root [] a → AnswersAsked a old new text
+stays_by : (root : ProcessId) (old new : NodeState) (text : List ℕ) (a : NodeLine) → AsksLine root [] a
+    → AnswersAsked a old new text
     → new ≡ old
-stays_by root old new text a (inl (is, e)) h = (subst (λ (b : NodeLine). AnswersAsked b old new text) (e ∙ empty_asks root) h).0
+stays_by root old new text a (inl (is, e)) h =
+    (subst (λ (b : NodeLine). AnswersAsked b old new text) (e ∙ empty_asks root) h).0
 stays_by root old new text a (inr (is, e)) h = (subst (λ (b : NodeLine). AnswersAsked b old new text) e h).0
 
 stays : (old new : NodeState) (text : List ℕ) → AnswersLine [] old new text → new ≡ old
 stays old new text h = stays_by (root_of old.tree) old new text h.asked h.asks h.answers
 
 -- lines of nothing change nothing
-serves_nothing : (old new : NodeState) (pieces : List (List ℕ)) (text : List ℕ) → flat_map (λ p. p) pieces ≡ []
+serves_nothing : (old new : NodeState) (pieces : List (List ℕ)) (text : List ℕ)
+    → flat_map (λ p. p) pieces ≡ []
     → Serves old pieces new text → new ≡ old
 serves_nothing old new [] text none h = h.0
 serves_nothing old new (piece ∷ pieces) text none (mid, first, rest, answers, serves, is) =
@@ -50,7 +53,8 @@ serves_nothing old new (piece ∷ pieces) text none (mid, first, rest, answers, 
     serves_nothing mid new pieces rest parts.1 serves
     ∙ stays old mid first (subst (λ (l : List ℕ). AnswersLine (line_of l) old mid first) parts.0 answers)
 
-served_nothing : (start : Stand) (opening : Reaction) (now : Stand) → start.left ≡ Some [] → Served start opening now
+served_nothing : (start : Stand) (opening : Reaction) (now : Stand) → start.left ≡ Some []
+    → Served start opening now
     → now.state.core ≡ start.state.core
 served_nothing start opening now none h =
     let taken = subst (λ (k : Known). Consumes k now.left (flat_map (λ p. p) h.pieces)) none h.took in
@@ -65,15 +69,19 @@ ends_core EndAsked start opening now none h =
     ap (λ (s : NodeState). s.core) h.state ∙ served_nothing start opening h.before none h.served
 
 -- what is closed is the log of the process as it stood
-pub ends_closes : {L : Type 0} (bytes : L → List ℕ) (forced failures : L → ℕ) (start : Stand) (opening : Reaction)
-    (left held : Known) (store : L) → start.left ≡ Some [] → EndsInOrder bytes forced failures start opening left held store
+pub ends_closes : {L : Type 0} (bytes : L → List ℕ) (forced failures : L → ℕ) (start : Stand)
+    (opening : Reaction)
+    (left held : Known) (store : L) → start.left ≡ Some []
+    → EndsInOrder bytes forced failures start opening left held store
     → ClosesLog bytes forced failures start.state.core store
 ends_closes bytes forced failures start opening left held store none h =
-    subst (λ (c : CoreState). ClosesLog bytes forced failures c store) (ends_core h.by start opening h.last none h.ends)
+    subst (λ (c : CoreState). ClosesLog bytes forced failures c store)
+    (ends_core h.by start opening h.last none h.ends)
     h.closes
 
 -- the store of a node that was given no line has its log, as it was
-pub all_closed : {L : Type 0} (bytes : L → List ℕ) (forced failures : L → ℕ) (r : Result L NodeFailure) (s : NodeState)
+pub all_closed : {L : Type 0} (bytes : L → List ℕ) (forced failures : L → ℕ)
+    (r : Result L NodeFailure) (s : NodeState)
     (from held : Known) (opening : Reaction) (left now : Known) → from ≡ Some []
     → IfOk r (EndsInOrder bytes forced failures (stand from held s) opening left now)
     → IfOk r (ClosesLog bytes forced failures s.core)

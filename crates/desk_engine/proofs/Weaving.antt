@@ -25,7 +25,8 @@ use Rattle.desk_engine.specs.Weaves.{Breaks, LeadsTo, Weaves, Woven, bytes_taken
 use Rattle.desk_engine.specs.Groups.{GatherBreaks, Gathers, GathersTo}
 
 -- a failure that is passed on
-pub passed_on : {A E : Type 0} (r : Result A E) (e : E) (P : E → Type 0) → IsErrAnd r (λ x. x ≡ e) → P e → IfErr r P
+pub passed_on : {A E : Type 0} (r : Result A E) (e : E) (P : E → Type 0) → IsErrAnd r (λ x. x ≡ e) → P e
+    → IfErr r P
 passed_on (Ok a) e P is h = tt
 passed_on (Err x) e P is h = subst P (sym is) h
 
@@ -60,9 +61,13 @@ take_on (x ∷ xs) ys n =
     let more : suc (length xs + n) ≡ length (x ∷ xs) + n = omega arith in
     ap (λ (t : List ℕ). x ∷ t) (take_on xs ys n) ∙ ap (λ (k : ℕ). take k (x ∷ xs ++ ys)) more
 
-pub front_on : (a b c : Known) (xs ys : List ℕ) → Appends a b xs → WritesFront b c ys → WritesFront a c (xs ++ ys)
-front_on a b c xs ys h (n, k) =
-    (length xs + n, subst (λ (t : List ℕ). Appends a c t) (take_on xs ys n) (appends_on a b c xs (take n ys) h k))
+pub front_on : (a b c : Known) (xs ys : List ℕ) → Appends a b xs → WritesFront b c ys
+    → WritesFront a c (xs ++ ys)
+front_on a b c xs ys h (n, k) = (
+  length xs + n,
+  subst (λ (t : List ℕ). Appends a c t) (take_on xs ys n)
+      (appends_on a b c xs (take n ys) h k),
+)
 
 -- One turn more.
 
@@ -96,7 +101,8 @@ one_weaves : (w : Ways) (old new : NodeState) (t : Turn) (text : List ℕ) → M
 one_weaves w old new t text makes = (new, text, [], makes, (refl, refl), sym (append-nil text))
 
 -- many turns more
-weaves_append : (w : Ways) (old mid new : NodeState) (ts us : List Turn) (text more : List ℕ) → Weaves w old ts mid text
+weaves_append : (w : Ways) (old mid new : NodeState) (ts us : List Turn) (text more : List ℕ)
+    → Weaves w old ts mid text
     → Weaves w mid us new more → Weaves w old (ts ++ us) new (text ++ more)
 weaves_append w old mid new [] us text more h k =
     subst (λ (t : List ℕ). Weaves w old us new (t ++ more)) (sym h.1)
@@ -122,7 +128,8 @@ module _ (w : Ways) (start : Stand) (opening : Reaction) (before now : Stand) wh
     rest = h.rest ++ text;
     weaves = weaves_on w h.opened before.state now.state h.turns h.rest t text h.weaves makes;
     took = subst (λ (x : List ℕ). Consumes start.left now.left x) (taken_on h.turns t)
-        (consumes_on start.left before.left now.left (flat_map bytes_taken h.turns) (bytes_taken t) h.took took);
+        (consumes_on start.left before.left now.left (flat_map bytes_taken h.turns)
+        (bytes_taken t) h.took took);
     written = subst (λ (x : List ℕ). Appends start.held now.held x) (append_assoc h.first h.rest text)
         (appends_on start.held before.held now.held (h.first ++ h.rest) text h.written written);
   }
@@ -139,7 +146,8 @@ module _ (w : Ways) (start : Stand) (opening : Reaction) (before now : Stand) wh
     weaves = weaves_append w h.opened before.state now.state h.turns g.turns h.rest told h.weaves g.weaves;
     took = subst (λ (x : List ℕ). Consumes start.left now.left x)
         (sym (flat_map-append bytes_taken h.turns g.turns))
-        (consumes_on start.left before.left now.left (flat_map bytes_taken h.turns) (flat_map bytes_taken g.turns) h.took
+        (consumes_on start.left before.left now.left (flat_map bytes_taken h.turns)
+        (flat_map bytes_taken g.turns) h.took
         g.took);
     written = subst (λ (x : List ℕ). Appends start.held now.held x) (append_assoc h.first h.rest told)
         (appends_on start.held before.held now.held (h.first ++ h.rest) told h.written written);
@@ -162,7 +170,8 @@ woven_first w start now opening text shows left written = record {
 
 -- Lines of the input.
 
-long_of : (n : ℕ) (front : List ℕ) → nat_lt n (length front) ≡ true → nat_lt n (length (take (n + 1) front)) ≡ true
+long_of : (n : ℕ) (front : List ℕ) → nat_lt n (length front) ≡ true
+    → nat_lt n (length (take (n + 1) front)) ≡ true
 long_of n front h =
     let below : n < length front = grind (arith, nat_tests, h) in
     let all : length (take (n + 1) front) ≡ n + 1 = length-take-le (n + 1) front (omega (arith, below)) in
@@ -170,13 +179,15 @@ long_of n front h =
     ap (nat_lt n) all ∙ next
 
 short_of : (n : ℕ) (front : List ℕ) → nat_lt n (length front) ≡ false → take (n + 1) front ≡ front
-short_of n front h = let short : length front ≤ n + 1 = grind (arith, nat_tests, h) in take_all (n + 1) front short
+short_of n front h =
+    let short : length front ≤ n + 1 = grind (arith, nat_tests, h) in take_all (n + 1) front short
 
 -- as much is kept of a line as tells what a node is given of it
 by_room : (front : List ℕ) (fed b : Bool) → nat_lt longest (length front) ≡ b
     → given_by (take (longest + 1) front) fed ≡ given_by front fed
 by_room front fed true is =
-    ap (λ (b : Bool). if b then nothing_line else line_in (take (longest + 1) front) fed) (long_of longest front is)
+    ap (λ (b : Bool). if b then nothing_line else line_in (take (longest + 1) front) fed)
+    (long_of longest front is)
     ∙ sym (ap (λ (b : Bool). if b then nothing_line else line_in front fed) is)
 by_room front fed false is = ap (λ (l : List ℕ). given_by l fed) (short_of longest front is)
 
@@ -209,7 +220,8 @@ none_before : (front : List ℕ) → take (longest + 1) front ≡ [] → front �
 none_before [] h = refl
 none_before (x ∷ xs) h = absurd (true≢false (sym (ap is_nil h)))
 
-all_read : (a b c : Known) (xs : List ℕ) → Consumes a b xs → OnSome b (IsAtEnd c) → Consumes b c [] → ReadsAll a c
+all_read : (a b c : Known) (xs : List ℕ) → Consumes a b xs → OnSome b (IsAtEnd c) → Consumes b c []
+    → ReadsAll a c
 all_read None b c xs h end k = tt
 all_read (Some x) None c xs h end k = absurd h
 all_read (Some x) (Some y) None xs h end k = absurd k
@@ -218,7 +230,8 @@ all_read (Some x) (Some y) (Some z) xs h end k = ap (λ (t : List ℕ). Some t) 
 -- Groups of lines.
 
 -- none yet
-pub gathers_none : (w : Ways) (s : NodeState) (left : Known) (told : List ℕ) → told ≡ [] → Gathers w s s left left told
+pub gathers_none : (w : Ways) (s : NodeState) (left : Known) (told : List ℕ) → told ≡ []
+    → Gathers w s s left left told
 gathers_none w s left told is = record { turns = []; weaves = (refl, is); took = nothing_taken left }
 
 -- one more
@@ -233,7 +246,8 @@ gathers_more w first old new left at now told more t g makes took = record {
 }
 
 -- the reader has nothing left
-gathers_still : (w : Ways) (first old : NodeState) (left at now : Known) (told : List ℕ) → Gathers w first old left at told
+gathers_still : (w : Ways) (first old : NodeState) (left at now : Known) (told : List ℕ)
+    → Gathers w first old left at told
     → Consumes at now [] → Gathers w first old left now told
 gathers_still w first old left at now told g took = record {
   turns = g.turns;
@@ -264,7 +278,8 @@ module _ (w : Ways) (first old : NodeState) (left at now : Known) (told kept : L
       )
 
   -- the line asks the node to end
-  pub asks_end : same (given_by kept fed) end_word ≡ true → GathersTo (Some EndAsked) w first old left now told
+  pub asks_end : same (given_by kept fed) end_word ≡ true
+      → GathersTo (Some EndAsked) w first old left now told
   asks_end asks = record {
     at = at;
     gathers = g;
@@ -285,7 +300,8 @@ module _ (w : Ways) (first old : NodeState) (left at now : Known) (told kept : L
   pub line_gathered : (new : NodeState) (more : List ℕ) → same (given_by kept fed) end_word ≡ false
       → TellsLine w (given_by kept fed) old new more → Gathers w first new left now (told ++ more)
   line_gathered new more on tells =
-      gathers_more w first old new left at now told more (Line reads.piece) g (made new more on tells) reads.next.took
+      gathers_more w first old new left at now told more (Line reads.piece) g
+      (made new more on tells) reads.next.took
 
   -- it is left
   pub line_left : (new : NodeState) (why : NodeFailure) → LeavesLine w (given_by kept fed) old new why
@@ -300,7 +316,8 @@ module _ (w : Ways) (first old : NodeState) (left at now : Known) (told kept : L
 -- no line is read
 pub line_unread : (w : Ways) (first old : NodeState) (left at : Known) (told : List ℕ) (why : NodeFailure)
     → Gathers w first old left at told → GatherBreaks w first old left told why
-line_unread w first old left at told why g = record { mid = old; at = at; gathers = g; leaves = leaves_nothing refl }
+line_unread w first old left at told why g =
+    record { mid = old; at = at; gathers = g; leaves = leaves_nothing refl }
 
 -- What is told of a group.
 
@@ -311,10 +328,12 @@ reads_all_on (Some x) (Some y) c xs h k = k
 
 module _ (w : Ways) (before now : Stand) (told : List ℕ) where
   abbrev LeadsAfter : Option Ended → Type 0
-  LeadsAfter ended = (start : Stand) → (opening : Reaction) → Woven w start opening before → LeadsTo ended w start opening now
+  LeadsAfter ended = (start : Stand) → (opening : Reaction) → Woven w start opening before
+      → LeadsTo ended w start opening now
 
   abbrev BreaksAfter : NodeFailure → Type 0
-  BreaksAfter e = (start : Stand) → (opening : Reaction) → Woven w start opening before → Breaks w start opening now e
+  BreaksAfter e = (start : Stand) → (opening : Reaction) → Woven w start opening before
+      → Breaks w start opening now e
 
   abbrev HasGathered : Option Ended → Type 0
   HasGathered ended = GathersTo ended w before.state now.state before.left now.left told
@@ -336,7 +355,8 @@ module _ (w : Ways) (before now : Stand) (told : List ℕ) where
   }
 
   -- all is told
-  pub group_leads : (r : Result (Option Ended) NodeFailure) → IfOk r HasGathered → Appends before.held now.held told
+  pub group_leads : (r : Result (Option Ended) NodeFailure) → IfOk r HasGathered
+      → Appends before.held now.held told
       → IfOk r LeadsAfter
   group_leads (Ok o) g written = ended_leads o g written
   group_leads (Err e) g written = tt
@@ -348,7 +368,8 @@ module _ (w : Ways) (before now : Stand) (told : List ℕ) where
   group_breaks (Ok o) g written = tt
   group_breaks (Err e) g written = λ start opening h.
       untold (stand g.at now.held g.mid)
-      (woven_gathered w start opening before (stand g.at now.held g.mid) told g.gathers written h) g.leaves refl
+      (woven_gathered w start opening before (stand g.at now.held g.mid) told g.gathers written h) g.leaves
+      refl
 
   some_gathers : (o : Option Ended) → HasGathered o
       → (at : Known) × Gathers w before.state now.state before.left at told
@@ -357,7 +378,8 @@ module _ (w : Ways) (before now : Stand) (told : List ℕ) where
   some_gathers (Some EndAsked) g = (g.at, g.gathers)
 
   group_held : (r : Result (Option Ended) NodeFailure) (why : NodeFailure) → IfOk r HasGathered
-      → IfErr r (GatherBreaks w before.state now.state before.left told) → WritesFront before.held now.held told
+      → IfErr r (GatherBreaks w before.state now.state before.left told)
+      → WritesFront before.held now.held told
       → IsHeldBack why → BreaksAfter why
   group_held (Ok o) why g b front held = λ start opening h.
       let gathers = (some_gathers o g).1 in
@@ -366,11 +388,14 @@ module _ (w : Ways) (before now : Stand) (told : List ℕ) where
       partly before h b.gathers.turns b.mid told b.gathers.weaves (inr (e, b.leaves)) front held
 
   -- not all is told
-  pub if_group_held : {A : Type 0} (q : Result A NodeFailure) (r : Result (Option Ended) NodeFailure) (why : NodeFailure)
+  pub if_group_held : {A : Type 0} (q : Result A NodeFailure) (r : Result (Option Ended) NodeFailure)
+      (why : NodeFailure)
       → IsErrAnd q (λ e. e ≡ why) → IfOk r HasGathered
-      → IfErr r (GatherBreaks w before.state now.state before.left told) → WritesFront before.held now.held told
+      → IfErr r (GatherBreaks w before.state now.state before.left told)
+      → WritesFront before.held now.held told
       → IsHeldBack why → IfErr q BreaksAfter
-  if_group_held q r why failed g b front held = passed_on q why BreaksAfter failed (group_held r why g b front held)
+  if_group_held q r why failed g b front held = passed_on q why BreaksAfter failed
+      (group_held r why g b front held)
 
 -- nothing more was read
 pub turn_unread : (w : Ways) (start : Stand) (opening : Reaction) (before now : Stand) (why : NodeFailure)
@@ -397,7 +422,8 @@ none_written a b xs is = (0, subst (λ (k : Known). Appends a k []) (sym is) (ap
 
 -- Rounds.
 
-asks_on : (old mid new : NodeState) (cs : List Case) (told : List ℕ) (c : Case) (text : List ℕ) → Asks old cs mid told
+asks_on : (old mid new : NodeState) (cs : List Case) (told : List ℕ) (c : Case) (text : List ℕ)
+    → Asks old cs mid told
     → AnswersLine (ask_line c) mid new text → Asks old (cs ++ c ∷ []) new (told ++ messages_in text)
 asks_on old mid new [] told c text h k = (
   new,
@@ -420,7 +446,8 @@ pub asked_none : (s : NodeState) (held : Known) → AskedAbout s [] s held held
 asked_none s held = ([], (refl, refl), appends_nothing held)
 
 pub asked_more : (old mid new : NodeState) (held at now : Known) (cs : List Case) (c : Case) (text : List ℕ)
-    → AskedAbout old cs mid held at → AnswersLine (ask_line c) mid new text → Appends at now (messages_in text)
+    → AskedAbout old cs mid held at → AnswersLine (ask_line c) mid new text
+    → Appends at now (messages_in text)
     → AskedAbout old (cs ++ c ∷ []) new held now
 asked_more old mid new held at now cs c text (told, asks, written) answers more = (
   told ++ messages_in text,
@@ -432,7 +459,8 @@ asked_more old mid new held at now cs c text (told, asks, written) answers more 
 pub round_left : (old mid new : NodeState) (held now : Known) (cs : List Case) (c : Case) (why : NodeFailure)
     → AreFirst (cases_at old) cs → AskedAbout old cs mid held now → LeavesOwn (ask_line c) mid new why
     → RoundBreaks old new held now why
-round_left old mid new held now cs c why starts asked leaves = round_untold cs starts mid asked (inr (c, leaves))
+round_left old mid new held now cs c why starts asked leaves =
+    round_untold cs starts mid asked (inr (c, leaves))
 
 -- a front of what is told of the next case was written
 pub round_cut : (old mid new : NodeState) (held at now : Known) (cs : List Case) (c : Case) (text : List ℕ)
@@ -440,7 +468,8 @@ pub round_cut : (old mid new : NodeState) (held at now : Known) (cs : List Case)
     → AnswersLine (ask_line c) mid new text → WritesFront at now (messages_in text) → IsHeldBack why
     → RoundBreaks old new held now why
 round_cut old mid new held at now cs c text why starts (told, asks, written) answers front is =
-    round_partly (cs ++ c ∷ []) starts (told ++ messages_in text) (asks_on old mid new cs told c text asks answers)
+    round_partly (cs ++ c ∷ []) starts (told ++ messages_in text)
+    (asks_on old mid new cs told c text asks answers)
     (front_on held at now told (messages_in text) written front) is
 
 -- no case was asked about
@@ -458,10 +487,13 @@ first_of (suc i) (x ∷ xs) =
     ap (λ (k : ℕ). take k (x ∷ xs)) more ∙ ap (λ (t : List Case). x ∷ t) (first_of i xs)
 
 -- the first of the cases that are to be asked about
-pub first_cases : (s : NodeState) (xs : List Case) (i : ℕ) → xs ≡ cases_at s → AreFirst (cases_at s) (take i xs)
-first_cases s xs i is = subst (λ (all : List Case). take (length (take i xs)) all ≡ take i xs) is (first_of i xs)
+pub first_cases : (s : NodeState) (xs : List Case) (i : ℕ) → xs ≡ cases_at s
+    → AreFirst (cases_at s) (take i xs)
+first_cases s xs i is = subst (λ (all : List Case). take (length (take i xs)) all ≡ take i xs)
+    is (first_of i xs)
 
-module _ {A : Type 0} (r : Result A NodeFailure) (why : NodeFailure) (old mid new : NodeState) (held at now : Known)
+module _ {A : Type 0} (r : Result A NodeFailure) (why : NodeFailure) (old mid new : NodeState)
+    (held at now : Known)
     (xs : List Case) (i : ℕ) (c : Case) (failed : IsErrAnd r (λ e. e ≡ why)) (is : xs ≡ cases_at old)
     (asked : AskedAbout old (take i xs) mid held at) where
   pub if_round_left : now ≡ at → LeavesOwn (ask_line c) mid new why → IfErr r (RoundBreaks old new held now)
@@ -470,19 +502,23 @@ module _ {A : Type 0} (r : Result A NodeFailure) (why : NodeFailure) (old mid ne
       (round_left old mid new held now (take i xs) c why (first_cases old xs i is)
       (subst (λ (k : Known). AskedAbout old (take i xs) mid held k) (sym still) asked) leaves)
 
-  pub if_round_cut : take (i + 1) xs ≡ take i xs ++ c ∷ [] → (text : List ℕ) → AnswersLine (ask_line c) mid new text
+  pub if_round_cut : take (i + 1) xs ≡ take i xs ++ c ∷ [] → (text : List ℕ)
+      → AnswersLine (ask_line c) mid new text
       → WritesFront at now (messages_in text) → IsHeldBack why → IfErr r (RoundBreaks old new held now)
   if_round_cut next text answers front write =
       passed_on r why (RoundBreaks old new held now) failed
       (round_cut old mid new held at now (take i xs) c text why
       (subst (AreFirst (cases_at old)) next (first_cases old xs (i + 1) is)) asked answers front write)
 
-module _ (w : Ways) (start : Stand) (opening : Reaction) (left : Known) (old new : NodeState) (held now : Known)
+module _ (w : Ways) (start : Stand) (opening : Reaction) (left : Known) (old new : NodeState)
+    (held now : Known)
     (may : w.asks ≡ true) (h : Woven w start opening (stand left held old)) where
-  round_woven : (cs : List Case) (mid : NodeState) → AreFirst (cases_at old) cs → AskedAbout old cs mid held now
+  round_woven : (cs : List Case) (mid : NodeState) → AreFirst (cases_at old) cs
+      → AskedAbout old cs mid held now
       → Woven w start opening (stand left now mid)
   round_woven cs mid starts (told, asks, written) =
-      woven_more w start opening (stand left held old) (stand left now mid) (Round cs) told (nothing_taken left)
+      woven_more w start opening (stand left held old) (stand left now mid) (Round cs) told
+      (nothing_taken left)
       (record { may = may; cases = starts; asks = asks }) written h
 
   -- each case was asked about
@@ -491,9 +527,11 @@ module _ (w : Ways) (start : Stand) (opening : Reaction) (left : Known) (old new
       round_woven (cases_at old) new (take_all (length (cases_at old)) (cases_at old) (omega arith)) asked
 
   round_stops : (mid : NodeState) (why : NodeFailure) → Woven w start opening (stand left now mid)
-      → (new ≡ mid) ⊎ ((c : Case) × LeavesOwn (ask_line c) mid new why) → Breaks w start opening (stand left now new) why
+      → (new ≡ mid) ⊎ ((c : Case) × LeavesOwn (ask_line c) mid new why)
+      → Breaks w start opening (stand left now new) why
   round_stops mid why woven (inl e) = untold (stand left now mid) woven (leaves_nothing e) refl
-  round_stops mid why woven (inr (c, leaves)) = untold (stand left now mid) woven (leaves_ask c may leaves) refl
+  round_stops mid why woven (inr (c, leaves)) = untold (stand left now mid) woven
+      (leaves_ask c may leaves) refl
 
   -- the round broke off
   pub round_broken : (why : NodeFailure) → RoundBreaks old new held now why
@@ -502,18 +540,21 @@ module _ (w : Ways) (start : Stand) (opening : Reaction) (left : Known) (old new
       round_stops mid why (round_woven cs mid starts asked) leaves
   round_broken why (round_partly cs starts told asks front is) =
       partly (stand left held old) h (Round cs ∷ []) new told
-      (one_weaves w old new (Round cs) told (record { may = may; cases = starts; asks = asks })) (inl refl) front is
+      (one_weaves w old new (Round cs) told (record { may = may; cases = starts; asks = asks }))
+      (inl refl) front is
 
 -- Trims.
 
 module _ (w : Ways) (start : Stand) (opening : Reaction) (left held : Known) (old new : NodeState)
     (may : w.trims ≡ true) (h : Woven w start opening (stand left held old)) where
-  pub trim_made : (text : List ℕ) → AnswersLine trim_line old new text → Woven w start opening (stand left held new)
+  pub trim_made : (text : List ℕ) → AnswersLine trim_line old new text
+      → Woven w start opening (stand left held new)
   trim_made text answers =
       woven_more w start opening (stand left held old) (stand left held new) Trims [] (nothing_taken left)
       (record { may = may; text = text; answers = answers; silent = refl }) (appends_nothing held) h
 
-  pub trim_left : (why : NodeFailure) → TakesLine trim_line old new why → Breaks w start opening (stand left held new) why
+  pub trim_left : (why : NodeFailure) → TakesLine trim_line old new why
+      → Breaks w start opening (stand left held new) why
   trim_left why takes = untold (stand left held old) h (leaves_trim may takes) refl
 
   -- it was made, and is not safe
@@ -521,11 +562,14 @@ module _ (w : Ways) (start : Stand) (opening : Reaction) (left held : Known) (ol
       → Breaks w start opening (stand left held new) why
   trim_held why text answers is =
       partly (stand left held old) h (Trims ∷ []) new []
-      (one_weaves w old new Trims [] (record { may = may; text = text; answers = answers; silent = refl })) (inl refl)
+      (one_weaves w old new Trims [] (record { may = may; text = text; answers = answers; silent = refl }))
+      (inl refl)
       (none_written held held [] refl) is
 
-pub if_trim_held : {A : Type 0} (r : Result A NodeFailure) (why : NodeFailure) (w : Ways) (old new : NodeState)
-    → IsErrAnd r (λ e. e ≡ why) → w.trims ≡ true → (text : List ℕ) → AnswersLine trim_line old new text → IsHeldBack why
+pub if_trim_held : {A : Type 0} (r : Result A NodeFailure) (why : NodeFailure) (w : Ways)
+    (old new : NodeState)
+    → IsErrAnd r (λ e. e ≡ why) → w.trims ≡ true → (text : List ℕ) → AnswersLine trim_line old new text
+    → IsHeldBack why
     → IfErr r (λ e. (left held : Known) (start : Stand) (opening : Reaction)
     → Woven w start opening (stand left held old) → Breaks w start opening (stand left held new) e)
 if_trim_held r why w old new failed may text answers is =
@@ -533,7 +577,8 @@ if_trim_held r why w old new failed may text answers is =
     → Woven w start opening (stand left held old) → Breaks w start opening (stand left held new) e) failed
     (λ left held start opening h. trim_held w start opening left held old new may h why text answers is)
 
-pub if_trim_left : {A : Type 0} (r : Result A NodeFailure) (why : NodeFailure) (w : Ways) (old new : NodeState)
+pub if_trim_left : {A : Type 0} (r : Result A NodeFailure) (why : NodeFailure) (w : Ways)
+    (old new : NodeState)
     → IsErrAnd r (λ e. e ≡ why) → w.trims ≡ true → TakesLine trim_line old new why
     → IfErr r (λ e. (left held : Known) (start : Stand) (opening : Reaction)
     → Woven w start opening (stand left held old) → Breaks w start opening (stand left held new) e)
@@ -550,7 +595,8 @@ pub if_round_unbegun : {A : Type 0} (r : Result A NodeFailure) (s : NodeState) (
 if_round_unbegun (Ok a) s held = tt
 if_round_unbegun (Err e) s held = round_unbegun s s held held e refl refl
 
-pub if_round_broken : {A : Type 0} (r : Result A NodeFailure) (why : NodeFailure) (w : Ways) (old new : NodeState)
+pub if_round_broken : {A : Type 0} (r : Result A NodeFailure) (why : NodeFailure) (w : Ways)
+    (old new : NodeState)
     (held now : Known) → IsErrAnd r (λ e. e ≡ why) → w.asks ≡ true → RoundBreaks old new held now why
     → IfErr r (λ e. (left : Known) (start : Stand) (opening : Reaction)
     → Woven w start opening (stand left held old) → Breaks w start opening (stand left now new) e)
@@ -560,7 +606,8 @@ if_round_broken r why w old new held now failed may breaks =
     (λ left start opening h. round_broken w start opening left old new held now may h why breaks)
 
 -- a round that broke off after waiting, which reads nothing
-pub round_after : {A : Type 0} (r : Result A NodeFailure) (w : Ways) (old new : NodeState) (held now from left : Known)
+pub round_after : {A : Type 0} (r : Result A NodeFailure) (w : Ways) (old new : NodeState)
+    (held now from left : Known)
     → left ≡ from → IfErr r (λ e. (left : Known) (start : Stand) (opening : Reaction)
     → Woven w start opening (stand left held old) → Breaks w start opening (stand left now new) e)
     → IfErr r (λ e. (start : Stand) (opening : Reaction) → Woven w start opening (stand from held old)
@@ -570,7 +617,8 @@ round_after (Err e) w old new held now from left is h = λ start opening k.
     h left start opening (subst (λ (l : Known). Woven w start opening (stand l held old)) (sym is) k)
 
 -- a trim that broke off after that
-pub trim_after : {A : Type 0} (r : Result A NodeFailure) (v w : Ways) (old new : NodeState) (held from left : Known)
+pub trim_after : {A : Type 0} (r : Result A NodeFailure) (v w : Ways) (old new : NodeState)
+    (held from left : Known)
     → v ≡ w → left ≡ from → IfErr r (λ e. (left held : Known) (start : Stand) (opening : Reaction)
     → Woven v start opening (stand left held old) → Breaks v start opening (stand left held new) e)
     → IfErr r (λ e. (start : Stand) (opening : Reaction) → Woven w start opening (stand from held old)
@@ -585,7 +633,8 @@ trim_after (Err e) v w old new held from left ways is h = λ start opening k.
 -- a run that broke off after its opening
 pub or_breaks : {A : Type 0} (r : Result A NodeFailure) (P : NodeFailure → Type 0) (w : Ways) (start : Stand)
     (opening : Reaction) (before now : Stand) → Woven w start opening before
-    → IfErr r (λ e. (start : Stand) (opening : Reaction) → Woven w start opening before → Breaks w start opening now e)
+    → IfErr r (λ e. (start : Stand) (opening : Reaction) → Woven w start opening before
+    → Breaks w start opening now e)
     → IfErr r (λ e. P e ⊎ Breaks w start opening now e)
 or_breaks (Ok a) P w start opening before now h k = tt
 or_breaks (Err e) P w start opening before now h k = inr (k start opening h)

@@ -1,4 +1,5 @@
--- Lines that are at hand: a desk gives the node all of them, has what they rest on made safe, and then tells of them.
+-- Lines that are at hand: a desk gives the node all of them, has what they rest on made safe, and then tells
+-- of them.
 use Rattle.std.specs.Prelude.{◌≡◌, ℕ, true, List, Option, Some, None}
 use Rattle.std.specs.List.{flat_map}
 use Rattle.std.specs.Io.KnownBytes.{Consumes}
@@ -20,7 +21,8 @@ use Rattle.desk_engine.specs.Weaves.{Weaves, bytes_taken}
 abbrev pub told_in : Group → List ℕ
 told_in g = g.told.items
 
--- From the one state to the other the node was given the next lines of the input, and this is to be told of them.
+-- From the one state to the other the node was given the next lines of the input, and this is to be told of
+-- them.
 pub record Gathers (w : Ways) (old new : NodeState) (left now : Known) (told : List ℕ) : Type 0 where
   pub turns : List Turn
   pub weaves : Weaves w old turns new told
@@ -41,7 +43,8 @@ GathersTo (Some Input) w old new left now told = Gathers w old new left now told
 GathersTo (Some Asked) w old new left now told = GathersEnd w old new left now told
 
 -- after them a line was left, for this reason
-pub record GatherBreaks (w : Ways) (old new : NodeState) (left : Known) (told : List ℕ) (why : NodeFailure) : Type 0 where
+pub record GatherBreaks (w : Ways) (old new : NodeState) (left : Known) (told : List ℕ)
+    (why : NodeFailure) : Type 0 where
   pub mid : NodeState
   pub at : Known
   pub gathers : Gathers w old mid left at told

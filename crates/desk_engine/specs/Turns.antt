@@ -154,18 +154,19 @@ pub data LeavesLine (w : Ways) (line : List ℕ) (old new : NodeState) (why : No
   -- it answered the line
   line_untold : (told : List ℕ) → TellsLine w line old new told → why ≡ Memory → LeavesLine w line old new why
 
--- What was made is not told, or not all of it: it could not be made safe, for memory or since a device failed, or not be
--- written.
+-- What was made is not told, or not all of it: it could not be made safe, for memory or since a device
+-- failed, or not be written.
 abbrev pub IsHeldBack : NodeFailure → Type 0
 IsHeldBack Memory = ⊤
 IsHeldBack Write = ⊤
 IsHeldBack Device = ⊤
 IsHeldBack e = ⊥
 
--- A round broke off: the first of the cases were asked about, and of the next one, if there is one, nothing is told; or a
--- front of what is told of them was written.
+-- A round broke off: the first of the cases were asked about, and of the next one, if there is one, nothing
+-- is told; or a front of what is told of them was written.
 pub data RoundBreaks (old new : NodeState) (held now : Known) (why : NodeFailure) : Type 0 where
-  round_untold : (cs : List Case) → AreFirst (cases_at old) cs → (mid : NodeState) → AskedAbout old cs mid held now
+  round_untold : (cs : List Case) → AreFirst (cases_at old) cs → (mid : NodeState)
+      → AskedAbout old cs mid held now
       → (new ≡ mid) ⊎ ((c : Case) × LeavesOwn (ask_line c) mid new why) → RoundBreaks old new held now why
   round_partly : (cs : List Case) → AreFirst (cases_at old) cs → (told : List ℕ) → Asks old cs new told
       → WritesFront held now told → IsHeldBack why → RoundBreaks old new held now why

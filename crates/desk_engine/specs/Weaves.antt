@@ -27,8 +27,9 @@ Weaves w old [] new told = (new ≡ old) × (told ≡ [])
 Weaves w old (t ∷ ts) new told = (mid : NodeState) × (first : List ℕ) × (rest : List ℕ)
     × Makes w t old mid first × Weaves w mid ts new rest × (told ≡ first ++ rest)
 
--- From the one to the other a process told what it did as it opened, and then a desk made these turns: what was written is
--- just what is told of them, in their order, and what was read is just the lines of the input among them.
+-- From the one to the other a process told what it did as it opened, and then a desk made these turns: what
+-- was written is just what is told of them, in their order, and what was read is just the lines of the input
+-- among them.
 pub record Woven (w : Ways) (start : Stand) (opening : Reaction) (now : Stand) : Type 0 where
   pub opened : NodeState
   pub first : List ℕ
@@ -59,8 +60,9 @@ abbrev pub LeadsTo : Option Ended → Ways → Stand → Reaction → Stand → 
 LeadsTo None w start opening now = Woven w start opening now
 LeadsTo (Some by) w start opening now = Ends by w start opening now
 
--- From its start on a node told what it did as it opened and a desk made its turns, up to the end of the input or a line
--- that asked the node to end; then all that is in its log was forced, and `ok` is the answer to that line.
+-- From its start on a node told what it did as it opened and a desk made its turns, up to the end of the
+-- input or a line that asked the node to end; then all that is in its log was forced, and `ok` is the answer
+-- to that line.
 pub record EndsWoven {L : Type 0} (bytes : L → List ℕ) (forced failures : L → ℕ) (w : Ways) (start : Stand)
     (opening : Reaction) (left held : Known) (store : L) : Type 0 where
   pub by : Ended
@@ -74,18 +76,22 @@ pub record EndsWoven {L : Type 0} (bytes : L → List ℕ) (forced failures : L 
 abbrev pub IsLeftAt : Ways → NodeState → NodeState → Type 0
 IsLeftAt w mid now = (now ≡ mid) ⊎ ((why : NodeFailure) × Leaves w mid now why)
 
--- How a node stands that broke off after its opening. Of the turn that came next nothing was told; or some turns were made,
--- and of what is to be told of them a front was written, which may be nothing.
-pub data Breaks (w : Ways) (start : Stand) (opening : Reaction) (now : Stand) (why : NodeFailure) : Type 0 where
+-- How a node stands that broke off after its opening. Of the turn that came next nothing was told; or some
+-- turns were made, and of what is to be told of them a front was written, which may be nothing.
+pub data Breaks (w : Ways) (start : Stand) (opening : Reaction) (now : Stand)
+    (why : NodeFailure) : Type 0 where
   untold : (before : Stand) → Woven w start opening before → Leaves w before.state now.state why
       → now.held ≡ before.held → Breaks w start opening now why
-  partly : (before : Stand) → Woven w start opening before → (turns : List Turn) (mid : NodeState) (text : List ℕ)
-      → Weaves w before.state turns mid text → IsLeftAt w mid now.state → WritesFront before.held now.held text
+  partly : (before : Stand) → Woven w start opening before
+      → (turns : List Turn) (mid : NodeState) (text : List ℕ)
+      → Weaves w before.state turns mid text → IsLeftAt w mid now.state
+      → WritesFront before.held now.held text
       → IsHeldBack why → Breaks w start opening now why
 
 -- nothing is told of the opening: it could not be written, or what it rests on could not be made safe
 abbrev pub StopsFirst : Stand → Reaction → Stand → NodeFailure → Type 0
-StopsFirst start opening now why = StopsOpening start opening now why ⊎ (ShowsNothing start now × IsHeldBack why)
+StopsFirst start opening now why = StopsOpening start opening now why
+    ⊎ (ShowsNothing start now × IsHeldBack why)
 
 -- how a node stands that failed as it ended: its log was not forced, or a front of `ok` was written
 pub record EndsPartly (w : Ways) (start : Stand) (opening : Reaction) (held : Known) : Type 0 where

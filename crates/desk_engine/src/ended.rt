@@ -82,8 +82,8 @@ fn tell_end<W: Write, L: LogStore, N: Witness, B: Backing<L>>(
     write_end(by, writer, witness)
 }
 
-/// A node whose input ended: all that is in its log is forced and made safe, and after that `ok` is written, if a line
-/// asked it to end.
+/// A node whose input ended: all that is in its log is forced and made safe, and after that `ok` is written,
+/// if a line asked it to end.
 pub(crate) fn finish<W: Write, L: LogStore + Drop, N: Witness, B: Backing<L>>(
     alloc: Global,
     serving: Serving<L>,

@@ -25,7 +25,8 @@ use staged_store::Backing;
 use std::alloc::Global;
 use std::io::Write;
 
-/// Takes a line of the input, but one that asks the node to end; says so where it does, or where there is none.
+/// Takes a line of the input, but one that asks the node to end; says so where it does, or where there is
+/// none.
 fn take_line<R: Waits, L: LogStore, B: Backing<L>>(
     alloc: Global,
     serving: &mut Serving<L>,
@@ -36,7 +37,8 @@ fn take_line<R: Waits, L: LogStore, B: Backing<L>>(
 ) -> Result<Option<Ended>, NodeFailure>
     ensures leads { IfOk result (λ ended. (first : NodeState) (left : Known)
         → Gathers ways first (state_of serving.old) left (R.remaining reader.old) (told_in group.old)
-        → GathersTo ended ways first (state_of serving.new) left (R.remaining reader.new) (told_in group.new)) }
+        → GathersTo ended ways first (state_of serving.new) left (R.remaining reader.new)
+        (told_in group.new)) }
     ensures breaks { IfErr result (λ e. (first : NodeState) (left : Known)
         → Gathers ways first (state_of serving.old) left (R.remaining reader.old) (told_in group.old)
         → GatherBreaks ways first (state_of serving.new) left (told_in group.new) e) }
@@ -81,8 +83,8 @@ pub(crate) fn gather<R: Waits, L: LogStore, B: Backing<L>>(
     Ok(None)
 }
 
-/// Has what the lines of a group rest on made safe, and then tells of them. If it cannot be made safe, those are told of
-/// that rest on what was safe before.
+/// Has what the lines of a group rest on made safe, and then tells of them. If it cannot be made safe, those
+/// are told of that rest on what was safe before.
 pub(crate) fn tell_group<W: Write, L: LogStore, N: Witness, B: Backing<L>>(
     serving: &Serving<L>,
     backing: &mut B,

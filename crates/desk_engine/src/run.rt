@@ -20,8 +20,8 @@ use staged_store::Backing;
 use std::alloc::Global;
 use std::io::{BufRead, Write};
 
-/// Takes the next line of the input, and those that are at hand after it, up to one that asks the node to end. Then
-/// what they rest on is made safe, and all of them are told of. Says so where the input ends.
+/// Takes the next line of the input, and those that are at hand after it, up to one that asks the node to
+/// end. Then what they rest on is made safe, and all of them are told of. Says so where the input ends.
 fn take_lines<R: Waits, W: Write, L: LogStore, N: Witness, B: Backing<L>>(
     alloc: Global,
     serving: &mut Serving<L>,
@@ -32,11 +32,13 @@ fn take_lines<R: Waits, W: Write, L: LogStore, N: Witness, B: Backing<L>>(
     witness: &mut N,
 ) -> Result<Option<Ended>, NodeFailure>
     ensures leads { IfOk result (λ ended. (start : Stand) (opening : AnyReaction)
-        → Woven ways start opening (stand (R.remaining reader.old) (W.contents writer.old) (state_of serving.old))
+        → Woven ways start opening (stand (R.remaining reader.old) (W.contents writer.old)
+        (state_of serving.old))
         → LeadsTo ended ways start opening
         (stand (R.remaining reader.new) (W.contents writer.new) (state_of serving.new))) }
     ensures breaks { IfErr result (λ e. (start : Stand) (opening : AnyReaction)
-        → Woven ways start opening (stand (R.remaining reader.old) (W.contents writer.old) (state_of serving.old))
+        → Woven ways start opening (stand (R.remaining reader.old) (W.contents writer.old)
+        (state_of serving.old))
         → Breaks ways start opening
         (stand (R.remaining reader.new) (W.contents writer.new) (state_of serving.new)) e) }
 {
@@ -193,17 +195,20 @@ fn serve<R: Waits, W: Write, L: LogStore, N: Witness, B: Backing<L>>(
     }
 }
 
-/// Lets a node go. One function does it: what letting go of one means is proved once, and not at each way out.
+/// Lets a node go. One function does it: what letting go of one means is proved once, and not at each way
+/// out.
 fn let_go<L: LogStore + Drop>(_serving: Serving<L>) {}
 
-/// Runs a node by a desk: writes what its process did as it opened, and answers each line of the input, as `run_node` does.
-/// A line that is too long is answered as the line of nothing. Between the lines of the input the desk asks about what is
-/// in doubt and trims the log, when the watch says so; of its own lines nothing is written but the messages of what it
-/// asked. If it tells of children that join, it does before the `ok` to the JOINED.
+/// Runs a node by a desk: writes what its process did as it opened, and answers each line of the input, as
+/// `run_node` does. A line that is too long is answered as the line of nothing. Between the lines of the
+/// input the desk asks about what is in doubt and trims the log, when the watch says so; of its own lines
+/// nothing is written but the messages of what it asked. If it tells of children that join, it does before
+/// the `ok` to the JOINED.
 ///
-/// What the node's store promises counts once the backing was brought up to it, and before that nothing is told of what
-/// rests on it. Lines that are at hand are given to the node one after another, then the backing is brought up once, and
-/// then all of them are told of. Ok: so it ended, and this is its store, to which the backing was brought up.
+/// What the node's store promises counts once the backing was brought up to it, and before that nothing is
+/// told of what rests on it. Lines that are at hand are given to the node one after another, then the backing
+/// is brought up once, and then all of them are told of. Ok: so it ended, and this is its store, to which the
+/// backing was brought up.
 pub fn run_desk<R: Waits, W: Write, L: LogStore + Drop, N: Witness, B: Backing<L>>(
     alloc: Global,
     mut serving: Serving<L>,

@@ -20,7 +20,8 @@ is_doubt _ = false
 abbrev pub doubts_of : List ReportLine → ℕ
 doubts_of ls = count_by (λ l. is_doubt l.own) ls
 
--- the input says a tree and its logs, none of which is damaged, and an audit of them has this number of lines of cases in doubt
+-- the input says a tree and its logs, none of which is damaged, and an audit of them has this number of lines
+-- of cases in doubt
 pub record CountsDoubts (input : List ℕ) (count : ℕ) : Type 0 where
   pub tree : List TreeProcess
   pub logs : List ProcessLog

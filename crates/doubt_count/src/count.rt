@@ -25,9 +25,9 @@ fn doubts_of(lines: &[ReportLine]) -> usize
     lines.iter().filter(|line| is_doubt(line.own)).count()
 }
 
-/// How many cases are in doubt by the logs that an input says, as `rstar audit` reads it: a case is in doubt if its own
-/// process promised and knows no outcome, and no operator decided it. None: the input is refused, or one of its logs is
-/// damaged. An error says that memory was refused.
+/// How many cases are in doubt by the logs that an input says, as `rstar audit` reads it: a case is in doubt
+/// if its own process promised and knows no outcome, and no operator decided it. None: the input is refused,
+/// or one of its logs is damaged. An error says that memory was refused.
 pub fn count_doubts(alloc: Global, input: &[u8]) -> Result<Option<usize>, AllocError>
     ensures counted { IfOk result (λ count. IfSome count (CountsDoubts input.now)) }
     ensures none { IfOk result (λ count. IfNone count (HasNoCount input.now)) }

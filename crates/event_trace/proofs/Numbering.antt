@@ -12,7 +12,8 @@ dropped_all (x ∷ xs) (suc k) h = dropped_all xs k (omega arith)
 -- one byte more
 pub one_more : (lines : List ℕ) (k n b : ℕ) (begins : Bool) (old new all : List ℕ)
     → drop k lines ≡ b ∷ drop (k + 1) lines → new ≡ old ++ byte_text begins n b
-    → old ++ numbered_on begins n (drop k lines) ≡ all → new ++ numbered_on (b == 10) n (drop (k + 1) lines) ≡ all
+    → old ++ numbered_on begins n (drop k lines) ≡ all
+    → new ++ numbered_on (b == 10) n (drop (k + 1) lines) ≡ all
 unfolding numbered_on
 one_more lines k n b begins old new all next is so =
     ap (λ (xs : List ℕ). xs ++ numbered_on (b == 10) n (drop (k + 1) lines)) is

@@ -26,13 +26,15 @@ taken_size [] (suc k) x rest is = absurd (cc)
 taken_size (y ∷ xs) zero x rest is = refl
 taken_size (y ∷ xs) (suc k) x rest is = ap suc (taken_size xs k x rest is)
 
-item_at : (xs : List Event) (k : ℕ) (x : Event) (rest : List Event) → drop k xs ≡ x ∷ rest → slice_get xs k ≡ Some x
+item_at : (xs : List Event) (k : ℕ) (x : Event) (rest : List Event) → drop k xs ≡ x ∷ rest
+    → slice_get xs k ≡ Some x
 item_at [] zero x rest is = absurd (cc)
 item_at [] (suc k) x rest is = absurd (cc)
 item_at (y ∷ xs) zero x rest is = let same : y ≡ x = cc in ap Some same
 item_at (y ∷ xs) (suc k) x rest is = item_at xs k x rest is
 
-module _ (start : WorldState) (sent : ℕ) (before : List ℕ) (events : List Event) (k : ℕ) (e : Event) (rest : List Event)
+module _ (start : WorldState) (sent : ℕ) (before : List ℕ) (events : List Event) (k : ℕ) (e : Event)
+    (rest : List Event)
     (next : drop k events ≡ e ∷ rest) (mid : WorldState) (total : ℕ) (text : List ℕ)
     (so_far : Tells start sent before (take k events) mid total text) (number : ℕ) (counted : number ≡ k + 1)
     (now : WorldState) (then : List ℕ) (is : then ≡ text ++ numbered number (steps_text total mid now)) where
@@ -40,7 +42,8 @@ module _ (start : WorldState) (sent : ℕ) (before : List ℕ) (events : List Ev
   pub told_more : Applies mid e now → (n : ℕ) → n ≡ sent_after total (drop (length mid.entries) now.entries)
       → Tells start sent before (take (k + 1) events) now n then
   told_more made n sums =
-      let size : length (take k events) + 1 ≡ number = ap (λ m. m + 1) (taken_size events k e rest next) ∙ sym counted in
+      let size : length (take k events) + 1 ≡ number = ap (λ m. m + 1) (taken_size events k e rest next)
+      ∙ sym counted in
       let told : Tells start sent before (take k events ++ e ∷ []) now
       (sent_after total (drop (length mid.entries) now.entries))
       (text ++ numbered (length (take k events) + 1) (steps_text total mid now)) =

@@ -17,8 +17,9 @@ use Rattle.tree_engine.specs.Trees.{ending, last_line, trace_by}
 use Rattle.tree_engine.specs.declared.run.Run.{Run}
 use Rattle.event_trace.specs.Numbered.{numbered, sent_after, steps_text}
 
--- These events led a tree from the first state to the next one, N messages were sent then, and the text has grown by the
--- lines of the steps of each event, each line with the number of its event before it: the first event has 1.
+-- These events led a tree from the first state to the next one, N messages were sent then, and the text has
+-- grown by the lines of the steps of each event, each line with the number of its event before it: the first
+-- event has 1.
 pub data Tells (start : WorldState) (sent_before : ℕ) (before : List ℕ) : List Event → WorldState → ℕ → List ℕ
     → Type 0 where
   nothing : Tells start sent_before before [] start sent_before before
@@ -29,7 +30,8 @@ pub data Tells (start : WorldState) (sent_before : ℕ) (before : List ℕ) : Li
       (text ++ numbered (length es + 1) (steps_text sent mid now))
 
 -- so they do up to the event after N, which is refused for this reason: what it did before that is told, too
-pub record TellsUntil (start : WorldState) (sent_before : ℕ) (before : List ℕ) (events : List Event) (made : ℕ)
+pub record TellsUntil (start : WorldState) (sent_before : ℕ) (before : List ℕ)
+    (events : List Event) (made : ℕ)
     (why : StepError) (end : WorldState) (text : List ℕ) : Type 0 where
   pub mid : WorldState
   pub sent : ℕ
@@ -46,14 +48,16 @@ abbrev pub TellsTo : WorldState → ℕ → List ℕ → List Event → Refusal 
 TellsTo start sent before events None end text = (n : ℕ) × Tells start sent before events end n text
 TellsTo start sent before events (Some r) end text = TellsUntil start sent before events r.0 r.1 end text
 
--- The whole trace of a tree that has just opened in this state, over logs or not, and is given these events: its opening with
--- the number 0, the lines of each event, and the last line without a number.
-pub record TellsFrom (over : Bool) (start : WorldState) (events : List Event) (status : Status) (text : List ℕ)
+-- The whole trace of a tree that has just opened in this state, over logs or not, and is given these events:
+-- its opening with the number 0, the lines of each event, and the last line without a number.
+pub record TellsFrom (over : Bool) (start : WorldState) (events : List Event)
+    (status : Status) (text : List ℕ)
     : Type 0 where
   pub refusal : Refusal
   pub end : WorldState
   pub lines : List ℕ
-  pub tells : TellsTo start (sent_after 0 start.entries) (numbered 0 (trace_by over start)) events refusal end lines
+  pub tells : TellsTo start (sent_after 0 start.entries) (numbered 0 (trace_by over start)) events
+      refusal end lines
   pub status_is : status ≡ ending refusal
   pub is : text ≡ lines ++ last_line refusal
 

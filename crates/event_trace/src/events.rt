@@ -16,8 +16,8 @@ use std::alloc::Global;
 use tree_engine::{Refusal, own_refusal};
 use tree_world::World;
 
-/// Makes an event, and adds the lines of its steps, each with this number before it; N messages were sent before.
-/// Tells how many are sent then, or why the event is refused.
+/// Makes an event, and adds the lines of its steps, each with this number before it; N messages were sent
+/// before. Tells how many are sent then, or why the event is refused.
 fn make_event(
     alloc: Global,
     out: &mut Vec<u8>,
@@ -27,7 +27,8 @@ fn make_event(
     sent: u64,
 ) -> Result<Result<u64, StepError>, Failure>
     ensures made { IfOk result (λ made. OnOk made (Applies (state world.old) event (state world.new))) }
-    ensures refused { IfOk result (λ made. IfErr made (λ why. Stops (state world.old) event why (state world.new))) }
+    ensures refused { IfOk result (λ made. IfErr made
+        (λ why. Stops (state world.old) event why (state world.new))) }
     ensures own { IfOk result (λ made. IfErr made IsOwn) }
     ensures text { OnOk result (out.new.items
         ≡ out.old.items ++ numbered number (steps_text sent (state world.old) (state world.new))) }
@@ -48,8 +49,8 @@ fn make_event(
     }
 }
 
-/// Makes these events, one after another, up to the first that is refused, and adds the lines of the steps of each, with
-/// its number before each line: the first event has 1. N messages were sent before.
+/// Makes these events, one after another, up to the first that is refused, and adds the lines of the steps of
+/// each, with its number before each line: the first event has 1. N messages were sent before.
 pub(crate) fn make_events(
     alloc: Global,
     out: &mut Vec<u8>,

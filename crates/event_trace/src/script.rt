@@ -18,7 +18,8 @@ use tree_engine::{Refusal, opened, push_opened, push_refused};
 use tree_script::ScriptError;
 use tree_world::World;
 
-/// Adds the trace of a tree that has just opened, each line with 0 before it. Tells how many messages were sent.
+/// Adds the trace of a tree that has just opened, each line with 0 before it. Tells how many messages were
+/// sent.
 fn push_opening(
     alloc: Global,
     out: &mut Vec<u8>,
@@ -61,7 +62,8 @@ fn trace_of(
     world: &mut World<MemoryStore>,
     events: &[Event],
 ) -> Result<(Vec<u8>, Status), Failure>
-    ensures { IfOk result (λ told. TellsFrom world.old.reopened (state world.old) events.now told.1 told.0.items) }
+    ensures { IfOk result (λ told. TellsFrom world.old.reopened (state world.old) events.now
+        told.1 told.0.items) }
 {
     let mut out = Vec::new(alloc);
     let sent = push_opening(alloc, &mut out, world)?;
@@ -70,9 +72,9 @@ fn trace_of(
     Ok((out, status))
 }
 
-/// The trace of a tree script as `tree` writes it, with the number of its event before each line: 0 before the lines of the
-/// tree's opening, and none before the last line. None: the script is refused, or a log that it begins with is damaged. An
-/// error says that memory was refused, or why an event could not be made.
+/// The trace of a tree script as `tree` writes it, with the number of its event before each line: 0 before
+/// the lines of the tree's opening, and none before the last line. None: the script is refused, or a log that
+/// it begins with is damaged. An error says that memory was refused, or why an event could not be made.
 pub fn event_trace(alloc: Global, input: &[u8]) -> Result<Option<(Vec<u8>, Status)>, Failure>
     ensures trace { IfOk result (λ told. IfSome told (λ told. TellsScript input.now told.1 told.0.items)) }
     ensures none { IfOk result (λ told. IfNone told (HasNoTrace input.now)) }

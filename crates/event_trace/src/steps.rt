@@ -10,8 +10,8 @@ use report_io::Failure;
 use tree_engine::push_place;
 use tree_world::World;
 
-/// Adds the lines of all steps from this place on, before which N messages were sent, and tells how many are sent
-/// with theirs. Exhausted: 2^64 or more.
+/// Adds the lines of all steps from this place on, before which N messages were sent, and tells how many are
+/// sent with theirs. Exhausted: 2^64 or more.
 pub(crate) fn push_steps(
     out: &mut Vec<u8>,
     world: &World<MemoryStore>,

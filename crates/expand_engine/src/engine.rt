@@ -142,11 +142,12 @@ fn lines_of(
     take_lines(alloc, expander, before, events)
 }
 
-/// The script of specified events to which a script with other words comes, by running it: `deliver PREPARE 2` and
-/// `deliver 1->2` deliver the oldest such message that waits, `drop` has a message never delivered by a settle, `settle
-/// until` delivers those that wait before such a message, `repeat` delivers the last one again; blanks at the ends of a
-/// line and comments after ` #` are left out. After an event that is refused nothing more is written. An error says
-/// that memory was refused, or why an event could not be made.
+/// The script of specified events to which a script with other words comes, by running it:
+/// `deliver PREPARE 2` and `deliver 1->2` deliver the oldest such message that waits, `drop` has a message
+/// never delivered by a settle, `settle until` delivers those that wait before such a message, `repeat`
+/// delivers the last one again; blanks at the ends of a line and comments after ` #` are left out. After an
+/// event that is refused nothing more is written. An error says that memory was refused, or why an event
+/// could not be made.
 pub fn expand(alloc: Global, input: &[u8]) -> Result<Expanded, Failure>
     ensures { IfOk result (λ expanded. IfOk expanded (λ text. IsExpansion text.items)) }
 {

@@ -79,7 +79,8 @@ impl Expander {
         self.make(&line, Event::Deliver(number))
     }
 
-    /// Delivers the messages that wait, the oldest first, until this one is next; none: until no message waits.
+    /// Delivers the messages that wait, the oldest first, until this one is next; none: until no message
+    /// waits.
     fn settle(&mut self, alloc: Global, end: Option<u64>) -> Result<Line, Failure> {
         for _ in 0..MOST_DELIVERIES {
             let next = self.net.next();

@@ -1,6 +1,7 @@
 //! Floor: engines and program.
 //!
-//! Scripts that name messages by what they are: read as the script of specified events that they come to, by running it.
+//! Scripts that name messages by what they are: read as the script of specified events that they come to, by
+//! running it.
 //!
 //! ```text
 //! words      the words of a line, its comment and blanks taken off

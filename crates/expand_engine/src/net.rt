@@ -114,8 +114,8 @@ impl Net {
         Some(number_at(place))
     }
 
-    /// The number of the message that is wanted: one with this number, whatever became of it; else the oldest such that
-    /// waits.
+    /// The number of the message that is wanted: one with this number, whatever became of it; else the oldest
+    /// such that waits.
     pub(crate) fn find(&self, wanted: Wanted) -> Option<u64> {
         if let Wanted::Number(number) = wanted {
             return Some(number);

@@ -20,8 +20,8 @@ pub(crate) struct History<'a> {
     pub(crate) steps: &'a [usize],
 }
 
-/// Makes these events in a tree that has just opened, up to the first that is refused; and adds how many steps
-/// had been made after each.
+/// Makes these events in a tree that has just opened, up to the first that is refused; and adds how many
+/// steps had been made after each.
 pub(crate) fn play(
     alloc: Global,
     run: &mut Run,

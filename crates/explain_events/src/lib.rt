@@ -1,8 +1,8 @@
 //! Floor: engines and program.
 //!
-//! What a refusal is in sentences: which line, what is wrong with it, what the grammar wants there; which key or
-//! value of a tree text; why an event was refused, with the names in it; which of reading, writing, memory,
-//! devices and numbers failed.
+//! What a refusal is in sentences: which line, what is wrong with it, what the grammar wants there; which key
+//! or value of a tree text; why an event was refused, with the names in it; which of reading, writing,
+//! memory, devices and numbers failed.
 //!
 //! ```text
 //! program      why an input, or an event of it, was refused

@@ -53,9 +53,10 @@ fn push_rest(
     }
 }
 
-/// What is to be noted of the run of a tree script, in lines: why managers vote NO and what gets read, if that is to be
-/// explained; and how many messages it leaves undelivered, unless an event is refused. Of a script that is refused there
-/// is nothing. An error says why the run could not be made again, or that memory was refused.
+/// What is to be noted of the run of a tree script, in lines: why managers vote NO and what gets read, if
+/// that is to be explained; and how many messages it leaves undelivered, unless an event is refused. Of a
+/// script that is refused there is nothing. An error says why the run could not be made again, or that memory
+/// was refused.
 pub fn notes_text(alloc: Global, input: &[u8], explains: bool) -> Result<String, Failure> {
     let mut out = String::new(alloc);
     let Ok((tree, logs, events)) = read_reopen(alloc, input) else {

@@ -21,8 +21,10 @@ pub(crate) fn line_at(alloc: Global, text: &str, number: u64) -> Result<Option<&
 
 /// The place of the line that asks for an event after N that do, from 0.
 pub fn event_place(lines: &[&str], made: usize) -> Option<usize>
-    ensures asks { IfSome result (λ place. option_map (λ s. is_skipped s.now) (slice_get lines.now place) ≡ Some false) }
-    ensures made { IfSome result (λ place. count_by (λ s. not (is_skipped s.now)) (take place lines.now) ≡ made) }
+    ensures asks { IfSome result (λ place. option_map (λ s. is_skipped s.now)
+        (slice_get lines.now place) ≡ Some false) }
+    ensures made { IfSome result (λ place. count_by (λ s. not (is_skipped s.now))
+        (take place lines.now) ≡ made) }
 {
     let mut asked: usize = 0;
     for (place, line) in lines.iter().enumerate() {
@@ -44,8 +46,8 @@ fn line_ends(bytes: &[u8]) -> usize
     bytes.iter().filter(|b| **b == b'\n').count()
 }
 
-/// The number of the line in which the byte at this place stands, counted from 1; after the last byte, that of
-/// the last line.
+/// The number of the line in which the byte at this place stands, counted from 1; after the last byte, that
+/// of the last line.
 pub(crate) fn line_of_byte(bytes: &[u8], place: usize) -> u64
     ensures { place ≤ length bytes.now → result ≡ count_by (λ b. nat_eq b 10) (take place bytes.now) + 1 }
 {

@@ -55,8 +55,8 @@ fn fault_by<'a>(form: LineForm, words: &[&'a str]) -> Option<(LineFault<'a>, Opt
     }
 }
 
-/// The word of such a script that was meant by one that begins none of its lines; these words are after it. A line
-/// with as many words as one of another script has is of that one.
+/// The word of such a script that was meant by one that begins none of its lines; these words are after it. A
+/// line with as many words as one of another script has is of that one.
 fn word_meant(script: Script, word: &str, rest: &[&str]) -> Option<&'static str> {
     if let Some(other) = script_by(word) {
         return if other != script && rest.len() == 1 {

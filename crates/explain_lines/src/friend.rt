@@ -41,8 +41,8 @@ pub(crate) fn friend_of(word: &str, words: &[&'static str]) -> Option<&'static s
     None
 }
 
-/// The word of these that was meant by one that is none of them: what it stands for in another system, or else the
-/// nearest.
+/// The word of these that was meant by one that is none of them: what it stands for in another system, or
+/// else the nearest.
 pub(crate) fn meant_by(word: &str, words: &[&'static str]) -> Option<&'static str>
     ensures { IfSome result (λ meant. Contains (map (λ s. s.now) words.now) meant.now) }
 {

@@ -97,7 +97,8 @@ begun_more bytes number place rest held payload more b at e =
     let text : blocks_text number 48 blocks ++ rest
     ≡ blocks_text number 48 (blocks ++ payload ∷ []) ++ more =
     ap (λ t. blocks_text number 48 blocks ++ t) is
-    ∙ sym (append_assoc (blocks_text number 48 blocks) (block_text number (behind_all 48 blocks) payload) more)
+    ∙ sym (append_assoc (blocks_text number 48 blocks)
+    (block_text number (behind_all 48 blocks) payload) more)
     ∙ ap (λ t. t ++ more) (sym (goes_behind number 48 blocks payload)) in (
       record {
         first = b.first;

@@ -16,7 +16,8 @@ none_told : AreTold []
 none_told = search rules
 
 -- blocks of few bytes are told
-told_of : (n place : ℕ) (ps : List (List ℕ)) (rest : List ℕ) → length (blocks_text n place ps ++ rest) < 2 ^ 64
+told_of : (n place : ℕ) (ps : List (List ℕ)) (rest : List ℕ)
+    → length (blocks_text n place ps ++ rest) < 2 ^ 64
     → AreTold ps
 told_of n place [] rest h = none_told
 told_of n place (p ∷ ps) rest h =
@@ -59,7 +60,8 @@ record Reads (n : ℕ) (ps : List (List ℕ)) (bytes : List ℕ) : Type 0 where
   is : IsFile n ps tail bytes
   torn : is_damaged n (behind_all 48 ps) tail ≡ false
 
-reads_so : (n m : ℕ) (ps : List (List ℕ)) (bytes held : List ℕ) → n < 2 ^ 64 → m < 2 ^ 64 → length bytes < 2 ^ 64
+reads_so : (n m : ℕ) (ps : List (List ℕ)) (bytes held : List ℕ) → n < 2 ^ 64 → m < 2 ^ 64
+    → length bytes < 2 ^ 64
     → Reads n ps bytes → Holds bytes m held → held ≡ concat ps
 reads_so n m ps bytes held h k few r there =
     let same = one_way n m ps (there.first ∷ there.others) r.tail there.tail bytes h k
@@ -164,6 +166,7 @@ kept n first others p bytes h few left =
         let is : bytes ≡ file_text n (first ∷ (others ++ p ∷ [])) =
         left.is ∙ take_all left.keep (file_text n (first ∷ (others ++ p ∷ []))) more in
         let small : length bytes < 2 ^ 64 = omega (arith, ap length is, few) in
-        let r = subst (Reads n (first ∷ (others ++ p ∷ []))) (sym is) (whole_reads n (first ∷ (others ++ p ∷ []))) in
+        let r = subst (Reads n (first ∷ (others ++ p ∷ []))) (sym is)
+        (whole_reads n (first ∷ (others ++ p ∷ []))) in
         let found = both (first ∷ (others ++ p ∷ [])) first (others ++ p ∷ []) refl small r in
         (found.0, λ m held k there. inr (found.1 m held k there ∙ concat_more before p))

@@ -40,7 +40,8 @@ both x y e =
     (ap (λ (q : Pair). q.0) is, ap (λ (q : Pair). q.1) is)
 
 first_of : (n place : ℕ) (p : List ℕ) (ps : List (List ℕ)) (t : List ℕ) → length p < 2 ^ 64
-    → first_block n place (blocks_text n place (p ∷ ps) ++ t) ≡ Some (p, blocks_text n (behind place p) ps ++ t)
+    → first_block n place (blocks_text n place (p ∷ ps) ++ t)
+    ≡ Some (p, blocks_text n (behind place p) ps ++ t)
 first_of n place p ps t h =
     ap (first_block n place) (append_assoc (block_text n place p) (blocks_text n (behind place p) ps) t)
     ∙ back n place p (blocks_text n (behind place p) ps ++ t) h
@@ -70,7 +71,8 @@ blocks_one_way n place (p ∷ ps) (q ∷ qs) t u f g e ends also =
 pub one_way : FilesReadOneWay
 one_way n m ps qs t u bytes h k f g is also =
     let same : n ≡ m =
-    sym (head_number n (blocks_text n 48 ps ++ t) h) ∙ ap (λ b. number_in (drop 8 b)) (sym is.text ∙ also.text)
+    sym (head_number n (blocks_text n 48 ps ++ t) h) ∙ ap (λ b. number_in (drop 8 b))
+    (sym is.text ∙ also.text)
     ∙ head_number m (blocks_text m 48 qs ++ u) k in
     let body : blocks_text n 48 ps ++ t ≡ blocks_text m 48 qs ++ u =
     sym (rest_of 48 (file_head n) (blocks_text n 48 ps ++ t) (file_head_size n))

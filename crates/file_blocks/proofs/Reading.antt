@@ -92,13 +92,15 @@ whole_back number place p rest =
     not_short (length (p ++ rest)) (length p) (omega (arith, length-append p rest)) in
     let front : take (length p) (p ++ rest) ≡ p = front_of (length p) p rest refl in
     let behind : drop (length p) (p ++ rest) ≡ rest = rest_of (length p) p rest refl in
-    let same : bytes_eq (head_text number place (take (length p) (p ++ rest))) (head_text number place p) ≡ true =
+    let same : bytes_eq (head_text number place (take (length p) (p ++ rest)))
+    (head_text number place p) ≡ true =
     ap (λ t. bytes_eq (head_text number place t) (head_text number place p)) front
     ∙ same_is_true (head_text number place p) in
     ap (λ (b : Bool). if b then None
     else (if bytes_eq (head_text number place (take (length p) (p ++ rest))) (head_text number place p)
     then Some (take (length p) (p ++ rest), drop (length p) (p ++ rest)) else None)) fits
-    ∙ ap (λ (b : Bool). if b then Some (take (length p) (p ++ rest), drop (length p) (p ++ rest)) else None) same
+    ∙ ap (λ (b : Bool). if b then Some (take (length p) (p ++ rest), drop (length p) (p ++ rest)) else None)
+    same
     ∙ (λ i. Some (front i, behind i))
 
 -- bytes that are long enough begin with a block as their head says

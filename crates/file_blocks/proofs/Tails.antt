@@ -18,7 +18,8 @@ few_no_block number place bytes h =
 
 few_no_head : (number place : ℕ) (bytes : List ℕ) → length bytes < 72 → is_head number place bytes ≡ false
 few_no_head number place bytes h =
-    ap (λ (b : Bool). if b then false else bytes_eq (seal number place (take 40 bytes)) (take 32 (drop 40 bytes)))
+    ap (λ (b : Bool). if b then false else bytes_eq (seal number place (take 40 bytes))
+    (take 32 (drop 40 bytes)))
     (is_short (length bytes) 72 h)
 
 few_have_none : (number place : ℕ) (bytes : List ℕ) → length bytes < 72 → has_head number place bytes ≡ false
@@ -27,16 +28,19 @@ few_have_none number place (b ∷ bs) h =
     ap (λ (t : Bool). t || has_head number (place + 1) bs) (few_no_head number place (b ∷ bs) h)
     ∙ few_have_none number (place + 1) bs (omega arith)
 
-few_no_damage : (number place : ℕ) (bytes : List ℕ) → length bytes < 72 → is_damaged number place bytes ≡ false
+few_no_damage : (number place : ℕ) (bytes : List ℕ) → length bytes < 72
+    → is_damaged number place bytes ≡ false
 few_no_damage number place bytes h =
     ap (λ (b : Bool). if b
-    then has_head number (place + (72 + number_in (take 72 bytes))) (drop (number_in (take 72 bytes)) (drop 72 bytes))
+    then has_head number (place + (72 + number_in (take 72 bytes)))
+    (drop (number_in (take 72 bytes)) (drop 72 bytes))
     else has_head number place bytes) (few_no_head number place bytes h)
     ∙ few_have_none number place bytes h
 
 -- A sound head, and fewer bytes after it than it tells.
 
-pub head_stands : (number place : ℕ) (p rest : List ℕ) → is_head number place (head_text number place p ++ rest) ≡ true
+pub head_stands : (number place : ℕ) (p rest : List ℕ)
+    → is_head number place (head_text number place p ++ rest) ≡ true
 head_stands number place p rest =
     let bytes = head_text number place p ++ rest in
     let parts : bytes ≡ label p ++ (seal number place (label p) ++ rest) =
@@ -47,7 +51,8 @@ head_stands number place p rest =
     ap (λ t. take 32 (drop 40 t)) parts
     ∙ ap (take 32) (rest_of 40 (label p) (seal number place (label p) ++ rest) (label_size p))
     ∙ front_of 32 (seal number place (label p)) rest (seal_size number place (label p)) in
-    ap (λ (b : Bool). if b then false else bytes_eq (seal number place (take 40 bytes)) (take 32 (drop 40 bytes)))
+    ap (λ (b : Bool). if b then false else bytes_eq (seal number place (take 40 bytes))
+    (take 32 (drop 40 bytes)))
     (not_short (length bytes) 72 (omega (
       arith,
       length-append (head_text number place p) rest,
@@ -63,7 +68,8 @@ cut_no_block number place p rest h less =
     ∙ ap (λ n. whole_block number place (head_text number place p) n rest) (told_size number place p h)
     ∙ ap (λ (b : Bool). if b then None
     else (if bytes_eq (head_text number place (take (length p) rest)) (head_text number place p)
-    then Some (take (length p) rest, drop (length p) rest) else None)) (is_short (length rest) (length p) less)
+    then Some (take (length p) rest, drop (length p) rest) else None))
+    (is_short (length rest) (length p) less)
 
 cut_no_damage : (number place : ℕ) (p rest : List ℕ) → length p < 2 ^ 64 → length rest < length p
     → is_damaged number place (head_text number place p ++ rest) ≡ false
@@ -72,11 +78,13 @@ cut_no_damage number place p rest h less =
     let told : number_in (take 72 bytes) ≡ length p =
     ap number_in (front_of 72 (head_text number place p) rest (head_size number place p))
     ∙ told_size number place p h in
-    let behind : drop 72 bytes ≡ rest = rest_of 72 (head_text number place p) rest (head_size number place p) in
+    let behind : drop 72 bytes ≡ rest = rest_of 72 (head_text number place p) rest (head_size number place p)
+    in
     let none : drop (number_in (take 72 bytes)) (drop 72 bytes) ≡ [] =
     drop_all (number_in (take 72 bytes)) (drop 72 bytes) (omega (arith, told, ap length behind)) in
     ap (λ (b : Bool). if b
-    then has_head number (place + (72 + number_in (take 72 bytes))) (drop (number_in (take 72 bytes)) (drop 72 bytes))
+    then has_head number (place + (72 + number_in (take 72 bytes)))
+    (drop (number_in (take 72 bytes)) (drop 72 bytes))
     else has_head number place bytes) (head_stands number place p rest)
     ∙ ap (has_head number (place + (72 + number_in (take 72 bytes)))) none
 

@@ -23,7 +23,8 @@ finds number place (b ∷ bs) rest e =
 
 abbrev damage_of : ℕ → ℕ → List ℕ → Bool → Bool
 damage_of number place bytes b = if b
-    then has_head number (place + (72 + number_in (take 72 bytes))) (drop (number_in (take 72 bytes)) (drop 72 bytes))
+    then has_head number (place + (72 + number_in (take 72 bytes)))
+    (drop (number_in (take 72 bytes)) (drop 72 bytes))
     else has_head number place bytes
 
 told : (number place : ℕ) (p t q more : List ℕ) → length p < 2 ^ 64 → length t ≡ 72 + length p
@@ -66,4 +67,5 @@ broken_told number place p t q more h size (inr none) =
     let rest = head_text number (behind place p) q ++ more in
     let at : place + length t ≡ behind place p = omega (arith, size) in
     ap (damage_of number place (t ++ rest)) none
-    ∙ finds number place t rest (ap (λ n. is_head number n rest) at ∙ head_stands number (behind place p) q more)
+    ∙ finds number place t rest (ap (λ n. is_head number n rest) at
+    ∙ head_stands number (behind place p) q more)

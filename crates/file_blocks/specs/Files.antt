@@ -37,7 +37,8 @@ pub record Begun (bytes : List ℕ) (number : ℕ) (rest held : List ℕ) : Type
   pub place : behind_all 48 (first ∷ others) + length rest ≡ length bytes
   pub held_are : held ≡ concat (first ∷ others)
 
--- What is in a file: the bytes of its blocks. It has a first one: that was on the disk before the file had its name.
+-- What is in a file: the bytes of its blocks. It has a first one: that was on the disk before the file had
+-- its name.
 pub record Holds (bytes : List ℕ) (number : ℕ) (held : List ℕ) : Type 0 where
   pub first : List ℕ
   pub others : List (List ℕ)
@@ -53,8 +54,8 @@ pub record IsBroken (bytes : List ℕ) (number : ℕ) : Type 0 where
   pub is : IsFile number blocks tail bytes
   pub more : is_damaged number (behind_all 48 blocks) tail ≡ true
 
--- Bytes that are no sound file: they begin with no head of a file, or with a head and no whole block, or the file is
--- broken.
+-- Bytes that are no sound file: they begin with no head of a file, or with a head and no whole block, or the
+-- file is broken.
 abbrev pub IsDamaged : List ℕ → Option ℕ → Type 0
 IsDamaged bytes None = Unit {0}
 IsDamaged bytes (Some number) =

@@ -30,8 +30,8 @@ CutBlocksAreTails = (number place k : ℕ) (p : List ℕ) → length p < 2 ^ 64
     → (first_block number place (take k (block_text number place p)) ≡ None)
     × (is_damaged number place (take k (block_text number place p)) ≡ false)
 
--- A block that is broken is damage where the head of another is after it: its own head is as it was written, or is
--- none any more. (A head that is another one and sound has the digest of another text.)
+-- A block that is broken is damage where the head of another is after it: its own head is as it was written,
+-- or is none any more. (A head that is another one and sound has the digest of another text.)
 abbrev pub BrokenBlocksAreTold : Type 0
 BrokenBlocksAreTold = (number place : ℕ) (p t q more : List ℕ) → length p < 2 ^ 64 → length t ≡ 72 + length p
     → (take 72 t ≡ head_text number place p)
@@ -44,16 +44,18 @@ BlocksGoBehind = (number place : ℕ) (ps : List (List ℕ)) (p : List ℕ)
     → blocks_text number place (ps ++ p ∷ [])
     ≡ blocks_text number place ps ++ block_text number (behind_all place ps) p
 
--- What a crash leaves of a file to which a block was being written: what was on the disk, the file of the first blocks,
--- and of that block any front, none and all of it included.
+-- What a crash leaves of a file to which a block was being written: what was on the disk, the file of the
+-- first blocks, and of that block any front, none and all of it included.
 pub record IsFileLeft (number : ℕ) (first : List ℕ) (others : List (List ℕ)) (p bytes : List ℕ) : Type 0 where
   pub keep : ℕ
   pub safe : length (file_text number (first ∷ others)) ≤ keep
   pub is : bytes ≡ take keep (file_text number (first ∷ (others ++ p ∷ [])))
 
--- Such a file is read as what was on the disk, or as that and the block, and as nothing else: it is never damaged.
+-- Such a file is read as what was on the disk, or as that and the block, and as nothing else: it is never
+-- damaged.
 abbrev pub FilesKeepWhatWasForced : Type 0
-FilesKeepWhatWasForced = (number : ℕ) (first : List ℕ) (others : List (List ℕ)) (p bytes : List ℕ) → number < 2 ^ 64
+FilesKeepWhatWasForced = (number : ℕ) (first : List ℕ) (others : List (List ℕ)) (p bytes : List ℕ)
+    → number < 2 ^ 64
     → length (file_text number (first ∷ (others ++ p ∷ []))) < 2 ^ 64
     → IsFileLeft number first others p bytes
     → (IsDamaged bytes (file_number bytes) → ⊥)

@@ -85,12 +85,13 @@ pub fn file_number(bytes: &[u8]) -> Option<u64>
     }
 }
 
-/// What is in a file of these bytes: up to the first block that is not whole, which a cut of power may
-/// have left. Damaged: it is no file of a log; or its first block is not whole, which was on the disk before the
+/// What is in a file of these bytes: up to the first block that is not whole, which a cut of power may have
+/// left. Damaged: it is no file of a log; or its first block is not whole, which was on the disk before the
 /// file had its name; or another block was begun after one that is not whole.
 pub fn read_file(alloc: Global, bytes: &[u8]) -> Result<FileText, FileReadFault>
     ensures ok { IfOk result (λ found. Holds bytes.now found.number found.bytes.items) }
-    ensures err { IfErr result (λ e. e ≡ FileReadFault.Damaged → IsDamaged bytes.now (file_number bytes.now)) }
+    ensures err { IfErr result (λ e. e ≡ FileReadFault.Damaged
+        → IsDamaged bytes.now (file_number bytes.now)) }
 {
     let Some(number) = file_number(bytes) else {
         return Err(FileReadFault::Damaged);

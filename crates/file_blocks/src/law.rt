@@ -38,8 +38,8 @@ pub fn blocks_go_behind()
     ensures { BlocksGoBehind }
 {}
 
-/// What a crash leaves of a file, while a block was being written to it, is read as what was on the disk, or as that
-/// and the block.
+/// What a crash leaves of a file, while a block was being written to it, is read as what was on the disk, or
+/// as that and the block.
 pub fn files_keep_what_was_forced()
     ensures { FilesKeepWhatWasForced }
 {}

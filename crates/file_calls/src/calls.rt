@@ -89,8 +89,8 @@ impl Calls {
         asked
     }
 
-    /// The call that is to be made next, with its bytes copied to the front of a room if they fit; None, if no call
-    /// is left.
+    /// The call that is to be made next, with its bytes copied to the front of a room if they fit; None, if
+    /// no call is left.
     pub fn show_next(&self, room: &mut [u8]) -> Option<NextCall> {
         let left = self.left.replace(Vec::new(self.alloc));
         let next = match left.first() {

@@ -6,8 +6,8 @@ use log_file::LogFile;
 use std::alloc::{AllocError, Global};
 use std::io::{self, ErrorKind};
 
-/// A log's file whose calls are left to somebody else. Each method answers Ok if it has asked for its call, and Err
-/// only if there is no memory to ask for it.
+/// A log's file whose calls are left to somebody else. Each method answers Ok if it has asked for its call,
+/// and Err only if there is no memory to ask for it.
 pub struct CalledFile {
     alloc: Global,
     calls: Calls,

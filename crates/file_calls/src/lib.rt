@@ -1,7 +1,7 @@
 //! Floor: the log.
 //!
-//! A log's file that makes no call itself: what a store asks of it is kept, in order, for whoever has the file.
-//! A static library is given no runtime, by which files of the system are opened.
+//! A log's file that makes no call itself: what a store asks of it is kept, in order, for whoever has the
+//! file. A static library is given no runtime, by which files of the system are opened.
 #![tactic(auto)]
 
 mod call;

@@ -64,7 +64,8 @@ module _ (R A : RattleType) (LA : Laws A) (g : Ghosts A.Denot) where
 
     -- and the way back
     pub put_together : K → (b o : ℕ) (handle : Val) (a : A.Denot) (x : R.Denot)
-        → Step K 𝓛 (‵ (HeldRow.own_val (record { at = block_ptr b o; alloc = a; value = x }) (laid (block_ptr b
+        → Step K 𝓛 (‵ (HeldRow.own_val (record { at = block_ptr b o; alloc = a; value = x })
+        (laid (block_ptr b
         o) handle ∷ [])) ∷ Γ) G
         (‵ (box_owns (g.dealloc_token a) R (block_ptr b o) x) ∷ ‵ (A.own_val a (handle ∷ [])) ∷ Γ) G
     put_together t b o handle a x = step (λ rest.

@@ -10,7 +10,8 @@ use Rattle.input_lines.specs.Lines.{ReadsLine, longest}
 use Rattle.input_lines.specs.Steps.{ReadsOn, ending}
 
 -- a front of two lists is one of the first, and one of the second as far as there is room
-pub front_of_two : (n : ℕ) (xs ys : List ℕ) → take n (xs ++ ys) ≡ take n xs ++ take (n - length (take n xs)) ys
+pub front_of_two : (n : ℕ) (xs ys : List ℕ) → take n (xs ++ ys)
+    ≡ take n xs ++ take (n - length (take n xs)) ys
 front_of_two zero xs ys = refl
 front_of_two (suc n) [] ys = let all : suc n ≡ suc n - 0 = omega arith in ap (λ k. take k ys) all
 front_of_two (suc n) (x ∷ xs) ys =
@@ -22,14 +23,17 @@ pub parts_of : (shown : List ℕ) (before : ℕ) (reach : Reach) → (reach ≡ 
     → (before < length shown → get_or shown before 0 ≡ 10)
     → take (before + length (ending reach)) shown ≡ take before shown ++ ending reach
 parts_of shown before Within lt hit =
-    let none : before + 0 ≡ before = omega arith in ap (λ n. take n shown) none ∙ sym (append-nil (take before shown))
+    let none : before + 0 ≡ before = omega arith in ap (λ n. take n shown) none
+    ∙ sym (append-nil (take before shown))
 parts_of shown before End lt hit =
-    let none : before + 0 ≡ before = omega arith in ap (λ n. take n shown) none ∙ sym (append-nil (take before shown))
+    let none : before + 0 ≡ before = omega arith in ap (λ n. take n shown) none
+    ∙ sym (append-nil (take before shown))
 parts_of shown before Feed lt hit =
     take_more shown before 0 (lt refl) ∙ ap (λ y. take before shown ++ y ∷ []) (hit (lt refl))
 
 module _ (a b c : Option (List ℕ)) (part before after : List ℕ) (room : ℕ) (none : All (λ x. x ≢ 10) part)
-    (took : Consumes a b part) (kept : before ≡ take (longest + 1) part) (fits : room ≡ longest + 1 - length before) where
+    (took : Consumes a b part) (kept : before ≡ take (longest + 1) part)
+    (fits : room ≡ longest + 1 - length before) where
   -- what is kept after one part more
   kept_on : (more : List ℕ) → after ≡ before ++ take room more → after ≡ take (longest + 1) (part ++ more)
   kept_on more h =
@@ -52,7 +56,8 @@ module _ (a b c : Option (List ℕ)) (part before after : List ℕ) (room : ℕ)
   goes_on h = (
     part ++ h.part,
     All-append (λ x. x ≢ 10) part h.part none h.no_feed,
-    subst (λ l. Consumes a c (part ++ l)) (append-nil h.part) (Consumes-trans a b c part (h.part ++ []) took h.took),
+    subst (λ l. Consumes a c (part ++ l)) (append-nil h.part)
+        (Consumes-trans a b c part (h.part ++ []) took h.took),
     kept_on h.part h.keeps,
   )
 

@@ -28,8 +28,8 @@ bytes_of p = p.front ++ feed p.fed
 abbrev pub is_none_left : List ℕ → Bool → Bool
 is_none_left front fed = (length front == 0) && not fed
 
--- The piece is the next line of a reader, which loses its bytes, if it says what it has: no byte before its line feed is one, and
--- one without a line feed is the last.
+-- The piece is the next line of a reader, which loses its bytes, if it says what it has: no byte before its
+-- line feed is one, and one without a line feed is the last.
 pub record IsNext (old new : Option (List ℕ)) (p : Piece) : Type 0 where
   pub no_feed : All (λ x. x ≢ 10) p.front
   pub took : Consumes old new (bytes_of p)

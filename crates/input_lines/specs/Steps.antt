@@ -9,9 +9,11 @@ abbrev pub ending : Reach → List ℕ
 ending Feed = 10 ∷ []
 ending _ = []
 
--- The reader lost these bytes, none of which is a line feed, and the line feed that ended the line, if one did. Of
--- them as many are kept, after what was kept before, as there is room for. At the end of the input none is left.
-pub record ReadsOn (old new : Option (List ℕ)) (before after : List ℕ) (room : ℕ) (reach : Reach) : Type 0 where
+-- The reader lost these bytes, none of which is a line feed, and the line feed that ended the line, if one
+-- did. Of them as many are kept, after what was kept before, as there is room for. At the end of the input
+-- none is left.
+pub record ReadsOn (old new : Option (List ℕ)) (before after : List ℕ) (room : ℕ)
+    (reach : Reach) : Type 0 where
   pub part : List ℕ
   pub no_feed : All (λ x. x ≢ 10) part
   pub took : Consumes old new (part ++ ending reach)

@@ -35,8 +35,8 @@ fn before_feed(bytes: &[u8]) -> usize
     at
 }
 
-/// What the next bytes bring a line to: their number, and that of those before the first line feed, or of all if none is
-/// there. And how many of them the line takes.
+/// What the next bytes bring a line to: their number, and that of those before the first line feed, or of all
+/// if none is there. And how many of them the line takes.
 fn reach_of(before: usize, count: usize) -> (Reach, usize)
     requires { before ≤ count }
     ensures end { result.0 ≡ Reach.End → count ≡ 0 }
@@ -89,8 +89,8 @@ fn read_on<R: BufRead>(
     Ok(reach)
 }
 
-/// Reads the next line through its line feed, and keeps at most `LONGEST` bytes and one of it. Without a line any
-/// more nothing is kept, and no line feed ends it.
+/// Reads the next line through its line feed, and keeps at most `LONGEST` bytes and one of it. Without a line
+/// any more nothing is kept, and no line feed ends it.
 pub fn read_line<R: BufRead>(alloc: Global, reader: &mut R) -> Result<InputLine, InputLineFault>
     ensures { IfOk result (λ line. ReadsLine (R.remaining reader.old) (R.remaining reader.new)
         line.kept.items line.is_fed) }

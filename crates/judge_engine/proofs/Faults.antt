@@ -37,7 +37,8 @@ event_at [] i lt = absurd (omega (arith, lt))
 event_at (d ∷ es) i lt = (get_or (d ∷ es) i d, slice_get-get_or (d ∷ es) i d lt)
 
 -- how the judge goes on, by equal events, states and walks
-pub next_is : (r : Rules) (es fs : List HistoryEvent) (at : ℕ) (us vs : List Sight) (o p : Option Walk) → fs ≡ es → vs ≡ us
+pub next_is : (r : Rules) (es fs : List HistoryEvent) (at : ℕ) (us vs : List Sight) (o p : Option Walk)
+    → fs ≡ es → vs ≡ us
     → p ≡ o → IsNext r fs at vs p → IsNext r es at us o
 next_is r es fs at us vs o p same_events same_states same_walk n =
     subst (λ (l : List HistoryEvent). IsNext r l at us o) same_events
@@ -51,8 +52,10 @@ next_over_is r es fs at us vs same_events same_states n =
     (subst (λ (l : List Sight). IsNextOver r fs at l) same_states n)
 
 -- one fault more, with an answer
-go_more : (r : Rules) (es : List HistoryEvent) (n : ℕ) (starts : List Sight) (js : List ℕ) (m : ℕ) (states : List Sight)
-    (j : ℕ) (e : HistoryEvent) (before : List Sight) → GoesOn r es n starts js m states → IsFault r es m states j e before
+go_more : (r : Rules) (es : List HistoryEvent) (n : ℕ) (starts : List Sight) (js : List ℕ) (m : ℕ)
+    (states : List Sight)
+    (j : ℕ) (e : HistoryEvent) (before : List Sight) → GoesOn r es n starts js m states
+    → IsFault r es m states j e before
     → is_answered e.answer ≡ true → GoesOn r es n starts (js ++ j ∷ []) (j + 1) (resumed e before)
 go_more r es n starts [] m states j e before (same_number, same_states) fault answered = (
   e,
@@ -62,8 +65,14 @@ go_more r es n starts [] m states j e before (same_number, same_states) fault an
   answered,
   (refl, refl),
 )
-go_more r es n starts (k ∷ ks) m states j e before (f, earlier, first, told, rest) fault answered =
-    (f, earlier, first, told, go_more r es (k + 1) (resumed f earlier) ks m states j e before rest fault answered)
+go_more r es n starts (k ∷ ks) m states j e before (f, earlier, first, told, rest) fault answered = (
+  f,
+  earlier,
+  first,
+  told,
+  go_more r es (k + 1) (resumed f earlier) ks m states j e before
+      rest fault answered,
+)
 
 -- what is possible before a fault is something
 pub some_before : (r : Rules) (es : List HistoryEvent) (js : List ℕ) (at : ℕ) (before : List Sight)
@@ -106,7 +115,8 @@ first_at r es i before f left few =
     }
 
 -- it goes on after a fault
-goes_past : (r : Rules) (es : List HistoryEvent) (js : List ℕ) (at : ℕ) (before : List Sight) (a : IsAt r es js at before)
+goes_past : (r : Rules) (es : List HistoryEvent) (js : List ℕ) (at : ℕ) (before : List Sight)
+    (a : IsAt r es js at before)
     (e : HistoryEvent) → slice_get es at ≡ Some e → is_answered e.answer ≡ true
     → GoesOn r es 0 (first_sight ∷ []) (a.answered ++ at ∷ []) (at + 1) (resumed e before)
 goes_past r es js at before a e is answered =
@@ -123,14 +133,16 @@ next_within r es at before w more (e, is, answered, walks) found =
     omega (arith, s.within, length-drop (at + 1) es)
 
 -- the next fault
-pub next_at : (r : Rules) (es : List HistoryEvent) (js : List ℕ) (at : ℕ) (before : List Sight) (w : Walk) (more : ℕ)
+pub next_at : (r : Rules) (es : List HistoryEvent) (js : List ℕ) (at : ℕ) (before : List Sight)
+    (w : Walk) (more : ℕ)
     → IsAt r es js at before → IsNext r es at before (Some w) → w.fault ≡ Some more
     → IsAt r es (js ++ (at + 1 + more) ∷ []) (at + 1 + more) w.states.items
 next_at r es js at before w more a (e, is, answered, walks) found =
     let rest = drop (at + 1) es in
     let s : JudgeStops r (resumed e before) rest more =
     subst (λ (o : Option ℕ). IsWalk r (resumed e before) rest o) found walks.fault in
-    let next = event_at es (at + 1 + more) (next_within r es at before w more (e, is, answered, walks) found) in
+    let next = event_at es (at + 1 + more) (next_within r es at before w more (e, is, answered, walks) found)
+    in
     record {
       answered = a.answered ++ at ∷ [];
       number = at + 1;
@@ -143,13 +155,15 @@ next_at r es js at before w more a (e, is, answered, walks) found =
         index = refl;
         event = next.1;
         stops = s;
-        left = subst (λ (o : Option ℕ). AreStatesLeft r (resumed e before) (followed rest o) w.states.items) found walks.left;
+        left = subst (λ (o : Option ℕ). AreStatesLeft r (resumed e before) (followed rest o) w.states.items)
+            found walks.left;
         few = walks.few;
       };
     }
 
 -- the last fault has no answer
-pub ended_hung : (r : Rules) (es : List HistoryEvent) (js : List ℕ) (at : ℕ) (before : List Sight) → IsAt r es js at before
+pub ended_hung : (r : Rules) (es : List HistoryEvent) (js : List ℕ) (at : ℕ) (before : List Sight)
+    → IsAt r es js at before
     → IsNext r es at before None → AreFaults r es js
 ended_hung r es js at before a (e, is, hung) =
     let same : a.event ≡ e = some_is a.event e (sym a.fault.event ∙ is) in
@@ -160,7 +174,16 @@ ended_hung r es js at before a (e, is, hung) =
       states = a.starts;
       all = a.all;
       goes_on = a.goes_on;
-      ends = (refl, (e, before, subst (λ (q : HistoryEvent). IsFault r es a.number a.starts at q before) same a.fault, hung));
+      ends = (
+        refl,
+        (
+          e,
+          before,
+          subst (λ (q : HistoryEvent). IsFault r es a.number a.starts at q before) same
+              a.fault,
+          hung,
+        ),
+      );
     }
 
 -- there is none after it
@@ -179,7 +202,8 @@ ended r es js at before w a (e, is, answered, walks) none =
     }
 
 -- too many states after it
-pub next_over : (r : Rules) (es : List HistoryEvent) (js : List ℕ) (at : ℕ) (before : List Sight) → IsAt r es js at before
+pub next_over : (r : Rules) (es : List HistoryEvent) (js : List ℕ) (at : ℕ) (before : List Sight)
+    → IsAt r es js at before
     → IsNextOver r es at before → IsOver r es
 next_over r es js at before a (e, is, answered, over) = record {
   answered = a.answered ++ at ∷ [];
@@ -213,21 +237,25 @@ no_faults r es legal few = record {
 }
 
 -- too many states before any fault, as far as the judge goes
-pub over_for : (x : Extent) (r : Rules) (es : List HistoryEvent) → IsTooMuch r (first_sight ∷ []) es → IsOverFor x r es
+pub over_for : (x : Extent) (r : Rules) (es : List HistoryEvent) → IsTooMuch r (first_sight ∷ []) es
+    → IsOverFor x r es
 over_for First r es over = over
 over_for All r es over = first_over r es over
 
 -- no fault is told of a legal history
-pub none_told : (x : Extent) (r : Rules) (es fs : List HistoryEvent) (o : Option ℕ) → fs ≡ es → o ≡ None → IsVerdict r fs o
+pub none_told : (x : Extent) (r : Rules) (es fs : List HistoryEvent) (o : Option ℕ) → fs ≡ es → o ≡ None
+    → IsVerdict r fs o
     → (IsTooMuch r (first_sight ∷ []) fs → ⊥) → AreTold x r es []
 none_told First r es fs o same none v few = omega arith
 none_told All r es fs o same none v few = subst (λ (l : List HistoryEvent). AreFaults r l []) same
     (no_faults r fs (subst (λ (q : Option ℕ). IsVerdict r fs q) none v) few)
 
 -- the first fault, as it is found
-pub start_at : (r : Rules) (es fs : List HistoryEvent) (o : Option ℕ) (i : ℕ) (before : List Sight) → fs ≡ es → o ≡ Some i
+pub start_at : (r : Rules) (es fs : List HistoryEvent) (o : Option ℕ) (i : ℕ) (before : List Sight) → fs ≡ es
+    → o ≡ Some i
     → IsVerdict r fs o → AreStatesLeft r (first_sight ∷ []) (followed fs o) before
     → (IsTooMuch r (first_sight ∷ []) fs → ⊥) → IsAt r es (i ∷ []) i before
-start_at r es fs o i before same some v left few = subst (λ (l : List HistoryEvent). IsAt r l (i ∷ []) i before) same
+start_at r es fs o i before same some v left few =
+    subst (λ (l : List HistoryEvent). IsAt r l (i ∷ []) i before) same
     (first_at r fs i before (subst (λ (q : Option ℕ). IsVerdict r fs q) some v)
     (subst (λ (q : Option ℕ). AreStatesLeft r (first_sight ∷ []) (followed fs q) before) some left) few)

@@ -15,7 +15,8 @@ opens_more [] c first h = first refl
 opens_more (d ∷ cs) c first h = h
 
 -- one more call, which opens the manager if it is the first
-pub plan_more : (seed n : ℕ) (old new : List ℕ) (c : JudgedCall) → IsPlan seed n old → (n ≡ 0 → OpensFirst (c ∷ []))
+pub plan_more : (seed n : ℕ) (old new : List ℕ) (c : JudgedCall) → IsPlan seed n old
+    → (n ≡ 0 → OpensFirst (c ∷ []))
     → new ≡ old ++ call_line seed c → IsPlan seed (n + 1) new
 plan_more seed n old new c p first is = record {
   calls = p.calls ++ c ∷ [];

@@ -15,9 +15,10 @@ use Rattle.judge_engine.specs.declared.judging.JudgeFault.{JudgeFault}
 abbrev pub indices : List JudgeFault → List ℕ
 indices fs = map (λ f. f.index) fs
 
--- from one of these states the events from a number on lead to none first at this one; the states of a list are
--- possible before it, and nowhere there are more than are gone through
-pub record IsFault (r : Rules) (es : List HistoryEvent) (n : ℕ) (starts : List Sight) (j : ℕ) (e : HistoryEvent) (before : List Sight) : Type 0 where
+-- from one of these states the events from a number on lead to none first at this one; the states of a list
+-- are possible before it, and nowhere there are more than are gone through
+pub record IsFault (r : Rules) (es : List HistoryEvent) (n : ℕ) (starts : List Sight) (j : ℕ)
+    (e : HistoryEvent) (before : List Sight) : Type 0 where
   pub steps : ℕ
   pub index : j ≡ n + steps
   pub event : slice_get es j ≡ Some e
@@ -25,14 +26,17 @@ pub record IsFault (r : Rules) (es : List HistoryEvent) (n : ℕ) (starts : List
   pub left : AreStatesLeft r starts (take steps (drop n es)) before
   pub few : IsTooMuch r starts (drop n es) → ⊥
 
--- after faults of these indices, each with an answer, the judge goes on with the event of a number, from the states of
--- a list: from those before the last fault, and those that there are if its answer is taken at its word
+-- after faults of these indices, each with an answer, the judge goes on with the event of a number, from the
+-- states of a list: from those before the last fault, and those that there are if its answer is taken at its
+-- word
 abbrev pub GoesOn : Rules → List HistoryEvent → ℕ → List Sight → List ℕ → ℕ → List Sight → Type 0
 GoesOn r es n starts [] m states = (n ≡ m) × (starts ≡ states)
-GoesOn r es n starts (j ∷ js) m states = (e : HistoryEvent) × (before : List Sight) × IsFault r es n starts j e before
+GoesOn r es n starts (j ∷ js) m states = (e : HistoryEvent) × (before : List Sight)
+    × IsFault r es n starts j e before
     × (is_answered e.answer ≡ true) × GoesOn r es (j + 1) (resumed e before) js m states
 
--- the events from a number on have no fault; or this one, which has no answer, and after which nothing is judged
+-- the events from a number on have no fault; or this one, which has no answer, and after which nothing is
+-- judged
 abbrev pub Ends : Rules → List HistoryEvent → ℕ → List Sight → List ℕ → Type 0
 Ends r es m states [] = JudgeLeadsOn r states (drop m es) × (IsTooMuch r states (drop m es) → ⊥)
 Ends r es m states (j ∷ js) = (js ≡ []) × ((e : HistoryEvent) × (before : List Sight)
@@ -48,9 +52,10 @@ pub record AreFaults (r : Rules) (es : List HistoryEvent) (js : List ℕ) : Type
   pub goes_on : GoesOn r es 0 (first_sight ∷ []) answered number states
   pub ends : Ends r es number states last
 
--- the judge came to a fault, with these indices so far, of which its is the last; the states of a list are possible
--- before it
-pub record IsAt (r : Rules) (es : List HistoryEvent) (js : List ℕ) (at : ℕ) (before : List Sight) : Type 0 where
+-- the judge came to a fault, with these indices so far, of which its is the last; the states of a list are
+-- possible before it
+pub record IsAt (r : Rules) (es : List HistoryEvent) (js : List ℕ) (at : ℕ)
+    (before : List Sight) : Type 0 where
   pub answered : List ℕ
   pub number : ℕ
   pub starts : List Sight
@@ -76,7 +81,8 @@ pub record Walks (r : Rules) (starts : List Sight) (es : List HistoryEvent) (w :
 -- how the judge goes on after the fault of an index: by a walk, or not, if it has no answer
 abbrev pub IsNext : Rules → List HistoryEvent → ℕ → List Sight → Option Walk → Type 0
 IsNext r es at before None = (e : HistoryEvent) × (slice_get es at ≡ Some e) × (is_answered e.answer ≡ false)
-IsNext r es at before (Some w) = (e : HistoryEvent) × (slice_get es at ≡ Some e) × (is_answered e.answer ≡ true)
+IsNext r es at before (Some w) = (e : HistoryEvent) × (slice_get es at ≡ Some e)
+    × (is_answered e.answer ≡ true)
     × Walks r (resumed e before) (drop (at + 1) es) w
 
 -- too many states are possible as it goes on

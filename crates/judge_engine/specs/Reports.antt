@@ -79,7 +79,8 @@ IsBetween First text = text ≡ []
 IsBetween All text = Unit {0}
 
 -- a text reports these faults of a transcript with these lines
-pub record IsFaultsText (x : Extent) (ls : List (List ℕ)) (t : Transcript) (fs : List JudgeFault) (text : List ℕ) : Type 0 where
+pub record IsFaultsText (x : Extent) (ls : List (List ℕ)) (t : Transcript) (fs : List JudgeFault)
+    (text : List ℕ) : Type 0 where
   pub told : List ℕ
   pub between : List ℕ
   pub tells : TellsFaults ls t fs told
@@ -102,8 +103,8 @@ pub record ReportsNone (t : Transcript) (text : List ℕ) : Type 0 where
   pub few : IsTooMuch t.rules (first_sight ∷ []) t.events.items → ⊥
   pub report : text ≡ conforms_text t
 
--- what is written of an input, by how the run ends: of a transcript, that its history is legal, or its faults; or the
--- line of the fault for which the input is refused
+-- what is written of an input, by how the run ends: of a transcript, that its history is legal, or its
+-- faults; or the line of the fault for which the input is refused
 abbrev pub IsReport : Extent → JudgeStatus → List ℕ → List ℕ → Type 0
 IsReport x Conforms input text = IsUtf8 input × ((t : Transcript) × IsTranscript input t × ReportsNone t text)
 IsReport x Faulty input text =

@@ -190,7 +190,8 @@ fn owed_text(
     Ok(text)
 }
 
-/// What a list of a recover may be: of which branches, how many of them, and without which it may not be shorter.
+/// What a list of a recover may be: of which branches, how many of them, and without which it may not be
+/// shorter.
 fn push_list(
     rules: Rules,
     count: u32,

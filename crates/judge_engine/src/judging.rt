@@ -59,7 +59,8 @@ fn fault_at(
     })
 }
 
-/// The next walk, after a fault: the judge goes on as if the answer had been admitted. None, if there is no answer.
+/// The next walk, after a fault: the judge goes on as if the answer had been admitted. None, if there is no
+/// answer.
 fn next_walk(
     alloc: Global,
     rules: Rules,
@@ -70,7 +71,8 @@ fn next_walk(
     requires within { index < length events.now }
     requires some { 0 < length states.now }
     ensures next { IfOk result (IsNext rules events.now index states.now) }
-    ensures too_many { IfErr result (λ e. e ≡ JudgeError.TooMany → IsNextOver rules events.now index states.now) }
+    ensures too_many { IfErr result (λ e. e ≡ JudgeError.TooMany
+        → IsNextOver rules events.now index states.now) }
 {
     let event = &events[index];
     if is_hung(event) {
@@ -89,7 +91,8 @@ fn add_more(
     states: Vec<State>,
     index: usize,
 ) -> Result<(), JudgeError>
-    requires { IsAt transcript.now.rules transcript.now.events.items (indices found.old.items) index states.items }
+    requires { IsAt transcript.now.rules transcript.now.events.items (indices found.old.items)
+        index states.items }
     ensures first { OnOk result (first_index found.new.items ≡ first_index found.old.items) }
     ensures all { OnOk result (AreFaults transcript.now.rules transcript.now.events.items
         (indices found.new.items)) }

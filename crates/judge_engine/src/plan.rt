@@ -1,7 +1,7 @@
 //! Plans: scripts of calls that walk the rows of XA's tables, legal and illegal calls mixed.
 //!
-//! The rules of the judge themselves steer the choice: a state is kept that the manager may be in, and of most calls it
-//! is seen to that they may be answered XA_OK there.
+//! The rules of the judge themselves steer the choice: a state is kept that the manager may be in, and of
+//! most calls it is seen to that they may be answered XA_OK there.
 
 ghost use Rattle.std.specs.Prelude.{◌≡◌, ◌⊎◌, ◌∷◌, [], ℕ, List, IfErr, IfOk, OnOk};
 ghost use Rattle.std.specs.Io.KnownBytes.{Appends, Keeps};
@@ -409,8 +409,8 @@ fn script(alloc: Global, seed: u64, count: u32) -> Result<Vec<u8>, JudgeError>
     Ok(out)
 }
 
-/// Writes a script of this many calls, the same for the same seed. Where memory is refused, nothing was written; after
-/// a failed write, a beginning of the script.
+/// Writes a script of this many calls, the same for the same seed. Where memory is refused, nothing was
+/// written; after a failed write, a beginning of the script.
 pub fn run_plan<W: Write>(
     alloc: Global,
     seed: u64,

@@ -111,9 +111,9 @@ fn report(alloc: Global, extent: Extent, input: &[u8]) -> Result<(Vec<u8>, Judge
     }
 }
 
-/// Reads a transcript, judges it, and writes the verdict; or one line that says why the transcript is refused.
-/// After a failed read, or where memory is refused, nothing was written; after a failed write, a beginning of the
-/// text.
+/// Reads a transcript, judges it, and writes the verdict; or one line that says why the transcript is
+/// refused. After a failed read, or where memory is refused, nothing was written; after a failed write, a
+/// beginning of the text.
 pub fn run_judge<R: Read, W: Write>(
     alloc: Global,
     extent: Extent,

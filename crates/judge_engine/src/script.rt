@@ -36,7 +36,8 @@ fn flags_text(flags: Flags) -> &'static str
     }
 }
 
-/// Adds the name of a branch's global transaction, in hexadecimal: two bytes of the plan and four of the branch.
+/// Adds the name of a branch's global transaction, in hexadecimal: two bytes of the plan and four of the
+/// branch.
 fn push_global(alloc: Global, out: &mut Vec<u8>, seed: u64, number: u32) -> Result<(), AllocError>
     ensures { OnOk result (out.new.items ≡ out.old.items ++ global_name seed number) }
 {

@@ -26,7 +26,8 @@ fn is_number(word: &str) -> bool {
     !word.is_empty() && word.as_bytes()[0].is_ascii_digit()
 }
 
-/// The sort of a fault: the first word of the call and its flags, the first word of the answer, and the standing.
+/// The sort of a fault: the first word of the call and its flags, the first word of the answer, and the
+/// standing.
 pub(crate) fn sort_of(
     alloc: Global,
     line: &str,

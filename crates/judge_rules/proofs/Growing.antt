@@ -32,7 +32,8 @@ map_in f (v ∷ us) u c = elim (cons_cases v us u c) [
 
 sub_map : (f : Sight → Sight) (us vs : List Sight) → Sub us vs → Sub (map f us) (map f vs)
 sub_map f us vs sub t c =
-    let h = in_map f us t c in subst (λ (q : Sight). Contains (map f vs) q) h.2 (map_in f vs h.0 (sub h.0 h.1))
+    let h = in_map f us t c in subst (λ (q : Sight). Contains (map f vs) q) h.2
+    (map_in f vs h.0 (sub h.0 h.1))
 
 sub_append : (us vs ws xs : List Sight) → Sub us ws → Sub vs xs → Sub (us ++ vs) (ws ++ xs)
 sub_append us vs ws xs f g t c = elim (Contains-append_cases us vs t c) [
@@ -50,7 +51,8 @@ all_kept : (f : List Sight → JudgedBranch → List Sight) → Grows f → (us 
 all_kept f g us [] t c = c
 all_kept f g us (b ∷ bs) t c = all_kept f g (f us b) bs t (g.keeps us b t c)
 
-front_kept : (f : List Sight → JudgedBranch → List Sight) → Grows f → (us : List Sight) (bs : List JudgedBranch) (i : ℕ)
+front_kept : (f : List Sight → JudgedBranch → List Sight) → Grows f
+    → (us : List Sight) (bs : List JudgedBranch) (i : ℕ)
     → Sub (fold f us (take i bs)) (fold f us bs)
 front_kept f g us [] zero t c = c
 front_kept f g us [] (suc i) t c = c
@@ -58,7 +60,8 @@ front_kept f g us (b ∷ bs) zero t c = all_kept f g us (b ∷ bs) t c
 front_kept f g us (b ∷ bs) (suc i) t c = front_kept f g (f us b) bs i t c
 
 -- the set of one more step
-next_set : (f : List Sight → JudgedBranch → List Sight) → Grows f → (us set new : List Sight) (b : JudgedBranch) → IsSetOf us set
+next_set : (f : List Sight → JudgedBranch → List Sight) → Grows f
+    → (us set new : List Sight) (b : JudgedBranch) → IsSetOf us set
     → IsSetOf (f set b) new → IsSetOf (f us b) new
 next_set f g us set new b old made = record {
   all = λ t. (
@@ -68,7 +71,8 @@ next_set f g us set new b old made = record {
   apart = made.apart;
 }
 
-fold_set : (f : List Sight → JudgedBranch → List Sight) → Grows f → (us set more new : List Sight) (bs : List JudgedBranch) (i : ℕ)
+fold_set : (f : List Sight → JudgedBranch → List Sight) → Grows f
+    → (us set more new : List Sight) (bs : List JudgedBranch) (i : ℕ)
     (d : JudgedBranch) → i < length bs → IsSetOf (fold f us (take i bs)) set → more ≡ f set (get_or bs i d)
     → IsSetOf more new → IsSetOf (fold f us (take (i + 1) bs)) new
 fold_set f g us set more new bs i d lt old is made =
@@ -77,7 +81,8 @@ fold_set f g us set more new bs i d lt old is made =
     (subst (λ (q : List Sight). IsSetOf q new) is made))
 
 -- too many after some of the branches, and one more, are too many after all
-too_many : (f : List Sight → JudgedBranch → List Sight) → Grows f → (us set more : List Sight) (bs : List JudgedBranch) (i : ℕ)
+too_many : (f : List Sight → JudgedBranch → List Sight) → Grows f
+    → (us set more : List Sight) (bs : List JudgedBranch) (i : ℕ)
     (d : JudgedBranch) → i < length bs → IsSetOf (fold f us (take i bs)) set → more ≡ f set (get_or bs i d)
     → AreTooManyStates more → AreTooManyStates (fold f us bs)
 too_many f g us set more bs i d lt old is (ts, apart, among, many) =
@@ -110,22 +115,27 @@ gone_grow = record {
       (sub_map (marked b.name) us vs sub);
 }
 
-pub back_set : (ws : List Work) (us set more new : List Sight) (bs : List JudgedBranch) (i : ℕ) (d : JudgedBranch)
-    → i < length bs → IsSetOf (fold (maybe_back ws) us (take i bs)) set → more ≡ maybe_back ws set (get_or bs i d)
+pub back_set : (ws : List Work) (us set more new : List Sight) (bs : List JudgedBranch) (i : ℕ)
+    (d : JudgedBranch)
+    → i < length bs → IsSetOf (fold (maybe_back ws) us (take i bs)) set
+    → more ≡ maybe_back ws set (get_or bs i d)
     → IsSetOf more new → IsSetOf (fold (maybe_back ws) us (take (i + 1) bs)) new
 back_set ws = fold_set (maybe_back ws) (back_grow ws)
 
-pub gone_set : (us set more new : List Sight) (bs : List JudgedBranch) (i : ℕ) (d : JudgedBranch) → i < length bs
+pub gone_set : (us set more new : List Sight) (bs : List JudgedBranch) (i : ℕ) (d : JudgedBranch)
+    → i < length bs
     → IsSetOf (fold maybe_gone us (take i bs)) set → more ≡ maybe_gone set (get_or bs i d) → IsSetOf more new
     → IsSetOf (fold maybe_gone us (take (i + 1) bs)) new
 gone_set = fold_set maybe_gone gone_grow
 
-pub back_many : (ws : List Work) (us set more : List Sight) (bs : List JudgedBranch) (i : ℕ) (d : JudgedBranch) → i < length bs
+pub back_many : (ws : List Work) (us set more : List Sight) (bs : List JudgedBranch) (i : ℕ)
+    (d : JudgedBranch) → i < length bs
     → IsSetOf (fold (maybe_back ws) us (take i bs)) set → more ≡ maybe_back ws set (get_or bs i d)
     → AreTooManyStates more → AreTooManyStates (fold (maybe_back ws) us bs)
 back_many ws = too_many (maybe_back ws) (back_grow ws)
 
 pub gone_many : (us set more : List Sight) (bs : List JudgedBranch) (i : ℕ) (d : JudgedBranch) → i < length bs
-    → IsSetOf (fold maybe_gone us (take i bs)) set → more ≡ maybe_gone set (get_or bs i d) → AreTooManyStates more
+    → IsSetOf (fold maybe_gone us (take i bs)) set → more ≡ maybe_gone set (get_or bs i d)
+    → AreTooManyStates more
     → AreTooManyStates (fold maybe_gone us bs)
 gone_many = too_many maybe_gone gone_grow

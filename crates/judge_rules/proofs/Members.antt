@@ -15,7 +15,8 @@ one_is y x c = elim (Contains-push_cases [] y x c) [ inl a ↦ absurd (none_in x
 
 -- the first element, or one after it
 pub cons_cases : (y : Sight) (ys : List Sight) (x : Sight) → Contains (y ∷ ys) x → (y ≡ x) ⊎ Contains ys x
-cons_cases y ys x c = elim (Contains-append_cases (y ∷ []) ys x c) [ inl a ↦ inl (one_is y x a) | inr b ↦ inr b ]
+cons_cases y ys x c = elim (Contains-append_cases (y ∷ []) ys x c)
+    [ inl a ↦ inl (one_is y x a) | inr b ↦ inr b ]
 
 pub cons_here : (y : Sight) (ys : List Sight) → Contains (y ∷ ys) y
 cons_here y ys = Contains-append_left (y ∷ []) ys y (Contains-push [] y)
@@ -24,7 +25,8 @@ pub cons_there : (y : Sight) (ys : List Sight) (x : Sight) → Contains ys x →
 cons_there y ys x c = Contains-append_right (y ∷ []) ys x c
 
 -- one more, which is not there, keeps them apart
-apart_push : (us : List Sight) (x : Sight) → AreApartStates us → (Contains us x → ⊥) → AreApartStates (us ++ x ∷ [])
+apart_push : (us : List Sight) (x : Sight) → AreApartStates us → (Contains us x → ⊥)
+    → AreApartStates (us ++ x ∷ [])
 apart_push [] x a absent = (λ c. none_in x c, tt)
 apart_push (u ∷ us) x (first, rest) absent = (
   λ c. elim (Contains-push_cases us x u c) [
@@ -56,7 +58,11 @@ pub adds_one : (old : List Sight) (x : Sight) → (Contains old x → ⊥) → A
 adds_one old x absent = record {
   all = λ t. (
     λ c. Contains-append_cases old (x ∷ []) t c,
-    λ s. elim s [ inl c ↦ Contains-append_left old (x ∷ []) t c | inr c ↦ Contains-append_right old (x ∷ []) t c ],
+    λ s. elim s [
+      | inl c ↦ Contains-append_left old (x ∷ []) t c
+      | inr c ↦ Contains-append_right
+          old (x ∷ []) t c
+    ],
   );
   apart = λ a. apart_push old x a absent;
 }
@@ -67,7 +73,11 @@ pub adds_more : (old mid new more : List Sight) (x : Sight) → Adds old mid mor
 adds_more old mid new more x first then = record {
   all = λ t. (
     λ c. elim ((then.all t).0 c) [
-      | inl m ↦ (elim ((first.all t).0 m) [ inl o ↦ inl o | inr a ↦ inr (Contains-append_left more (x ∷ []) t a) ])
+      | inl m ↦ (elim ((first.all t).0 m) [
+        | inl o ↦ inl o
+        | inr a ↦ inr
+            (Contains-append_left more (x ∷ []) t a)
+      ])
       | inr a ↦ inr (Contains-append_right more (x ∷ []) t a)
     ],
     λ s. elim s [
@@ -104,7 +114,8 @@ pub set_of_one : (s : Sight) → IsSetOf (s ∷ []) (s ∷ [])
 set_of_one s = record { all = λ t. (λ c. c, λ c. c); apart = (λ c. none_in s c, tt) }
 
 -- a list without one of its elements
-split : (us : List Sight) (x : Sight) → Contains us x → (xs : List Sight) × (ys : List Sight) × (us ≡ xs ++ x ∷ ys)
+split : (us : List Sight) (x : Sight) → Contains us x → (xs : List Sight) × (ys : List Sight)
+    × (us ≡ xs ++ x ∷ ys)
 split [] x c = absurd (none_in x c)
 split (u ∷ us) x c = elim (cons_cases u us x c) [
   | inl e ↦ ([], us, ap (λ (q : Sight). q ∷ us) e)

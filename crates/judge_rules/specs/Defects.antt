@@ -1,5 +1,5 @@
--- Why a call must be refused, and by which codes it may be. The order of checks is the manager's own: where a call
--- has several defects, the code of any of them is admitted.
+-- Why a call must be refused, and by which codes it may be. The order of checks is the manager's own: where a
+-- call has several defects, the code of any of them is admitted.
 use Rattle.std.specs.Prelude.{ℕ, Bool, true, false, ◌&&◌, ◌||◌, not, ◌==◌, Option, Some, None, is_some}
 use Rattle.xa_tables.specs.Calls.{async, one_phase, resume, suspend, start_scan, join, migrate}
 use Rattle.judge_state.specs.declared.parts.JudgedBranch.{JudgedBranch}
@@ -60,15 +60,15 @@ abbrev pub is_spoiled_at : Option JudgedBranch → Bool
 is_spoiled_at None = false
 is_spoiled_at (Some b) = is_spoiled b
 
--- no row lets this start join or resume: the branch is prepared or decided; the join is by the thread that has
--- suspended it, or the branch can only be rolled back; nothing is suspended that the resume could take up
+-- no row lets this start join or resume: the branch is prepared or decided; the join is by the thread that
+-- has suspended it, or the branch can only be rolled back; nothing is suspended that the resume could take up
 abbrev pub has_no_start : Option JudgedBranch → ℕ → Bool → Bool → Bool
 has_no_start None f two migrated = has f resume
 has_no_start (Some b) f two migrated =
     is_in_doubt b || (has f join && (two || is_spoiled b)) || (has f resume && not (two || migrated))
 
--- what must refuse a start: wrong flags or a wrong name; TMASYNC; a manager that is not open, a thread that is
--- active already, no row; a known XID; to join or resume, one that is unknown
+-- what must refuse a start: wrong flags or a wrong name; TMASYNC; a manager that is not open, a thread that
+-- is active already, no row; a known XID; to join or resume, one that is unknown
 abbrev pub start_defects : Rules → Sight → On → Refusals
 start_defects r s o =
     let f = o.flags.0 in
@@ -90,8 +90,8 @@ lacks_start r f = (has f join && r.lacks.join) || (has f resume && r.lacks.suspe
 abbrev pub is_second : Rules → Sight → On → Bool
 is_second r s o = is_plain o.flags.0 && r.lacks.threads && is_busy o.thread s
 
--- what may refuse a start besides: what is lacking; work outside of any branch; a join of a branch that can only be
--- rolled back may be told so
+-- what may refuse a start besides: what is lacking; work outside of any branch; a join of a branch that can
+-- only be rolled back may be told so
 abbrev pub start_excuses : Rules → Sight → On → Refusals
 start_excuses r s o =
     let f = o.flags.0 in
@@ -107,7 +107,8 @@ start_excuses r s o =
 abbrev pub has_no_end : Bool → Bool → Bool → Bool → Bool
 has_no_end known one two suspends = not known || not (one || two) || (two && suspends)
 
--- what must refuse an end: wrong flags or a wrong name; TMASYNC; a manager that is not open, no row; an unknown XID
+-- what must refuse an end: wrong flags or a wrong name; TMASYNC; a manager that is not open, no row; an
+-- unknown XID
 abbrev pub end_defects : Rules → Sight → On → Refusals
 end_defects r s o =
     let f = o.flags.0 in
@@ -130,8 +131,8 @@ end_excuses r o =
     let lacks = lacks_end r o.flags.0 in
     record no_refusals { inval = lacks; proto = lacks; rm_err = lacks }
 
--- a branch that stands so has a row for a call that ends it: prepare if at work, commit with TMONEPHASE too, else
--- if in doubt, forget if decided, rollback always
+-- a branch that stands so has a row for a call that ends it: prepare if at work, commit with TMONEPHASE too,
+-- else if in doubt, forget if decided, rollback always
 abbrev pub has_row : BranchVerb → ℕ → Stand → Bool
 has_row verb.Prepare f Active = true
 has_row verb.Commit f Active = has f one_phase
@@ -157,8 +158,9 @@ abbrev pub is_off_row : BranchVerb → ℕ → Option JudgedBranch → Bool
 is_off_row v f None = false
 is_off_row v f (Some b) = not (has_row v f b.stand)
 
--- what must refuse a prepare, commit, rollback or forget: wrong flags or a wrong name; TMASYNC; a manager that is
--- not open, an association that is left, no row; an unknown XID, and for forget one that is not decided
+-- what must refuse a prepare, commit, rollback or forget: wrong flags or a wrong name; TMASYNC; a manager
+-- that is not open, an association that is left, no row; an unknown XID, and for forget one that is not
+-- decided
 abbrev pub finish_defects : Rules → BranchVerb → Sight → On → Refusals
 finish_defects r v s o =
     let f = o.flags.0 in
@@ -166,7 +168,8 @@ finish_defects r v s o =
     record no_refusals {
       inval = are_wrong v f || is_bad_name r o.xid.sort;
       asynchronous = has f async;
-      proto = is_closed r s || (is_some b && is_associated o.xid.number s && not (is_forget v)) || is_off_row v f b;
+      proto = is_closed r s || (is_some b && is_associated o.xid.number s && not (is_forget v))
+          || is_off_row v f b;
       not_a = not (is_some b) || (is_forget v && is_off_row v f b);
     }
 

@@ -59,7 +59,8 @@ effects_rows v s o _ = []
 -- what a call that nothing refuses may have done where it fails
 abbrev pub effects : Rules → BranchVerb → Sight → On → Reply → List Sight
 effects r v s o a =
-    if r.never.failures || is_decided v (stand_in (branch_at o.xid.number s)) then [] else effects_rows v s o a
+    if r.never.failures || is_decided v (stand_in (branch_at o.xid.number s)) then []
+    else effects_rows v s o a
 
 -- a branch that was lost is back in some of the states
 abbrev pub maybe_back : List Work → List Sight → JudgedBranch → List Sight
@@ -69,8 +70,8 @@ maybe_back ws us b = us ++ map (brought_back b ws) us
 abbrev pub may_return : Sight → List JudgedBranch → List JudgedBranch
 may_return u bs = filter (λ b. not (is_some (branch_at b.name u))) bs
 
--- the states after a restart: where what ends a branch is not forced, and some is cut off, any branch that left S3
--- may be back in it
+-- the states after a restart: where what ends a branch is not forced, and some is cut off, any branch that
+-- left S3 may be back in it
 abbrev pub after_restart : Rules → Bool → Sight → List Sight
 after_restart r cut s =
     if cut && r.lacks.forced

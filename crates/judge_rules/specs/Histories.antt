@@ -9,7 +9,8 @@ use Rattle.judge_rules.specs.Steps.{next}
 abbrev pub Step : Rules → Sight → HistoryEvent → Sight → Type 0
 Step r s e t = Contains (next r s e.call e.answer) t
 
--- a history leads from a state to another: there are states between them, each next one by its call and answer
+-- a history leads from a state to another: there are states between them, each next one by its call and
+-- answer
 abbrev pub JudgeLeads : Rules → Sight → List HistoryEvent → Sight → Type 0
 JudgeLeads r s [] t = s ≡ t
 JudgeLeads r s (e ∷ es) t = (u : Sight) × Step r s e u × JudgeLeads r u es t

@@ -1,5 +1,5 @@
--- What a call that nothing refuses may be answered, and what it does. Each definition is a table: for an answer, the
--- states that may follow; no state, where the answer is not admitted.
+-- What a call that nothing refuses may be answered, and what it does. Each definition is a table: for an
+-- answer, the states that may follow; no state, where the answer is not admitted.
 use Rattle.std.specs.Prelude.{ℕ, Bool, true, false, ◌&&◌, ◌||◌, not, List, [], ◌∷◌, ◌++◌, Option, Some, None, if◌then◌else◌}
 use Rattle.xa_tables.specs.Calls.{fail, no_wait, one_phase, resume, suspend, join, migrate}
 use Rattle.judge_state.specs.declared.parts.JudgedBranch.{JudgedBranch}
@@ -27,8 +27,8 @@ one s = s ∷ []
 abbrev pub one_if : Bool → Sight → List Sight
 one_if b s = if b then s ∷ [] else []
 
--- the branch is there, for a plain start; the thread's own suspended association is taken up, else one that was
--- suspended for migration, for a resume
+-- the branch is there, for a plain start; the thread's own suspended association is taken up, else one that
+-- was suspended for migration, for a resume
 abbrev pub entered : Sight → On → Sight
 entered s o =
     if is_plain o.flags.0 then begun o.thread o.xid.number s
@@ -36,8 +36,8 @@ entered s o =
     else if has_suspended o.thread o.xid.number s then unlinked o.thread o.xid.number s
     else picked o.xid.number s
 
--- a start of a branch at work: the thread is active in it; or the manager has rolled it back, and keeps it as such,
--- or of a new one knows nothing; TMNOWAIT may be told to come again
+-- a start of a branch at work: the thread is active in it; or the manager has rolled it back, and keeps it as
+-- such, or of a new one knows nothing; TMNOWAIT may be told to come again
 abbrev pub start_passes : Rules → Sight → On → Sight → Reply → List Sight
 start_passes r s o u reply.Ok = one (linked o.thread o.xid.number false u)
 start_passes r s o u reply.RolledBack =
@@ -59,12 +59,13 @@ left o u =
     then (if has o.flags.0 migrate then migrating o.xid.number u else linked o.thread o.xid.number true u)
     else u
 
--- an end in a branch at work: the association is gone, or suspended; told that the branch was rolled back, for TMFAIL
--- or of the manager's own will; after TMFAIL told XA_OK it may still be prepared; a manager that does not migrate
--- suspends
+-- an end in a branch at work: the association is gone, or suspended; told that the branch was rolled back,
+-- for TMFAIL or of the manager's own will; after TMFAIL told XA_OK it may still be prepared; a manager that
+-- does not migrate suspends
 abbrev pub end_passes : Rules → On → Sight → Reply → List Sight
 end_passes r o u reply.Ok = one (left o u)
-end_passes r o u reply.RolledBack = one_if (has o.flags.0 fail || not r.never.rollback) (marked o.xid.number u)
+end_passes r o u reply.RolledBack = one_if (has o.flags.0 fail || not r.never.rollback)
+    (marked o.xid.number u)
 end_passes r o u reply.NoMigrate =
     one_if (has o.flags.0 migrate && has o.flags.0 suspend) (linked o.thread o.xid.number true u)
 end_passes r o u _ = []
@@ -106,7 +107,8 @@ rollback_passes r s x a = own_decision r s x a
 
 -- a commit or rollback of a branch that was decided: what is known of the decision is told
 abbrev pub decided_passes : Sight → ℕ → JudgedDecision → Reply → List Sight
-decided_passes s x d a = one_if (is_heuristic a && agrees d (decision_in a)) (stands x (Heuristic (decision_in a)) s)
+decided_passes s x d a = one_if (is_heuristic a && agrees d (decision_in a))
+    (stands x (Heuristic (decision_in a)) s)
 
 -- a forget: the branch is known no longer
 abbrev pub forget_passes : Sight → ℕ → Reply → List Sight
@@ -127,7 +129,8 @@ stand_in (Some b) = b.stand
 -- a call on a branch
 abbrev pub branch_passes : Rules → BranchVerb → Sight → On → Reply → List Sight
 branch_passes r verb.Start s o a =
-    if has o.flags.0 resume && is_spoiled_at (branch_at o.xid.number s) then spoiled_passes s o (entered s o) a
+    if has o.flags.0 resume && is_spoiled_at (branch_at o.xid.number s)
+    then spoiled_passes s o (entered s o) a
     else start_passes r s o (entered s o) a
 branch_passes r verb.End s o a =
     if is_spoiled_at (branch_at o.xid.number s) then end_spoiled o (unlinked o.thread o.xid.number s) a

@@ -20,8 +20,8 @@ scan_in t f s = if has f start_scan then scan_opened t s else s
 abbrev pub is_short : Rules → ℕ → List ℕ → Bool
 is_short r count xs = r.lacks.count || not (nat_le count (length xs))
 
--- a scan may give these branches: none twice, none that was given or is not eligible, no more than are asked for;
--- and where they are fewer, nothing that is due is left out
+-- a scan may give these branches: none twice, none that was given or is not eligible, no more than are asked
+-- for; and where they are fewer, nothing that is due is left out
 abbrev pub may_give_all : Rules → ℕ → ℕ → List ℕ → Sight → Bool
 may_give_all r t count xs u =
     are_distinct xs && list_all (may_give t u) xs && (r.lacks.count || nat_le (length xs) count)

@@ -24,7 +24,8 @@ pub record IsSetOf (us set : List Sight) : Type 0 where
 
 -- there are more different states of this kind than are gone through
 abbrev pub AreMany : (Sight → Type 0) → Type 0
-AreMany P = (ts : List Sight) × AreApartStates ts × ((t : Sight) → Contains ts t → P t) × (MOST_STATES < length ts)
+AreMany P = (ts : List Sight) × AreApartStates ts × ((t : Sight) → Contains ts t → P t)
+    × (MOST_STATES < length ts)
 
 -- a list has more different states than are gone through
 abbrev pub AreTooManyStates : List Sight → Type 0

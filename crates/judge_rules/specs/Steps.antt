@@ -23,8 +23,8 @@ use Rattle.judge_rules.specs.Passes.{branch_passes, one, one_if}
 use Rattle.judge_rules.specs.Falls.{after_cut, after_restart, effects, failed}
 use Rattle.judge_rules.specs.Scans.{given_rows, read_rows, write_row}
 
--- a call on a branch: refused by the code of a defect, if it has one; else what it does, or may have done where
--- it fails
+-- a call on a branch: refused by the code of a defect, if it has one; else what it does, or may have done
+-- where it fails
 abbrev pub by_defects : Rules → BranchVerb → Sight → On → Reply → List Sight
 by_defects r v s o a =
     if is_defective (branch_defects r v s o) then one_if (is_among (branch_defects r v s o) a) s

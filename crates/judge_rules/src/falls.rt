@@ -213,7 +213,8 @@ pub(crate) fn after_restart(
     state: &State,
 ) -> Result<Vec<State>, JudgeError>
     ensures states { IfOk result (λ v. IsSetOf (after_restart rules cut state.now) v.items) }
-    ensures too_many { IfErr result (λ e. e ≡ JudgeError.TooMany → AreTooManyStates (after_restart rules cut state.now)) }
+    ensures too_many { IfErr result (λ e. e ≡ JudgeError.TooMany
+        → AreTooManyStates (after_restart rules cut state.now)) }
 {
     let restarted = state.copied(alloc)?.restarted(alloc)?;
     if cut && rules.lacks.forced {
@@ -301,7 +302,8 @@ fn all_maybe_gone(
 /// The states after the connection of a thread is gone.
 pub(crate) fn after_cut(alloc: Global, thread: u32, state: &State) -> Result<Vec<State>, JudgeError>
     ensures states { IfOk result (λ v. IsSetOf (after_cut thread state.now) v.items) }
-    ensures too_many { IfErr result (λ e. e ≡ JudgeError.TooMany → AreTooManyStates (after_cut thread state.now)) }
+    ensures too_many { IfErr result (λ e. e ≡ JudgeError.TooMany
+        → AreTooManyStates (after_cut thread state.now)) }
 {
     let hanging = all_hanging(alloc, thread, state)?;
     let states = one(alloc, state.copied(alloc)?.cut_off(alloc, thread)?)?;

@@ -1,6 +1,7 @@
 //! Floor: engines and program.
 //!
-//! The rules by which a resource manager is judged: which states may follow a state, by a call and its answer.
+//! The rules by which a resource manager is judged: which states may follow a state, by a call and its
+//! answer.
 //!
 //! ```text
 //! words        what a manager promises never to do, and what it lacks

@@ -334,8 +334,8 @@ fn function_next(
     }
 }
 
-/// The states that may follow a state, by a call and its answer, each once: none, if the answer is not admitted. It is
-/// refused if memory is, and if there are too many of them.
+/// The states that may follow a state, by a call and its answer, each once: none, if the answer is not
+/// admitted. It is refused if memory is, and if there are too many of them.
 pub fn next(
     alloc: Global,
     rules: Rules,

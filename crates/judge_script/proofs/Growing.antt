@@ -19,7 +19,8 @@ one_kept l e = rw e refl
 one_passed : (l : List ℕ) → is_blank l ≡ true → kept_lines (l ∷ []) ≡ []
 one_passed l e = rw e refl
 
-kept_more : (ls : List (List ℕ)) (l : List ℕ) → is_blank l ≡ false → kept_lines (ls ++ l ∷ []) ≡ kept_lines ls ++ l ∷ []
+kept_more : (ls : List (List ℕ)) (l : List ℕ) → is_blank l ≡ false
+    → kept_lines (ls ++ l ∷ []) ≡ kept_lines ls ++ l ∷ []
 kept_more ls l e = filter-append (λ line. not (is_blank line)) ls (l ∷ [])
     ∙ ap (λ (q : List (List ℕ)). kept_lines ls ++ q) (one_kept l e)
 
@@ -50,14 +51,16 @@ numbers_join i (k ∷ ls) l =
 numbers_more : (ls : List (List ℕ)) (l : List ℕ) (n : ℕ) → is_blank l ≡ false → n ≡ length ls + 1
     → kept_numbers 1 (ls ++ l ∷ []) ≡ kept_numbers 1 ls ++ n ∷ []
 numbers_more ls l n e is = numbers_join 1 ls l ∙ ap (λ (q : List ℕ). kept_numbers 1 ls ++ q)
-    (numbers_first (1 + length ls) l e ∙ ap (λ (j : ℕ). j ∷ []) (let k : 1 + length ls ≡ n = omega (arith, is) in k))
+    (numbers_first (1 + length ls) l e ∙ ap (λ (j : ℕ). j ∷ [])
+    (let k : 1 + length ls ≡ n = omega (arith, is) in k))
 
 numbers_same : (ls : List (List ℕ)) (l : List ℕ) → is_blank l ≡ true
     → kept_numbers 1 (ls ++ l ∷ []) ≡ kept_numbers 1 ls
 numbers_same ls l e = numbers_join 1 ls l ∙ ap (λ (q : List ℕ). kept_numbers 1 ls ++ q)
     (numbers_passed (1 + length ls) l e) ∙ append-nil (kept_numbers 1 ls)
 
-events_more : (n : NameTable) (ls : List (List ℕ)) (es : List HistoryEvent) (l : List ℕ) (e : HistoryEvent) → AreEvents n ls es
+events_more : (n : NameTable) (ls : List (List ℕ)) (es : List HistoryEvent) (l : List ℕ) (e : HistoryEvent)
+    → AreEvents n ls es
     → IsLineEvent n (words_in l) e → AreEvents n (ls ++ l ∷ []) (es ++ e ∷ [])
 events_more n [] [] l e h is = (is, tt)
 events_more n [] (d ∷ es) l e h is = absurd h
@@ -72,7 +75,8 @@ events_grow n m (k ∷ ls) [] g h = absurd h
 events_grow n m (k ∷ ls) (d ∷ es) g h =
     (event_more n m g (words_in k) d h.0, events_grow n m ls es g h.1)
 
-no_events : (n : NameTable) (ls : List (List ℕ)) (es : List HistoryEvent) → length es ≡ 0 → AreEvents n ls es → ls ≡ []
+no_events : (n : NameTable) (ls : List (List ℕ)) (es : List HistoryEvent) → length es ≡ 0 → AreEvents n ls es
+    → ls ≡ []
 no_events n [] es none h = refl
 no_events n (l ∷ ls) [] none h = absurd h
 no_events n (l ∷ ls) (e ∷ es) none h = absurd (omega (arith, none))
@@ -93,7 +97,8 @@ ruled_more : (ls : List (List ℕ)) (l : List ℕ) (r q p : Rules) → ruled_by 
 ruled_more [] l r q p e f =
     let k : r ≡ q = cc in
     let g : ruled r (words_in l) ≡ Some p = rw k f in rw g refl
-ruled_more (k ∷ ls) l r q p e f = ruled_on (ruled r (words_in k)) ls l q p e (λ s h. ruled_more ls l s q p h f)
+ruled_more (k ∷ ls) l r q p e f = ruled_on (ruled r (words_in k)) ls l q p e
+    (λ s h. ruled_more ls l s q p h f)
 
 -- a line is passed over
 pub passes : (ls : List (List ℕ)) (l : List ℕ) (t : Transcript) → is_blank l ≡ true → AreTranscript ls t
@@ -124,19 +129,26 @@ rules_more ls l t q n kept is none rules h =
       first = h.first ++ l ∷ [];
       others = [];
       numbers = h.numbers ++ n ∷ [];
-      parts = kept_more ls l kept ∙ ap (λ (k : List (List ℕ)). k ++ l ∷ []) (h.parts ∙ ap (λ (o : List (List ℕ)). h.first ++ o) no_others ∙ append-nil h.first) ∙ sym (append-nil (h.first ++ l ∷ []));
-      places = numbers_more ls l n kept is ∙ ap (λ (k : List ℕ). k ++ n ∷ []) (h.places ∙ ap (λ (o : List ℕ). h.numbers ++ o) no_lines ∙ append-nil h.numbers) ∙ sym (append-nil (h.numbers ++ n ∷ [])) ∙ ap (λ (o : List ℕ). (h.numbers ++ n ∷ []) ++ o) (sym no_lines);
+      parts = kept_more ls l kept ∙ ap (λ (k : List (List ℕ)). k ++ l ∷ [])
+          (h.parts ∙ ap (λ (o : List (List ℕ)). h.first ++ o) no_others ∙ append-nil h.first)
+          ∙ sym (append-nil (h.first ++ l ∷ []));
+      places = numbers_more ls l n kept is ∙ ap (λ (k : List ℕ). k ++ n ∷ [])
+          (h.places ∙ ap (λ (o : List ℕ). h.numbers ++ o) no_lines ∙ append-nil h.numbers)
+          ∙ sym (append-nil (h.numbers ++ n ∷ [])) ∙ ap (λ (o : List ℕ). (h.numbers ++ n ∷ []) ++ o)
+          (sym no_lines);
       long = omega (arith, length-append h.first (l ∷ []), length-append h.numbers (n ∷ []), h.long);
       each = h.each;
       rules = ruled_more h.first l _ t.rules q h.rules rules;
-      events = subst (λ (o : List (List ℕ)). AreEvents (table_of t.names) o t.events.items) no_others h.events;
+      events = subst (λ (o : List (List ℕ)). AreEvents (table_of t.names) o t.events.items)
+          no_others h.events;
       apart_xids = h.apart_xids;
       apart_words = h.apart_words;
       no_value = h.no_value;
     }
 
 -- a line is a call and its answer
-pub event_added : (ls : List (List ℕ)) (l : List ℕ) (t u : Transcript) (e : HistoryEvent) (n : ℕ) → is_blank l ≡ false
+pub event_added : (ls : List (List ℕ)) (l : List ℕ) (t u : Transcript) (e : HistoryEvent) (n : ℕ)
+    → is_blank l ≡ false
     → n ≡ length ls + 1 → u.rules ≡ t.rules → u.events.items ≡ t.events.items ++ e ∷ []
     → u.lines.items ≡ t.lines.items ++ n ∷ [] → Grows (table_of t.names) (table_of u.names)
     → IsLineEvent (table_of u.names) (words_in l) e → AreTranscript ls t → AreTranscript (ls ++ l ∷ []) u
@@ -144,14 +156,16 @@ event_added ls l t u e n kept is rules events lines grows event h = record {
   first = h.first;
   others = h.others ++ l ∷ [];
   numbers = h.numbers;
-  parts = kept_more ls l kept ∙ ap (λ (k : List (List ℕ)). k ++ l ∷ []) h.parts ∙ append_assoc h.first h.others (l ∷ []);
+  parts = kept_more ls l kept ∙ ap (λ (k : List (List ℕ)). k ++ l ∷ []) h.parts
+      ∙ append_assoc h.first h.others (l ∷ []);
   places = numbers_more ls l n kept is ∙ ap (λ (k : List ℕ). k ++ n ∷ []) h.places
       ∙ append_assoc h.numbers t.lines.items (n ∷ []) ∙ ap (λ (k : List ℕ). h.numbers ++ k) (sym lines);
   long = h.long;
   each = ap length lines ∙ length-append t.lines.items (n ∷ []) ∙ ap (λ (k : ℕ). k + 1) h.each
       ∙ sym (length-append t.events.items (e ∷ [])) ∙ sym (ap length events);
   rules = h.rules ∙ ap (λ (q : Rules). Some q) (sym rules);
-  events = subst (λ (es : List HistoryEvent). AreEvents (table_of u.names) (h.others ++ l ∷ []) es) (sym events)
+  events = subst (λ (es : List HistoryEvent). AreEvents (table_of u.names) (h.others ++ l ∷ []) es)
+      (sym events)
       (events_more (table_of u.names) h.others t.events.items l e
       (events_grow (table_of t.names) (table_of u.names) h.others t.events.items grows h.events) event);
   apart_xids = grows.apart_xids h.apart_xids;

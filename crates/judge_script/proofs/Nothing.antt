@@ -40,18 +40,21 @@ no_names ws i lt lacks xs h =
 pub front_texts : (ws : List (Bor (List ℕ))) (i : ℕ) → take i (texts ws) ≡ texts (take i ws)
 front_texts ws i = take-map (λ (s : Bor (List ℕ)). s.now) i ws
 
-pub rest_texts : (ws : List (Bor (List ℕ))) (i : ℕ) → drop i (texts ws) ≡ texts (take (length ws - i) (drop i ws))
+pub rest_texts : (ws : List (Bor (List ℕ))) (i : ℕ)
+    → drop i (texts ws) ≡ texts (take (length ws - i) (drop i ws))
 rest_texts ws i =
     let past : length (drop i ws) ≤ length ws - i = omega (arith, length-drop i ws) in
     drop-map (λ (s : Bor (List ℕ)). s.now) i ws
     ∙ ap texts (sym (take_all (length ws - i) (drop i ws) past))
 
 -- a word that is the arrow, or is not
-pub arrow_at : (ws : List (Bor (List ℕ))) (i : ℕ) → true ≡ pointwise nat_eq (get_or ws i blank).now (codes "->")
+pub arrow_at : (ws : List (Bor (List ℕ))) (i : ℕ)
+    → true ≡ pointwise nat_eq (get_or ws i blank).now (codes "->")
     → get_or (texts ws) i [] ≡ codes "->"
 arrow_at ws i is = text_at ws i ∙ same_text (get_or ws i blank).now (codes "->") is
 
-pub no_arrow : (ws : List (Bor (List ℕ))) (i : ℕ) → false ≡ pointwise nat_eq (get_or ws i blank).now (codes "->")
+pub no_arrow : (ws : List (Bor (List ℕ))) (i : ℕ)
+    → false ≡ pointwise nat_eq (get_or ws i blank).now (codes "->")
     → (a : TranscriptCall) (s : SaidAnswer) → AreParted (texts ws) i a s → ⊥
 no_arrow ws i lacks a s h =
     let e : (get_or ws i blank).now ≡ codes "->" = sym (text_at ws i) ∙ h.arrow in
@@ -75,10 +78,12 @@ no_call ws i lacks a s h = lacks a (subst (λ (q : List (List ℕ)). AsksCall q 
 pub no_answer : (ws : List (Bor (List ℕ))) (i : ℕ)
     → ((s : SaidAnswer) → SaysAnswer (texts (take (length ws - (i + 1)) (drop (i + 1) ws))) s → ⊥)
     → (a : TranscriptCall) (s : SaidAnswer) → AreParted (texts ws) i a s → ⊥
-no_answer ws i lacks a s h = lacks s (subst (λ (q : List (List ℕ)). SaysAnswer q s) (rest_texts ws (i + 1)) h.says)
+no_answer ws i lacks a s h = lacks s (subst (λ (q : List (List ℕ)). SaysAnswer q s)
+    (rest_texts ws (i + 1)) h.says)
 
 -- an event of words that are parted
-pub parted_event : (n : NameTable) (ws : List (List ℕ)) (i : ℕ) (a : TranscriptCall) (s : SaidAnswer) (e : HistoryEvent) → i < length ws
+pub parted_event : (n : NameTable) (ws : List (List ℕ)) (i : ℕ) (a : TranscriptCall) (s : SaidAnswer)
+    (e : HistoryEvent) → i < length ws
     → AreParted ws i a s → IsCall n a e.call → IsLineAnswer n s e.answer → IsLineEvent n ws e
 parted_event n ws i a s e lt h call answer =
     let next : suc i ≡ i + 1 = omega arith in
@@ -110,7 +115,8 @@ event_parted n ws e h =
       says = subst (λ (q : List (List ℕ)). SaysAnswer q h.said) (sym rest) h.says;
     }
 
-event_place : (n : NameTable) (ws : List (List ℕ)) (e : HistoryEvent) → (h : IsLineEvent n ws e) → length h.call < length ws
+event_place : (n : NameTable) (ws : List (List ℕ)) (e : HistoryEvent) → (h : IsLineEvent n ws e)
+    → length h.call < length ws
 event_place n ws e h = omega (arith, ap length h.parts, length-append h.call (codes "->" ∷ h.answer))
 
 -- so if nothing is parted there is no event
@@ -145,18 +151,22 @@ recover_three x y z none (asked.Recover thread count flags) h = none flags.0 h.2
 recover_three x y z none a h = absurd h
 
 -- calls whose flags are none
-pub no_open : (w : CallWord) (x : List ℕ) → w ≡ word.Open → NamesNone x → (a : TranscriptCall) → IsWithOne w x a → ⊥
+pub no_open : (w : CallWord) (x : List ℕ) → w ≡ word.Open → NamesNone x → (a : TranscriptCall)
+    → IsWithOne w x a → ⊥
 no_open w x is none a h = open_one x none a (subst (λ (q : CallWord). IsWithOne q x a) is h)
 
-pub no_close : (w : CallWord) (x : List ℕ) → w ≡ word.Close → NamesNone x → (a : TranscriptCall) → IsWithOne w x a → ⊥
+pub no_close : (w : CallWord) (x : List ℕ) → w ≡ word.Close → NamesNone x → (a : TranscriptCall)
+    → IsWithOne w x a → ⊥
 no_close w x is none a h = close_one x none a (subst (λ (q : CallWord). IsWithOne q x a) is h)
 
-pub no_told_open : (w : CallWord) (x y : List ℕ) → w ≡ word.Open → NamesNone x → (a : TranscriptCall) → IsWithTwo w x y a → ⊥
+pub no_told_open : (w : CallWord) (x y : List ℕ) → w ≡ word.Open → NamesNone x → (a : TranscriptCall)
+    → IsWithTwo w x y a → ⊥
 no_told_open w x y is none a h = open_two x y none a (subst (λ (q : CallWord). IsWithTwo q x y a) is h)
 
 pub no_recover : (w : CallWord) (x y z : List ℕ) → w ≡ word.Recover → NamesNone z → (a : TranscriptCall)
     → IsWithThree w x y z a → ⊥
-no_recover w x y z is none a h = recover_three x y z none a (subst (λ (q : CallWord). IsWithThree q x y z a) is h)
+no_recover w x y z is none a h = recover_three x y z none a
+    (subst (λ (q : CallWord). IsWithThree q x y z a) is h)
 
 pub no_branch : (v : BranchVerb) (x y z : List ℕ) → NamesNone z → (a : TranscriptCall)
     → IsWithThree (word.Branch v) x y z a → ⊥

@@ -89,7 +89,8 @@ grows_trans a b c g h = record {
 }
 
 -- a call and an answer that are numbered stay so
-pub call_more : (n m : NameTable) → Grows n m → (a : TranscriptCall) (c : JudgedCall) → IsCall n a c → IsCall m a c
+pub call_more : (n m : NameTable) → Grows n m → (a : TranscriptCall) (c : JudgedCall) → IsCall n a c
+    → IsCall m a c
 call_more n m g (asked.Open f) (call.Function (function.Open h)) is = is
 call_more n m g (asked.Close f) (call.Function (function.Close h)) is = is
 call_more n m g (asked.Branch v t x f) (call.Function (function.Branch w o)) is =
@@ -107,7 +108,8 @@ call_more n m g (asked.Disconnect t) (call.Disconnect u) is = is
 call_more n m g asked.Trim call.Trim is = is
 call_more n m g a c is = absurd is
 
-pub answer_more : (n m : NameTable) → Grows n m → (s : SaidAnswer) (a : JudgedAnswer) → IsLineAnswer n s a → IsLineAnswer m s a
+pub answer_more : (n m : NameTable) → Grows n m → (s : SaidAnswer) (a : JudgedAnswer) → IsLineAnswer n s a
+    → IsLineAnswer m s a
 answer_more n m g (said.Code c) (answer.Code d) is = is
 answer_more n m g (said.Given xs) (answer.Given ks) is = places_more n.xids m.xids ks.items xs.items g.xids is
 answer_more n m g (said.Found v) (answer.Found k) is = place_more n.words m.words k v.now g.words is
@@ -117,7 +119,8 @@ answer_more n m g said.Told answer.Told is = is
 answer_more n m g said.Hung answer.Hung is = is
 answer_more n m g s a is = absurd is
 
-pub event_more : (n m : NameTable) → Grows n m → (ws : List (List ℕ)) (e : HistoryEvent) → IsLineEvent n ws e → IsLineEvent m ws e
+pub event_more : (n m : NameTable) → Grows n m → (ws : List (List ℕ)) (e : HistoryEvent) → IsLineEvent n ws e
+    → IsLineEvent m ws e
 event_more n m g ws e h = record {
   call = h.call;
   answer = h.answer;

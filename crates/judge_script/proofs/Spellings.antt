@@ -52,7 +52,8 @@ pub parted : (ws : List (Bor (List ℕ))) (i : ℕ) → i < length ws
 parted ws i lt is =
     let arrow : (get_or ws i blank).now ≡ codes "->" = same_text (get_or ws i blank).now (codes "->") is in
     let next : suc i ≡ i + 1 = omega arith in
-    ap texts (split_at ws i blank lt) ∙ map-append (λ s. s.now) (take i ws) (get_or ws i blank ∷ drop (suc i) ws)
+    ap texts (split_at ws i blank lt) ∙ map-append (λ s. s.now) (take i ws)
+    (get_or ws i blank ∷ drop (suc i) ws)
     ∙ ap (λ (w : List ℕ). texts (take i ws) ++ w ∷ texts (drop (suc i) ws)) arrow
     ∙ ap (λ (k : ℕ). texts (take i ws) ++ codes "->" ∷ texts (drop k ws)) next
 

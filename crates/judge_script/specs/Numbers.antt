@@ -29,7 +29,8 @@ IsPlace names k x = (k < length names) × (slice_index_or names k x ≡ x)
 
 -- no name is twice in a list
 abbrev pub AreApartNames : {A : Type 0} → List A → Type 0
-AreApartNames {A} names = (i j : ℕ) (d : A) → i < j → j < length names → slice_index_or names i d ≢ slice_index_or names j d
+AreApartNames {A} names = (i j : ℕ) (d : A) → i < j → j < length names
+    → slice_index_or names i d ≢ slice_index_or names j d
 
 -- names that have these and maybe more
 abbrev pub HasMore : {A : Type 0} → List A → List A → Type 0
@@ -77,7 +78,8 @@ IsLineAnswer n _ _ = ⊥
 abbrev pub table_of : Names → NameTable
 table_of n = record { xids = n.xids.items; words = map (λ s. s.now) n.words.items }
 
--- a table has the names of another and maybe more, in the same places, and none twice if the other has none twice
+-- a table has the names of another and maybe more, in the same places, and none twice if the other has none
+-- twice
 pub record Grows (old new : NameTable) : Type 0 where
   pub xids : HasMore old.xids new.xids
   pub words : HasMore old.words new.words
@@ -85,7 +87,8 @@ pub record Grows (old new : NameTable) : Type 0 where
   pub apart_words : AreApartNames old.words → AreApartNames new.words
 
 -- words spell a call and an answer, with an arrow between them at this place
-pub record AreParted (ws : List (List ℕ)) (place : ℕ) (asked : TranscriptCall) (said : SaidAnswer) : Type 0 where
+pub record AreParted (ws : List (List ℕ)) (place : ℕ) (asked : TranscriptCall)
+    (said : SaidAnswer) : Type 0 where
   pub arrow : slice_index_or ws place [] ≡ codes "->"
   pub asks : AsksCall (take place ws) asked
   pub says : SaysAnswer (drop (place + 1) ws) said

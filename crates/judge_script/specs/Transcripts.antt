@@ -29,8 +29,8 @@ AreEvents n [] [] = Unit {0}
 AreEvents n (l ∷ ls) (e ∷ es) = IsLineEvent n (words_in l) e × AreEvents n ls es
 AreEvents n _ _ = ⊥
 
--- lines are a transcript: some first ones that say by what the manager is judged, and the others spell its events;
--- no number two names, and the number 0 is that of no value
+-- lines are a transcript: some first ones that say by what the manager is judged, and the others spell its
+-- events; no number two names, and the number 0 is that of no value
 pub record AreTranscript (ls : List (List ℕ)) (t : Transcript) : Type 0 where
   pub first : List (List ℕ)
   pub others : List (List ℕ)
@@ -49,14 +49,14 @@ pub record AreTranscript (ls : List (List ℕ)) (t : Transcript) : Type 0 where
 abbrev pub IsTranscript : List ℕ → Transcript → Type 0
 IsTranscript text t = AreTranscript (lines text) t
 
--- a line asks for nothing after a transcript: if no event came yet, it says nothing of the manager; and it spells
--- no event
+-- a line asks for nothing after a transcript: if no event came yet, it says nothing of the manager; and it
+-- spells no event
 pub record IsNoLine (t : Transcript) (line : List ℕ) : Type 0 where
   pub header : length t.events.items ≡ 0 → ruled t.rules (words_in line) ≡ None
   pub event : SpellsNoEvent (words_in line)
 
--- the line of this number, counted from 1, is the first that asks for nothing: those before it are a transcript,
--- and it is not passed over
+-- the line of this number, counted from 1, is the first that asks for nothing: those before it are a
+-- transcript, and it is not passed over
 pub record IsFirstBadLine (ls : List (List ℕ)) (number : ℕ) : Type 0 where
   pub index : ℕ
   pub counted : number ≡ index + 1

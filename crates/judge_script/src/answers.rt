@@ -63,7 +63,8 @@ fn code_of(word: &str) -> Option<Code>
 
 /// The XIDs that words spell: None, if one of them spells none.
 fn xids_of(alloc: Global, words: &[&str]) -> Result<Option<Vec<Xid>>, AllocError>
-    ensures found { IfOk result (λ read. IfSome read (λ xids. AreNames (map (λ s. s.now) words.now) xids.items)) }
+    ensures found { IfOk result (λ read. IfSome read
+        (λ xids. AreNames (map (λ s. s.now) words.now) xids.items)) }
     ensures none { IfOk result (λ read. IfNone read ((xids : List AnyXid)
         → AreNames (map (λ s. s.now) words.now) xids → ⊥)) }
 {
@@ -83,7 +84,8 @@ fn given_of<'a>(
     first: &str,
     rest: &[&str],
 ) -> Result<Option<SaidAnswer<'a>>, AllocError>
-    ensures found { IfOk result (λ read. IfSome read (λ said. SaysBy first.now (map (λ s. s.now) rest.now) said)) }
+    ensures found { IfOk result (λ read. IfSome read
+        (λ said. SaysBy first.now (map (λ s. s.now) rest.now) said)) }
     ensures none { IfOk result (λ read. IfNone read ((xids : AnyVec AnyXid)
         → SaysBy first.now (map (λ s. s.now) rest.now) (SaidAnswer.Given xids) → ⊥)) }
 {

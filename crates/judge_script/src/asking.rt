@@ -146,7 +146,8 @@ fn on_branch<'a>(
     second: &str,
     third: &str,
 ) -> Option<TranscriptCall<'a>>
-    ensures found { IfSome result (λ asked. IsWithThree (CallWord.Branch verb) first.now second.now third.now asked) }
+    ensures found { IfSome result (λ asked. IsWithThree (CallWord.Branch verb) first.now second.now
+        third.now asked) }
     ensures none { IfNone result ((asked : AnyAsked)
         → IsWithThree (CallWord.Branch verb) first.now second.now third.now asked → ⊥) }
 {

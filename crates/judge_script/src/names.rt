@@ -83,10 +83,12 @@ fn number_at(place: usize) -> Result<u32, AllocError>
     }
 }
 
-/// The number of a key or a value, which is new where it is not known. More than 2^32 are refused like memory.
+/// The number of a key or a value, which is new where it is not known. More than 2^32 are refused like
+/// memory.
 pub(crate) fn number_word<'a>(words: &mut Vec<&'a str>, word: &'a str) -> Result<u32, AllocError>
     ensures placed { IfOk result (λ k. IsPlace (map (λ s. s.now) words.new.items) k word.now) }
-    ensures more { OnOk result (HasMore (map (λ s. s.now) words.old.items) (map (λ s. s.now) words.new.items)) }
+    ensures more { OnOk result (HasMore (map (λ s. s.now) words.old.items)
+        (map (λ s. s.now) words.new.items)) }
     ensures apart { OnOk result (AreApartNames (map (λ s. s.now) words.old.items)
         → AreApartNames (map (λ s. s.now) words.new.items)) }
 {

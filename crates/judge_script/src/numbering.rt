@@ -19,7 +19,8 @@ fn number_branch(
     xid: Xid,
     flags: Flags,
 ) -> Result<JudgedCall, AllocError>
-    ensures call { IfOk result (λ call. IsCall (table_of names.new) (TranscriptCall.Branch verb thread xid flags) call) }
+    ensures call { IfOk result (λ call. IsCall (table_of names.new)
+        (TranscriptCall.Branch verb thread xid flags) call) }
     ensures grows { OnOk result (Grows (table_of names.old) (table_of names.new)) }
 {
     let number = number_xid(&mut names.xids, xid)?;

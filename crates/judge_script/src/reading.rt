@@ -16,7 +16,8 @@ use judge_rules::{HistoryEvent, Rules};
 use script_words::lines_of;
 use std::alloc::{AllocError, Global};
 
-/// A transcript: by what the manager is judged, its calls and answers, the number of each one's line, and the names.
+/// A transcript: by what the manager is judged, its calls and answers, the number of each one's line, and the
+/// names.
 #[derive(Drop)]
 pub struct Transcript<'a> {
     pub rules: Rules,
@@ -32,7 +33,8 @@ fn parted_at<'a>(
     place: usize,
 ) -> Result<Option<(TranscriptCall<'a>, SaidAnswer<'a>)>, AllocError>
     requires { place < length words.now }
-    ensures found { IfOk result (λ read. IfSome read (λ p. AreParted (map (λ s. s.now) words.now) place p.0 p.1)) }
+    ensures found { IfOk result (λ read. IfSome read
+        (λ p. AreParted (map (λ s. s.now) words.now) place p.0 p.1)) }
     ensures none { IfOk result (λ read. IfNone read ((asked : AnyAsked) (said : AnySaid)
         → AreParted (map (λ s. s.now) words.now) place asked said → ⊥)) }
 {
@@ -100,8 +102,8 @@ impl<'a> Transcript<'a> {
         })
     }
 
-    /// What the words of a line say of the manager, together with what was said: None, if they say nothing, or an event
-    /// came already.
+    /// What the words of a line say of the manager, together with what was said: None, if they say nothing,
+    /// or an event came already.
     fn ruled(&self, words: &[&str]) -> Option<Rules>
         ensures found { IfSome result (λ rules. (length self.now.events.items ≡ 0)
             × (ruled self.now.rules (map (λ s. s.now) words.now) ≡ Some rules)) }
@@ -118,7 +120,8 @@ impl<'a> Transcript<'a> {
     /// Adds a line of this number: false, if it asks for nothing.
     fn add(&mut self, alloc: Global, line: &'a str, number: usize) -> Result<bool, AllocError>
         ensures added { IfOk result (λ added. added ≡ true → (ls : List (List ℕ)) → is_blank line.now ≡ false
-            → number ≡ length ls + 1 → AreTranscript ls self.old → AreTranscript (ls ++ line.now ∷ []) self.new) }
+            → number ≡ length ls + 1 → AreTranscript ls self.old
+            → AreTranscript (ls ++ line.now ∷ []) self.new) }
         ensures bad { IfOk result (λ added. added ≡ false → IsNoLine self.old line.now) }
     {
         let words = words_of(alloc, line)?;

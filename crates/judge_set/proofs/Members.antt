@@ -21,7 +21,8 @@ pub follows_none : (r : Rules) (e : HistoryEvent) → Follows r [] e []
 follows_none r e t = (λ c. absurd (none_in t c), λ (s, c, step). absurd (none_in s c))
 
 -- and what follows one more
-pub follows_more : (r : Rules) (e : HistoryEvent) (old after new more : List Sight) (s : Sight) → Follows r old e after
+pub follows_more : (r : Rules) (e : HistoryEvent) (old after new more : List Sight) (s : Sight)
+    → Follows r old e after
     → Adds after new more → IsSetOf (next r s e.call e.answer) more → Follows r (old ++ s ∷ []) e new
 follows_more r e old after new more s so_far adds set t = (
   λ c. elim ((adds.all t).0 c) [
@@ -30,12 +31,14 @@ follows_more r e old after new more s so_far adds set t = (
   ],
   λ (u, c, step). elim (Contains-append_cases old (s ∷ []) u c) [
     | inl o ↦ (adds.all t).1 (inl ((so_far t).1 (u, o, step)))
-    | inr o ↦ (adds.all t).1 (inr ((set.all t).1 (subst (λ (q : Sight). Step r q e t) (sym (one_is s u o)) step)))
+    | inr o ↦ (adds.all t).1 (inr ((set.all t).1
+        (subst (λ (q : Sight). Step r q e t) (sym (one_is s u o)) step)))
   ],
 )
 
 -- what follows some of these follows these
-front_follows : (r : Rules) (e : HistoryEvent) (all : List Sight) (n : ℕ) (t : Sight) → MayFollow r (take n all) e t
+front_follows : (r : Rules) (e : HistoryEvent) (all : List Sight) (n : ℕ) (t : Sight)
+    → MayFollow r (take n all) e t
     → MayFollow r all e t
 front_follows r e all n t (s, c, step) = (
   s,
@@ -45,7 +48,8 @@ front_follows r e all n t (s, c, step) = (
 )
 
 -- more than are gone through follow some of these, so they follow these
-pub many_follow : (r : Rules) (e : HistoryEvent) (all new : List Sight) (n : ℕ) → Follows r (take n all) e new → AreApartStates new
+pub many_follow : (r : Rules) (e : HistoryEvent) (all new : List Sight) (n : ℕ) → Follows r (take n all) e new
+    → AreApartStates new
     → MOST_STATES < length new → AreMany (MayFollow r all e)
 many_follow r e all new n follows apart many =
     (new, apart, λ t c. front_follows r e all n t ((follows t).0 c), many)
@@ -61,17 +65,20 @@ one_leads_many r e all i s lt is (ts, apart, among, many) = (
 )
 
 -- there are not too many of a kind that are all in a short list
-pub not_many : (P : Sight → Type 0) (us : List Sight) → ((t : Sight) → P t → Contains us t) → length us ≤ MOST_STATES
+pub not_many : (P : Sight → Type 0) (us : List Sight) → ((t : Sight) → P t → Contains us t)
+    → length us ≤ MOST_STATES
     → AreMany P → ⊥
 not_many P us all few (ts, apart, kind, many) =
     omega (arith, no_more ts us apart (λ t c. all t (kind t c)), few, many)
 
-leads_more : (r : Rules) (es : List HistoryEvent) (s : Sight) (e : HistoryEvent) (u t : Sight) → JudgeLeads r s es u → Step r u e t
+leads_more : (r : Rules) (es : List HistoryEvent) (s : Sight) (e : HistoryEvent) (u t : Sight)
+    → JudgeLeads r s es u → Step r u e t
     → JudgeLeads r s (es ++ e ∷ []) t
 leads_more r [] s e u t is step = (t, subst (λ (q : Sight). Step r q e t) (sym is) step, refl)
 leads_more r (d ∷ es) s e u t (v, first, rest) step = (v, first, leads_more r es v e u t rest step)
 
-leads_less : (r : Rules) (es : List HistoryEvent) (s : Sight) (e : HistoryEvent) (t : Sight) → JudgeLeads r s (es ++ e ∷ []) t
+leads_less : (r : Rules) (es : List HistoryEvent) (s : Sight) (e : HistoryEvent) (t : Sight)
+    → JudgeLeads r s (es ++ e ∷ []) t
     → (u : Sight) × JudgeLeads r s es u × Step r u e t
 leads_less r [] s e t (u, step, is) = (s, refl, subst (λ (q : Sight). Step r s e q) is step)
 leads_less r (d ∷ es) s e t (v, first, rest) =
@@ -85,7 +92,8 @@ left_start r starts t = (
 )
 
 -- one more call leaves what follows
-pub left_more : (r : Rules) (starts : List Sight) (es : List HistoryEvent) (e : HistoryEvent) (old new : List Sight)
+pub left_more : (r : Rules) (starts : List Sight) (es : List HistoryEvent) (e : HistoryEvent)
+    (old new : List Sight)
     → AreStatesLeft r starts es old → Follows r old e new → AreStatesLeft r starts (es ++ e ∷ []) new
 left_more r starts es e old new left follows t = (
   λ c. let f = (follows t).0 c in
@@ -94,7 +102,8 @@ left_more r starts es e old new left follows t = (
 )
 
 -- too many after one more call
-pub many_more : (r : Rules) (starts : List Sight) (es : List HistoryEvent) (e : HistoryEvent) (old : List Sight)
+pub many_more : (r : Rules) (starts : List Sight) (es : List HistoryEvent) (e : HistoryEvent)
+    (old : List Sight)
     → AreStatesLeft r starts es old → AreMany (MayFollow r old e) → AreMany (MayLead r starts (es ++ e ∷ []))
 many_more r starts es e old left (ts, apart, follow, many) = (
   ts,
@@ -161,7 +170,8 @@ pub not_next : (r : Rules) (starts : List Sight) (es : List HistoryEvent) (i : �
     → (j : ℕ) → j < i + 1 → AreMany (MayLead r starts (take (j + 1) es)) → ⊥
 not_next r starts es i new before left few j lt many = elim (cases_lt j i) [
   | inl less ↦ before j less many
-  | inr ge ↦ (let e : j ≡ i = omega arith in not_many (MayLead r starts (take (i + 1) es)) new (λ t h. (left t).1 h) few
+  | inr ge ↦ (let e : j ≡ i = omega arith in not_many (MayLead r starts (take (i + 1) es)) new
+      (λ t h. (left t).1 h) few
       (subst (λ (k : ℕ). AreMany (MayLead r starts (take (k + 1) es))) e many))
 ]
 

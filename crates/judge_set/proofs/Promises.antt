@@ -82,13 +82,15 @@ or_not false p h = refl
 failed_sub : (r : Rules) (s : Sight) (a : Reply) → Sub (failed r s a) (failed (without_promises r) s a)
 failed_sub r s a = unless r.never.failures (failed_rows s a)
 
-effects_less : (p d : Bool) (xs : List Sight) → Sub (if p || d then [] else xs) (if false || d then [] else xs)
+effects_less : (p d : Bool) (xs : List Sight) → Sub (if p || d then [] else xs)
+    (if false || d then [] else xs)
 effects_less true d xs = none (if false || d then [] else xs)
 effects_less false d xs = same (if false || d then [] else xs)
 
 effects_sub : (r : Rules) (v : BranchVerb) (s : Sight) (o : On) (a : Reply)
     → Sub (effects r v s o a) (effects (without_promises r) v s o a)
-effects_sub r v s o a = effects_less r.never.failures (is_decided v (stand_in (branch_at o.xid.number s))) (effects_rows v s o a)
+effects_sub r v s o a = effects_less r.never.failures (is_decided v (stand_in (branch_at o.xid.number s)))
+    (effects_rows v s o a)
 
 -- defects hang on no promise
 bad_same : (r : Rules) (x : XidSort) → is_bad_name (without_promises r) x ≡ is_bad_name r x
@@ -106,13 +108,15 @@ defects_same r verb.Rollback s o = rw (bad_same r o.xid.sort) refl
 defects_same r verb.Forget s o = rw (bad_same r o.xid.sort) refl
 
 excused_more : (r : Rules) (v : BranchVerb) (s : Sight) (o : On) (a : Reply)
-    → is_among (branch_excuses r v s o) a ≡ true → is_among (branch_excuses (without_promises r) v s o) a ≡ true
+    → is_among (branch_excuses r v s o) a ≡ true → is_among (branch_excuses (without_promises r) v s o) a
+    ≡ true
 excused_more r verb.Start s o reply.RolledBack h =
     and_not (has o.flags.0 join && is_spoiled_at (branch_at o.xid.number s)) r.never.rollback h
 excused_more r v s o a h = h
 
 -- what calls that nothing refuses may be answered
-own_sub : (r : Rules) (s : Sight) (x : ℕ) (a : Reply) → Sub (own_decision r s x a) (own_decision (without_promises r) s x a)
+own_sub : (r : Rules) (s : Sight) (x : ℕ) (a : Reply)
+    → Sub (own_decision r s x a) (own_decision (without_promises r) s x a)
 own_sub r s x a = one_less (is_heuristic a && not r.never.heuristics) (is_heuristic a && not false)
     (decided x (decision_in a) s) (and_not (is_heuristic a) r.never.heuristics)
 
@@ -126,8 +130,10 @@ start_sub r s o u reply.RolledBack =
     (not_and r.never.rollback (is_plain o.flags.0)))
 start_sub r s o u a = λ t c. c
 
-end_sub : (r : Rules) (o : On) (u : Sight) (a : Reply) → Sub (end_passes r o u a) (end_passes (without_promises r) o u a)
-end_sub r o u reply.RolledBack = one_less (has o.flags.0 fail || not r.never.rollback) (has o.flags.0 fail || not false)
+end_sub : (r : Rules) (o : On) (u : Sight) (a : Reply)
+    → Sub (end_passes r o u a) (end_passes (without_promises r) o u a)
+end_sub r o u reply.RolledBack = one_less (has o.flags.0 fail || not r.never.rollback)
+    (has o.flags.0 fail || not false)
     (marked o.xid.number u) (or_not (has o.flags.0 fail) r.never.rollback)
 end_sub r o u a = λ t c. c
 
@@ -136,10 +142,12 @@ prepare_sub : (r : Rules) (s : Sight) (x : ℕ) (a : Reply)
 prepare_sub r s x reply.RolledBack = one_less (not r.never.rollback) true (gone x s) (λ h. refl)
 prepare_sub r s x a = λ t c. c
 
-commit_sub : (r : Rules) (s : Sight) (o : On) (a : Reply) → Sub (commit_passes r s o a) (commit_passes (without_promises r) s o a)
+commit_sub : (r : Rules) (s : Sight) (o : On) (a : Reply)
+    → Sub (commit_passes r s o a) (commit_passes (without_promises r) s o a)
 commit_sub r s o reply.Ok = λ t c. c
 commit_sub r s o reply.RolledBack = one_less (has o.flags.0 one_phase && not r.never.rollback)
-    (has o.flags.0 one_phase && not false) (gone o.xid.number s) (and_not (has o.flags.0 one_phase) r.never.rollback)
+    (has o.flags.0 one_phase && not false) (gone o.xid.number s)
+    (and_not (has o.flags.0 one_phase) r.never.rollback)
 commit_sub r s o reply.Retry = λ t c. c
 commit_sub r s o a = own_sub r s o.xid.number a
 
@@ -157,7 +165,8 @@ decide_sub r v s o st a = rollback_sub r s o.xid.number a
 
 passes_sub : (r : Rules) (v : BranchVerb) (s : Sight) (o : On) (a : Reply)
     → Sub (branch_passes r v s o a) (branch_passes (without_promises r) v s o a)
-passes_sub r verb.Start s o a = either (has o.flags.0 resume && is_spoiled_at (branch_at o.xid.number s)) _ _ _ _
+passes_sub r verb.Start s o a = either (has o.flags.0 resume && is_spoiled_at (branch_at o.xid.number s)) _ _
+    _ _
     (λ t c. c) (start_sub r s o (entered s o) a)
 passes_sub r verb.End s o a = either (is_spoiled_at (branch_at o.xid.number s)) _ _ _ _
     (λ t c. c) (end_sub r o (unlinked o.thread o.xid.number s) a)
@@ -182,9 +191,11 @@ rows_sub : (r : Rules) (v : BranchVerb) (s : Sight) (o : On) (a : Reply)
     → Sub (branch_rows r v s o a) (branch_rows (without_promises r) v s o a)
 rows_sub r v s o a =
     let more = one_if (is_among (branch_excuses (without_promises r) v s o) a) s in
-    both (one_if (is_among (branch_excuses r v s o) a) s ++ failed r s a) (more ++ failed (without_promises r) s a)
+    both (one_if (is_among (branch_excuses r v s o) a) s ++ failed r s a)
+    (more ++ failed (without_promises r) s a)
     (by_defects r v s o a) (by_defects (without_promises r) v s o a)
-    (both (one_if (is_among (branch_excuses r v s o) a) s) more (failed r s a) (failed (without_promises r) s a)
+    (both (one_if (is_among (branch_excuses r v s o) a) s) more (failed r s a)
+    (failed (without_promises r) s a)
     (one_less (is_among (branch_excuses r v s o) a) (is_among (branch_excuses (without_promises r) v s o) a) s
     (excused_more r v s o a)) (failed_sub r s a))
     (by_defects_sub r v s o a)
@@ -202,7 +213,8 @@ open_sub r d o s (answer.Code c) =
     let told = if is_defective d then one_if (is_among d (reply_of c)) s else open_passes o s (reply_of c) in
     both (if may_fail (reply_of c) then failed r s (reply_of c) else [])
     (if may_fail (reply_of c) then failed (without_promises r) s (reply_of c) else []) told told
-    (either (may_fail (reply_of c)) (failed r s (reply_of c)) [] (failed (without_promises r) s (reply_of c)) []
+    (either (may_fail (reply_of c)) (failed r s (reply_of c)) []
+    (failed (without_promises r) s (reply_of c)) []
     (failed_sub r s (reply_of c)) (λ u e. e)) (λ u e. e)
 open_sub r d o s a = λ u e. e
 
@@ -211,7 +223,8 @@ recover_sub : (r : Rules) (s : Sight) (t count f : ℕ) (a : JudgedAnswer)
 recover_sub r s t count f (answer.Code c) =
     let excused = one_if (is_among (recover_excuses r s t f) (reply_of c)) s in
     let refused = one_if (is_among (recover_defects r s t f) (reply_of c)) s in
-    both (excused ++ failed r s (reply_of c)) (excused ++ failed (without_promises r) s (reply_of c)) refused refused
+    both (excused ++ failed r s (reply_of c))
+    (excused ++ failed (without_promises r) s (reply_of c)) refused refused
     (both excused excused (failed r s (reply_of c)) (failed (without_promises r) s (reply_of c)) (λ u d. d)
     (failed_sub r s (reply_of c))) (λ u d. d)
 recover_sub r s t count f a = λ u d. d
@@ -228,19 +241,23 @@ read_sub : (r : Rules) (x : Option ℕ) (t k v : ℕ) (s : Sight)
 read_sub r None t k v s = λ t c. c
 read_sub r (Some x) t k v s = λ t c. c
 
-get_sub : (r : Rules) (s : Sight) (t k : ℕ) (a : JudgedAnswer) → Sub (get_next r s t k a) (get_next (without_promises r) s t k a)
+get_sub : (r : Rules) (s : Sight) (t k : ℕ) (a : JudgedAnswer)
+    → Sub (get_next r s t k a) (get_next (without_promises r) s t k a)
 get_sub r s t k (answer.Found v) = read_sub r (active_of t s) t k v s
 get_sub r s t k a = λ t c. c
 
-by_sub : (r : Rules) (s : Sight) (c : JudgedCall) (a : JudgedAnswer) → Sub (next_by r s c a) (next_by (without_promises r) s c a)
+by_sub : (r : Rules) (s : Sight) (c : JudgedCall) (a : JudgedAnswer)
+    → Sub (next_by r s c a) (next_by (without_promises r) s c a)
 by_sub r s (call.Function f) a = function_sub r s f a
 by_sub r s (call.Get t k) a = get_sub r s t k a
 by_sub r s c a = λ t c. c
 
-step_sub : (r : Rules) (s : Sight) (e : HistoryEvent) (t : Sight) → Step r s e t → Step (without_promises r) s e t
+step_sub : (r : Rules) (s : Sight) (e : HistoryEvent) (t : Sight) → Step r s e t
+    → Step (without_promises r) s e t
 step_sub r s e t h = either s.hung _ _ _ _ (λ t c. c) (by_sub r s e.call e.answer) t h
 
-leads_sub : (r : Rules) (es : List HistoryEvent) (s t : Sight) → JudgeLeads r s es t → JudgeLeads (without_promises r) s es t
+leads_sub : (r : Rules) (es : List HistoryEvent) (s t : Sight) → JudgeLeads r s es t
+    → JudgeLeads (without_promises r) s es t
 leads_sub r [] s t h = h
 leads_sub r (e ∷ es) s t (u, step, rest) = (u, step_sub r s e u step, leads_sub r es u t rest)
 

@@ -8,13 +8,15 @@ use Rattle.judge_set.specs.Sets.{IsFirstIllegal, IsVerdict}
 use Rattle.judge_set.proofs.Members.{legal_front, take_take}
 
 -- no event after a first fault is a first fault
-apart : (r : Rules) (es : List HistoryEvent) (i j : ℕ) → IsFirstIllegal r es i → IsFirstIllegal r es j → i < j → ⊥
+apart : (r : Rules) (es : List HistoryEvent) (i j : ℕ) → IsFirstIllegal r es i → IsFirstIllegal r es j → i < j
+    → ⊥
 apart r es i j a b lt = a.fault (
     subst (λ (q : List HistoryEvent). IsLegal r q) (take_take (i + 1) j es (omega (arith, lt)))
     (legal_front r (take j es) (i + 1) b.before)
     )
 
-pub one_verdict : (r : Rules) (es : List HistoryEvent) (a b : Option ℕ) → IsVerdict r es a → IsVerdict r es b → a ≡ b
+pub one_verdict : (r : Rules) (es : List HistoryEvent) (a b : Option ℕ) → IsVerdict r es a → IsVerdict r es b
+    → a ≡ b
 one_verdict r es None None v w = refl
 one_verdict r es None (Some j) v w = absurd (w.illegal v)
 one_verdict r es (Some i) None v w = absurd (v.illegal w)

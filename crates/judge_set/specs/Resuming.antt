@@ -1,4 +1,5 @@
--- How the judge goes on after a fault: from each state as it is, and as it is if the answer is taken at its word.
+-- How the judge goes on after a fault: from each state as it is, and as it is if the answer is taken at its
+-- word.
 use Rattle.std.specs.Prelude.{Bool, true, false, not, ◌&&◌, List, [], ◌∷◌, Option, Some, None, if◌then◌else◌}
 use Rattle.std.specs.List.{flat_map}
 use Rattle.judge_state.specs.declared.parts.JudgedBranch.{JudgedBranch}

@@ -13,7 +13,8 @@ pub fn fronts_are_legal()
 
 /// A history has one verdict: it is legal, or one event is its first fault.
 pub fn a_history_has_one_verdict()
-    ensures { (r : Rules) (es : List HistoryEvent) (a b : Option ℕ) → IsVerdict r es a → IsVerdict r es b → a ≡ b }
+    ensures { (r : Rules) (es : List HistoryEvent) (a b : Option ℕ) → IsVerdict r es a → IsVerdict r es b
+        → a ≡ b }
 {}
 
 /// Promises only narrow what is admitted: what is legal by some is legal without them.

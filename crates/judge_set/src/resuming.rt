@@ -1,7 +1,8 @@
 //! How the judge goes on after a fault.
 //!
-//! After an answer that no history admits, anything may be true. To go on, the states are taken in which the call
-//! had no effect, and those in which the answer is taken at its word; so one fault does not breed others.
+//! After an answer that no history admits, anything may be true. To go on, the states are taken in which the
+//! call had no effect, and those in which the answer is taken at its word; so one fault does not breed
+//! others.
 
 ghost use Rattle.std.specs.Prelude.{◌≡◌, IfOk};
 ghost use Rattle.judge_state.specs.Questions.{branch_at};

@@ -18,8 +18,8 @@ pub fn start(alloc: Global) -> Result<Vec<State>, AllocError>
     Ok(states)
 }
 
-/// The states that may follow one of these, by a call and its answer. It is refused if memory is, and if there are too
-/// many of them.
+/// The states that may follow one of these, by a call and its answer. It is refused if memory is, and if
+/// there are too many of them.
 pub fn follow(
     alloc: Global,
     rules: Rules,
@@ -29,7 +29,8 @@ pub fn follow(
     ensures states { IfOk result (λ v. Follows rules states.now event.now v.items) }
     ensures apart { IfOk result (λ v. AreApartStates v.items) }
     ensures few { IfOk result (λ v. vec_len v ≤ MOST_STATES) }
-    ensures too_many { IfErr result (λ e. e ≡ JudgeError.TooMany → AreMany (MayFollow rules states.now event.now)) }
+    ensures too_many { IfErr result (λ e. e ≡ JudgeError.TooMany
+        → AreMany (MayFollow rules states.now event.now)) }
 {
     let mut after = Vec::new(alloc);
     for state in states {

@@ -49,8 +49,8 @@ pub fn follow_all(
     })
 }
 
-/// Judges a history: whether it is legal, or which of its events is the first that no legal history has there. There is
-/// no verdict if more states than are gone through are possible after one of them.
+/// Judges a history: whether it is legal, or which of its events is the first that no legal history has
+/// there. There is no verdict if more states than are gone through are possible after one of them.
 pub fn judge(alloc: Global, rules: Rules, events: &[HistoryEvent]) -> Result<Walk, JudgeError>
     ensures verdict { IfOk result (λ walk. IsVerdict rules events.now walk.fault) }
     ensures states { IfOk result (λ walk.

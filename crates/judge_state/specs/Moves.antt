@@ -253,7 +253,8 @@ cut_off t s = record s {
 -- a branch writes a value
 abbrev pub worked : ℕ → ℕ → ℕ → Sight → Sight
 worked x k v s = record s {
-  works = filter (λ w. not (w.branch == x && w.key == k)) s.works ++ record { branch = x; key = k; value = v } ∷ [];
+  works = filter (λ w. not (w.branch == x && w.key == k)) s.works
+      ++ record { branch = x; key = k; value = v } ∷ [];
 }
 
 -- a thread works outside of any branch

@@ -26,7 +26,8 @@ scan_closed t s = record s {
 
 -- the list of a new scan: each branch that is in doubt may be given, and is due
 abbrev pub due_lines : ℕ → List JudgedBranch → List Listed
-due_lines t bs = map (λ b. record { thread = t; branch = b.name; given = false; due = true }) (filter is_in_doubt bs)
+due_lines t bs = map (λ b. record { thread = t; branch = b.name; given = false; due = true })
+    (filter is_in_doubt bs)
 
 -- a line of a list that was given
 abbrev pub with_given : Listed → Listed
@@ -61,8 +62,8 @@ owes t x s = list_any (λ l. l.thread == t && l.branch == x && l.due && not l.gi
 abbrev pub owes_only : ℕ → List ℕ → Sight → Bool
 owes_only t xs s = list_all (λ l. not (l.thread == t && l.due && not l.given) || has xs l.branch) s.listed
 
--- what is committed under a key after one more value: this one, if it is of the key; where it is not sure, what
--- was may still be
+-- what is committed under a key after one more value: this one, if it is of the key; where it is not sure,
+-- what was may still be
 abbrev pub held_after : ℕ → ℕ → Bool → JudgedWrite → Bool
 held_after k v held w = if w.key == k then w.value == v || (not w.sure && held) else held
 

@@ -6,11 +6,11 @@ use Rattle.judge_state.specs.declared.parts.Listed.{Listed}
 use Rattle.judge_state.specs.declared.parts.Work.{Work}
 use Rattle.judge_state.specs.declared.parts.JudgedWrite.{JudgedWrite}
 
--- a state: whether the manager is open (R1, else R0), and whether a call got no answer, after which nothing is
--- judged; the associations T1 and T2, and a branch as often as it is suspended for migration; the known
+-- a state: whether the manager is open (R1, else R0), and whether a call got no answer, after which nothing
+-- is judged; the associations T1 and T2, and a branch as often as it is suspended for migration; the known
 -- branches; what they have written; the threads with an open scan, and the branches that these may give; what
--- was committed, oldest first; the threads that worked outside of any branch; and the branches that left S3 since
--- the last restart, with what they had written
+-- was committed, oldest first; the threads that worked outside of any branch; and the branches that left S3
+-- since the last restart, with what they had written
 pub record Sight : Type 0 where
   pub opened : Bool
   pub hung : Bool

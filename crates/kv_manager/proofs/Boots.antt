@@ -44,14 +44,17 @@ boot_after s b next =
     ∙ some_if _ _ (rises_next s.boot b next)
 
 -- the record of a boot counts nothing
-pub opened_counted : (ls : List LogRecord) (b : ℕ) → AreCountedCommits ls → AreCountedCommits (ls ++ opened b ∷ [])
+pub opened_counted : (ls : List LogRecord) (b : ℕ) → AreCountedCommits ls
+    → AreCountedCommits (ls ++ opened b ∷ [])
 opened_counted ls b h =
     counted_next ls (opened b) h
     (subst (λ (d : Data). d.count < 2 ^ 63) (sym (data_behind ls (opened b))) (counted_whole ls h))
 
-pub ready_counted : (ls : List LogRecord) (r : Ready) → IsReady ls r → AreCountedCommits (ls ++ frame_record r.opened ∷ [])
+pub ready_counted : (ls : List LogRecord) (r : Ready) → IsReady ls r
+    → AreCountedCommits (ls ++ frame_record r.opened ∷ [])
 ready_counted ls r ready =
-    subst (λ l. AreCountedCommits (ls ++ l ∷ [])) (sym ready.spells) (opened_counted ls r.boot ready.left.counted)
+    subst (λ l. AreCountedCommits (ls ++ l ∷ [])) (sym ready.spells)
+    (opened_counted ls r.boot ready.left.counted)
 
 -- the next boot
 pub opened_ordered : (ls : List LogRecord) (s : SeenLog) (b : ℕ) → seen_of ls ≡ Some s
@@ -72,13 +75,15 @@ left_ordered s keep h =
     let rest = left_rest s keep in
     ordered_front (left_by s keep) rest.0 (ap are_ordered rest.1 ∙ h)
 
-pub left_counted : (s : LogSight) (keep : ℕ) → AreCountedCommits (records_of s.kept) → AreCountedCommits (left_by s keep)
+pub left_counted : (s : LogSight) (keep : ℕ) → AreCountedCommits (records_of s.kept)
+    → AreCountedCommits (left_by s keep)
 left_counted s keep h =
     let rest = left_rest s keep in
     counted_front (left_by s keep) rest.0 (subst AreCountedCommits (sym rest.1) h)
 
 -- what a crash leaves of its own records is a manager's, and no boot alone can be what is missing
-pub left_fits : (s : KvSight) (keep : ℕ) → IsKvManager s → AllByRecursion (IsSound Manager) (records_of s.log.sight.kept)
+pub left_fits : (s : KvSight) (keep : ℕ) → IsKvManager s
+    → AllByRecursion (IsSound Manager) (records_of s.log.sight.kept)
     → KvNotRebuilt (left_by s.log.sight keep) Unfit → ⊥
 left_fits s keep kept sound why =
     never_unfit (left_by s.log.sight keep) (left_ordered s.log.sight keep kept.ordered)

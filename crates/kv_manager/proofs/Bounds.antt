@@ -1,4 +1,5 @@
--- Of what may follow one another at most 1,024 branches are open or heuristic, and each wrote what a branch can.
+-- Of what may follow one another at most 1,024 branches are open or heuristic, and each wrote what a branch
+-- can.
 use Rattle.std.proofs.Common.{◌≡◌, ◌≤◌, ◌<◌, ℕ, Bool, true, false, not, ◌||◌, cond, suc, List, [], ◌∷◌, Option, Some, None, map, refl, sym, ap, subst, ◌∙◌, is_some, nat_lt, length, arith, inl, inr}
 use Rattle.std.proofs.lemmas.Bool.Decides.{nat_tests}
 use Rattle.std.specs.List.{AllByRecursion, IsDistinct, list_any}
@@ -38,7 +39,8 @@ length_put x p [] = refl
 length_put x p (e ∷ es) = by_test (same x e.0) (length_put x p es)
   where
     by_test : (b : Bool)
-        → length (insert_entry same es x p) ≡ cond (is_some (lookup (same x) es)) (length es) (suc (length es))
+        → length (insert_entry same es x p) ≡ cond (is_some (lookup (same x) es)) (length es)
+        (suc (length es))
         → length (cond b ((e.0, p) ∷ es) (e ∷ insert_entry same es x p))
         ≡ cond (is_some (cond b (Some e.1) (lookup (same x) es))) (suc (length es)) (suc (suc (length es)))
     by_test true h = refl

@@ -38,11 +38,13 @@ none_promised : (s : SeenLog) (x : Xid) (k : List ℕ) → nothing_seen ≡ s �
 unfolding names_key
 none_promised s x k is = ap (λ t. names_key (promised t x) k) (sym is)
 
-pub created : (process : ProcessId) (forced failures : ℕ) (s : KvSight) → RestoredFrom process [] forced failures s
+pub created : (process : ProcessId) (forced failures : ℕ) (s : KvSight)
+    → RestoredFrom process [] forced failures s
     → IsNewManager (sight_of s)
 created process forced failures s r =
     let none : records_of r.log.sight.kept ≡ [] = sym
-    (same_records [] (records_of r.log.sight.kept) 0 r.opens.torn (sym (nothing_read process) ∙ r.opens.read)) in
+    (same_records [] (records_of r.log.sight.kept) 0 r.opens.torn (sym (nothing_read process) ∙ r.opens.read))
+    in
     let left : LeavesStore [] s.store s.boot =
     subst (λ ls. LeavesStore ls s.store s.boot) none r.starts.left in
     let boot : s.boot ≡ 1 = first_boot left.seen s.boot (nothing_said left.seen left.read) left.next in
@@ -65,7 +67,8 @@ created process forced failures s r =
       };
     }
 
-pub each_new : {E : Type 0} (process : ProcessId) (bytes : List ℕ) (forced failures : ℕ) (r : Result KvSight E) → bytes ≡ []
+pub each_new : {E : Type 0} (process : ProcessId) (bytes : List ℕ) (forced failures : ℕ)
+    (r : Result KvSight E) → bytes ≡ []
     → IfOk r (RestoredFrom process bytes forced failures)
     → IfOk r (λ m. IsNewManager (sight_of m))
 each_new process bytes forced failures (Ok m) empty r =

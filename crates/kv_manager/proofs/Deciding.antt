@@ -222,7 +222,8 @@ module _ (old mid new : KvSight) (x : Xid) (o : Outcome) (room : Reserves old.st
     log = made.log
         ∙ ap (λ (l : LogState). with_record l.sight
         (entry_record (heur_entry o) x (writes_of mid.store.writes x)) true) log
-        ∙ ap (λ w. with_record old.log.sight (entry_record (heur_entry o) x (writes_of w x)) true) room.writes;
+        ∙ ap (λ w. with_record old.log.sight (entry_record (heur_entry o) x (writes_of w x)) true)
+        room.writes;
     boot = made.boot ∙ boot;
   }
 

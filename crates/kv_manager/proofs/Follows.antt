@@ -31,8 +31,8 @@ use Rattle.kv_manager.proofs.Told.{is_told, told_mark}
 use Rattle.kv_manager.proofs.Free.{fewer, free_where, open_key}
 use Rattle.kv_manager.proofs.From.{comes_from}
 
--- what was seen stands with a store: each branch is open that is prepared, with what it wrote, and heuristic that
--- an operator decided, and told if it was told; and a boot was seen
+-- what was seen stands with a store: each branch is open that is prepared, with what it wrote, and heuristic
+-- that an operator decided, and told if it was told; and a boot was seen
 pub record StandsWith (t : SeenLog) (s : KeySight) : Type 0 where
   pub states : (x : Xid) → state_by (found t x) ≡ doubt_of (state_of s x)
   pub writes : (x : Xid) → is_open (found t x) ≡ true → writes_of s.writes x ≡ promised t x
@@ -73,7 +73,8 @@ untold_by : (o : Option Promise) → state_by o ≡ S5 → (is_told o ≡ true �
 untold_by None h never = absurd (cc)
 untold_by (Some p) h never = by_mark p.mark h never
   where
-    by_mark : (m : DoubtMark) → state_left (not (opens m)) ≡ S5 → (told_mark m ≡ true → ⊥) → is_untold (Some (record { mark = m; writes = p.writes })) ≡ true
+    by_mark : (m : DoubtMark) → state_left (not (opens m)) ≡ S5 → (told_mark m ≡ true → ⊥)
+        → is_untold (Some (record { mark = m; writes = p.writes })) ≡ true
     by_mark Open e n = absurd (cc)
     by_mark Decided e n = refl
     by_mark ToldMark e n = absurd (n refl)
@@ -134,7 +135,8 @@ module _ (t : SeenLog) (s : KeySight) (x : Xid) (stands : StandsWith t s)
       let off = off_by (found t x) (at S2 is) in
       let below = fewer t.live x s.tables.branches.branches distinct off
       (known_work (lookup (same x) s.tables.branches.branches) is)
-      (λ y there. known_doubt (found t y) (lookup (same y) s.tables.branches.branches) there (stands.states y)) in
+      (λ y there. known_doubt (found t y) (lookup (same y) s.tables.branches.branches) there
+      (stands.states y)) in
       some_if _ _ (four (is_some (found t x)) (nat_lt (length t.live) 1024)
       (keys_once (writes_of s.writes x)) (keys_free (promises t) (writes_of s.writes x)) off
       (grind (arith, nat_tests, below, few)) limits.once

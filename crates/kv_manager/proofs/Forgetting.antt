@@ -31,10 +31,12 @@ store_is old new rebases = λ i. record {
 }
 
 -- what a manager keeps stands
-pub kept_forgetting : (s : KvSight) (store : KeySight) → RebasesStore s.store store → s.log.sight.failed ≡ false
+pub kept_forgetting : (s : KvSight) (store : KeySight) → RebasesStore s.store store
+    → s.log.sight.failed ≡ false
     → IsKvManager s → IsKvManager (record s { store = store })
 kept_forgetting s store rebases works kept =
-    subst (λ (t : KeySight). IsKvManager (record s { store = t })) (sym (store_is s.store store rebases)) (record {
+    subst (λ (t : KeySight). IsKvManager (record s { store = t }))
+    (sym (store_is s.store store rebases)) (record {
       kind = kept.kind;
       ordered = kept.ordered;
       counted = kept.counted;
@@ -52,7 +54,8 @@ kept_forgetting s store rebases works kept =
     })
 
 -- a process sees no difference
-pub sight_stays : (old new : KvSight) → RebasesStore old.store new.store → new.log ≡ old.log → new.boot ≡ old.boot
+pub sight_stays : (old new : KvSight) → RebasesStore old.store new.store → new.log ≡ old.log
+    → new.boot ≡ old.boot
     → sight_of new ≡ sight_of old
 sight_stays old new rebases log boot = λ i. record {
   tables = rebases.tables i;

@@ -60,7 +60,8 @@ open_key (e ∷ es) k d h = by_test (holds e.1 k) refl h (open_key es k d.1)
         record {
           branch = e.0;
           opened = ap (λ b. is_open (cond b (Some e.1) (lookup (same e.0) es))) (same_itself e.0) ∙ parts.0;
-          named = ap (λ b. names_key (promised_by (cond b (Some e.1) (lookup (same e.0) es))) k) (same_itself e.0)
+          named = ap (λ b. names_key (promised_by (cond b (Some e.1) (lookup (same e.0) es))) k)
+              (same_itself e.0)
               ∙ names_own (opens e.1.mark) e.1.writes k parts.0 parts.1;
         }
 
@@ -89,7 +90,8 @@ pub free_where : (ps : List Promise) (ws : List Write)
 unfolding keys_free names_key
 free_where ps [] shut = refl
 free_where ps (w ∷ ws) shut =
-    by_parts (key_open ps w.key) (keys_free ps ws) (shut w.key (ap (λ b. b || names_key ws w.key) (key_itself w.key)))
+    by_parts (key_open ps w.key) (keys_free ps ws)
+    (shut w.key (ap (λ b. b || names_key ws w.key) (key_itself w.key)))
     (free_where ps ws (λ k h. shut k (ap (λ b. same_bytes w.key k || b) h ∙ or_true (same_bytes w.key k))))
   where
     or_true : (b : Bool) → (b || true) ≡ true

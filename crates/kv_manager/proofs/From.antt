@@ -92,7 +92,8 @@ none_ends rows = AllByRecursion (λ (r : Code × BranchState). is_zero r.1 ≡ f
 
 none_zero : (rows : List (Code × BranchState)) → none_ends rows → Contains rows (code.Ok, S0) → ⊥
 none_zero rows all h =
-    let never : true ≡ false = All-contains (λ (r : Code × BranchState). is_zero r.1 ≡ false) rows (code.Ok, S0)
+    let never : true ≡ false = All-contains (λ (r : Code × BranchState). is_zero r.1 ≡ false)
+    rows (code.Ok, S0)
     (All-from_recursion (λ (r : Code × BranchState). is_zero r.1 ≡ false) rows all) h in
     absurd (cc)
 
@@ -290,4 +291,5 @@ silent_doubt s x c turn due is = by_turn due.due
         ap (λ (t : CallRow). doubt_of t.to) one
         ∙ silent_row (state_of s.store x) c _ _ _ (ap (λ (t : CallRow). t.entry) (sym one) ∙ is)
         (subst (IsRowListed s.store x c) one due.listed)
-    by_turn (OfOperator o here room one) = absurd (no_silence o (ap (λ (t : CallRow). t.entry) (sym one) ∙ is))
+    by_turn (OfOperator o here room one) = absurd
+        (no_silence o (ap (λ (t : CallRow). t.entry) (sym one) ∙ is))

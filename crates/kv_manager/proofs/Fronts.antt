@@ -26,7 +26,8 @@ some_front (Some s) ks h = refl
 
 -- a front of records that may follow one another
 pub ordered_front : (ls ks : List LogRecord) → are_ordered (ls ++ ks) ≡ true → are_ordered ls ≡ true
-ordered_front ls ks h = some_front (seen_of ls) ks (ap is_some (sym (seen_more (Some nothing_seen) ls ks)) ∙ h)
+ordered_front ls ks h = some_front (seen_of ls) ks
+    (ap is_some (sym (seen_more (Some nothing_seen) ls ks)) ∙ h)
 
 -- and with a front of what is after them
 pub ordered_taken : (ls ks : List LogRecord) (n : ℕ) → are_ordered (ls ++ ks) ≡ true
@@ -41,7 +42,8 @@ ordered_taken ls ks n h =
 pub seen_where : (ls : List LogRecord) → are_ordered ls ≡ true → (s : SeenLog) × (seen_of ls ≡ Some s)
 seen_where ls h = by_option (seen_of ls) refl h
   where
-    by_option : (o : Option SeenLog) → seen_of ls ≡ o → is_some o ≡ true → (s : SeenLog) × (seen_of ls ≡ Some s)
+    by_option : (o : Option SeenLog) → seen_of ls ≡ o → is_some o ≡ true → (s : SeenLog)
+        × (seen_of ls ≡ Some s)
     by_option None e h = absurd (cc)
     by_option (Some s) e h = (s, e)
 
@@ -49,7 +51,8 @@ seen_where ls h = by_option (seen_of ls) refl h
 pub seen_one : (ls : List LogRecord) (s : SeenLog) (l : LogRecord) → seen_of ls ≡ Some s
     → seen_of (ls ++ l ∷ []) ≡ after s l
 unfolding seen_after
-seen_one ls s l h = seen_more (Some nothing_seen) ls (l ∷ []) ∙ ap (λ o. seen_after o (l ∷ [])) h ∙ by_after (after s l)
+seen_one ls s l h = seen_more (Some nothing_seen) ls (l ∷ []) ∙ ap (λ o. seen_after o (l ∷ [])) h
+    ∙ by_after (after s l)
   where
     by_after : (o : Option SeenLog) → seen_after o [] ≡ o
     by_after o = refl

@@ -55,7 +55,8 @@ module _ (ls : List LogRecord) (s : SeenLog) (q : Option ProcessId)
       let k = name_xid q b in
       let all = made_if (not (is_some (found s k)) && nat_lt (length s.live) 1024 && keys_once ws
       && keys_free (promises s) ws) _ h in
-      sym (a.states k) ∙ not_known (found s k) (first_of (not (is_some (found s k))) (nat_lt (length s.live) 1024)
+      sym (a.states k) ∙ not_known (found s k)
+      (first_of (not (is_some (found s k))) (nat_lt (length s.live) 1024)
       (keys_once ws) (keys_free (promises s) ws) all)
   by_record (HeurCommit b) h =
       let k = name_xid q b in
@@ -84,7 +85,8 @@ may_follow : (ls : List LogRecord) (s : SeenLog) (l : LogRecord) → seen_of ls 
 unfolding after
 may_follow ls s l read h = by_test (is_some s.boot) (is_opened l.entry) h
   where
-    by_test : (b c : Bool) → is_some (cond (b || c) (followed s l.parent l.entry) None) ≡ true → MayFollow ls l
+    by_test : (b c : Bool) → is_some (cond (b || c) (followed s l.parent l.entry) None) ≡ true
+        → MayFollow ls l
     by_test true c h = by_record ls s l.parent (agrees_of ls s read) l.entry h
     by_test false true h = by_record ls s l.parent (agrees_of ls s read) l.entry h
     by_test false false h = absurd (cc)

@@ -60,8 +60,8 @@ decided_is S4 e = absurd (cc)
 one_doubts : (old new : States) → new ≡ old → SameDoubts old new
 one_doubts old new one x = ap (λ (m : States). doubt_of (state_at m x)) one
 
--- the data stay, the same branches are in doubt, a branch that is prepared was, with the same writes, and one that an operator decided was
--- decided so
+-- the data stay, the same branches are in doubt, a branch that is prepared was, with the same writes, and one
+-- that an operator decided was decided so
 pub record KeepsPromises (old new : KeySight) : Type 0 where
   pub versions : SameData old.versions new.versions
   pub prepared : (x : Xid) → state_of new x ≡ S3 → state_of old x ≡ S3
@@ -130,7 +130,8 @@ same_promises old new stays = record {
   doubts = same_doubts old.tables new.tables stays.tables;
 }
 
-pub moved_promises : (old new : KeySight) → SameDoubts old.tables new.tables → KeepsTest is_prepared old.tables new.tables
+pub moved_promises : (old new : KeySight) → SameDoubts old.tables new.tables
+    → KeepsTest is_prepared old.tables new.tables
     → KeepsTest is_decided old.tables new.tables
     → new.writes ≡ old.writes → new.versions ≡ old.versions
     → new.decisions ≡ old.decisions → KeepsPromises old new
@@ -255,7 +256,8 @@ closes_one old new flags c h = by_legal (legal verb.Close flags) h
     by_legal (Ok k) h = closed_one old new c h
     by_legal (Err e) h = ap (λ (m : States). m.branches) h.1
 
-pub opens_one : (old new : States) (flags : ℕ) (migrates : Bool) (c : Code) → OpensManager old new flags migrates c
+pub opens_one : (old new : States) (flags : ℕ) (migrates : Bool) (c : Code)
+    → OpensManager old new flags migrates c
     → new.branches ≡ old.branches
 opens_one old new flags migrates c h = by_legal (legal verb.Open flags) h
   where
@@ -278,7 +280,8 @@ called_promises old new one writes versions decisions =
 -- Work of a branch that no thread is in.
 
 not_known : (o : Option BranchState) (below : Bool)
-    → (if is_some o then code.DupId else if below then code.Ok else code.RmErr) ≡ code.Ok → unwrap_or o S0 ≡ S0
+    → (if is_some o then code.DupId else if below then code.Ok else code.RmErr) ≡ code.Ok
+    → unwrap_or o S0 ≡ S0
 not_known None below e = refl
 not_known (Some s) below e = absurd cc
 

@@ -36,7 +36,8 @@ told_five : (o : Option Promise) → is_told o ≡ true → state_by o ≡ S5
 told_five None h = absurd (cc)
 told_five (Some p) h = by_mark p.mark h
   where
-    by_mark : (m : DoubtMark) → told_mark m ≡ true → state_by (Some (record { mark = m; writes = p.writes })) ≡ S5
+    by_mark : (m : DoubtMark) → told_mark m ≡ true → state_by (Some (record { mark = m; writes = p.writes }))
+        ≡ S5
     by_mark Open e = absurd (cc)
     by_mark Decided e = absurd (cc)
     by_mark Told e = refl
@@ -66,7 +67,8 @@ stands_with s t stands h = record {
       (three_of (state_of s.store x) (sym (states x) ∙ open_three (found t x) opened))
       ∙ (lawful_of (records_of s.log.sight.kept) t h).tied.tied x opened;
   told = λ x was.
-      let before = stands.decided x (five_of (state_of s.store x) (sym (states x) ∙ told_five (found t x) was)) in
+      let before = stands.decided x (five_of (state_of s.store x)
+      (sym (states x) ∙ told_five (found t x) was)) in
       ap (λ (d : Decision). is_some d.told) before.how ∙ told_of (records_of s.log.sight.kept) t h x was;
   opened = boots_of (records_of s.log.sight.kept) t stands.begun h;
 }

@@ -31,7 +31,8 @@ front_goes_on old new f more is front = record {
   first = front.first;
   stands = record {
     rest = front.stands.rest ++ more;
-    split = sym (append_assoc front.first front.stands.rest more) ∙ ap (λ ks. ks ++ more) front.stands.split ∙ sym is;
+    split = sym (append_assoc front.first front.stands.rest more) ∙ ap (λ ks. ks ++ more) front.stands.split
+        ∙ sym is;
     sized = front.stands.sized;
   };
   says = front.says;
@@ -40,10 +41,12 @@ front_goes_on old new f more is front = record {
 -- nothing of the log changed
 pub front_stays : (old new : LogState) (f : Front) → new.sight ≡ old.sight → IsFrontOf old f → IsFrontOf new f
 front_stays old new f is front =
-    front_goes_on old new f [] (ap (λ (s : LogSight). s.kept.forced) is ∙ sym (append-nil old.sight.kept.forced)) front
+    front_goes_on old new f [] (ap (λ (s : LogSight). s.kept.forced) is
+    ∙ sym (append-nil old.sight.kept.forced)) front
 
 -- of two lists with one whole the longer begins with the other
-longer : {A : Type 0} (a b xs ys : List A) → a ++ b ≡ xs ++ ys → length a ≤ length xs → (m : List A) × (xs ≡ a ++ m)
+longer : {A : Type 0} (a b xs ys : List A) → a ++ b ≡ xs ++ ys → length a ≤ length xs → (m : List A)
+    × (xs ≡ a ++ m)
 longer [] b xs ys e h = (xs, refl)
 longer (x ∷ a) b [] ys e h = absurd (omega (arith, h))
 longer (x ∷ a) b (y ∷ xs) ys e h =
@@ -52,12 +55,14 @@ longer (x ∷ a) b (y ∷ xs) ys e h =
     let rest = longer a b xs ys tails (omega (arith, h)) in (rest.0, λ i. sym heads i ∷ rest.1 i)
 
 -- the device failed under these records
-pub front_broken : (old new : LogState) (ls : List LogRecord) (f : Front) → Breaks old new ls → IsFrontOf old f
+pub front_broken : (old new : LogState) (ls : List LogRecord) (f : Front) → Breaks old new ls
+    → IsFrontOf old f
     → IsFrontOf new f
 front_broken old new ls f b front =
     let m = longer old.sight.kept.forced (old.sight.kept.unforced ++ take b.appended ls) new.sight.kept.forced
     new.sight.kept.unforced
-    (sym (append_assoc old.sight.kept.forced old.sight.kept.unforced (take b.appended ls)) ∙ sym b.stand) b.no_less in
+    (sym (append_assoc old.sight.kept.forced old.sight.kept.unforced (take b.appended ls)) ∙ sym b.stand)
+    b.no_less in
     front_goes_on old new f m.0 m.1 front
 
 -- or under the record of a boot, after a crash
@@ -74,17 +79,20 @@ front_unstarted old new keep l f restarts.Exhausted never front = absurd never
 
 -- or as all that stands was put in its own place
 front_replaced : (old new : LogState) (f : Front)
-    → new.sight.kept ≡ record { forced = records_of old.sight.kept; unforced = [] } → IsFrontOf old f → IsFrontOf new f
+    → new.sight.kept ≡ record { forced = records_of old.sight.kept; unforced = [] } → IsFrontOf old f
+    → IsFrontOf new f
 front_replaced old new f is front =
     front_goes_on old new f old.sight.kept.unforced (ap (λ (k : Kept). k.forced) is) front
 
 pub front_put_again : {T : Type 0} (old new : LogState) (f : Front) (r : Result T LogError)
     → OnOk r (Rewritten old new (records_of old.sight.kept))
     → IfErr r (λ e. NotRewritten old new (records_of old.sight.kept) e) → IsFrontOf old f → IsFrontOf new f
-front_put_again old new f (Ok x) put broke front = front_goes_on old new f old.sight.kept.unforced put.forced front
+front_put_again old new f (Ok x) put broke front =
+    front_goes_on old new f old.sight.kept.unforced put.forced front
 front_put_again old new f (Err Memory) put is front = front_stays old new f is front
 front_put_again old new f (Err Device) put broke front = elim broke.either [
-  | inl stands ↦ front_goes_on old new f [] (ap (λ (k : Kept). k.forced) stands ∙ sym (append-nil old.sight.kept.forced))
+  | inl stands ↦ front_goes_on old new f []
+      (ap (λ (k : Kept). k.forced) stands ∙ sym (append-nil old.sight.kept.forced))
       front
   | inr placed ↦ front_replaced old new f placed front
 ]
@@ -96,7 +104,8 @@ wrote_more : (s : LogSight) (b : Bool) (ls : List LogRecord) → (more : List Lo
 wrote_more s true ls = (s.kept.unforced ++ ls, append_assoc s.kept.forced s.kept.unforced ls)
 wrote_more s false ls = ([], sym (append-nil s.kept.forced))
 
-frames_more : (ls : List LogRecord) (l : LogRecord) → frames_size (ls ++ l ∷ []) ≡ frames_size ls + record_size l
+frames_more : (ls : List LogRecord) (l : LogRecord)
+    → frames_size (ls ++ l ∷ []) ≡ frames_size ls + record_size l
 unfolding frames_size
 frames_more [] l = omega arith
 frames_more (k ∷ ls) l = let rest = frames_more ls l in omega (arith, rest)
@@ -107,14 +116,16 @@ pub restarted_size : (old new : LogState) (keep size : ℕ) (l : LogRecord) → 
     → size ≡ 5 + frames_size (left_by old.sight keep) + record_size l
 restarted_size old new keep size l restarted is =
     let all : records_of new.sight.kept ≡ left_by old.sight keep ++ l ∷ [] =
-    ap (λ ks. new.sight.kept.forced ++ ks) restarted.unforced ∙ append-nil new.sight.kept.forced ∙ restarted.forced in
+    ap (λ ks. new.sight.kept.forced ++ ks) restarted.unforced ∙ append-nil new.sight.kept.forced
+    ∙ restarted.forced in
     let sum : size ≡ 5 + frames_size (left_by old.sight keep ++ l ∷ []) =
     is ∙ ap (λ ks. 5 + frames_size ks) all in
     let more = frames_more (left_by old.sight keep) l in
     omega (arith, sum, more)
 
 -- what was left is the front of a log that restarted
-pub restarted_front : (old new : LogState) (keep : ℕ) (l : LogRecord) (f : Front) → LogRestarts old new keep (l ∷ [])
+pub restarted_front : (old new : LogState) (keep : ℕ) (l : LogRecord) (f : Front)
+    → LogRestarts old new keep (l ∷ [])
     → f.size ≡ 5 + frames_size (left_by old.sight keep) → RemembersData (left_by old.sight keep) f.remembered
     → IsFrontOf new f
 restarted_front old new keep l f restarted sized says = record {
@@ -124,10 +135,12 @@ restarted_front old new keep l f restarted sized says = record {
 }
 
 -- a record was written
-pub front_wrote : (old new : LogState) (l : LogRecord) (forced : Bool) (f : Front) → WritesRecord old new l forced
+pub front_wrote : (old new : LogState) (l : LogRecord) (forced : Bool) (f : Front)
+    → WritesRecord old new l forced
     → IsFrontOf old f → IsFrontOf new f
 front_wrote old new l forced f writes front =
-    let m = wrote_more old.sight (is_any_forced (record { entry = l.entry; is_forced = forced } ∷ [])) (l ∷ []) in
+    let m = wrote_more old.sight (is_any_forced (record { entry = l.entry; is_forced = forced } ∷ []))
+    (l ∷ []) in
     front_goes_on old new f m.0 (ap (λ (s : LogSight). s.kept.forced) writes.sight ∙ m.1) front
 
 -- so it does whether the device failed or not

@@ -93,7 +93,8 @@ pub called : (old new : KvSight) (refuses : Type 0) (Moves : States → States �
     → ManagerCalls (sight_of old) (sight_of new) refuses Moves
 called old new refuses Moves made = by_failed old.log.sight.failed refl
   where
-    by_failed : (b : Bool) → old.log.sight.failed ≡ b → ManagerCalls (sight_of old) (sight_of new) refuses Moves
+    by_failed : (b : Bool) → old.log.sight.failed ≡ b
+        → ManagerCalls (sight_of old) (sight_of new) refuses Moves
     by_failed true failed =
         let same = same_sight old new (made.failed failed).1 in
         record {
@@ -308,7 +309,8 @@ did_put old new t k v made = by_failed old.log.sight.failed refl
         worked old new t (Put k v) wrote.branch is wrote.works
         (ap (refusal_by old.store k (Some v) Exclusive) wrote.works ∙ wrote.allowed)
         wrote.writes.own wrote.writes.others
-        (record { own = wrote.locks.own; others = wrote.locks.others }) wrote.tables wrote.decisions made.log made.boot
+        (record { own = wrote.locks.own; others = wrote.locks.others }) wrote.tables wrote.decisions
+        made.log made.boot
 
 pub did_delete : (old new : KvSight) (t : ℕ) (k : List ℕ)
     → KvCalls old new ⊥ (λ before behind. WritesKey before behind t k None)
@@ -322,7 +324,8 @@ did_delete old new t k made = by_failed old.log.sight.failed refl
         worked old new t (Delete k) wrote.branch is wrote.works
         (ap (refusal_by old.store k None Exclusive) wrote.works ∙ wrote.allowed)
         wrote.writes.own wrote.writes.others
-        (record { own = wrote.locks.own; others = wrote.locks.others }) wrote.tables wrote.decisions made.log made.boot
+        (record { own = wrote.locks.own; others = wrote.locks.others }) wrote.tables wrote.decisions
+        made.log made.boot
 
 -- Work of a branch that no thread is in.
 
@@ -338,7 +341,8 @@ begun_idle old new x begun idle up made =
 op_free : (s : KeySight) (x : Xid) (op : Op) → state_of s x ≡ S2 → core.op_refusal s x op ≡ obstacle_of s x op
 op_free s x (Put k v) at =
     ap (λ t. if is_spoiled t then Some RollbackOnly else data_refusal s k (Some v) Exclusive x) at
-op_free s x (Get k) at = ap (λ t. if is_spoiled t then Some RollbackOnly else data_refusal s k None Shared x) at
+op_free s x (Get k) at = ap (λ t. if is_spoiled t then Some RollbackOnly else data_refusal s k None Shared x)
+    at
 op_free s x (Delete k) at =
     ap (λ t. if is_spoiled t then Some RollbackOnly else data_refusal s k None Exclusive x) at
 
@@ -471,7 +475,8 @@ told_written (CaseBranch c) o d None ws = refl
 told_written (Foreign x) o d None ws = refl
 told_written b o d (Some t) ws = refl
 
-written_as : (s : BranchState) (c : Call) (ws : List Write) (b : BranchName) (d : Decision) → is_work c ≡ false
+written_as : (s : BranchState) (c : Call) (ws : List Write) (b : BranchName) (d : Decision)
+    → is_work c ≡ false
     → has_rows (branch_rows s c) ≡ true
     → written_by c s b ws d ≡ recorded (turn_of s c (wrote_some ws) b d).entry
     (turn_of s c (wrote_some ws) b d).is_forced b ws
@@ -539,7 +544,8 @@ known_as S5 call.Rollback wrote b known w h to =
 known_as S5 call.Forget wrote b known w h to = absurd (cc)
 known_as S5 _ wrote b known w h to = absurd (cc)
 
-log_as : (old new : KvSight) (x : Xid) (is_forced : Bool) (o : Option BranchRecord) → LogsTurn old new x is_forced o
+log_as : (old new : KvSight) (x : Xid) (is_forced : Bool) (o : Option BranchRecord)
+    → LogsTurn old new x is_forced o
     → let ws = recorded o is_forced (name_in x).1 (writes_of old.store.writes x) in
     new.log.sight ≡ wrote old.log.sight ws (logged_under x ws)
 log_as old new x is_forced None is =

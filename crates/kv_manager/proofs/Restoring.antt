@@ -246,7 +246,8 @@ logged_left s ls left is marks decisions begun = record {
 }
 
 -- what the records leave stands with a log of them and of the boot, all of it forced
-kept_left : (s : KvSight) (ls : List LogRecord) → s.log.sight.form.kind ≡ Manager → LeavesStore ls s.store s.boot
+kept_left : (s : KvSight) (ls : List LogRecord) → s.log.sight.form.kind ≡ Manager
+    → LeavesStore ls s.store s.boot
     → s.log.sight.kept.forced ≡ ls ++ opened s.boot ∷ [] → s.log.sight.kept.unforced ≡ [] → IsKvManager s
 kept_left s ls kind left forced unforced =
     record {
@@ -271,17 +272,20 @@ kept_restarted old log keep r kind ready made =
     (made.forced ∙ ap (λ l. left_by old.sight keep ++ l ∷ []) ready.spells) made.unforced
 
 -- a log that was opened, with the record of the boot after its own
-pub kept_over : (log new : LogState) (store : KeySight) (boot : ℕ) → log.sight.form.kind ≡ Manager → new.sight.form ≡ log.sight.form
+pub kept_over : (log new : LogState) (store : KeySight) (boot : ℕ) → log.sight.form.kind ≡ Manager
+    → new.sight.form ≡ log.sight.form
     → StartsOver log (record { store = store; log = new; boot = boot })
     → IsKvManager (record { store = store; log = new; boot = boot })
 kept_over log new store boot kind same starts =
-    kept_left (record { store = store; log = new; boot = boot }) (records_of log.sight.kept) (ap (λ f. f.kind) same ∙ kind)
+    kept_left (record { store = store; log = new; boot = boot }) (records_of log.sight.kept)
+    (ap (λ f. f.kind) same ∙ kind)
     starts.left starts.forced starts.unforced
 
 -- the record of the boot was written after those of a log that was opened
 pub starts_over : (log new : LogState) (store : KeySight) (boot : ℕ) → log.sight.failed ≡ false
     → LeavesStore (records_of log.sight.kept) store boot
-    → WritesRecord log new (opened boot) true → StartsOver log (record { store = store; log = new; boot = boot })
+    → WritesRecord log new (opened boot) true
+    → StartsOver log (record { store = store; log = new; boot = boot })
 starts_over log new store boot works left made = record {
   form = ap (λ (k : LogSight). k.form) made.sight;
   left = left;
@@ -336,7 +340,8 @@ none_left log Unfit why = (why, refl)
 none_left log ExhaustedRecords why = (why, refl)
 
 -- a log that stays the same but for its room leaves a manager that stands
-pub kept_alike : (s : KvSight) (log : LogState) → IsKvManager s → log.sight ≡ s.log.sight → IsKvManager (record s { log = log })
+pub kept_alike : (s : KvSight) (log : LogState) → IsKvManager s → log.sight ≡ s.log.sight
+    → IsKvManager (record s { log = log })
 kept_alike s log kept stays = record {
   kind = ap (λ (k : LogSight). k.form.kind) stays ∙ kept.kind;
   ordered = ap (λ (k : LogSight). are_ordered (records_of k.kept)) stays ∙ kept.ordered;
@@ -386,7 +391,8 @@ kept_unstarted s log keep l restarts.Exhausted kept behind counts never = absurd
 
 -- what replays and what is rebuilt of it
 pub left_store : (ls : List LogRecord) (r : Replayed) (s : KeySight) (boot : ℕ) → LeavesNow ls r
-    → Rebuilt s r.left.items r.writes r.locks r.data r.decisions → next_boot r.boot ≡ Some boot → LeavesStore ls s boot
+    → Rebuilt s r.left.items r.writes r.locks r.data r.decisions → next_boot r.boot ≡ Some boot
+    → LeavesStore ls s boot
 left_store ls r s boot leaves rebuilt next = record {
   seen = leaves.seen;
   read = leaves.read;

@@ -23,7 +23,8 @@ IsSoundPair p = IsSound Manager (unnamed (pair_record p))
 abbrev pub AreSoundPairs : List (List ℕ × List ℕ) → Type 0
 AreSoundPairs ps = AllByRecursion IsSoundPair ps
 
-with_sound : (k v : List ℕ) (ps : Pairs) → IsSoundPair (k, v) → AreSoundPairs ps → AreSoundPairs (with_pair k v ps)
+with_sound : (k v : List ℕ) (ps : Pairs) → IsSoundPair (k, v) → AreSoundPairs ps
+    → AreSoundPairs (with_pair k v ps)
 unfolding with_pair
 with_sound k v [] own all = (own, tt)
 with_sound k v (p ∷ ps) own all = by_tests (same_bytes k p.0) (key_below k p.0) (with_sound k v ps own all.1)
@@ -111,6 +112,7 @@ fold_sound (l ∷ ls) d sound h = fold_sound ls (stored_after d (by_xid l)) soun
     (after_sound l.parent l.entry d sound.0 h)
 
 -- what sound records make
-pub pairs_sound : (ls : List LogRecord) → AllByRecursion (IsSound Manager) ls → AreSoundPairs (data_of ls).pairs
+pub pairs_sound : (ls : List LogRecord) → AllByRecursion (IsSound Manager) ls
+    → AreSoundPairs (data_of ls).pairs
 unfolding stored
 pairs_sound ls sound = (fold_sound ls no_data sound (record { pairs = tt; promised = tt })).pairs

@@ -66,7 +66,8 @@ row_works S5 call.EndFail r w h = absurd (let none = h.1 in omega arith)
 row_works S3 _ r w h = absurd (cc)
 row_works S5 _ r w h = absurd (cc)
 
-reacts_doubts : (old new : States) (t : ℕ) (x : Xid) (c : Call) (plan : Result AssocRow Code) (to : BranchState)
+reacts_doubts : (old new : States) (t : ℕ) (x : Xid) (c : Call) (plan : Result AssocRow Code)
+    (to : BranchState)
     (answer : Code) → is_work c ≡ true → doubt_of to ≡ S0 → ReactsByRows old new t x c plan to answer
     → SameDoubts old new
 reacts_doubts old new t x c (Ok row) to answer w works walks = moves_doubts old new x to
@@ -136,7 +137,8 @@ checked_doubts wanted old new c t x answer w checked = by_init old.init refl
 
 -- a start or an end
 pub works_doubts : (wanted : Wanted) (old new : States) (v : Verb) (t : ℕ) (x : Xid) (flags : ℕ)
-    (answer : Code) → is_work_verb v ≡ true → AnswersCall wanted old new v t x flags answer → SameDoubts old new
+    (answer : Code) → is_work_verb v ≡ true → AnswersCall wanted old new v t x flags answer
+    → SameDoubts old new
 works_doubts wanted old new v t x flags answer w answers = by_legal (legal v flags) refl answers
   where
     by_legal : (r : Result Call Code) → legal v flags ≡ r
@@ -153,11 +155,13 @@ recovers_doubts old new t count flags answer recovers = by_legal (legal verb.Rec
     by_answer : (c : Call) (r : Result (List Xid) Code)
         → MatchResult r (λ given. ScansBranches old.branches new.branches t count c given
         × (new.associations ≡ old.associations) × (new.init ≡ old.init))
-        (λ refusal. (scan_refusal old.branches.scans t c ≡ Some refusal) × SameStates old new) → SameDoubts old new
+        (λ refusal. (scan_refusal old.branches.scans t c ≡ Some refusal) × SameStates old new)
+        → SameDoubts old new
     by_answer c (Ok given) h = λ y. ap (λ bs. doubt_of (state_in bs y)) h.0.branches
     by_answer c (Err refusal) h = same_doubts old new h.1
 
-    by_init : (c : Call) (i : InitState) → old.init ≡ i → Scanned old new t count c answer → SameDoubts old new
+    by_init : (c : Call) (i : InitState) → old.init ≡ i → Scanned old new t count c answer
+        → SameDoubts old new
     by_init c R0 e h = same_doubts old new (h.closed e).1
     by_init c R1 e h = by_answer c answer (h.given e)
 

@@ -83,9 +83,12 @@ steps_followed s t q (Prepared b ws) h =
     let parts = two (is_some (found s (name_xid q b))) (nat_lt (length s.live) 1024) (keys_once ws)
     (keys_free (promises s) ws) made.0 in
     Puts b ws refl parts.0 parts.1 (live_of _ t made.1)
-steps_followed s t q (Committed b) h = Leaves (name_xid q b) (live_of _ t (taken (is_open (found s (name_xid q b))) _ t h).1)
-steps_followed s t q (RolledBack b) h = Leaves (name_xid q b) (live_of _ t (taken (is_open (found s (name_xid q b))) _ t h).1)
-steps_followed s t q (Direct b ws) h = Stays (live_of _ t (refused (is_some (found s (name_xid q b))) _ t h).1)
+steps_followed s t q (Committed b) h = Leaves (name_xid q b)
+    (live_of _ t (taken (is_open (found s (name_xid q b))) _ t h).1)
+steps_followed s t q (RolledBack b) h = Leaves (name_xid q b)
+    (live_of _ t (taken (is_open (found s (name_xid q b))) _ t h).1)
+steps_followed s t q (Direct b ws) h = Stays
+    (live_of _ t (refused (is_some (found s (name_xid q b))) _ t h).1)
 steps_followed s t q (HeurCommit b) h =
     let made = taken (is_open (found s (name_xid q b))) _ t h in
     Marks (name_xid q b) Decided (open_some (found s (name_xid q b)) made.0) refl (live_of _ t made.1)
@@ -95,7 +98,8 @@ steps_followed s t q (HeurRollback b) h =
 steps_followed s t q (ToldRecord b o) h =
     let made = taken (is_untold (found s (name_xid q b))) _ t h in
     Marks (name_xid q b) Told (untold_some (found s (name_xid q b)) made.0) refl (live_of _ t made.1)
-steps_followed s t q (Forgot b) h = Leaves (name_xid q b) (live_of _ t (taken (is_heuristic (found s (name_xid q b))) _ t h).1)
+steps_followed s t q (Forgot b) h = Leaves (name_xid q b)
+    (live_of _ t (taken (is_heuristic (found s (name_xid q b))) _ t h).1)
 steps_followed s t q (BaseRecord c) h = Stays (live_of _ t (some_is _ t h))
 steps_followed s t q (PairRecord k v) h = Stays (live_of _ t (taken (rises s.before k) _ t h).1)
 
@@ -116,10 +120,12 @@ steps_after s t l h = steps_followed s t l.parent l.entry (followed_by s t l h).
 -- what a step keeps holds after all records
 pub each_step : (P : SeenLog → Type 0) (Q : LogRecord → Type 0)
     → ((s t : SeenLog) (l : LogRecord) → Q l → P s → after s l ≡ Some t → P t)
-    → (ls : List LogRecord) → AllByRecursion Q ls → (s t : SeenLog) → P s → seen_after (Some s) ls ≡ Some t → P t
+    → (ls : List LogRecord) → AllByRecursion Q ls → (s t : SeenLog) → P s → seen_after (Some s) ls ≡ Some t
+    → P t
 unfolding seen_after
 each_step P Q step [] all s t p h = subst P (some_is s t h) p
-each_step P Q step (l ∷ ls) all s t p h = by_after (after s l) refl h (λ u e. each_step P Q step ls all.1 u t (step s u l all.0 p e))
+each_step P Q step (l ∷ ls) all s t p h = by_after (after s l) refl h
+    (λ u e. each_step P Q step ls all.1 u t (step s u l all.0 p e))
   where
     by_after : (o : Option SeenLog) → after s l ≡ o → seen_after o ls ≡ Some t
         → ((u : SeenLog) → after s l ≡ Some u → seen_after (Some u) ls ≡ Some t → P t) → P t
@@ -132,7 +138,8 @@ or_false : (b : Bool) → (b || false) ≡ true → b ≡ true
 or_false true h = refl
 or_false false h = absurd (cc)
 
-booted : (s u t : SeenLog) → u ≡ t → u.boot ≡ s.boot → (is_some s.boot || false) ≡ true → is_some t.boot ≡ true
+booted : (s u t : SeenLog) → u ≡ t → u.boot ≡ s.boot → (is_some s.boot || false) ≡ true
+    → is_some t.boot ≡ true
 booted s u t is stays h =
     ap (λ (v : SeenLog). is_some v.boot) (sym is) ∙ ap is_some stays ∙ or_false (is_some s.boot) h
 
@@ -157,13 +164,20 @@ boots_followed s t q (Cleared c) h b =
 boots_followed s t q (Prepared x ws) h b =
     booted s _ t (taken (not (is_some (found s (name_xid q x))) && nat_lt (length s.live) 1024 && keys_once ws
     && keys_free (promises s) ws) _ t h).1 refl b
-boots_followed s t q (Committed x) h b = booted s _ t (taken (is_open (found s (name_xid q x))) _ t h).1 refl b
-boots_followed s t q (RolledBack x) h b = booted s _ t (taken (is_open (found s (name_xid q x))) _ t h).1 refl b
-boots_followed s t q (HeurCommit x) h b = booted s _ t (taken (is_open (found s (name_xid q x))) _ t h).1 refl b
-boots_followed s t q (HeurRollback x) h b = booted s _ t (taken (is_open (found s (name_xid q x))) _ t h).1 refl b
-boots_followed s t q (ToldRecord x o) h b = booted s _ t (taken (is_untold (found s (name_xid q x))) _ t h).1 refl b
-boots_followed s t q (Forgot x) h b = booted s _ t (taken (is_heuristic (found s (name_xid q x))) _ t h).1 refl b
-boots_followed s t q (Direct x ws) h b = booted s _ t (refused (is_some (found s (name_xid q x))) _ t h).1 refl b
+boots_followed s t q (Committed x) h b = booted s _ t
+    (taken (is_open (found s (name_xid q x))) _ t h).1 refl b
+boots_followed s t q (RolledBack x) h b = booted s _ t
+    (taken (is_open (found s (name_xid q x))) _ t h).1 refl b
+boots_followed s t q (HeurCommit x) h b = booted s _ t
+    (taken (is_open (found s (name_xid q x))) _ t h).1 refl b
+boots_followed s t q (HeurRollback x) h b = booted s _ t
+    (taken (is_open (found s (name_xid q x))) _ t h).1 refl b
+boots_followed s t q (ToldRecord x o) h b = booted s _ t
+    (taken (is_untold (found s (name_xid q x))) _ t h).1 refl b
+boots_followed s t q (Forgot x) h b = booted s _ t
+    (taken (is_heuristic (found s (name_xid q x))) _ t h).1 refl b
+boots_followed s t q (Direct x ws) h b = booted s _ t
+    (refused (is_some (found s (name_xid q x))) _ t h).1 refl b
 boots_followed s t q (BaseRecord c) h b = booted s _ t (some_is _ t h) refl b
 boots_followed s t q (PairRecord k v) h b = booted s _ t (taken (rises s.before k) _ t h).1 refl b
 

@@ -43,7 +43,8 @@ abbrev set_at : Xid → (Decision → Decision) → (Xid → Decision) → Xid �
 set_at k v ds x = cond (same_branch (Foreign k) (Foreign x)) (v (ds x)) (ds x)
 
 told_stays : (s t : SeenLog) (ds : Xid → Decision) → t.live ≡ s.live → AreTold s ds → AreTold t ds
-told_stays s t ds live a x h = a x (ap (λ (es : List (Xid × Promise)). is_told (lookup (same x) es)) (sym live) ∙ h)
+told_stays s t ds live a x h = a x (ap (λ (es : List (Xid × Promise)). is_told (lookup (same x) es))
+    (sym live) ∙ h)
 
 same_turns : (a b : Xid) → same a b ≡ same b a
 same_turns a b = same_laws.symm a b
@@ -119,19 +120,24 @@ module _ (s t : SeenLog) (ds : Xid → Decision) (q : Option ProcessId)
   by_record (Direct b ws) h =
       told_stays s t ds (live_of _ t (refused (is_some (found s (name_xid q b))) _ t h).1) a
   by_record (HeurCommit b) h =
-      subst (λ u. AreTold u (next_known q (HeurCommit b) ds)) (taken (is_open (found s (name_xid q b))) _ t h).1
-      (told_put s ds (name_xid q b) (record { mark = Decided; writes = [] }) (λ d. decided_as outcome.Committed)
+      subst (λ u. AreTold u (next_known q (HeurCommit b) ds))
+      (taken (is_open (found s (name_xid q b))) _ t h).1
+      (told_put s ds (name_xid q b) (record { mark = Decided; writes = [] })
+      (λ d. decided_as outcome.Committed)
       (λ d g. absurd (cc)) a)
   by_record (HeurRollback b) h =
-      subst (λ u. AreTold u (next_known q (HeurRollback b) ds)) (taken (is_open (found s (name_xid q b))) _ t h).1
+      subst (λ u. AreTold u (next_known q (HeurRollback b) ds))
+      (taken (is_open (found s (name_xid q b))) _ t h).1
       (told_put s ds (name_xid q b) (record { mark = Decided; writes = [] }) (λ d. decided_as outcome.Aborted)
       (λ d g. absurd (cc)) a)
   by_record (ToldRecord b o) h =
-      subst (λ u. AreTold u (next_known q (ToldRecord b o) ds)) (taken (is_untold (found s (name_xid q b))) _ t h).1
+      subst (λ u. AreTold u (next_known q (ToldRecord b o) ds))
+      (taken (is_untold (found s (name_xid q b))) _ t h).1
       (told_put s ds (name_xid q b) (record { mark = Told; writes = [] })
       (λ d. record { outcome = d.outcome; told = Some o }) (λ d g. refl) a)
   by_record (Forgot b) h =
-      subst (λ u. AreTold u (next_known q (Forgot b) ds)) (taken (is_heuristic (found s (name_xid q b))) _ t h).1
+      subst (λ u. AreTold u (next_known q (Forgot b) ds))
+      (taken (is_heuristic (found s (name_xid q b))) _ t h).1
       (told_out s ds (name_xid q b) (λ d. decided_as outcome.Aborted) distinct a)
   by_record (BaseRecord n) h = told_stays s t ds (live_of _ t (some_is _ t h)) a
   by_record (PairRecord k v) h = told_stays s t ds (live_of _ t (taken (rises s.before k) _ t h).1) a
@@ -147,8 +153,10 @@ told_from (r ∷ ls) s t d ds l a h = by_after (after s r) refl h (λ u e g. tol
     by_after : (o : Option SeenLog) → after s r ≡ o → seen_after o ls ≡ Some t
         → ((u : SeenLog) → IsLawful u (stored_after d (by_xid r)) → AreTold u (next_known r.parent r.entry ds)
         → seen_after (Some u) ls ≡ Some t
-        → AreTold t (λ x. fold (decision_after (Foreign x)) (next_known r.parent r.entry ds x) (map by_xid ls)))
-        → AreTold t (λ x. fold (decision_after (Foreign x)) (next_known r.parent r.entry ds x) (map by_xid ls))
+        → AreTold t (λ x. fold (decision_after (Foreign x)) (next_known r.parent r.entry ds x)
+        (map by_xid ls)))
+        → AreTold t (λ x. fold (decision_after (Foreign x)) (next_known r.parent r.entry ds x)
+        (map by_xid ls))
     by_after None e g more = absurd (never_seen ls t g)
     by_after (Some u) e g more = more u (lawful_after s u r d l e)
         (by_record s u ds r.parent l.orderly.distinct a r.entry (followed_by s u r e).1) g

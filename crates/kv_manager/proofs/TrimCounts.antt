@@ -122,7 +122,8 @@ off_behind x (l ∷ ls) s u d plain off h = by_after (after s l) refl h (λ v e 
     by_after (Some v) e g more = more v e g
 
 -- what is not known at the end is not live
-never_live : (x : Xid) (all : List LogRecord) (u : SeenLog) → AllByRecursion (λ l. is_managers l.entry ≡ true) all
+never_live : (x : Xid) (all : List LogRecord) (u : SeenLog)
+    → AllByRecursion (λ l. is_managers l.entry ≡ true) all
     → seen_of all ≡ Some u → is_some (found u x) ≡ false → is_live (said_of x all) ≡ false
 never_live x all u m h off =
     lives x all m ∙ by_mark (mark_at all x) (sym ((agrees_of all u h).states x) ∙ none_state (found u x) off)
@@ -168,9 +169,11 @@ module _ (all : List LogRecord) (u : SeenLog) (m : AllByRecursion (λ l. is_mana
   live_as : (w v : SeenLog) → w ≡ v → v.live ≡ w.live
   live_as w v h = ap (λ (k : SeenLog). k.live) (sym h)
 
-  stands : (q : Option ProcessId) (r : Record) (behind : List LogRecord) (s v : SeenLog) → is_managers r ≡ true
+  stands : (q : Option ProcessId) (r : Record) (behind : List LogRecord) (s v : SeenLog)
+      → is_managers r ≡ true
       → stays all behind (record { entry = r; parent = q }) ≡ true → IsDistinct same (keys_of s.live)
-      → IsDistinct same (keys_of v.live) → followed s q r ≡ Some v → seen_after (Some v) behind ≡ Some u → Stands r
+      → IsDistinct same (keys_of v.live) → followed s q r ≡ Some v → seen_after (Some v) behind ≡ Some u
+      → Stands r
   stands q (Collecting c ts) behind s v k on d e f h = absurd (cc)
   stands q (Prepare c ts) behind s v k on d e f h = absurd (cc)
   stands q (Commit c ts) behind s v k on d e f h = absurd (cc)
@@ -202,7 +205,8 @@ module _ (all : List LogRecord) (u : SeenLog) (m : AllByRecursion (λ l. is_mana
       (ap (stays_by all behind) (named_as q b)) on e
       (ap (λ (es : Live). is_some (lookup (same (name_xid q b)) es)) (live_as _ v made.1) ∙ made.0) h
 
-  all_stand : (behind : List LogRecord) (s : SeenLog) → AllByRecursion (λ l. is_managers l.entry ≡ true) behind
+  all_stand : (behind : List LogRecord) (s : SeenLog)
+      → AllByRecursion (λ l. is_managers l.entry ≡ true) behind
       → IsDistinct same (keys_of s.live) → seen_after (Some s) behind ≡ Some u
       → AllByRecursion (λ l. Stands l.entry) (staying all behind)
   unfolding seen_after staying
@@ -213,22 +217,26 @@ module _ (all : List LogRecord) (u : SeenLog) (m : AllByRecursion (λ l. is_mana
       by_stay v (stays all ls l) refl distinct (followed_by s v l e).1 g (all_stand ls v k.1 distinct g))
     where
       Goal : Type 0
-      Goal = AllByRecursion (λ k. Stands k.entry) (cond (stays all ls l) (l ∷ staying all ls) (staying all ls))
+      Goal = AllByRecursion (λ k. Stands k.entry)
+          (cond (stays all ls l) (l ∷ staying all ls) (staying all ls))
 
       by_stay : (v : SeenLog) (b : Bool) → stays all ls l ≡ b → IsDistinct same (keys_of v.live)
           → followed s l.parent l.entry ≡ Some v → seen_after (Some v) ls ≡ Some u
           → AllByRecursion (λ k. Stands k.entry) (staying all ls)
           → AllByRecursion (λ k. Stands k.entry) (cond (stays all ls l) (l ∷ staying all ls) (staying all ls))
       by_stay v true on e f g rest =
-          subst (λ b. AllByRecursion (λ k. Stands k.entry) (cond b (l ∷ staying all ls) (staying all ls))) (sym on)
+          subst (λ b. AllByRecursion (λ k. Stands k.entry) (cond b (l ∷ staying all ls) (staying all ls)))
+          (sym on)
           (stands l.parent l.entry ls s v k.0 on d e f g, rest)
       by_stay v false off e f g rest =
-          subst (λ b. AllByRecursion (λ k. Stands k.entry) (cond b (l ∷ staying all ls) (staying all ls))) (sym off)
+          subst (λ b. AllByRecursion (λ k. Stands k.entry) (cond b (l ∷ staying all ls) (staying all ls)))
+          (sym off)
           rest
 
       by_after : (o : Option SeenLog) → after s l ≡ o → seen_after o ls ≡ Some u
           → ((v : SeenLog) → after s l ≡ Some v → seen_after (Some v) ls ≡ Some u
-          → AllByRecursion (λ k. Stands k.entry) (cond (stays all ls l) (l ∷ staying all ls) (staying all ls)))
+          → AllByRecursion (λ k. Stands k.entry) (cond (stays all ls l) (l ∷ staying all ls)
+          (staying all ls)))
           → AllByRecursion (λ k. Stands k.entry) (cond (stays all ls l) (l ∷ staying all ls) (staying all ls))
       by_after None e g more = absurd (never_seen ls u g)
       by_after (Some v) e g more = more v e g
@@ -301,7 +309,8 @@ shut_same x k (e ∷ es) off = by_test (same x e.0) (shut_same x k es off)
         (e ∷ insert_entry same es x (record { mark = k; writes = [] })))
     by_test true h = subst (λ n. shut (e ∷ es) ≤ n)
         (sym (ap (λ b. cond b (shut es) (suc (shut es))) off)) (one (opens e.1.mark))
-    by_test false h = more (opens e.1.mark) (shut (insert_entry same es x (record { mark = k; writes = [] }))) h
+    by_test false h = more (opens e.1.mark)
+        (shut (insert_entry same es x (record { mark = k; writes = [] }))) h
 
 -- The commits of records that leave their branches known.
 
@@ -424,7 +433,8 @@ unfolding front_of_trim
 trim_counts ls u m some h counted =
     let boot = boot_in_front ls u some h in
     let first = subst Booted (sym boot.one) (booted boot.record_is.parent boot.record_is.entry boot.opens) in
-    let stay = trails_from ls ls nothing_seen u first.seen m (record { live = first.none; opened = first.opened })
+    let stay = trails_from ls ls nothing_seen u first.seen m
+    (record { live = first.none; opened = first.opened })
     h in
     let begun = boot_counts boot.record_is.parent boot.record_is.entry boot.opens in
     let stand = all_stand ls u m h ls nothing_seen m none_distinct h in

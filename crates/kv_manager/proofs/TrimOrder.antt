@@ -1,4 +1,5 @@
--- What a trim keeps of a manager's records may follow one another, and leaves no branch in doubt that was not.
+-- What a trim keeps of a manager's records may follow one another, and leaves no branch in doubt that was
+-- not.
 use Rattle.std.proofs.Common.{◌≡◌, ◌≤◌, ℕ, suc, Bool, true, false, not, ◌&&◌, ◌||◌, cond, fold, List, [], ◌∷◌, ◌++◌, Option, Some, None, option_map, map, refl, sym, ap, subst, ◌∙◌, is_some, nat_lt, length, arith}
 use Rattle.std.proofs.lemmas.Bool.Decides.{nat_tests}
 use Rattle.std.specs.List.{AllByRecursion, list_any}
@@ -48,7 +49,8 @@ module _ (k : Xid → Bool) (x : Xid) where
     where
       by_tests : (a b : Bool) → k e.0 ≡ a → same x e.0 ≡ b
           → lookup (same x) (kept_of k es) ≡ lookup (same x) es
-          → lookup (same x) (cond a (e ∷ kept_of k es) (kept_of k es)) ≡ cond b (Some e.1) (lookup (same x) es)
+          → lookup (same x) (cond a (e ∷ kept_of k es) (kept_of k es))
+          ≡ cond b (Some e.1) (lookup (same x) es)
       by_tests true true p q h = ap (λ c. cond c (Some e.1) (lookup (same x) (kept_of k es))) q
       by_tests true false p q h = ap (λ c. cond c (Some e.1) (lookup (same x) (kept_of k es))) q ∙ h
       by_tests false true p q h = true_is_false (sym on ∙ ap k (same_is x e.0 q) ∙ p)
@@ -85,7 +87,8 @@ module _ (k : Xid → Bool) (x : Xid) where
           ∙ ap (λ fs. e ∷ fs) h
           ∙ sym (ap (λ c. cond c ((e.0, p) ∷ kept_of k es) (e ∷ insert_entry same (kept_of k es) x p)) q)
       by_tests false false q r h =
-          ap (λ c. cond c (e ∷ kept_of k (insert_entry same es x p)) (kept_of k (insert_entry same es x p))) r ∙ h
+          ap (λ c. cond c (e ∷ kept_of k (insert_entry same es x p)) (kept_of k (insert_entry same es x p))) r
+          ∙ h
 
   put_off : k x ≡ false → (p : Promise) (es : Live) → kept_of k (insert_entry same es x p) ≡ kept_of k es
   put_off off p [] = ap (λ a. cond a ((x, p) ∷ []) []) off
@@ -116,7 +119,8 @@ module _ (k : Xid → Bool) (x : Xid) where
           ∙ ap (λ fs. e ∷ fs) h
           ∙ sym (ap (λ c. cond c (kept_of k es) (e ∷ remove_entry (same x) (kept_of k es))) q)
       by_tests false false q r h =
-          ap (λ c. cond c (e ∷ kept_of k (remove_entry (same x) es)) (kept_of k (remove_entry (same x) es))) r ∙ h
+          ap (λ c. cond c (e ∷ kept_of k (remove_entry (same x) es)) (kept_of k (remove_entry (same x) es))) r
+          ∙ h
 
   out_off : k x ≡ false → (es : Live) → kept_of k (remove_entry (same x) es) ≡ kept_of k es
   out_off off [] = refl
@@ -315,7 +319,8 @@ module _ (all behind : List LogRecord) (l : LogRecord) (s u t : SeenLog)
         p = record { mark = Open; writes = ws }
 
         made : ((not (is_some (found s x)) && nat_lt (length s.live) 1024 && keys_once ws
-            && keys_free (promises s) ws) ≡ true) × (with_promise s x (record { mark = Open; writes = ws }) ≡ u)
+            && keys_free (promises s) ws) ≡ true) × (with_promise s x
+            (record { mark = Open; writes = ws }) ≡ u)
         made = taken (not (is_some (found s x)) && nat_lt (length s.live) 1024 && keys_once ws
             && keys_free (promises s) ws) (with_promise s x (record { mark = Open; writes = ws })) u
             (sym (row s) ∙ h)
@@ -348,7 +353,8 @@ module _ (all behind : List LogRecord) (l : LogRecord) (s u t : SeenLog)
               opened = opened;
             })
         by_keeps false off = Skips (st ∙ off) (record {
-          live = live ∙ sym (put_off (keeps_name all behind) x off (record { mark = Open; writes = ws }) s.live)
+          live = live ∙ sym (put_off (keeps_name all behind) x off
+              (record { mark = Open; writes = ws }) s.live)
               ∙ ap (λ (v : SeenLog). kept_of (keeps_name all behind) v.live) made.1;
           opened = opened;
         })
@@ -380,7 +386,8 @@ module _ (all behind : List LogRecord) (s u t : SeenLog) (q : Option ProcessId) 
   next_by (Cleared c) m trails h = absurd (cc)
   next_by (Opened n) m trails h = skips all behind _ s u t (before (Opened n) refl trails) trails.opened refl
       (live_is _ u (taken (boot_rises s.boot n) _ u h).1)
-  next_by (BaseRecord n) m trails h = skips all behind _ s u t (before (BaseRecord n) refl trails) trails.opened
+  next_by (BaseRecord n) m trails h = skips all behind _ s u t
+      (before (BaseRecord n) refl trails) trails.opened
       refl (live_is _ u (some_is _ u h))
   next_by (PairRecord k v) m trails h = skips all behind _ s u t (before (PairRecord k v) refl trails)
       trails.opened refl (live_is _ u (taken (rises s.before k) _ u h).1)
@@ -391,20 +398,25 @@ module _ (all behind : List LogRecord) (s u t : SeenLog) (q : Option ProcessId) 
   next_by (Forgot b) m trails h = goes_out all behind _ s u t (before (Forgot b) refl trails)
       trails.opened (name_xid q b) (ap (stays_by all behind) (named_as q b)) is_heuristic (λ v. refl) h
   next_by (HeurCommit b) m trails h = goes_on all behind _ s u t (before (HeurCommit b) refl trails)
-      trails.opened (name_xid q b) (ap (stays_by all behind) (named_as q b)) is_open (record { mark = Decided; writes = [] }) (λ v. refl) h
+      trails.opened (name_xid q b) (ap (stays_by all behind) (named_as q b)) is_open
+      (record { mark = Decided; writes = [] }) (λ v. refl) h
   next_by (HeurRollback b) m trails h = goes_on all behind _ s u t (before (HeurRollback b) refl trails)
-      trails.opened (name_xid q b) (ap (stays_by all behind) (named_as q b)) is_open (record { mark = Decided; writes = [] }) (λ v. refl) h
+      trails.opened (name_xid q b) (ap (stays_by all behind) (named_as q b)) is_open
+      (record { mark = Decided; writes = [] }) (λ v. refl) h
   next_by (ToldRecord b o) m trails h = goes_on all behind _ s u t (before (ToldRecord b o) refl trails)
-      trails.opened (name_xid q b) (ap (stays_by all behind) (named_as q b)) is_untold (record { mark = Told; writes = [] }) (λ v. refl) h
+      trails.opened (name_xid q b) (ap (stays_by all behind) (named_as q b)) is_untold
+      (record { mark = Told; writes = [] }) (λ v. refl) h
   next_by (Direct b ws) m trails h = goes_by all behind _ s u t (before (Direct b ws) refl trails)
       trails.opened (name_xid q b) (ap (stays_by all behind) (named_as q b)) (λ v. refl) h
   next_by (Prepared b ws) m trails h =
       let off = (fours (is_some (found s (name_xid q b))) (nat_lt (length s.live) 1024) (keys_once ws)
-      (keys_free (promises s) ws) (taken (not (is_some (found s (name_xid q b))) && nat_lt (length s.live) 1024
+      (keys_free (promises s) ws) (taken (not (is_some (found s (name_xid q b)))
+      && nat_lt (length s.live) 1024
       && keys_once ws && keys_free (promises s) ws) _ u h).0).0 in
       promises_on all behind _ s u t
       (trails.live ∙ kept_apart _ (keeps_name all behind) (name_xid q b)
-      (λ y apart. others_stay all behind (record { entry = Prepared b ws; parent = q }) (name_xid q b) y (named_as q b) apart)
+      (λ y apart. others_stay all behind (record { entry = Prepared b ws; parent = q }) (name_xid q b) y
+      (named_as q b) apart)
       s.live off) trails.opened (name_xid q b) (ap (stays_by all behind) (named_as q b)) ws (λ v. refl) h
 
 after_opened : (t v : SeenLog) (l : LogRecord) → is_some t.boot ≡ true → followed t l.parent l.entry ≡ Some v
@@ -438,7 +450,8 @@ trails_from all (l ∷ behind) s u t m trails h =
         → Trailing all (cond (stays all behind l) (l ∷ staying all behind) (staying all behind)) u t
     by_next v more g (Goes on w e after_it) =
         let rest = more w after_it g in
-        subst (λ b. Trailing all (cond b (l ∷ staying all behind) (staying all behind)) u t) (sym on) (record {
+        subst (λ b. Trailing all (cond b (l ∷ staying all behind) (staying all behind)) u t)
+        (sym on) (record {
           seen = rest.seen;
           read = ap (λ o. seen_after o (staying all behind)) (after_opened t w l trails.opened e) ∙ rest.read;
           trails = rest.trails;
@@ -573,7 +586,8 @@ unfolding front_of_trim
 trim_follows ls u m some h =
     let boot = boot_in_front ls u some h in
     let first = subst Booted (sym boot.one) (booted boot.record_is.parent boot.record_is.entry boot.opens) in
-    let stay = trails_from ls ls nothing_seen u first.seen m (record { live = first.none; opened = first.opened })
+    let stay = trails_from ls ls nothing_seen u first.seen m
+    (record { live = first.none; opened = first.opened })
     h in
     let whole = data_of ls in
     let based = with_data stay.seen Base in
@@ -581,7 +595,8 @@ trim_follows ls u m some h =
     (lawful_of ls u h).tied.rise in
     record {
       seen = pairs.seen;
-      read = seen_more (Some nothing_seen) (last_opened ls ++ staying ls ls) (map unnamed (base_records whole))
+      read = seen_more (Some nothing_seen) (last_opened ls ++ staying ls ls)
+          (map unnamed (base_records whole))
           ∙ ap (λ o. seen_after o (map unnamed (base_records whole)))
           (seen_more (Some nothing_seen) (last_opened ls) (staying ls ls)
           ∙ ap (λ o. seen_after o (staying ls ls)) first.read ∙ stay.read)

@@ -134,7 +134,8 @@ some_trimmed ls = some_behind (front_of_trim ls)
 -- the data of the log are after a trim, and so do the branches that are prepared or that operators decided
 pub kept_trimmed : (s : KvSight) (log : LogState) (rs : List LogRecord) (n : ℕ) → IsKvManager s
     → s.log.sight.failed ≡ false
-    → AllByRecursion (IsSound Manager) (records_of s.log.sight.kept) → AreOfData s rs → LogTrimmed s.log log rs n
+    → AllByRecursion (IsSound Manager) (records_of s.log.sight.kept) → AreOfData s rs
+    → LogTrimmed s.log log rs n
     → IsKvManager (record s { log = log })
 kept_trimmed s log rs n kept works sound of made = record {
   kind = ap (λ f. f.kind) made.log.form ∙ kept.kind;

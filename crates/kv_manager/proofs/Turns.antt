@@ -83,7 +83,8 @@ module _ (P : BranchRecord → BranchState → Type 0) where
   abbrev pub HoldsOf : CallRow → Type 0
   HoldsOf turn = (e : BranchRecord) → turn.entry ≡ Some e → P e turn.to
 
-  written_so : (f : BranchRecord) (is_forced : Bool) (to : BranchState) → P f to → HoldsOf (writes f is_forced to)
+  written_so : (f : BranchRecord) (is_forced : Bool) (to : BranchState) → P f to
+      → HoldsOf (writes f is_forced to)
   written_so f is_forced to h e is = subst (λ g. P g to) (some_is f e is) h
 
   silent_so : (a : Code) (to : BranchState) → HoldsOf (silent a to)
@@ -243,7 +244,8 @@ abbrev pub IsUntold : BranchState → Decision → BranchRecord → Type 0
 IsUntold s d (Told o) = (s ≡ S5) × (d.told ≡ None)
 IsUntold s d _ = Unit {0}
 
-told_untold : (b : BranchName) (o : Outcome) (d : Decision) (told : Option Outcome) (e : BranchRecord) → d.told ≡ told
+told_untold : (b : BranchName) (o : Outcome) (d : Decision) (told : Option Outcome) (e : BranchRecord)
+    → d.told ≡ told
     → (tell_turn b o d told).entry ≡ Some e → IsUntold S5 d e
 told_untold b o d None e is h = subst (IsUntold S5 d) (some_is (Told o) e h) (refl, is)
 told_untold b o d (Some t) e is h = absurd (cc)
@@ -400,7 +402,8 @@ IsTold (Told o) = Unit {0}
 IsTold _ = ⊥
 
 -- a record that leads to S5 says that an operator decided its branch, as it is known then
-decides_own : (m : Mark) (d : Decision) (known : Option Decision) (e : BranchRecord) (x : Xid) (ws : List Write)
+decides_own : (m : Mark) (d : Decision) (known : Option Decision) (e : BranchRecord) (x : Xid)
+    (ws : List Write)
     → leads e ≡ S5 → IsUntold S5 d e
     → (IsTold e → decision_or known ≡ d)
     → (says_decided (mark_after (Foreign x) m (entry_of e (Foreign x) ws)) ≡ true)
@@ -489,7 +492,8 @@ applied_count d (Told o) x ws h = absurd (cc)
 applied_count d Forgot x ws h = absurd (cc)
 
 -- the commits can be counted after a record of a branch, where one more can be of a record that commits
-pub record_counts : (s : KvSight) (e : BranchRecord) (x : Xid) (ws : List Write) → IsKvManager s → s.log.sight.failed ≡ false
+pub record_counts : (s : KvSight) (e : BranchRecord) (x : Xid) (ws : List Write) → IsKvManager s
+    → s.log.sight.failed ≡ false
     → (applies e ≡ true → s.store.versions.count + 1 < 2 ^ 63)
     → AreCountedCommits (records_of s.log.sight.kept ++ entry_record e x ws ∷ [])
 record_counts s e x ws kept works fits =
@@ -615,7 +619,8 @@ leads_prepared HeurRollback h = absurd (cc)
 leads_prepared (Told o) h = absurd (cc)
 leads_prepared Forgot h = absurd (cc)
 
-writes_other : (old new : KeySight) (x y : Xid) (to : BranchState) → LetsBranchGo old new x to → same x y ≡ false
+writes_other : (old new : KeySight) (x y : Xid) (to : BranchState) → LetsBranchGo old new x to
+    → same x y ≡ false
     → writes_of new.writes y ≡ writes_of old.writes y
 writes_other old new x y to goes apart = by_end (is_let_go to) goes
   where
@@ -629,7 +634,8 @@ writes_other old new x y to goes apart = by_end (is_let_go to) goes
 writes_kept : (old new : KeySight) (x : Xid) (to : BranchState) → LetsBranchGo old new x to → to ≡ S3
     → writes_of new.writes x ≡ writes_of old.writes x
 writes_kept old new x to goes promises =
-    ap (λ w. writes_of w x) (subst (λ b. MatchBool b (LeavesWrites old.writes new.writes x [] × ReleasesLocks old.locks
+    ap (λ w. writes_of w x) (subst (λ b. MatchBool b
+    (LeavesWrites old.writes new.writes x [] × ReleasesLocks old.locks
     new.locks x) ((new.writes ≡ old.writes) × (new.locks ≡ old.locks))) (ap is_let_go promises) goes).0
 
 -- a branch that is prepared after a turn has the writes that the log says it promised
@@ -689,7 +695,8 @@ marked_behind s s' x e to ws stands is_to row y is = by_test (same x y) refl
     by_test false t = marks_other (said y) e x y ws t ∙ stands.marked y (sym (row.branch.others y t) ∙ is)
 
 -- the branches in doubt are those of the log after a turn
-doubts_behind : (s s' : KvSight) (x : Xid) (e : BranchRecord) (to : BranchState) (ws : List Write) → IsLogged s
+doubts_behind : (s s' : KvSight) (x : Xid) (e : BranchRecord) (to : BranchState) (ws : List Write)
+    → IsLogged s
     → to ≡ leads e → TakesTableRow s.store.tables s'.store.tables x to → (y : Xid)
     → doubt_of (state_of s'.store y) ≡ marked_state
     (mark_after (Foreign y) (mark_at (records_of s.log.sight.kept) y) (entry_of e (Foreign x) ws))
@@ -719,7 +726,8 @@ records_behind s s' e x ws is_forced made =
 still_decided : (s s' : KvSight) (x : Xid) (c : Call) (turn : CallRow) (e : BranchRecord) → IsLogged s
     → IsDueTurn s x c turn → turn.entry ≡ Some e
     → TakesTableRow s.store.tables s'.store.tables x turn.to
-    → NotesDecision s.store.decisions s'.store.decisions x (known_behind turn.entry (decision_in s.store.decisions x))
+    → NotesDecision s.store.decisions s'.store.decisions x
+    (known_behind turn.entry (decision_in s.store.decisions x))
     → WritesRecord s.log s'.log (entry_record e x (writes_of s.store.writes x)) turn.is_forced
     → (y : Xid) → state_of s'.store y ≡ S5 → SaysDecided
     (records_of s'.log.sight.kept) y (known_of s'.store y)
@@ -808,7 +816,8 @@ written_kind s s' e x is_forced made =
 pub kept_noted : (s s' : KvSight) (x : Xid) (c : Call) (turn : CallRow) (e : BranchRecord)
     → IsKvManager s → IsFollowed s e x → IsDueTurn s x c turn
     → turn.entry ≡ Some e → applies e ≡ false → TakesTurn s.store s'.store x turn
-    → WritesRecord s.log s'.log (entry_record e x (writes_of s.store.writes x)) turn.is_forced → IsKvManager s'
+    → WritesRecord s.log s'.log (entry_record e x (writes_of s.store.writes x)) turn.is_forced
+    → IsKvManager s'
 kept_noted s s' x c turn e kept follows due is notes takes made = record {
   kind = written_kind s s' e x turn.is_forced made ∙ kept.kind;
   ordered = ap are_ordered (records_behind s s' e x ws turn.is_forced made) ∙ follows.ordered;
@@ -847,16 +856,19 @@ pub record Commits (old new : KeySight) (x : Xid) (turn : CallRow) : Type 0 wher
   pub tables : TakesTableRow old.tables new.tables x turn.to
   pub keeps : LetsBranchGo old new x turn.to
   pub versions : AppliesCommit old.versions new.versions (writes_of old.writes x)
-  pub decisions : NotesDecision old.decisions new.decisions x (known_behind turn.entry (decision_in old.decisions x))
+  pub decisions : NotesDecision old.decisions new.decisions x
+      (known_behind turn.entry (decision_in old.decisions x))
 
 pub commits_by : (a b c d : KeySight) (x : Xid) (turn : CallRow) → StagesWrites a b x
     → PublishesWrites b c → TakesTurn c d x turn
     → Commits a d x turn
 commits_by a b c d x turn staged published takes = record {
   tables = subst (λ t. TakesTableRow t d.tables x turn.to) (published.tables ∙ staged.tables) takes.tables;
-  keeps = subst (λ w. MatchBool (is_let_go turn.to) (LeavesWrites w d.writes x [] × ReleasesLocks a.locks d.locks x)
+  keeps = subst (λ w. MatchBool (is_let_go turn.to)
+      (LeavesWrites w d.writes x [] × ReleasesLocks a.locks d.locks x)
       ((d.writes ≡ w) × (d.locks ≡ a.locks))) (published.writes ∙ staged.writes)
-      (subst (λ l. MatchBool (is_let_go turn.to) (LeavesWrites c.writes d.writes x [] × ReleasesLocks l d.locks x)
+      (subst (λ l. MatchBool (is_let_go turn.to)
+      (LeavesWrites c.writes d.writes x [] × ReleasesLocks l d.locks x)
       ((d.writes ≡ c.writes) × (d.locks ≡ l))) (published.locks ∙ staged.locks) takes.keeps);
   versions = subst (λ v. AppliesCommit a.versions v (writes_of a.writes x)) (sym takes.versions)
       (applies_staged a.versions b.versions c.versions (writes_of a.writes x)
@@ -868,7 +880,8 @@ commits_by a b c d x turn staged published takes = record {
 pub kept_committed : (s s' : KvSight) (x : Xid) (c : Call) (turn : CallRow) (e : BranchRecord)
     → IsKvManager s → IsFollowed s e x → IsDueTurn s x c turn
     → turn.entry ≡ Some e → applies e ≡ true → Commits s.store s'.store x turn
-    → WritesRecord s.log s'.log (entry_record e x (writes_of s.store.writes x)) turn.is_forced → IsKvManager s'
+    → WritesRecord s.log s'.log (entry_record e x (writes_of s.store.writes x)) turn.is_forced
+    → IsKvManager s'
 kept_committed s s' x c turn e kept follows due is makes takes made = record {
   kind = written_kind s s' e x turn.is_forced made ∙ kept.kind;
   ordered = ap are_ordered (records_behind s s' e x ws turn.is_forced made) ∙ follows.ordered;
@@ -944,7 +957,8 @@ due_same a b x c turn room due = record {
 pub made_committed : (old s s' : KvSight) (x : Xid) (turn : CallRow) (e : BranchRecord)
     → OnlyRoom old s → turn.entry ≡ Some e
     → applies e ≡ true → Commits s.store s'.store x turn
-    → WritesRecord s.log s'.log (entry_record e x (writes_of s.store.writes x)) turn.is_forced → s'.boot ≡ s.boot
+    → WritesRecord s.log s'.log (entry_record e x (writes_of s.store.writes x)) turn.is_forced
+    → s'.boot ≡ s.boot
     → KvMakes old s' x turn
 made_committed old s s' x turn e room is makes done made boot = record {
   tables = commits_old.tables;
@@ -964,7 +978,8 @@ made_committed old s s' x turn e room is makes done made boot = record {
     commits_old : Commits old.store s'.store x turn
     commits_old = subst (λ (v : KeySight). Commits v s'.store x turn) room.store done
 
-pub fails_by : (old s s' : KvSight) (x : Xid) (turn : CallRow) (e : BranchRecord) → OnlyRoom old s → turn.entry ≡ Some e
+pub fails_by : (old s s' : KvSight) (x : Xid) (turn : CallRow) (e : BranchRecord) → OnlyRoom old s
+    → turn.entry ≡ Some e
     → Breaks s.log s'.log (entry_record e x (writes_of s.store.writes x) ∷ [])
     → s'.store.tables ≡ s.store.tables → s'.store.writes ≡ s.store.writes → s'.store.locks ≡ s.store.locks
     → s'.store.decisions ≡ s.store.decisions → s'.boot ≡ s.boot → KvFails old s' x turn
@@ -975,14 +990,16 @@ fails_by old s s' x turn e room is broke tables writes locks decisions boot = re
       (entry_record e x (writes_of v.writes x) ∷ [])) room.store (record {
         form = broke.form ∙ ap (λ (k : LogSight). k.form) room.sight;
         appended = broke.appended;
-        stand = broke.stand ∙ ap (λ (k : LogSight). records_of k.kept ++ take broke.appended (l ∷ [])) room.sight;
+        stand = broke.stand ∙ ap (λ (k : LogSight). records_of k.kept ++ take broke.appended (l ∷ []))
+            room.sight;
         no_less = subst (λ (k : LogSight). length k.kept.forced
             ≤ length s'.log.sight.kept.forced) room.sight broke.no_less;
         more = broke.more;
         leaves = λ keep. broke.leaves keep ∙ ap (λ (k : LogSight). left_by
             (longer k (take broke.appended (l ∷ []))) (broke.more + keep)) room.sight;
         failed = broke.failed;
-        cause = subst (λ (k : LogSight). MoreFailures k.failures s'.log.sight.failures) room.sight broke.cause;
+        cause = subst (λ (k : LogSight). MoreFailures k.failures s'.log.sight.failures)
+            room.sight broke.cause;
       });
   tables = tables ∙ ap (λ (v : KeySight). v.tables) room.store;
   writes = writes ∙ ap (λ (v : KeySight). v.writes) room.store;
@@ -1056,7 +1073,8 @@ due_ends s x c turn due is = by_turn due.due
     by_turn (OfCall one) =
         subst (λ (t : CallRow). StaysDecided s.store x t) (sym one)
         (silent_ends (state_of s.store x) c _ _ _ (ap (λ (t : CallRow). t.entry) (sym one) ∙ is))
-    by_turn (OfOperator o here room one) = absurd (none_decides o (ap (λ (t : CallRow). t.entry) (sym one) ∙ is))
+    by_turn (OfOperator o here room one) = absurd
+        (none_decides o (ap (λ (t : CallRow). t.entry) (sym one) ∙ is))
 
 -- nothing changed
 pub same_self : (s : KvSight) → SameKv s s

@@ -54,8 +54,8 @@ opened b = record { entry = Opened b; parent = None }
 
 -- what the records of a log leave: a manager that is not open, with the branches in doubt in the order of
 -- their promises, the data that the records make, of the branches that are prepared their writes and their
--- locks, and what operators decided; and the next boot; the data of each front of the records count fewer than
--- 2^63 commits
+-- locks, and what operators decided; and the next boot; the data of each front of the records count fewer
+-- than 2^63 commits
 pub record LeavesStore (ls : List LogRecord) (s : KeySight) (boot : ℕ) : Type 0 where
   pub seen : SeenLog
   pub read : seen_of ls ≡ Some seen
@@ -138,8 +138,8 @@ pub record KvRestartFails (old new : KvSight) (keep : ℕ) : Type 0 where
   pub store : new.store ≡ old.store
   pub boot : new.boot ≡ old.boot
 
--- a manager did not restart: nothing changed, also where no boot comes after the last one; or the device failed,
--- and the manager has failed
+-- a manager did not restart: nothing changed, also where no boot comes after the last one; or the device
+-- failed, and the manager has failed
 abbrev pub KvNotRestarted : KvSight → KvSight → ℕ → RestartError → Type 0
 KvNotRestarted old new keep restarts.Memory = SameKv old new
 KvNotRestarted old new keep restarts.Device = KvRestartFails old new keep
@@ -159,7 +159,8 @@ pub record StartsOver (log : LogState) (s : KvSight) : Type 0 where
   pub failures : s.log.sight.failures ≡ log.sight.failures
 
 -- the manager of this process over the log of these bytes
-pub record RestoredFrom (process : ProcessId) (bytes : List ℕ) (forced failures : ℕ) (s : KvSight) : Type 0 where
+pub record RestoredFrom (process : ProcessId) (bytes : List ℕ) (forced failures : ℕ)
+    (s : KvSight) : Type 0 where
   pub log : LogState
   pub opens : OpensLog (log_form process Manager) bytes forced failures log
   pub starts : StartsOver log s
@@ -183,7 +184,8 @@ pub record RecordsHandBack {S : Type 0} (bytes : S → List ℕ) (forced failure
   pub opens : OpensLog (log_form process Manager) (bytes old) (forced old) (failures old) opened_as
   pub left_as : LogState
   pub holds : left_as.sight
-      ≡ (log_state (log_form process Manager) (bytes new) (forced new) (failures new) 0 left_as.sight.failed).sight
+      ≡ (log_state (log_form process Manager) (bytes new) (forced new) (failures new) 0
+      left_as.sight.failed).sight
   pub why : LeavesNone opened_as left_as e
 
 -- why no manager is restored, and what store is handed back

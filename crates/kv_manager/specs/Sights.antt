@@ -65,11 +65,12 @@ pub record IsLogged (s : KvSight) : Type 0 where
   pub marked : (x : Xid) → state_of s.store x ≡ S3 → mark_at (records_of s.log.sight.kept) x ≡ Promised
   pub decided : (x : Xid) → state_of s.store x ≡ S5
       → SaysDecided (records_of s.log.sight.kept) x (known_of s.store x)
-  pub doubts : (x : Xid) → doubt_of (state_of s.store x) ≡ marked_state (mark_at (records_of s.log.sight.kept) x)
+  pub doubts : (x : Xid) → doubt_of (state_of s.store x)
+      ≡ marked_state (mark_at (records_of s.log.sight.kept) x)
   pub begun : has_records (records_of s.log.sight.kept) ≡ true
 
--- what a manager keeps: the log is a manager's, its records may follow one another, the data of each front of them
--- count fewer than 2^63 commits, and while it has not failed the data are those of its records
+-- what a manager keeps: the log is a manager's, its records may follow one another, the data of each front of
+-- them count fewer than 2^63 commits, and while it has not failed the data are those of its records
 pub record IsKvManager (s : KvSight) : Type 0 where
   pub kind : s.log.sight.form.kind ≡ Manager
   pub ordered : are_ordered (records_of s.log.sight.kept) ≡ true

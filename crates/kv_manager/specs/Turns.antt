@@ -132,4 +132,5 @@ pub record KvCalls (old new : KvSight) (refuses : Type 0) (Does : KeySight → K
 
 -- a refusal of work: of a failed manager, or of the first check
 abbrev pub RefusesWork : KvSight → KvSight → Option WorkError → WorkError → Type 0
-RefusesWork old new refusal e = KvCalls old new (e ≡ RmFail) (λ before behind. IsRefusedWork before behind refusal e)
+RefusesWork old new refusal e = KvCalls old new (e ≡ RmFail)
+    (λ before behind. IsRefusedWork before behind refusal e)

@@ -177,8 +177,8 @@ impl<L: LogStore> KvManager<L> {
 
     /// A branch promises, with what it has written; one that wrote nothing is ended. RmFail: the manager has
     /// failed, or its device fails now. Inval, Async: the flags. Proto: it is not open. Inval: the null XID.
-    /// NotA: the branch is not known. Proto: a thread is in it, or its state has no such row. All but a failure
-    /// now change nothing, nor does want of memory. The thread is not looked at.
+    /// NotA: the branch is not known. Proto: a thread is in it, or its state has no such row. All but a
+    /// failure now change nothing, nor does want of memory. The thread is not looked at.
     pub fn prepare(&mut self, _thread: u32, xid: &Xid, flags: Flags) -> Result<Code, AllocError>
         ensures answer { IfOk result (KvFinishes self.old self.new Verb.Prepare xid.now flags.0) }
         ensures err { OnErr result (SameKv self.old self.new) }
@@ -218,7 +218,8 @@ impl<L: LogStore> KvManager<L> {
     pub fn decide(&mut self, xid: &Xid, outcome: Outcome) -> Result<(), DecideError>
         ensures ok { OnOk result (ManagerDecides (sight_of self.old) (sight_of self.new) xid.now outcome) }
         ensures turn { OnOk result (KvMakes self.old self.new xid.now (decide_turn outcome)) }
-        ensures err { IfErr result (ManagerNotDecided (sight_of self.old) (sight_of self.new) xid.now outcome) }
+        ensures err { IfErr result (ManagerNotDecided (sight_of self.old) (sight_of self.new)
+            xid.now outcome) }
         ensures no_turn { IfErr result (DecisionNotTaken self.old self.new xid.now outcome) }
     {
         if self.failed() {

@@ -129,7 +129,8 @@ impl<L: LogStore> KvManager<L> {
         self.store.branches_are_listed_once();
     }
 
-    /// Each thread that holds associations is listed once, and a branch as suspended for migration only if it is.
+    /// Each thread that holds associations is listed once, and a branch as suspended for migration only if it
+    /// is.
     pub fn associations_are_listed_once(&self)
         ensures { IsAssocList self.now.store.tables.associations }
     {
@@ -152,7 +153,8 @@ impl<L: LogStore> KvManager<L> {
 
     /// The store under its log, to be read.
     pub fn store(&self) -> &L
-        ensures { (log_state self.now.log.sight.form (L.bytes result.now) (L.forced result.now) (L.failures result.now)
+        ensures { (log_state self.now.log.sight.form (L.bytes result.now) (L.forced result.now)
+            (L.failures result.now)
             (L.room result.now) self.now.log.sight.failed).sight ≡ self.now.log.sight }
     {
         self.log.log().store()
@@ -166,8 +168,8 @@ impl<L: LogStore> KvManager<L> {
         self.log.log().kept(keep, self.alloc)
     }
 
-    /// Of the records that a crash would leave that keeps N bytes after the forced front, those after the first ones, if the
-    /// header and the first ones, all of them forced, are `size` bytes.
+    /// Of the records that a crash would leave that keeps N bytes after the forced front, those after the
+    /// first ones, if the header and the first ones, all of them forced, are `size` bytes.
     pub fn kept_after(&self, size: usize, keep: usize) -> Result<Vec<LogRecord>, AllocError>
         ensures { IfOk result (λ records. (first : List AnyRecord) → IsLogFront self.now.log.sight size first
             → first ++ records.items ≡ left_by self.now.log.sight keep) }
@@ -215,7 +217,8 @@ impl<L: LogStore> KvManager<L> {
     /// A refusal changes nothing.
     pub fn open(&mut self, flags: Flags, migrates: bool) -> Code
         ensures { KvCalls self.old self.new (result ≡ Code.RmFail)
-            (λ before behind. MovesTables before behind (λ old new. OpensManager old new flags.0 migrates result)) }
+            (λ before behind. MovesTables before behind
+            (λ old new. OpensManager old new flags.0 migrates result)) }
     {
         if self.failed() {
             return Code::RmFail;
@@ -283,9 +286,9 @@ impl<L: LogStore> KvManager<L> {
         self.store.work_call(verb, thread, xid, flags)
     }
 
-    /// A scan of the branches in doubt: the next of them, at most N. RmFail: the manager has failed.
-    /// Inval: the flags. Proto: it is not open. Inval: no scan is open and none begins. RmErr: one begins, and
-    /// 256 threads have one. A refusal changes nothing, nor does want of memory.
+    /// A scan of the branches in doubt: the next of them, at most N. RmFail: the manager has failed. Inval:
+    /// the flags. Proto: it is not open. Inval: no scan is open and none begins. RmErr: one begins, and 256
+    /// threads have one. A refusal changes nothing, nor does want of memory.
     pub fn recover(
         &mut self,
         thread: u32,
@@ -316,9 +319,10 @@ impl<L: LogStore> KvManager<L> {
         self.work_call(Verb::Start, thread, xid, flags)
     }
 
-    /// A thread ends its work in a branch, or suspends it. RmFail: the manager has failed. The other codes are
-    /// those of `States::work_call`: Inval, Async, Proto, NotA, RmErr, which change nothing, NoMigrate, and
-    /// RbRollback, after which the association is gone. With TMSUCCESS and with TMFAIL it takes no memory.
+    /// A thread ends its work in a branch, or suspends it. RmFail: the manager has failed. The other codes
+    /// are those of `States::work_call`: Inval, Async, Proto, NotA, RmErr, which change nothing, NoMigrate,
+    /// and RbRollback, after which the association is gone. With TMSUCCESS and with TMFAIL it takes no
+    /// memory.
     pub fn end(&mut self, thread: u32, xid: &Xid, flags: Flags) -> Result<Code, AllocError>
         ensures answer { IfOk result (λ answer. (wanted : Wanted)
             → KvCalls self.old self.new (answer ≡ Code.RmFail)
@@ -330,19 +334,20 @@ impl<L: LogStore> KvManager<L> {
         self.work_call(Verb::End, thread, xid, flags)
     }
 
-    /// A new branch begins that no thread is in. False: it is known, or 1,024 are; nothing changed, nor does want
-    /// of memory.
+    /// A new branch begins that no thread is in. False: it is known, or 1,024 are; nothing changed, nor does
+    /// want of memory.
     pub(crate) fn begin_idle(&mut self, xid: &Xid) -> Result<bool, AllocError>
         requires up { self.old.log.sight.failed ≡ false }
-        ensures begun { IfOk result (λ begun. KvCalls self.old self.new ⊥ (λ before behind. MovesTables before behind
+        ensures begun { IfOk result (λ begun. KvCalls self.old self.new ⊥
+            (λ before behind. MovesTables before behind
             (λ old new. BeginsIdle old new xid.now begun))) }
         ensures err { OnErr result (SameKv self.old self.new) }
     {
         self.store.begin_idle(xid)
     }
 
-    /// An idle branch does an operation, and no thread is in it. False: it was refused, and the branch can only be
-    /// rolled back. Memory: nothing changed.
+    /// An idle branch does an operation, and no thread is in it. False: it was refused, and the branch can
+    /// only be rolled back. Memory: nothing changed.
     pub(crate) fn work_idle(&mut self, xid: &Xid, op: &Op) -> Result<bool, AllocError>
         requires up { self.old.log.sight.failed ≡ false }
         requires state { state_of self.old.store xid.now ≡ BranchState.S2 }
@@ -353,8 +358,9 @@ impl<L: LogStore> KvManager<L> {
         self.store.work_idle(xid, op)
     }
 
-    /// What the manager restarts as after a crash that keeps N of the log's unforced bytes, and what it is to remember of
-    /// what is left; what it remembered is gone. Memory. Exhausted: no boot comes after the last one.
+    /// What the manager restarts as after a crash that keeps N of the log's unforced bytes, and what it is to
+    /// remember of what is left; what it remembered is gone. Memory. Exhausted: no boot comes after the last
+    /// one.
     fn ready(&mut self, keep: usize) -> Result<(Ready, RememberedData), RestartError>
         ensures stays { self.new ≡ self.old }
         ensures ok { IfOk result (λ r. IsReady (left_by self.old.log.sight keep) r.0) }
@@ -392,11 +398,11 @@ impl<L: LogStore> KvManager<L> {
         Ok(())
     }
 
-    /// Restarts the manager after a crash that keeps N of the log's unforced bytes: it stands as the
-    /// records that are left say, not open, and gives the branches in doubt, in the order of their promises.
-    /// Its own records are never refused. The records are gone through that came after its last restart, or all of them after
-    /// a trim. Memory: nothing changed. Exhausted: no boot below 2^63 comes after the last one; nothing changed. Device:
-    /// the manager has failed until it is restarted.
+    /// Restarts the manager after a crash that keeps N of the log's unforced bytes: it stands as the records
+    /// that are left say, not open, and gives the branches in doubt, in the order of their promises. Its own
+    /// records are never refused. The records are gone through that came after its last restart, or all of
+    /// them after a trim. Memory: nothing changed. Exhausted: no boot below 2^63 comes after the last one;
+    /// nothing changed. Device: the manager has failed until it is restarted.
     pub fn restart(&mut self, keep: usize) -> Result<Vec<Xid>, RestartError>
         ensures ok { IfOk result (λ given. Restarted self.old self.new keep given.items) }
         ensures err { IfErr result (KvNotRestarted self.old self.new keep) }
@@ -459,8 +465,8 @@ impl<L: LogStore + Drop> KvManager<L> {
 
     /// The manager of this process over the log in a store, which is not open: it stands as the log's records
     /// say, and the record of its boot is written after them. With a refusal the store is handed back. Log:
-    /// the bytes are no log, or it was not opened. Records: the log's records leave no manager, and the log is
-    /// as it was opened; or the record could not be written.
+    /// the bytes are no log, or it was not opened. Records: the log's records leave no manager, and the log
+    /// is as it was opened; or the record could not be written.
     pub fn restore(store: L, process: ProcessId, alloc: Global) -> Result<Self, (RestoreError, L)>
         ensures ok { IfOk result (RestoredFrom process (L.bytes store) (L.forced store) (L.failures store)) }
         ensures err { IfErr result (λ e. NotRestored L.bytes L.forced L.failures process store e.1 e.0) }

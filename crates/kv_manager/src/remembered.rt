@@ -40,8 +40,8 @@ impl Front {
     }
 }
 
-/// A log, and its front as the last restart remembers it: the header alone after a trim, and after a restart that had no
-/// memory.
+/// A log, and its front as the last restart remembers it: the header alone after a trim, and after a restart
+/// that had no memory.
 #[derive(Drop)]
 pub(crate) struct FrontedLog<L: LogStore> {
     log: RecLog<L>,
@@ -93,9 +93,9 @@ impl<L: LogStore> FrontedLog<L> {
         self.log.reserve(more)
     }
 
-    /// What the records leave that a crash leaves which keeps N bytes after the forced front, and what is to be
-    /// remembered of them. It reads on from the front that is remembered, which is forgotten. The errors are those of
-    /// `kv_core::replay`.
+    /// What the records leave that a crash leaves which keeps N bytes after the forced front, and what is to
+    /// be remembered of them. It reads on from the front that is remembered, which is forgotten. The errors
+    /// are those of `kv_core::replay`.
     pub(crate) fn read(
         &mut self,
         keep: usize,
@@ -142,8 +142,9 @@ impl<L: LogStore> FrontedLog<L> {
         self.log.put_again(alloc)
     }
 
-    /// Writes a record, and forces the log if the record is to be forced. Room for the frame was made before, so it
-    /// cannot fail for memory. Device: the record stands or not, it may be forced, and the log has failed.
+    /// Writes a record, and forces the log if the record is to be forced. Room for the frame was made before,
+    /// so it cannot fail for memory. Device: the record stands or not, it may be forced, and the log has
+    /// failed.
     pub(crate) fn write(&mut self, frame: &Frame, forced: bool) -> Result<(), LogError>
         requires room { record_size (frame_record frame.now) ≤ self.old.room }
         requires works { self.old.sight.failed ≡ false }
@@ -155,7 +156,8 @@ impl<L: LogStore> FrontedLog<L> {
         write(&mut self.log, frame, forced)
     }
 
-    /// Restarts the log, with the record of a boot after what is left, of which this is remembered from then on.
+    /// Restarts the log, with the record of a boot after what is left, of which this is remembered from then
+    /// on.
     pub(crate) fn restart(
         &mut self,
         keep: usize,

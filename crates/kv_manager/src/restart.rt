@@ -121,8 +121,8 @@ fn stored(replayed: Replayed, alloc: Global) -> Result<KeyStore, RecordsError>
     }
 }
 
-/// The key store of what replayed, and the boot after the last one. Memory: there was none. Unfit: more branches are in
-/// doubt than it holds, or one of them twice. Exhausted: no boot comes after the last one.
+/// The key store of what replayed, and the boot after the last one. Memory: there was none. Unfit: more
+/// branches are in doubt than it holds, or one of them twice. Exhausted: no boot comes after the last one.
 fn store_of(replayed: Replayed, alloc: Global) -> Result<(KeyStore, u64), RecordsError>
     requires { (ls : List AnyRecord) × LeavesNow ls replayed }
     ensures ok { IfOk result (λ made. (ls : List AnyRecord) → LeavesNow ls replayed
@@ -224,8 +224,8 @@ fn ready_for(replayed: Replayed, alloc: Global) -> Result<Ready, RecordsError>
     }
 }
 
-/// What a manager restarts as after a crash that keeps N bytes of its log after the forced front, and what it is to
-/// remember of what is left; what it remembered is gone. The errors are those of `rebuilt`.
+/// What a manager restarts as after a crash that keeps N bytes of its log after the forced front, and what it
+/// is to remember of what is left; what it remembered is gone. The errors are those of `rebuilt`.
 pub(crate) fn made_ready<L: LogStore>(
     log: &mut FrontedLog<L>,
     keep: usize,

@@ -62,8 +62,8 @@ impl<L: LogStore> KvManager<L> {
         base_frames(self.store.count(), &pairs, self.alloc)
     }
 
-    /// Trims its log, and nothing else moves. Gives how many records remain. A log that its last trim left as it was is
-    /// put in its own place, and neither it nor the data are read. The errors are those of `trim`.
+    /// Trims its log, and nothing else moves. Gives how many records remain. A log that its last trim left as
+    /// it was is put in its own place, and neither it nor the data are read. The errors are those of `trim`.
     fn trim_log(&mut self) -> Result<usize, TrimError>
         ensures ok { IfOk result (ManagerTrims (sight_of self.old) (sight_of self.new)) }
         ensures err { IfErr result (ManagerNotTrimmed (sight_of self.old) (sight_of self.new)) }
@@ -96,11 +96,11 @@ impl<L: LogStore> KvManager<L> {
         self.store.rebase();
     }
 
-    /// Trims its log: the last Opened and the records of the branches that are not forgotten stay, and
-    /// after them the data, keys rising, forced by one write. Gives how many records remain. What the data were before
-    /// the last commit is forgotten. Its own records are never refused. A log that its last trim left as it was is put
-    /// in its own place, and not read. Failed, Memory: nothing changed. Device: the log stands as it was or
-    /// trimmed, and the manager has failed until a restart.
+    /// Trims its log: the last Opened and the records of the branches that are not forgotten stay, and after
+    /// them the data, keys rising, forced by one write. Gives how many records remain. What the data were
+    /// before the last commit is forgotten. Its own records are never refused. A log that its last trim left
+    /// as it was is put in its own place, and not read. Failed, Memory: nothing changed. Device: the log
+    /// stands as it was or trimmed, and the manager has failed until a restart.
     pub fn trim(&mut self) -> Result<usize, TrimError>
         ensures ok { IfOk result (ManagerTrims (sight_of self.old) (sight_of self.new)) }
         ensures data { OnOk result (RebasesStore self.old.store self.new.store) }

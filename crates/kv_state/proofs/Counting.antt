@@ -11,7 +11,8 @@ here : (d : Data) (rs : List Record) → CountsFrom d rs → d.count < 2 ^ 63
 here d [] h = h
 here d (r ∷ rs) h = h.0
 
-front : (d : Data) (ls ks : List LogRecord) → CountsFrom d (map by_xid (ls ++ ks)) → CountsFrom d (map by_xid ls)
+front : (d : Data) (ls ks : List LogRecord) → CountsFrom d (map by_xid (ls ++ ks))
+    → CountsFrom d (map by_xid ls)
 front d [] ks h = here d (map by_xid ks) h
 front d (l ∷ ls) ks h = (h.0, front (stored_after d (by_xid l)) ls ks h.1)
 
@@ -26,7 +27,8 @@ more d [] ks h behind = behind
 more d (l ∷ ls) ks h behind = (h.0, more (stored_after d (by_xid l)) ls ks h.1 behind)
 
 next : (d : Data) (ls : List LogRecord) (l : LogRecord) → CountsFrom d (map by_xid ls)
-    → (fold stored_after d (map by_xid (ls ++ l ∷ []))).count < 2 ^ 63 → CountsFrom d (map by_xid (ls ++ l ∷ []))
+    → (fold stored_after d (map by_xid (ls ++ l ∷ []))).count < 2 ^ 63
+    → CountsFrom d (map by_xid (ls ++ l ∷ []))
 next d [] l h fits = (h, fits)
 next d (k ∷ ls) l h fits = (h.0, next (stored_after d (by_xid k)) ls l h.1 fits)
 
@@ -35,7 +37,8 @@ pub counted_front : (ls ks : List LogRecord) → AreCountedCommits (ls ++ ks) �
 counted_front ls ks h = front no_data ls ks h
 
 -- a front of what is after them
-pub counted_taken : (ls ks : List LogRecord) (n : ℕ) → AreCountedCommits (ls ++ ks) → AreCountedCommits (ls ++ take n ks)
+pub counted_taken : (ls ks : List LogRecord) (n : ℕ) → AreCountedCommits (ls ++ ks)
+    → AreCountedCommits (ls ++ take n ks)
 counted_taken ls ks n h = counted_front (ls ++ take n ks) (drop n ks)
     (subst AreCountedCommits (sym (append_assoc ls (take n ks) (drop n ks)
     ∙ ap (λ rs. ls ++ rs) (take-append-drop n ks))) h)
@@ -60,6 +63,7 @@ counted_next ls l h fits = next no_data ls l h fits
 -- none counts too far
 pub never_far : (ls : List LogRecord) → AreCountedCommits ls → CountTooFar ls → ⊥
 never_far ls h far =
-    let counted = counted_whole far.front (counted_front far.front far.behind (subst AreCountedCommits far.parts h)) in
+    let counted = counted_whole far.front (counted_front far.front far.behind
+    (subst AreCountedCommits far.parts h)) in
     let much = far.far in
     omega (arith, counted, much)

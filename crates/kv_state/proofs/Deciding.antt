@@ -44,7 +44,8 @@ module _ (x : Xid) where
   }
 
   of_branch : (q : Option ProcessId) (r : BranchName → Record) (b : BranchName) (v : Decision → Decision)
-      → ((c : BranchName) → record_case (r c) ≡ branch_case c) → ((c : BranchName) → record_branch (r c) ≡ Some c)
+      → ((c : BranchName) → record_case (r c) ≡ branch_case c)
+      → ((c : BranchName) → record_branch (r c) ≡ Some c)
       → by_xid (record { entry = r b; parent = q }) ≡ r (Foreign (name_xid q b))
       → ((c : BranchName) (d : Decision) → decision_after (Foreign x) d (r c)
       ≡ cond (same_branch c (Foreign x)) (v d) d)

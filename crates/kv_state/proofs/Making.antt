@@ -166,7 +166,8 @@ keeps_entry : (old new : VersionTable) (l : LogRecord) (r : Record) → l.entry 
 keeps_entry old new l r is keeps = subst (KeepsBefore old new) (sym is) keeps
 
 pub keeps_promise : (l : LogRecord) (b : BranchName) (ws : List Write) (old new : VersionTable)
-    → (l.entry ≡ Committed b) ⊎ (l.entry ≡ HeurCommit b) → AppliesCommit old new ws → KeepsBefore old new l.entry
+    → (l.entry ≡ Committed b) ⊎ (l.entry ≡ HeurCommit b) → AppliesCommit old new ws
+    → KeepsBefore old new l.entry
 keeps_promise l b ws old new entry made = ⊎_elim
     (λ h. keeps_entry old new l (Committed b) h (keeps_commit old new ws (Committed b) refl made))
     (λ h. keeps_entry old new l (HeurCommit b) h (keeps_commit old new ws (HeurCommit b) refl made)) entry

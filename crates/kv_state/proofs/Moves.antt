@@ -49,13 +49,15 @@ moves_keep q old new x to apart moves y h = by_test (same x y) refl
 
 reacts_keep : (q : BranchState → Bool) (old new : States) (t : ℕ) (x : Xid)
     (c : Call) (plan : Result AssocRow Code)
-    (to : BranchState) (answer : Code) → q to ≡ false → ReactsByRows old new t x c plan to answer → KeepsTest q old new
+    (to : BranchState) (answer : Code) → q to ≡ false → ReactsByRows old new t x c plan to answer
+    → KeepsTest q old new
 reacts_keep q old new t x c (Ok row) to answer apart walks = moves_keep q old new x to apart walks.branch
 reacts_keep q old new t x c (Err refusal) to answer apart refused = same_keeps q old new refused.1
 
 by_state_keeps : (q : BranchState → Bool) (old new : States) (s : BranchState)
     (Unknown Off : Type 0) (DoesCall : Bool → Type 0)
-    → (Unknown → KeepsTest q old new) → ((lost : Bool) → DoesCall lost → KeepsTest q old new) → (Off → KeepsTest q old new)
+    → (Unknown → KeepsTest q old new) → ((lost : Bool) → DoesCall lost → KeepsTest q old new)
+    → (Off → KeepsTest q old new)
     → ByState s Unknown DoesCall Off → KeepsTest q old new
 by_state_keeps q old new S0 Unknown Off DoesCall u d o h = u h
 by_state_keeps q old new S1 Unknown Off DoesCall u d o h = d false h
@@ -151,11 +153,13 @@ recovers_keep q old new t count flags answer recovers = by_legal (legal verb.Rec
     by_answer : (c : Call) (r : Result (List Xid) Code)
         → MatchResult r (λ given. ScansBranches old.branches new.branches t count c given
         × (new.associations ≡ old.associations) × (new.init ≡ old.init))
-        (λ refusal. (scan_refusal old.branches.scans t c ≡ Some refusal) × SameStates old new) → KeepsTest q old new
+        (λ refusal. (scan_refusal old.branches.scans t c ≡ Some refusal) × SameStates old new)
+        → KeepsTest q old new
     by_answer c (Ok given) h = λ y passes. ap (λ bs. q (state_in bs y)) (sym h.0.branches) ∙ passes
     by_answer c (Err refusal) h = same_keeps q old new h.1
 
-    by_init : (c : Call) (i : InitState) → old.init ≡ i → Scanned old new t count c answer → KeepsTest q old new
+    by_init : (c : Call) (i : InitState) → old.init ≡ i → Scanned old new t count c answer
+        → KeepsTest q old new
     by_init c R0 e h = same_keeps q old new (h.closed e).1
     by_init c R1 e h = by_answer c answer (h.given e)
 

@@ -118,7 +118,8 @@ nothing_read s v seen none = subst (λ w. ReadsNow [] s w) (sym none)
 pub nothing_before : (v : VersionTable) → v ≡ record { base = 0; count = 0; is_staged = false; versions = [] }
     → GoBack v []
 unfolding value_by last_within
-nothing_before v none = subst (λ w. GoBack w []) (sym none) (record { base = refl; values = λ n k low high. refl })
+nothing_before v none = subst (λ w. GoBack w []) (sym none)
+    (record { base = refl; values = λ n k low high. refl })
 
 -- One record more.
 
@@ -127,7 +128,8 @@ pub read_next : (ls : List LogRecord) (l : LogRecord) (s t : SeenLog) (v w : Ver
 unfolding seen_after
 read_next ls l s t v w reads may takes fits =
     let are : AreData w (data_of (ls ++ l ∷ [])) =
-    subst (AreData w) (sym (data_next ls l)) (takes (data_of ls) (lawful_of ls s reads.read).tied reads.stored) in
+    subst (AreData w) (sym (data_next ls l))
+    (takes (data_of ls) (lawful_of ls s reads.read).tied reads.stored) in
     record {
       read = seen_next ls s l [] reads.read ∙ may;
       stored = are;
@@ -174,7 +176,8 @@ reading_on_begins old before all rest whole h = record {
   fits = subst (λ n. n < 2 ^ 63) (sym h.1.stored.count) (counted_whole h.0 h.1.counted);
 }
 
-module _ (old : SeenLog) (before : VersionTable) (all : List LogRecord) (l : LogRecord) (rest : List LogRecord)
+module _ (old : SeenLog) (before : VersionTable) (all : List LogRecord) (l : LogRecord)
+    (rest : List LogRecord)
     (s : SeenLog) (v : VersionTable) (reading : ReadsOn old before all (l ∷ rest) s v) where
   pub reading_on_goes_on : (t : SeenLog) (w : VersionTable) → after s l ≡ Some t → DataTake s l v w
       → KeepsBefore v w l.entry → w.count < 2 ^ 63 → ReadsOn old before all rest t w
@@ -185,7 +188,8 @@ module _ (old : SeenLog) (before : VersionTable) (all : List LogRecord) (l : Log
     parts = reading.parts ∙ sym (append_assoc reading.done (l ∷ []) rest);
     reads = λ ls reads. subst (λ ks. ReadsNow ks t w) (append_assoc ls reading.done (l ∷ [])) (next ls reads);
     history = λ ls reads back. subst (GoBack w) (append_assoc ls reading.done (l ∷ []))
-        (history_goes_on (ls ++ reading.done) l v w (reading.history ls reads back) (next ls reads).stored keeps);
+        (history_goes_on (ls ++ reading.done) l v w (reading.history ls reads back)
+        (next ls reads).stored keeps);
     unstaged = (next reading.some reading.begun).stored.unstaged;
     fits = fits;
   }
@@ -193,7 +197,8 @@ module _ (old : SeenLog) (before : VersionTable) (all : List LogRecord) (l : Log
       next : (ls : List LogRecord) → ReadsNow ls old before → ReadsNow ((ls ++ reading.done) ++ l ∷ []) t w
       next ls reads = read_next (ls ++ reading.done) l s t v w (reading.reads ls reads) may takes fits
 
-  pub reading_on_fails : (e : ReplayError) → TakeFails s l v e → (ls : List LogRecord) → ReadsNow ls old before
+  pub reading_on_fails : (e : ReplayError) → TakeFails s l v e → (ls : List LogRecord)
+      → ReadsNow ls old before
       → ReplayFails (ls ++ all) e
   reading_on_fails e fails ls reads =
       subst (λ ks. ReplayFails ks e)
@@ -208,7 +213,8 @@ module _ (old : SeenLog) (before : VersionTable) (all : List LogRecord) (s : See
   pub reading_on_ends : (ls : List LogRecord) → ReadsNow ls old before → ReadsNow (ls ++ all) s v
   reading_on_ends ls reads = subst (λ ks. ReadsNow (ls ++ ks) s v) is_done (reading.reads ls reads)
 
-  pub history_on_ends : (ls : List LogRecord) → ReadsNow ls old before → GoBack before ls → GoBack v (ls ++ all)
+  pub history_on_ends : (ls : List LogRecord) → ReadsNow ls old before → GoBack before ls
+      → GoBack v (ls ++ all)
   history_on_ends ls reads back = subst (λ ks. GoBack v (ls ++ ks)) is_done (reading.history ls reads back)
 
 -- all records are read on from none

@@ -91,7 +91,8 @@ module _ (x : Xid) where
 
   -- a record that is no promise
   one_mark : (q : Option ProcessId) (r : BranchName → Record) (b : BranchName) (v : Mark) (s : Said)
-      → ((c : BranchName) → record_case (r c) ≡ branch_case c) → ((c : BranchName) → record_branch (r c) ≡ Some c)
+      → ((c : BranchName) → record_case (r c) ≡ branch_case c)
+      → ((c : BranchName) → record_branch (r c) ≡ Some c)
       → by_xid (record { entry = r b; parent = q }) ≡ r (Foreign (name_xid q b))
       → ((c : BranchName) (m : Mark) → mark_after (Foreign x) m (r c) ≡ cond (same_branch c (Foreign x)) v m)
       → ((m : Mark) → said_after (said_so m) (r b) ≡ s) → said_so v ≡ s → is_prepared (r b) ≡ false

@@ -57,13 +57,15 @@ module _ (t : DecisionTable) (k : Xid) (rest : List Xid) (copy : DecisionTable)
   among_rest : (x : Xid) → same x k ≡ false → is_listed x (k ∷ rest) ≡ true → is_listed x rest ≡ true
   among_rest x apart listed = sym (ap (λ b. b || is_listed x rest) apart) ∙ listed
 
-  pub copying_goes_on : (new : DecisionTable) (d : Decision) → decision_in t k ≡ Some d → NotesDecision copy new k (Some d)
+  pub copying_goes_on : (new : DecisionTable) (d : Decision) → decision_in t k ≡ Some d
+      → NotesDecision copy new k (Some d)
       → IsCopying t rest new
   copying_goes_on new d found notes = record { each = λ x. by_test x (same k x) refl }
     where
       by_test : (x : Xid) (b : Bool) → same k x ≡ b
           → (decision_in new x ≡ decision_in t x) ⊎ ((decision_in new x ≡ None) × (is_listed x rest ≡ true))
-      by_test x true is = inl (subst (λ y. decision_in new y ≡ decision_in t y) (same_is k x is) (notes.own ∙ sym found))
+      by_test x true is = inl (subst (λ y. decision_in new y ≡ decision_in t y) (same_is k x is)
+          (notes.own ∙ sym found))
       by_test x false is = elim (copying.each x) [
         | inl one ↦ inl (notes.others x is ∙ one)
         | inr out ↦ inr (notes.others x is ∙ out.0, among_rest x (apart_turns k x is) out.1)
@@ -73,7 +75,8 @@ module _ (t : DecisionTable) (k : Xid) (rest : List Xid) (copy : DecisionTable)
   copying_passes none = record { each = λ x. by_test x (same x k) refl (copying.each x) }
     where
       by_test : (x : Xid) (b : Bool) → same x k ≡ b
-          → (decision_in copy x ≡ decision_in t x) ⊎ ((decision_in copy x ≡ None) × (is_listed x (k ∷ rest) ≡ true))
+          → (decision_in copy x ≡ decision_in t x)
+          ⊎ ((decision_in copy x ≡ None) × (is_listed x (k ∷ rest) ≡ true))
           → (decision_in copy x ≡ decision_in t x) ⊎ ((decision_in copy x ≡ None) × (is_listed x rest ≡ true))
       by_test x b is (inl one) = inl one
       by_test x true is (inr out) =

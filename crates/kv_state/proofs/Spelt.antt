@@ -20,7 +20,8 @@ pair_fits k v j u sound is value =
     (subst (λ b. IsSound Manager (unnamed (Pair k b))) (sym value) sound))
 
 -- what holds of each holds of the one at an index
-pub each_at : {A : Type 0} (P : A → Type 0) (xs : List A) (i : ℕ) (x : A) → AllByRecursion P xs → i < length xs
+pub each_at : {A : Type 0} (P : A → Type 0) (xs : List A) (i : ℕ) (x : A) → AllByRecursion P xs
+    → i < length xs
     → x ≡ get_or xs i x → P x
 each_at P [] i x all within at = absurd (omega (arith, within))
 each_at P (y ∷ xs) zero x all within at = subst P (sym at) all.0

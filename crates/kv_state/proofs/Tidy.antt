@@ -129,7 +129,8 @@ named_before ws k l v named other = by_test (names_key ws l) refl
 pub tidy_wrote : (s : KeySight) (writes : WriteTable) (locks : LockTable) (x : Xid) (k : List ℕ)
     (v : Option (List ℕ)) → IsTidy s
     → is_let_go (state_of s x) ≡ false → blocked_by (holders_of s.locks k) x Exclusive ≡ None
-    → TakesKey s.locks locks x k Exclusive → LeavesWrites s.writes writes x (with_write (writes_of s.writes x) k v)
+    → TakesKey s.locks locks x k Exclusive → LeavesWrites s.writes writes x
+    (with_write (writes_of s.writes x) k v)
     → IsTidy (record s { writes = writes; locks = locks })
 tidy_wrote s writes locks x k v tidy works clear took left = record {
   held = λ y l named. held y l named (same x y) refl;
@@ -165,7 +166,8 @@ tidy_wrote s writes locks x k v tidy works clear took left = record {
 
 -- room was made for the writes before
 pub left_behind : (t u v : WriteTable) (x : Xid) (k : List ℕ) (w : Option (List ℕ)) → SameWrites t u
-    → LeavesWrites u v x (with_write (writes_of u x) k w) → LeavesWrites t v x (with_write (writes_of t x) k w)
+    → LeavesWrites u v x (with_write (writes_of u x) k w)
+    → LeavesWrites t v x (with_write (writes_of t x) k w)
 left_behind t u v x k w stays left = record {
   own = left.own ∙ ap (λ ws. with_write ws k w) (stays x);
   others = λ y apart. left.others y apart ∙ stays y;

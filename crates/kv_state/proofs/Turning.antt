@@ -65,7 +65,8 @@ free_rows true false h = absurd cc
 free_rows false false h = absurd cc
 
 -- a call that no check refuses is due, with its turn
-pub is_due : (s : KeySight) (v : Verb) (x : Xid) (flags : ℕ) (c : Call) (turn : CallRow) → is_work_verb v ≡ false
+pub is_due : (s : KeySight) (v : Verb) (x : Xid) (flags : ℕ) (c : Call) (turn : CallRow)
+    → is_work_verb v ≡ false
     → ready s.tables v x flags ≡ Ok c → turn ≡ turn_for s x c → IsDue s v x flags (c, turn)
 is_due s v x flags c turn w is turn_is =
     let p = passed s.tables v x flags c is in

@@ -128,7 +128,8 @@ why_refused old new refusal RmFail other h = h
 why_refused old new refusal RollbackOnly other h = h
 
 -- a move after one that changed nothing but room
-pub same_takes : (old mid new : States) (x : Xid) (to : BranchState) → SameStates old mid → TakesTableRow mid new x to
+pub same_takes : (old mid new : States) (x : Xid) (to : BranchState) → SameStates old mid
+    → TakesTableRow mid new x to
     → TakesTableRow old new x to
 same_takes old mid new x to stays takes = record {
   branch = record {

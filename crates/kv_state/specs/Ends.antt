@@ -122,4 +122,5 @@ pub record TakesTurn (old new : KeySight) (x : Xid) (turn : CallRow) : Type 0 wh
   pub tables : TakesTableRow old.tables new.tables x turn.to
   pub keeps : LetsBranchGo old new x turn.to
   pub versions : new.versions ≡ old.versions
-  pub decisions : NotesDecision old.decisions new.decisions x (known_behind turn.entry (decision_in old.decisions x))
+  pub decisions : NotesDecision old.decisions new.decisions x
+      (known_behind turn.entry (decision_in old.decisions x))

@@ -12,8 +12,8 @@ use Rattle.kv_state.specs.Folds.{AreData}
 use Rattle.kv_state.specs.Replays.{AreCountedCommits, HoldPromises, seen_of}
 use Rattle.kv_state.specs.declared.replayed.Replayed.{Replayed}
 
--- what is remembered of a log: what its records have said, what operators decided, and the count and the pairs of the
--- data
+-- what is remembered of a log: what its records have said, what operators decided, and the count and the
+-- pairs of the data
 pub record LogMemory : Type 0 where
   pub seen : SeenLog
   pub decisions : DecisionTable

@@ -51,7 +51,8 @@ AreCountedCommits ls = CountsFrom no_data (map by_xid ls)
 
 -- what the records leave: the data that they make, of the branches in doubt their writes and locks, and what
 -- operators decided
-pub record ReplayLeaves (ls : List LogRecord) (boot : Option ℕ) (left : List (Xid × Bool)) (versions : VersionTable)
+pub record ReplayLeaves (ls : List LogRecord) (boot : Option ℕ) (left : List (Xid × Bool))
+    (versions : VersionTable)
     (writes : WriteTable) (locks : LockTable) (decisions : DecisionTable) : Type 0 where
   pub seen : SeenLog
   pub read : seen_of ls ≡ Some seen

@@ -1,7 +1,7 @@
 //! Floor: XA and the key store.
 //!
-//! A key store that is called by XA, without its log: the tables of calls, what each branch has written, the locks and
-//! the data. And what the records of a log leave of one, and the data as a trim writes them.
+//! A key store that is called by XA, without its log: the tables of calls, what each branch has written, the
+//! locks and the data. And what the records of a log leave of one, and the data as a trim writes them.
 //!
 //! ```text
 //! get, put, delete   a thread's work in the branch that it is active in

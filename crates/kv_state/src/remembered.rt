@@ -17,8 +17,8 @@ use std::alloc::{AllocError, Global};
 use std::marker::Model;
 use xa_branch::Heuristics;
 
-/// What the records of a log say of a key store, to be read on from. Of the data it has what each key is, as pairs whose
-/// keys rise, and not what it was after earlier commits.
+/// What the records of a log say of a key store, to be read on from. Of the data it has what each key is, as
+/// pairs whose keys rise, and not what it was after earlier commits.
 #[derive(Drop)]
 pub struct RememberedData {
     seen: Seen,
@@ -67,9 +67,9 @@ impl RememberedData {
         }
     }
 
-    /// Reads on, in these records of the log, which come after those that were read: what all of them leave, and what
-    /// is to be remembered of them. The data of both are made again: they are not shared. The errors are those of `replay` of
-    /// all these records. With an error what was remembered is gone.
+    /// Reads on, in these records of the log, which come after those that were read: what all of them leave,
+    /// and what is to be remembered of them. The data of both are made again: they are not shared. The errors
+    /// are those of `replay` of all these records. With an error what was remembered is gone.
     pub fn read_on(
         self,
         records: Vec<LogRecord>,

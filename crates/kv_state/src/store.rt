@@ -166,8 +166,8 @@ impl KeyStore {
         }
     }
 
-    /// Each branch holds the keys exclusively that it has written, and has written what a branch can; one that
-    /// is let go holds nothing. At most 1,024 branches are known.
+    /// Each branch holds the keys exclusively that it has written, and has written what a branch can; one
+    /// that is let go holds nothing. At most 1,024 branches are known.
     pub fn is_tidy(&self, xid: &Xid)
         ensures tidy { IsTidy self.now }
         ensures limits { AreWrites (writes_of self.now.writes xid.now) }
@@ -185,7 +185,8 @@ impl KeyStore {
         self.states.branches_are_listed_once();
     }
 
-    /// Each thread that holds associations is listed once, and a branch as suspended for migration only if it is.
+    /// Each thread that holds associations is listed once, and a branch as suspended for migration only if it
+    /// is.
     pub fn associations_are_listed_once(&self)
         ensures { IsAssocList self.now.tables.associations }
     {
@@ -311,8 +312,8 @@ impl KeyStore {
         }
     }
 
-    /// Reads a key for a branch at work, where no other branch's lock is in the way. Memory: nothing changed; it
-    /// comes if one is in the way too.
+    /// Reads a key for a branch at work, where no other branch's lock is in the way. Memory: nothing changed;
+    /// it comes if one is in the way too.
     fn try_read(&mut self, xid: &Xid, key: &[u8]) -> Result<Option<Bytes>, WorkError>
         requires works { (is_let_go (state_of self.old xid.now) ≡ false)
             × (is_spoiled (state_of self.old xid.now) ≡ false) }
@@ -327,8 +328,8 @@ impl KeyStore {
         }
     }
 
-    /// Reads a key for a branch at work, which holds it from then on, at least shared. TooLong, Locked, in this
-    /// order. A refusal changes nothing.
+    /// Reads a key for a branch at work, which holds it from then on, at least shared. TooLong, Locked, in
+    /// this order. A refusal changes nothing.
     fn read_for(&mut self, xid: &Xid, key: &[u8]) -> Result<Option<Bytes>, WorkError>
         requires works { (is_let_go (state_of self.old xid.now) ≡ false)
             × (is_spoiled (state_of self.old xid.now) ≡ false) }
@@ -485,8 +486,8 @@ impl KeyStore {
         self.versions.publish();
     }
 
-    /// Forgets what each key was before the last commit, which is the base of the data from then on. It takes no
-    /// memory, and goes through all keys, unless no commit was made since the base.
+    /// Forgets what each key was before the last commit, which is the base of the data from then on. It takes
+    /// no memory, and goes through all keys, unless no commit was made since the base.
     pub fn rebase(&mut self)
         requires { self.old.versions.is_staged ≡ false }
         ensures { RebasesStore self.old self.new }
@@ -504,8 +505,8 @@ impl KeyStore {
         self.heuristics.reserve()
     }
 
-    /// The branch that is at this place takes its turn: that of a call, or of an operator's decision,
-    /// which leads from S3 to S5. In S0 and S5 it lets its writes, whose place is given, and its locks go. It takes
+    /// The branch that is at this place takes its turn: that of a call, or of an operator's decision, which
+    /// leads from S3 to S5. In S0 and S5 it lets its writes, whose place is given, and its locks go. It takes
     /// no memory.
     pub fn finish(&mut self, xid: &Xid, place: usize, written: Option<usize>, turn: CallRow)
         requires written { ListedAt self.old.writes xid.now written }
@@ -537,8 +538,8 @@ impl KeyStore {
         self.states.work_call(verb, thread, xid, flags)
     }
 
-    /// A new branch begins that no thread is in. False: it is known, or 1,024 are; nothing changed, nor does want
-    /// of memory.
+    /// A new branch begins that no thread is in. False: it is known, or 1,024 are; nothing changed, nor does
+    /// want of memory.
     pub fn begin_idle(&mut self, xid: &Xid) -> Result<bool, AllocError>
         ensures begun { IfOk result (λ begun. MovesTables self.old self.new
             (λ old new. BeginsIdle old new xid.now begun)) }
@@ -547,8 +548,8 @@ impl KeyStore {
         self.states.begin_idle(xid)
     }
 
-    /// Does an operation for a branch at work; a value that was read is let go. TooLong, Locked, TooManyWrites, in
-    /// this order. A refusal changes nothing.
+    /// Does an operation for a branch at work; a value that was read is let go. TooLong, Locked,
+    /// TooManyWrites, in this order. A refusal changes nothing.
     fn work_for(&mut self, xid: &Xid, op: &Op) -> Result<(), WorkError>
         requires works { (is_let_go (state_of self.old xid.now) ≡ false)
             × (is_spoiled (state_of self.old xid.now) ≡ false) }
@@ -576,8 +577,8 @@ impl KeyStore {
         }
     }
 
-    /// An idle branch does an operation, and no thread is in it. False: it was refused, and the branch can only be
-    /// rolled back. Memory: nothing changed.
+    /// An idle branch does an operation, and no thread is in it. False: it was refused, and the branch can
+    /// only be rolled back. Memory: nothing changed.
     pub fn work_idle(&mut self, xid: &Xid, op: &Op) -> Result<bool, AllocError>
         requires { state_of self.old xid.now ≡ BranchState.S2 }
         ensures ok { IfOk result (KeyStoreWorksIdle self.old self.new xid.now op.now) }

@@ -92,12 +92,14 @@ kept_at (e ∷ t) once k = by_test (same_key k e.0) refl (kept_at t once.1 k)
     there : (vs : List Version) → same_key k e.0 ≡ true → list_at (kept_in t) k ≡ []
         → list_at (if has_any vs then (e.0, vs) ∷ kept_in t else kept_in t) k ≡ vs
     there [] is none = none
-    there (v ∷ vs) is none = ap (λ c. unwrap_or (cond c (Some (v ∷ vs)) (lookup (same_key k) (kept_in t))) []) is
+    there (v ∷ vs) is none = ap (λ c. unwrap_or (cond c (Some (v ∷ vs)) (lookup (same_key k) (kept_in t))) [])
+        is
 
     elsewhere : (vs : List Version) → same_key k e.0 ≡ false
         → list_at (if has_any vs then (e.0, vs) ∷ kept_in t else kept_in t) k ≡ list_at (kept_in t) k
     elsewhere [] is = refl
-    elsewhere (v ∷ vs) is = ap (λ c. unwrap_or (cond c (Some (v ∷ vs)) (lookup (same_key k) (kept_in t))) []) is
+    elsewhere (v ∷ vs) is = ap (λ c. unwrap_or (cond c (Some (v ∷ vs)) (lookup (same_key k) (kept_in t))) [])
+        is
 
     by_test : (b : Bool) → same_key k e.0 ≡ b → list_at (kept_in t) k ≡ kept_of (list_at t k)
         → list_at (if has_any (kept_of e.1) then (e.0, kept_of e.1) ∷ kept_in t else kept_in t) k
@@ -163,14 +165,16 @@ module _ {F : Type 0} (T : F → Vec ℕ → Vec Version → Bool → Vec Versio
 
 module _ (vs front : List Version) (x : Version) (is : vs ≡ front ++ x ∷ []) where
   pub kept_some : is_none x.value ≡ false → x ∷ [] ≡ kept_of vs
-  kept_some some = sym (ap kept_of is ∙ kept_end front x ∙ ap (λ b. if b then x ∷ [] else []) (has x.value some))
+  kept_some some = sym (ap kept_of is ∙ kept_end front x
+      ∙ ap (λ b. if b then x ∷ [] else []) (has x.value some))
     where
       has : (o : Option (List ℕ)) → is_none o ≡ false → is_some o ≡ true
       has None h = absurd (cc)
       has (Some v) h = refl
 
   pub kept_none : is_none x.value ≡ true → [] ≡ kept_of vs
-  kept_none none = sym (ap kept_of is ∙ kept_end front x ∙ ap (λ b. if b then x ∷ [] else []) (lacks x.value none))
+  kept_none none = sym (ap kept_of is ∙ kept_end front x
+      ∙ ap (λ b. if b then x ∷ [] else []) (lacks x.value none))
     where
       lacks : (o : Option (List ℕ)) → is_none o ≡ true → is_some o ≡ false
       lacks None h = refl

@@ -21,7 +21,8 @@ unfolding value_by written
 set_none n = record { base = refl; count = refl; unstaged = refl; values = λ k. refl }
 
 pub set_next : (old new : VersionTable) (n : ℕ) (ps : Pairs) (i : ℕ) (p : List ℕ × List ℕ) → i < length ps
-    → p ≡ get_or ps i p → AreSet old n (take i ps) → Sets old new (pair_write p) → AreSet new n (take (i + 1) ps)
+    → p ≡ get_or ps i p → AreSet old n (take i ps) → Sets old new (pair_write p)
+    → AreSet new n (take (i + 1) ps)
 set_next old new n ps i p within at before made = record {
   base = made.base ∙ before.base;
   count = made.count ∙ before.count;
@@ -48,8 +49,10 @@ unfolding written keys_rise
 written_rise [] k b rise = refl
 written_rise (p ∷ ps) k b rise =
     let parts = both (is_behind p.0 ps) (keys_rise ps) rise in
-    ap (λ c. written (map pair_write ps) k (cond c (Some p.1) b)) (bytes_are_same p.0 k ∙ same_other_way p.0 k)
-    ∙ by_test (same_bytes k p.0) refl (not_among p.0 ps parts.0 parts.1) (written_rise ps k (Some p.1) parts.1)
+    ap (λ c. written (map pair_write ps) k (cond c (Some p.1) b))
+    (bytes_are_same p.0 k ∙ same_other_way p.0 k)
+    ∙ by_test (same_bytes k p.0) refl (not_among p.0 ps parts.0 parts.1)
+    (written_rise ps k (Some p.1) parts.1)
     (written_rise ps k b parts.1)
   where
     by_test : (c : Bool) → same_bytes k p.0 ≡ c → found_in ps p.0 ≡ None
@@ -65,7 +68,8 @@ some_or : (o : Option (List ℕ)) → cond (is_some o) o None ≡ o
 some_or None = refl
 some_or (Some v) = refl
 
-pub set_pairs : (s : VersionTable) (n : ℕ) (ps : Pairs) → AreSet s n ps → keys_rise ps ≡ true → ArePairsOf s ps
+pub set_pairs : (s : VersionTable) (n : ℕ) (ps : Pairs) → AreSet s n ps → keys_rise ps ≡ true
+    → ArePairsOf s ps
 set_pairs s n ps are rise = record {
   rise = rise;
   values = λ k. sym (are.values k ∙ written_rise ps k None rise ∙ some_or (found_in ps k));

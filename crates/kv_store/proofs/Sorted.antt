@@ -130,7 +130,8 @@ keys_of_table es ks n k is none = ap (value_by n None) (empty es
     (ap (λ (qs : List (Vec ℕ)). list_any (same_bytes k) (map (λ (q : Vec ℕ). q.items) qs)) (sym is) ∙ none))
   where
     empty : (es : List (Vec ℕ × Vec Version))
-        → list_any (same_bytes k) (map (λ (q : Vec ℕ). q.items) (map (λ (e : Vec ℕ × Vec Version). e.0) es)) ≡ false
+        → list_any (same_bytes k) (map (λ (q : Vec ℕ). q.items) (map (λ (e : Vec ℕ × Vec Version). e.0) es))
+        ≡ false
         → list_at (table_of es) k ≡ []
     empty [] h = refl
     empty (e ∷ es) h = by_test (same_bytes k e.0.items) refl h (empty es)

@@ -156,7 +156,8 @@ taken_back t u v n ws settled some back k = by_test (names_key ws k) refl
     by_test false e = back.others k e ∙ some.adds k ∙ ap (λ vs. list_at t k ++ vs)
         (made_none (n + 1) some.done k (none_done e)) ∙ append_none (list_at t k)
 
-pub kept_same : (base n : ℕ) (t u : Table) → IsVersions base n false t → SameLists t u → IsVersions base n false u
+pub kept_same : (base n : ℕ) (t u : Table) → IsVersions base n false t → SameLists t u
+    → IsVersions base n false u
 kept_same base n t u kept stays = record {
   starts = kept.starts;
   rises = λ k. ap (λ vs. rises_from 0 vs) (stays k) ∙ kept.rises k;
@@ -164,7 +165,8 @@ kept_same base n t u kept stays = record {
   next = λ k. ap (none_above (n + 1)) (stays k) ∙ kept.next k;
 }
 
-pub kept_staged : (base n : ℕ) (t u : Table) (ws : List Write) → IsVersions base n false t → Adds t u (n + 1) ws
+pub kept_staged : (base n : ℕ) (t u : Table) (ws : List Write) → IsVersions base n false t
+    → Adds t u (n + 1) ws
     → IsVersions base n true u
 kept_staged base n t u ws kept adds = record {
   starts = kept.starts;

@@ -57,8 +57,8 @@ pub(crate) fn keep_up_to(versions: &mut Vec<Version>, count: u64)
     versions.retain(|version| version.is_up_to(count));
 }
 
-/// Drops each version but the last one, and that one too if it has no value; tells whether it stays. It takes no
-/// memory, and the list keeps its own.
+/// Drops each version but the last one, and that one too if it has no value; tells whether it stays. It takes
+/// no memory, and the list keeps its own.
 pub(crate) fn keep_last(versions: &mut Vec<Version>) -> bool
     ensures kept { versions.new.items ≡ kept_of versions.old.items }
     ensures stays { result ≡ has_any (kept_of versions.old.items) }

@@ -187,8 +187,8 @@ impl Versions {
         self.is_staged = false;
     }
 
-    /// Forgets what each key was before the last commit, which is the base from then on. A key keeps what it is, and
-    /// one without a value goes. It takes no memory, and goes through all keys.
+    /// Forgets what each key was before the last commit, which is the base from then on. A key keeps what it
+    /// is, and one without a value goes. It takes no memory, and goes through all keys.
     pub fn rebase(&mut self)
         requires unstaged { self.old.is_staged ≡ false }
         ensures rebases { Rebases self.old self.new }

@@ -15,7 +15,8 @@ use Rattle.kv_state.proofs.Lawful.{lawful_of}
 -- the pairs of what records leave are those that the records make
 pub pairs_are : (ls : List LogRecord) (boot : Option ℕ) (left : List (Xid × Bool)) (versions : VersionTable)
     (writes : WriteTable) (locks : LockTable) (decisions : DecisionTable) (ps : List (List ℕ × List ℕ))
-    → ReplayLeaves ls boot left versions writes locks decisions → ArePairsOf versions ps → ps ≡ (data_of ls).pairs
+    → ReplayLeaves ls boot left versions writes locks decisions → ArePairsOf versions ps
+    → ps ≡ (data_of ls).pairs
 pairs_are ls boot left versions writes locks decisions ps h are =
     same_pairs ps (data_of ls).pairs are.rise (lawful_of ls h.seen h.read).tied.rise
     (λ k. are.values k ∙ h.stored.values k)

@@ -12,13 +12,15 @@ use Rattle.run_notes.specs.Words.{bytes_text}
 
 -- the line of a key and its value at a process
 abbrev pub pair_line : ProcessId → List ℕ × List ℕ → List ℕ
-pair_line q p = codes "data " ++ decimal q.0 ++ codes " " ++ bytes_text p.0 ++ codes " " ++ bytes_text p.1 ++ codes "\n"
+pair_line q p = codes "data " ++ decimal q.0 ++ codes " " ++ bytes_text p.0 ++ codes " " ++ bytes_text
+    p.1 ++ codes "\n"
 
 -- the lines of the keys and values of a process
 abbrev pub pairs_text : ProcessId → List (List ℕ × List ℕ) → List ℕ
 pairs_text q ps = flat_map (pair_line q) ps
 
--- the lines of a process of this kind whose log has these records: a manager's keys and values, and nothing of a coordinator
+-- the lines of a process of this kind whose log has these records: a manager's keys and values, and nothing
+-- of a coordinator
 abbrev pub kind_lines : Kind → ProcessId → List LogRecord → List ℕ
 kind_lines Coordinator q ls = []
 kind_lines Manager q ls = pairs_text q (data_of ls).pairs

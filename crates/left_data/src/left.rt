@@ -51,8 +51,8 @@ fn push_all(
     Ok(())
 }
 
-/// A line `data P KEY VALUE` for each key of each manager, in the order of the tree, keys rising, as the tree stands now.
-/// Exhausted: a manager's commits count 2^63.
+/// A line `data P KEY VALUE` for each key of each manager, in the order of the tree, keys rising, as the tree
+/// stands now. Exhausted: a manager's commits count 2^63.
 pub fn data_left(alloc: Global, world: &World<MemoryStore>) -> Result<Vec<u8>, Failure>
     ensures { IfOk result (λ text. text.items ≡ data_lines (state world.now).tree
         (logs_at (state world.now) (state world.now).tree)) }

@@ -16,8 +16,8 @@ fn pairs_of(replayed: &Replayed) -> Result<Vec<(Bytes, Bytes)>, AllocError>
     replayed.data.pairs()
 }
 
-/// The keys and values that these records make, keys rising. Exhausted: the records are no key store's, or count 2^63
-/// commits, which no run leaves.
+/// The keys and values that these records make, keys rising. Exhausted: the records are no key store's, or
+/// count 2^63 commits, which no run leaves.
 #[tactic(auto, using(crate::proofs::DataPairs::pairs_are))]
 pub(crate) fn pairs_in(
     alloc: Global,

@@ -33,9 +33,9 @@ fn data_of(alloc: Global, run: Run, events: &[Event]) -> Result<Vec<u8>, Failure
     told
 }
 
-/// The data that a tree script leaves its managers, as `data_left` has it: after its last event, or after those before
-/// the refused one. None: the script is refused, or a log that it begins with is damaged. An error says that memory was
-/// refused, or why an event could not be made.
+/// The data that a tree script leaves its managers, as `data_left` has it: after its last event, or after
+/// those before the refused one. None: the script is refused, or a log that it begins with is damaged. An
+/// error says that memory was refused, or why an event could not be made.
 pub fn data_text(alloc: Global, input: &[u8]) -> Result<Option<Vec<u8>>, Failure>
     ensures data { IfOk result (λ text. IfSome text (λ text. LeavesData input.now text.items)) }
     ensures none { IfOk result (λ text. IfNone text (HasNoData input.now)) }

@@ -18,7 +18,8 @@ use Rattle.linked_node.specs.declared.kept.KeptLife.TheVariants.{Serves}
 
 -- the tree that a text is
 abbrev pub IsTreeOf : List ℕ → List TreeProcess → Type 0
-IsTreeOf text tree = (rule : ℕ) × (lines : List (List ℕ)) × IsTreeFront (text ++ codes "\n---\n") tree rule lines
+IsTreeOf text tree = (rule : ℕ) × (lines : List (List ℕ))
+    × IsTreeFront (text ++ codes "\n---\n") tree rule lines
 
 -- the bytes of the log that a file holds; a new one holds none
 abbrev pub FoundIn : Bool → List ℕ → List ℕ → Type 0
@@ -36,7 +37,8 @@ pub record Boxes (node : Serving (FileStore CalledFile)) (answer : List ℕ) (ke
 
 -- a node that serves, whose answer is what it did as it opened
 abbrev pub ServesAfter : Serving (FileStore CalledFile) → Reaction → Kept → KeptLife → Type 0
-ServesAfter first opening kept (Serves node) = Shows (state_of first) (state_of node.value) opening kept.answer.items
+ServesAfter first opening kept (Serves node) = Shows (state_of first) (state_of node.value) opening
+    kept.answer.items
 ServesAfter first opening kept _ = ⊥
 
 -- a node of a process of the tree that the text is, over the log in the file, that was just started
@@ -61,6 +63,7 @@ is_new_by how = how == 1
 -- a node was opened, and its answer is told or waits; or why not, and the handle is as it was
 pub data OpensAt (text : List ℕ) (process : ℕ) (file : List ℕ) (how : ℕ) (old new : Option Kept)
     (status : ℕ) : Type 0 where
-  opens : (kept : Kept) → new ≡ Some kept → IsAnswerNumber status → Opened text process file (is_new_by how) kept
+  opens : (kept : Kept) → new ≡ Some kept → IsAnswerNumber status
+      → Opened text process file (is_new_by how) kept
       → OpensAt text process file how old new status
   refuses : IsRefusalNumber status → new ≡ old → OpensAt text process file how old new status

@@ -16,8 +16,8 @@ use Rattle.linked_node.specs.declared.kept.KeptLife.{KeptLife}
 use Rattle.linked_node.specs.declared.kept.KeptLife.TheVariants.{Serves, Failed, Ended}
 use Rattle.linked_node.specs.Numbers.{IsAnswerNumber, failure_number}
 
--- why a step failed: the calls of the file are asked for in it and made after it, and what is written goes to memory, so
--- what fails of either is memory
+-- why a step failed: the calls of the file are asked for in it and made after it, and what is written goes to
+-- memory, so what fails of either is memory
 abbrev pub told_of : NodeFailure → NodeFailure
 told_of failure.Device = failure.Memory
 told_of failure.Read = failure.Read
@@ -59,14 +59,16 @@ HasNotEnded (Serves old) new number = (why : NodeFailure) × (new ≡ Failed why
 HasNotEnded (Failed why) new number = (new ≡ Failed why) × (number ≡ failure_number why)
 HasNotEnded Ended new number = (new ≡ Ended) × (number ≡ 25)
 
--- A line was answered, or it asked the node to end, and it has; or there is no answer. Or an earlier answer waits for
--- calls of the file, and nothing was done.
+-- A line was answered, or it asked the node to end, and it has; or there is no answer. Or an earlier answer
+-- waits for calls of the file, and nothing was done.
 pub data Turned (line : List ℕ) (old new : Kept) (status : ℕ) : Type 0 where
-  answers : same line end_word ≡ false → IsAnswerNumber status → Answered line old.life new.life new.answer.items
+  answers : same line end_word ≡ false → IsAnswerNumber status
+      → Answered line old.life new.life new.answer.items
       → Turned line old new status
   refuses : same line end_word ≡ false → Unanswered line old.life new.life status → new.answer.items ≡ []
       → Turned line old new status
-  ends : same line end_word ≡ true → IsAnswerNumber status → HasEnded old.life new.life → new.answer.items ≡ ok_text
+  ends : same line end_word ≡ true → IsAnswerNumber status → HasEnded old.life new.life
+      → new.answer.items ≡ ok_text
       → Turned line old new status
   fails : same line end_word ≡ true → HasNotEnded old.life new.life status → new.answer.items ≡ []
       → Turned line old new status
@@ -86,8 +88,8 @@ pub record Shown (status : ℕ) (text old new : List ℕ) (size : ℕ) : Type 0 
   pub told : status ≡ 0 → (size ≡ length text) × Fills text old new
   pub untold : status ≢ 0 → (size ≡ 0) × (new ≡ old)
 
--- The call of the file that was to be made next was made; or it failed, and the node no longer answers a line. Or no
--- call was asked for.
+-- The call of the file that was to be made next was made; or it failed, and the node no longer answers a
+-- line. Or no call was asked for.
 pub data Passed (made : ℕ) (old new : Kept) (status : ℕ) : Type 0 where
   none : status ≡ 29 → new ≡ old → Passed made old new status
   goes_on : made ≢ 0 → status ≡ 0 → new ≡ old → Passed made old new status

@@ -50,8 +50,8 @@ impl Drop for Kept {
     }
 }
 
-/// Why a step failed. No call of the file is made within a step, and what is written goes to memory: so what failed of
-/// either is memory.
+/// Why a step failed. No call of the file is made within a step, and what is written goes to memory: so what
+/// failed of either is memory.
 fn told_of(failure: NodeFailure) -> NodeFailure
     ensures { result ≡ told_of failure }
 {
@@ -138,7 +138,8 @@ fn end_node(alloc: Global, node: FileNode) -> Result<Vec<u8>, NodeFailure>
     }
 }
 
-// For the proof: one function drops a node, so that what its drop means is proved once, and not at each way out.
+// For the proof: one function drops a node, so that what its drop means is proved once, and not at each way
+// out.
 /// Drops a node.
 fn let_go(_node: FileNode) {}
 
@@ -172,7 +173,8 @@ pub fn copy_into(text: &[u8], room: &mut [u8]) -> usize
     size
 }
 
-// For the proof: who calls this drops no node, so that what the drop of one means is proved in this crate alone.
+// For the proof: who calls this drops no node, so that what the drop of one means is proved in this crate
+// alone.
 /// Releases a node with its memory.
 pub fn release(_kept: Box<Kept>) {}
 
@@ -242,8 +244,8 @@ impl Kept {
         }
     }
 
-    /// Shows the last answer, which is told by this number: 0, and it is copied to the front of a room, if it fits.
-    /// Gives its size.
+    /// Shows the last answer, which is told by this number: 0, and it is copied to the front of a room, if it
+    /// fits. Gives its size.
     pub fn show(&self, status: u32, room: &mut [u8]) -> usize
         ensures { Shown status self.now.answer.items room.old room.new result }
     {
@@ -264,8 +266,8 @@ impl Kept {
         }
     }
 
-    /// The call of the file that was to be made next was made (is_made is not 0), or it failed: then the node no longer
-    /// answers a line.
+    /// The call of the file that was to be made next was made (is_made is not 0), or it failed: then the node
+    /// no longer answers a line.
     pub fn pass(&mut self, is_made: u32) -> u32
         ensures { Passed is_made self.old self.new result }
     {

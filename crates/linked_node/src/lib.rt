@@ -1,6 +1,7 @@
 //! Floor: engines and program.
 //!
-//! A node that a program in another language keeps: what each call makes of it, without the handle (`rstar_c`).
+//! A node that a program in another language keeps: what each call makes of it, without the handle
+//! (`rstar_c`).
 #![tactic(auto)]
 
 mod kept;

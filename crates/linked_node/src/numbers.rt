@@ -79,8 +79,8 @@ pub fn file_number(error: FileOpenError) -> u32 {
     }
 }
 
-/// The number of why no node was started. A device that fails in an opening is memory that was refused: no call of it
-/// is made before the opening is told.
+/// The number of why no node was started. A device that fails in an opening is memory that was refused: no
+/// call of it is made before the opening is told.
 pub fn start_number(error: StartError) -> u32 {
     match error {
         StartError::Stranger => 10,

@@ -12,14 +12,17 @@ use Rattle.log_file.specs.declared.store.FileStore.{FileStore}
 use Rattle.log_file.specs.Stores.{WritesBlock, file_bytes, file_forced}
 use Rattle.log_file.specs.Disks.{BlocksStandAfterThem, ForcesAreOnDisk, KeepsWhatWasForced, OnDisk, PutsAreOnDisk, unforced}
 
-pub puts_on_disk : {F : Type 0} (replaces : F → F → List ℕ → Type 0) (new : FileStore F) → PutsAreOnDisk replaces new
+pub puts_on_disk : {F : Type 0} (replaces : F → F → List ℕ → Type 0) (new : FileStore F)
+    → PutsAreOnDisk replaces new
 puts_on_disk replaces new old text put is all = record {
   fresh = put.fresh;
   end = put.end;
-  safe = append-nil text ∙ sym is ∙ sym (take_all new.forced new.bytes.items (omega (arith, all, ap length is)));
+  safe = append-nil text ∙ sym is ∙ sym (take_all new.forced new.bytes.items
+      (omega (arith, all, ap length is)));
 }
 
-pub forces_on_disk : {F : Type 0} (writes : F → F → ℕ → List ℕ → Type 0) (syncs : F → F → Type 0) (new : FileStore F)
+pub forces_on_disk : {F : Type 0} (writes : F → F → ℕ → List ℕ → Type 0) (syncs : F → F → Type 0)
+    (new : FileStore F)
     → ForcesAreOnDisk writes syncs new
 forces_on_disk writes syncs new old first others within there adds forces = by_case adds.by
   where
@@ -50,7 +53,8 @@ forces_on_disk writes syncs new old first others within there adds forces = by_c
     )
 
 -- where the blocks of a file end
-blocks_size : (n place : ℕ) (ps : List (List ℕ)) → behind_all place ps ≡ place + length (blocks_text n place ps)
+blocks_size : (n place : ℕ) (ps : List (List ℕ)) → behind_all place ps
+    ≡ place + length (blocks_text n place ps)
 blocks_size n place [] = omega arith
 blocks_size n place (p ∷ ps) = omega (
   arith,
@@ -77,7 +81,8 @@ files_keep s first others bytes h few within there left =
     let found = kept s.number first others (unforced s) bytes h few left in
     (found.0, λ m held k is. by_case held (found.1 m held k is))
   where
-    by_case : (held : List ℕ) → (held ≡ concat (first ∷ others)) ⊎ (held ≡ concat (first ∷ others) ++ unforced s)
+    by_case : (held : List ℕ) → (held ≡ concat (first ∷ others))
+        ⊎ (held ≡ concat (first ∷ others) ++ unforced s)
         → (k : ℕ) × (file_forced s ≤ k) × (held ≡ take k (file_bytes s))
     by_case held (inl e) = (s.forced, omega arith, e ∙ there.safe)
     by_case held (inr e) = (

@@ -13,7 +13,8 @@ module _ {F : Type 0} where
   abbrev pub unforced : FileStore F → List ℕ
   unforced s = drop s.forced s.bytes.items
 
-  -- These blocks of the store's file are on the disk. They hold what is forced, and the next one begins after them.
+  -- These blocks of the store's file are on the disk. They hold what is forced, and the next one begins after
+  -- them.
   pub record OnDisk (s : FileStore F) (first : List ℕ) (others : List (List ℕ)) : Type 0 where
     pub fresh : s.stale ≡ false
     pub end : s.end ≡ behind_all 48 (first ∷ others)
@@ -21,10 +22,12 @@ module _ {F : Type 0} where
 
   -- A file that took another's place with all that is in this store is on the disk.
   abbrev pub PutsAreOnDisk : (F → F → List ℕ → Type 0) → FileStore F → Type 0
-  PutsAreOnDisk replaces new = (old : F) (text : List ℕ) → PutsFile replaces old new text → new.bytes.items ≡ text
+  PutsAreOnDisk replaces new = (old : F) (text : List ℕ) → PutsFile replaces old new text
+      → new.bytes.items ≡ text
       → new.forced ≡ length text → OnDisk new text []
 
-  -- A force of another store that comes to this one leaves the blocks that were on the disk, and all that stands is there.
+  -- A force of another store that comes to this one leaves the blocks that were on the disk, and all that
+  -- stands is there.
   abbrev pub ForcesAreOnDisk : (F → F → ℕ → List ℕ → Type 0) → (F → F → Type 0) → FileStore F → Type 0
   ForcesAreOnDisk writes syncs new = (old : FileStore F) (first : List ℕ) (others : List (List ℕ))
       → old.forced ≤ length old.bytes.items → OnDisk old first others → AddsBlock writes syncs old new
@@ -38,8 +41,8 @@ module _ {F : Type 0} where
       × (file_text s.number (first ∷ others) ++ block_text s.number s.end (unforced s)
       ≡ file_text s.number (first ∷ (others ++ unforced s ∷ [])))
 
-  -- A file keeps what was forced: whatever a crash leaves of it, within a force or not, it is not damaged, and it holds
-  -- a front of what stood in the store, with all that was forced.
+  -- A file keeps what was forced: whatever a crash leaves of it, within a force or not, it is not damaged,
+  -- and it holds a front of what stood in the store, with all that was forced.
   abbrev pub KeepsWhatWasForced : FileStore F → Type 0
   KeepsWhatWasForced s = (first : List ℕ) (others : List (List ℕ)) (bytes : List ℕ) → s.number < 2 ^ 64
       → length (file_text s.number (first ∷ (others ++ unforced s ∷ []))) < 2 ^ 64

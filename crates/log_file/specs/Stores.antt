@@ -56,8 +56,8 @@ module _ {F : Type 0} where
     pub end : new.end ≡ behind 48 text
     pub fresh : new.stale ≡ false
 
-  -- what a force did: what was not forced is in one block more; or, where the file may have held other bytes than
-  -- the store, a new file of all that stands took its place
+  -- what a force did: what was not forced is in one block more; or, where the file may have held other bytes
+  -- than the store, a new file of all that stands took its place
   abbrev pub ForcesFile : (F → F → ℕ → List ℕ → Type 0) → (F → F → Type 0) → (F → F → List ℕ → Type 0)
       → FileStore F → FileStore F → Type 0
   ForcesFile writes syncs replaces old new =

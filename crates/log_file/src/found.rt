@@ -53,8 +53,8 @@ impl From<io::Error> for FileOpenError {
 }
 
 /// What is in the file with a log's name: its number, and the bytes of the log, which are none if no record
-/// came to be forced. None: there is no such file. Missing, Damaged: these bytes are no log's. It reads them alone:
-/// whose log it is, and of which format, is for the log to tell.
+/// came to be forced. None: there is no such file. Missing, Damaged: these bytes are no log's. It reads them
+/// alone: whose log it is, and of which format, is for the log to tell.
 pub fn found_in(alloc: Global, held: Option<&[u8]>) -> Result<FileText, FileOpenError>
     ensures ok { IfOk result (IsFound (text_of held.entry)) }
     ensures err { IfErr result (IsRefused (text_of held.entry)) }

@@ -16,8 +16,8 @@ const TRIES: u32 = 1_000;
 /// At most this number of bytes are put together, so that one call writes them.
 const TOGETHER: usize = 4_096;
 
-/// An open log file: its name and its folder, the name under which a new one is written, and the file that has the
-/// name, which is locked for as long as it is open.
+/// An open log file: its name and its folder, the name under which a new one is written, and the file that
+/// has the name, which is locked for as long as it is open.
 pub struct HostFile {
     rt: HostRuntime,
     /// None, until a first file was written.
@@ -98,8 +98,8 @@ fn write_both(mut file: &File, head: &[u8], more: &[u8]) -> io::Result<()> {
     file.write_all(&both[..size])
 }
 
-/// Removes the file that a process which ended left under the name of a new one. What is no file stays, and so does
-/// one that a process has locked.
+/// Removes the file that a process which ended left under the name of a new one. What is no file stays, and
+/// so does one that a process has locked.
 fn clear(rt: &HostRuntime, path: &str) -> io::Result<()> {
     match fs::symlink_metadata(rt, path) {
         Ok(found) if found.is_file() => {}

@@ -1,4 +1,5 @@
-//! Opening the file of a log: it is looked at, and written again only once it is known that its process goes on over it.
+//! Opening the file of a log: it is looked at, and written again only once it is known that its process goes
+//! on over it.
 
 ghost use Rattle.std.specs.Prelude.{◌≡◌, IfOk, [], length};
 ghost use Rattle.log_file.specs.Seen.{seen_bytes};
@@ -86,8 +87,9 @@ impl SeenLog {
         &self.file
     }
 
-    /// A store over the file, in which these bytes are in place of those that were found. They are written again
-    /// first, under the name: what an earlier process could not sync reads as if it were there. Err: they were not.
+    /// A store over the file, in which these bytes are in place of those that were found. They are written
+    /// again first, under the name: what an earlier process could not sync reads as if it were there. Err:
+    /// they were not.
     pub fn settle_as(self, bytes: Vec<u8>) -> Result<FileStore<HostFile>, FileOpenError>
         ensures text { IfOk result (λ store. file_bytes store ≡ bytes.items) }
         ensures forced { IfOk result (λ store. file_forced store ≡ length bytes.items) }
@@ -177,8 +179,8 @@ pub fn create(
     look_new(rt, alloc, path)?.settle()
 }
 
-/// The bytes of the log with this name, as they are: no lock is asked for and nothing is written, so its process may
-/// be running. A block that is being written is passed over.
+/// The bytes of the log with this name, as they are: no lock is asked for and nothing is written, so its
+/// process may be running. A block that is being written is passed over.
 pub fn read(rt: &HostRuntime, alloc: Global, path: &str) -> Result<Vec<u8>, FileOpenError> {
     if let Err(error) = fs::metadata(rt, path) {
         return if error.kind() == ErrorKind::NotFound {

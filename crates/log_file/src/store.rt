@@ -13,8 +13,8 @@ use std::alloc::AllocError;
 use std::io;
 
 /// A store in a file. What one force covers is written as one block, then: until it is forced nothing of it
-/// is in the file. After a failure the file may hold other bytes than the store: the next force, or `replace`,
-/// writes all that is to stand to a new file, which takes its place.
+/// is in the file. After a failure the file may hold other bytes than the store: the next force, or
+/// `replace`, writes all that is to stand to a new file, which takes its place.
 pub struct FileStore<F> {
     file: F,
     /// The number of the file.
@@ -70,8 +70,8 @@ impl<F: LogFile> FileStore<F> {
     };
 
     /// A store over a file which held these bytes under this number: they are written again, since what was
-    /// read may not be on the disk. Err: the device failed under it, or the numbers of files are used up. It takes no
-    /// memory.
+    /// read may not be on the disk. Err: the device failed under it, or the numbers of files are used up. It
+    /// takes no memory.
     pub fn settle(mut file: F, number: u64, bytes: Vec<u8>) -> io::Result<Self>
         ensures text { IfOk result (λ s. file_bytes s ≡ bytes.items) }
         ensures forced { IfOk result (λ s. file_forced s ≡ length bytes.items) }
@@ -167,8 +167,8 @@ impl<F: LogFile> FileStore<F> {
     }
 }
 
-/// A file of these bytes takes the place of the file of this number. Gives its number, and where its next block
-/// begins; None, if the device failed.
+/// A file of these bytes takes the place of the file of this number. Gives its number, and where its next
+/// block begins; None, if the device failed.
 fn put<F: LogFile>(file: &mut F, number: u64, new: &[u8]) -> Option<(u64, u64)>
     ensures put { IfSome result (λ at. F.replaces file.old file.new (file_text at.0 (new.now ∷ []))) }
     ensures end { IfSome result (λ at. at.1 ≡ behind 48 new.now) }
@@ -182,9 +182,9 @@ fn put<F: LogFile>(file: &mut F, number: u64, new: &[u8]) -> Option<(u64, u64)>
 impl<F: LogFile> FileStore<F> {
     ghost use Rattle.log_file.specs.Stores.{ClosesFile, file_bytes, file_failures, file_forced};
 
-    /// Forces what stands, and then writes an empty block after the last one and syncs the file. So each block
-    /// before it is told, if it is broken later. It is for an end in order: the file opens as it would without.
-    /// Device: the device failed, and what stands is forced or not. It takes no memory.
+    /// Forces what stands, and then writes an empty block after the last one and syncs the file. So each
+    /// block before it is told, if it is broken later. It is for an end in order: the file opens as it would
+    /// without. Device: the device failed, and what stands is forced or not. It takes no memory.
     pub fn close(&mut self) -> Result<(), StoreError>
         ensures ok { OnOk result (Forces file_bytes file_forced file_failures self.old self.new) }
         ensures err { IfErr result (λ e. (e ≡ StoreError.Device)

@@ -5,8 +5,8 @@ use std::cell::Cell;
 use std::io;
 use std::rc::Rc;
 
-/// The error of the last call of the system that failed under a file. A store tells that its device failed; who
-/// let go of the store, or gave it away, has the reason here.
+/// The error of the last call of the system that failed under a file. A store tells that its device failed;
+/// who let go of the store, or gave it away, has the reason here.
 #[derive(Drop)]
 pub struct Trouble {
     last: Rc<Cell<Option<io::Error>>, Global>,

@@ -12,8 +12,8 @@ use protocol::{ProcessId, Record};
 use std::alloc::{AllocError, Global};
 use trace_lines::{kind_word, push, push_number};
 
-/// Adds what a sound log holds, as it was found: a line `log P`, a line for each record with the place of its first
-/// byte, and `torn N` where the log has a torn tail.
+/// Adds what a sound log holds, as it was found: a line `log P`, a line for each record with the place of its
+/// first byte, and `torn N` where the log has a torn tail.
 pub fn push_held(
     alloc: Global,
     out: &mut Vec<u8>,
@@ -36,7 +36,8 @@ pub fn push_held(
     }
 }
 
-/// Adds a line `log P` and a line for each record of these bytes, up to the first frame that is none of this form.
+/// Adds a line `log P` and a line for each record of these bytes, up to the first frame that is none of this
+/// form.
 pub fn push_lines(
     alloc: Global,
     out: &mut Vec<u8>,

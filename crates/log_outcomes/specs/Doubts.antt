@@ -1,4 +1,5 @@
--- The cases that are in doubt by the records of a log, and those that an operator decided and that wait to be told.
+-- The cases that are in doubt by the records of a log, and those that an operator decided and that wait to be
+-- told.
 use Rattle.std.specs.Prelude.{not, Some, None, List, [], ◌∷◌, ◌++◌, filter, fold}
 use Rattle.protocol.specs.declared.names.Case.{Case}
 use Rattle.protocol.specs.declared.names.Outcome.{Outcome}
@@ -59,6 +60,7 @@ decisions_behind ds (Some s) = decisions_by ds s.0 s.1
 abbrev pub decisions_after : List LoggedDecision → LogRecord → List LoggedDecision
 decisions_after ds l = decisions_behind ds (saying_of l.entry)
 
--- what operators decided by these records of cases that were not told their outcome, in the order of the decisions
+-- what operators decided by these records of cases that were not told their outcome, in the order of the
+-- decisions
 abbrev pub decisions_in : List LogRecord → List LoggedDecision
 decisions_in ls = fold decisions_after [] ls

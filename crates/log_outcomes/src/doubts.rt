@@ -52,8 +52,8 @@ fn note(cases: &mut Vec<Case>, kept: &LogRecord) -> Result<(), AllocError>
     }
 }
 
-/// The cases that are in doubt by these records: they promised, no operator decided them, and they were not told
-/// their outcome. In the order of their promises.
+/// The cases that are in doubt by these records: they promised, no operator decided them, and they were not
+/// told their outcome. In the order of their promises.
 pub fn doubts_of(alloc: Global, records: &[LogRecord]) -> Result<Vec<Case>, AllocError>
     ensures { IfOk result (λ cases. cases.items ≡ doubts_in records.now) }
 {

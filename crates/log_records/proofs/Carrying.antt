@@ -39,7 +39,8 @@ all_fit k (l ∷ ls) h = (sound_fits k l h.0, all_fit k ls h.1)
 
 -- What reads as records reads as these in any form in which they stand.
 
-whole_first : (l : LogRecord) (r : LogReading) (ls : List LogRecord) (torn : ℕ) → with_first l r ≡ Whole ls torn
+whole_first : (l : LogRecord) (r : LogReading) (ls : List LogRecord) (torn : ℕ)
+    → with_first l r ≡ Whole ls torn
     → (ms : List LogRecord) × (r ≡ Whole ms torn) × (ls ≡ l ∷ ms)
 whole_first l (Whole ms n) ls torn e = (ms, cc, cc)
 whole_first l (Damaged place) ls torn e = absurd (cc)
@@ -56,32 +57,41 @@ again_none q s at = torn_read q at s [] (nothing q.format)
     nothing First = refl
     nothing Second = refl
 
-again_more : (q : LogForm) (s t : SeenLog) (l : LogRecord) (ls : List LogRecord) → CanStandInForm q l → after s l ≡ Some t
+again_more : (q : LogForm) (s t : SeenLog) (l : LogRecord) (ls : List LogRecord) → CanStandInForm q l
+    → after s l ≡ Some t
     → Again q t ls → Again q s (l ∷ ls)
 unfolding records_text record_text
 again_more q s t l ls stands follows more at =
     step_read q at s (record_text q l ++ records_text q ls) _
-    (own_frame q.format (kind_byte l.entry) (payload_text q l.parent l.entry) (records_text q ls) stands.fits.short)
+    (own_frame q.format (kind_byte l.entry) (payload_text q l.parent l.entry) (records_text q ls)
+    stands.fits.short)
     ∙ ap (λ o. record_by at s o (λ u. read_frames q
-    (at + suc (size_bytes q.format) + length (payload_text q l.parent l.entry)) u 0 (records_text q ls))) stands.again
+    (at + suc (size_bytes q.format) + length (payload_text q l.parent l.entry)) u 0 (records_text q ls)))
+    stands.again
     ∙ ap (λ o. seen_by at l o (λ u. read_frames q
-    (at + suc (size_bytes q.format) + length (payload_text q l.parent l.entry)) u 0 (records_text q ls))) follows
+    (at + suc (size_bytes q.format) + length (payload_text q l.parent l.entry)) u 0 (records_text q ls)))
+    follows
     ∙ ap (with_first l) (more (at + suc (size_bytes q.format) + length (payload_text q l.parent l.entry)))
 
 -- the records that are read of these bytes are read again
 abbrev ReadAgain : LogForm → LogForm → List ℕ → Type 0
-ReadAgain p q xs = (place : ℕ) (s : SeenLog) (ls : List LogRecord) (torn : ℕ) → read_frames p place s 0 xs ≡ Whole ls torn
+ReadAgain p q xs = (place : ℕ) (s : SeenLog) (ls : List LogRecord) (torn : ℕ)
+    → read_frames p place s 0 xs ≡ Whole ls torn
     → AllByRecursion (IsSound q.kind) ls → Again q s ls
 
 module _ (p q : LogForm) where
-  by_order : (place : ℕ) (s : SeenLog) (c : Cut) (l : LogRecord) (ls : List LogRecord) (torn : ℕ) → ReadAgain p q c.2
+  by_order : (place : ℕ) (s : SeenLog) (c : Cut) (l : LogRecord) (ls : List LogRecord) (torn : ℕ)
+      → ReadAgain p q c.2
       → (o : Option SeenLog) → after s l ≡ o
-      → seen_by place l o (λ t. read_frames p (place + suc (size_bytes p.format) + length c.1) t 0 c.2) ≡ Whole ls torn
+      → seen_by place l o (λ t. read_frames p (place + suc (size_bytes p.format) + length c.1) t 0 c.2)
+      ≡ Whole ls torn
       → AllByRecursion (IsSound q.kind) ls → Again q s ls
   by_order place s c l ls torn more None follows e sound = absurd (cc)
   by_order place s c l ls torn more (Some t) follows e sound =
-      let w = whole_first l (read_frames p (place + suc (size_bytes p.format) + length c.1) t 0 c.2) ls torn e in
-      let parts : AllByRecursion (IsSound q.kind) (l ∷ w.0) = subst (AllByRecursion (IsSound q.kind)) w.2 sound in
+      let w = whole_first l (read_frames p (place + suc (size_bytes p.format) + length c.1) t 0 c.2) ls torn e
+      in
+      let parts : AllByRecursion (IsSound q.kind) (l ∷ w.0) =
+      subst (AllByRecursion (IsSound q.kind)) w.2 sound in
       subst (Again q s) (sym w.2)
       (again_more q s t l w.0 (record {
         fits = records_fit_frames q l parts.0;
@@ -90,10 +100,12 @@ module _ (p q : LogForm) where
 
   by_record : (place : ℕ) (s : SeenLog) (c : Cut) (ls : List LogRecord) (torn : ℕ) → ReadAgain p q c.2
       → (o : Option LogRecord)
-      → record_by place s o (λ t. read_frames p (place + suc (size_bytes p.format) + length c.1) t 0 c.2) ≡ Whole ls torn
+      → record_by place s o (λ t. read_frames p (place + suc (size_bytes p.format) + length c.1) t 0 c.2)
+      ≡ Whole ls torn
       → AllByRecursion (IsSound q.kind) ls → Again q s ls
   by_record place s c ls torn more None e sound = absurd (cc)
-  by_record place s c ls torn more (Some l) e sound = by_order place s c l ls torn more (after s l) refl e sound
+  by_record place s c ls torn more (Some l) e sound =
+      by_order place s c l ls torn more (after s l) refl e sound
 
   by_frame : (xs : List ℕ) (o : Option Cut) → first_frame p.format xs ≡ o
       → ((c : Cut) → length c.2 < length xs → ReadAgain p q c.2) → ReadAgain p q xs
@@ -118,22 +130,26 @@ module _ (p q : LogForm) where
 -- What is read of bytes are the records in them.
 
 abbrev AreIn : LogForm → List ℕ → Type 0
-AreIn p xs = (place : ℕ) (s : SeenLog) (ls : List LogRecord) (torn : ℕ) → read_frames p place s 0 xs ≡ Whole ls torn
+AreIn p xs = (place : ℕ) (s : SeenLog) (ls : List LogRecord) (torn : ℕ)
+    → read_frames p place s 0 xs ≡ Whole ls torn
     → records_in p 0 xs ≡ ls
 
 module _ (p : LogForm) where
   in_order : (place : ℕ) (c : Cut) (l : LogRecord) (ls : List LogRecord) (torn : ℕ) → AreIn p c.2
       → (o : Option SeenLog)
-      → seen_by place l o (λ t. read_frames p (place + suc (size_bytes p.format) + length c.1) t 0 c.2) ≡ Whole ls torn
+      → seen_by place l o (λ t. read_frames p (place + suc (size_bytes p.format) + length c.1) t 0 c.2)
+      ≡ Whole ls torn
       → l ∷ records_in p 0 c.2 ≡ ls
   in_order place c l ls torn more None e = absurd (cc)
   in_order place c l ls torn more (Some t) e =
-      let w = whole_first l (read_frames p (place + suc (size_bytes p.format) + length c.1) t 0 c.2) ls torn e in
+      let w = whole_first l (read_frames p (place + suc (size_bytes p.format) + length c.1) t 0 c.2) ls torn e
+      in
       ap (λ ms. l ∷ ms) (more (place + suc (size_bytes p.format) + length c.1) t w.0 torn w.1) ∙ sym w.2
 
   in_record : (place : ℕ) (s : SeenLog) (c : Cut) (ls : List LogRecord) (torn : ℕ) → AreIn p c.2
       → (o : Option LogRecord)
-      → record_by place s o (λ t. read_frames p (place + suc (size_bytes p.format) + length c.1) t 0 c.2) ≡ Whole ls torn
+      → record_by place s o (λ t. read_frames p (place + suc (size_bytes p.format) + length c.1) t 0 c.2)
+      ≡ Whole ls torn
       → and_records o (records_in p 0 c.2) ≡ ls
   in_record place s c ls torn more None e = absurd (cc)
   in_record place s c ls torn more (Some l) e = in_order place c l ls torn more (after s l) e
@@ -167,7 +183,8 @@ begins Second xs = refl
 long : (xs : List ℕ) → 5 ≤ length xs → nat_lt (length xs) 5 ≡ false
 long xs h = grind (arith, nat_tests)
 
-pub behind_header : (p : LogForm) (xs : List ℕ) → read_log p (header p.format ++ xs) ≡ read_frames p 5 nothing_seen 0 xs
+pub behind_header : (p : LogForm) (xs : List ℕ) → read_log p (header p.format ++ xs)
+    ≡ read_frames p 5 nothing_seen 0 xs
 behind_header p xs =
     read_by p (header p.format ++ xs) false true (Damaged 0)
     (long (header p.format ++ xs) (omega (arith, header_long p.format, length-append (header p.format) xs)))
@@ -181,7 +198,8 @@ pub carries : (p : LogForm) (old new : List ℕ) (records : List LogRecord) (tor
     → records ≡ records_in (old_form p) 0 (drop 5 old) → AllByRecursion (IsSound p.kind) records
     → new ≡ header p.format ++ records_text p records → Carries p old new
 carries p old new records torn whole sound read are fit text =
-    let same : records ≡ sound = are ∙ read_records (old_form p) (drop 5 old) 5 nothing_seen sound torn read in
+    let same : records ≡ sound = are ∙ read_records (old_form p) (drop 5 old) 5 nothing_seen sound torn read
+    in
     let frames : read_frames (old_form p) 5 nothing_seen 0 (drop 5 old) ≡ Whole records torn =
     read ∙ ap (λ ls. Whole ls torn) (sym same) in
     record {
@@ -195,10 +213,15 @@ carries p old new records torn whole sound read are fit text =
 
 -- a log of the first format has its header
 pub old_long : (bytes : List ℕ) → is_old bytes ≡ true → 5 ≤ length bytes
-old_long bytes old = omega (arith, ap length (same_bytes_is (take 5 bytes) (header First) old), length-take 5 bytes)
+old_long bytes old = omega (
+  arith,
+  ap length (same_bytes_is (take 5 bytes) (header First) old),
+  length-take 5 bytes,
+)
 
 -- what a log that has its header was found to be
-pub found_whole : (p : LogForm) (bytes : List ℕ) (found : StoreText) → 5 ≤ length bytes → IsLogFound p bytes found
+pub found_whole : (p : LogForm) (bytes : List ℕ) (found : StoreText) → 5 ≤ length bytes
+    → IsLogFound p bytes found
     → (ls : List LogRecord) × (torn : ℕ)
     × (read_log p bytes ≡ read_frames p 5 nothing_seen 0 (drop 5 bytes))
     × (read_frames p 5 nothing_seen 0 (drop 5 bytes) ≡ Whole ls torn)

@@ -92,7 +92,8 @@ pub record IsBehind (f : LogFormat) (bs : List ℕ) (c : Cut) : Type 0 where
 pub taken : (size : ℕ) (rest : List ℕ) → size ≤ length rest → length (take size rest) ≡ size
 taken size rest h = omega (arith, length-take size rest)
 
-pub is_behind : (f : LogFormat) (b : ℕ) (bs : List ℕ) (c : Cut) → first_frame f (b ∷ bs) ≡ Some c → IsBehind f bs c
+pub is_behind : (f : LogFormat) (b : ℕ) (bs : List ℕ) (c : Cut) → first_frame f (b ∷ bs) ≡ Some c
+    → IsBehind f bs c
 is_behind First a [] c e = absurd (cc)
 is_behind First a (b ∷ []) c e = absurd (cc)
 is_behind First a (b ∷ d ∷ rest) c e =
@@ -114,7 +115,8 @@ is_behind Second a (b ∷ d ∷ g ∷ h ∷ rest) c e =
     let count : size_bytes Second + length c.1 ≡ suc (suc (suc (suc (length c.1)))) = omega arith in
     record {
       fits = omega (arith, count, size, k.fits);
-      left = ap (λ m. drop m (b ∷ d ∷ g ∷ h ∷ rest)) count ∙ ap (λ m. drop m rest) size ∙ ap (λ z. z.2) (sym k.is);
+      left = ap (λ m. drop m (b ∷ d ∷ g ∷ h ∷ rest)) count ∙ ap (λ m. drop m rest) size
+          ∙ ap (λ z. z.2) (sym k.is);
     }
 
 -- Passing over bytes.
@@ -180,7 +182,8 @@ more_by p None q bs ys h m f = absurd (cc)
 more_by p (Some c) q bs ys h m f =
     ap (λ z. records_by p z (λ k. records_in p k (bs ++ ys))) (m c refl)
     ∙ more_if (read_record p c.0 c.1) (is_whole p (size_bytes p.format + length c.1) bs)
-    (records_in p (size_bytes p.format + length c.1) (bs ++ ys)) (records_in p (size_bytes p.format + length c.1) bs)
+    (records_in p (size_bytes p.format + length c.1) (bs ++ ys))
+    (records_in p (size_bytes p.format + length c.1) bs)
     (records_in p 0 ys) h (f (size_bytes p.format + length c.1))
 
 pub more_records : (p : LogForm) (k : ℕ) (xs ys : List ℕ) → is_whole p k xs ≡ true
@@ -240,7 +243,8 @@ front_by p (Some c) q bs cs ys m f =
 
 frame_taken : (f : LogFormat) (xs : List ℕ) (n : ℕ) (c : Cut) → first_frame f (take n xs) ≡ Some c
     → first_frame f xs ≡ Some (with_more c (drop n xs))
-frame_taken f xs n c e = ap (first_frame f) (sym (take-append-drop n xs)) ∙ frame_more f (take n xs) (drop n xs) c e
+frame_taken f xs n c e = ap (first_frame f) (sym (take-append-drop n xs))
+    ∙ frame_more f (take n xs) (drop n xs) c e
 
 pub front_of : (p : LogForm) (k n : ℕ) (xs : List ℕ) → Front (records_in p k xs) (records_in p k (take n xs))
 unfolding records_in
@@ -248,7 +252,8 @@ front_of p k zero xs = (records_in p k xs, refl)
 front_of p k (suc n) [] = ([], refl)
 front_of p (suc k) (suc n) (b ∷ bs) = front_of p k n bs
 front_of p zero (suc n) (b ∷ bs) =
-    front_by p (first_frame p.format (b ∷ take n bs)) (first_frame p.format (b ∷ bs)) bs (take n bs) (drop n bs)
+    front_by p (first_frame p.format (b ∷ take n bs)) (first_frame p.format (b ∷ bs)) bs
+    (take n bs) (drop n bs)
     (λ c e. frame_taken p.format (b ∷ bs) (suc n) c e) (λ k. front_of p k n bs)
 
 -- The frame of a record.
@@ -258,7 +263,8 @@ two_bytes : (n : ℕ) (ys : List ℕ) → n < 65536
 two_bytes n ys h = let e = big_number-reads_back 2 n ys (omega arith) in omega (arith, e)
 
 four_bytes : (n : ℕ) (ys : List ℕ) → n < 4294967296
-    → ((slice_index (big_bytes 4 n) 0 * 256 + slice_index (big_bytes 4 n) 1) * 256 + slice_index (big_bytes 4 n) 2) * 256
+    → ((slice_index (big_bytes 4 n) 0 * 256 + slice_index (big_bytes 4 n) 1) * 256
+    + slice_index (big_bytes 4 n) 2) * 256
     + slice_index (big_bytes 4 n) 3 ≡ n
 four_bytes n ys h = let e = big_number-reads_back 4 n ys (omega arith) in omega (arith, e)
 
@@ -300,7 +306,8 @@ pub no_records : (p : LogForm) → records_in p 0 [] ≡ []
 unfolding records_in
 no_records p = refl
 
-pub one_record : (p : LogForm) (l : LogRecord) → CanStandInForm p l → records_in p 0 (record_text p l) ≡ l ∷ []
+pub one_record : (p : LogForm) (l : LogRecord) → CanStandInForm p l
+    → records_in p 0 (record_text p l) ≡ l ∷ []
 one_record p l is = ap (records_in p 0) (sym (append-nil (record_text p l))) ∙ own_record p l [] is
     ∙ ap (λ t. l ∷ t) (no_records p)
 
@@ -318,5 +325,7 @@ one_or_none l (x ∷ y ∷ xs) rest e = absurd (omega (arith, ap length e, lengt
 pub front_of_frame : (p : LogForm) (l : LogRecord) (came : ℕ) → CanStandInForm p l
     → (n : ℕ) × (records_in p 0 (take came (record_text p l)) ≡ take n (l ∷ []))
 front_of_frame p l came is =
-    let f = front_of p 0 came (record_text p l) in
-    (length (records_in p 0 (take came (record_text p l))), one_or_none l _ f.0 (sym (one_record p l is) ∙ f.1))
+    let f = front_of p 0 came (record_text p l) in (
+      length (records_in p 0 (take came (record_text p l))),
+      one_or_none l _ f.0 (sym (one_record p l is) ∙ f.1),
+    )

@@ -44,11 +44,13 @@ known_header p text forced known h e = record {
 
 -- a whole text is known, where all of it is forced
 pub known_all : (p : LogForm) (text : List ℕ) (forced known : ℕ) → 5 ≤ length text
-    → is_whole p 0 (body text) ≡ true → known ≡ length text → length text ≤ forced → IsKnown p text forced known
+    → is_whole p 0 (body text) ≡ true → known ≡ length text → length text ≤ forced
+    → IsKnown p text forced known
 known_all p text forced known long whole e le = record {
   header = omega (arith, e, long);
   within = omega (arith, e, le);
-  whole = ap (is_whole p 0) (take_all (known - 5) (drop 5 text) (omega (arith, e, length-drop 5 text))) ∙ whole;
+  whole = ap (is_whole p 0) (take_all (known - 5) (drop 5 text) (omega (arith, e, length-drop 5 text)))
+      ∙ whole;
 }
 
 -- of a whole text, as much as is forced of it, or the header alone
@@ -60,7 +62,8 @@ known_either p text forced size known long h whole e (inl all) =
 known_either p text forced size known long h whole e (inr none) = known_header p text forced known h none
 
 -- of a text that goes on, what was known before
-pub known_more : (p : LogForm) (text text' more : List ℕ) (forced forced' known : ℕ) → IsKnown p text forced known
+pub known_more : (p : LogForm) (text text' more : List ℕ) (forced forced' known : ℕ)
+    → IsKnown p text forced known
     → forced ≤ length text → text' ≡ text ++ more → forced ≤ forced' → IsKnown p text' forced' known
 known_more p text text' more forced forced' known k le e f =
     let same : take (known - 5) (body text') ≡ take (known - 5) (body text) =
@@ -130,7 +133,8 @@ sound_behind p left known size end k s e =
     }
 
 -- how many records a crash leaves after the forced ones
-pub counted : (p : LogForm) (text : List ℕ) (forced known keep failures room : ℕ) (failed : Bool) (s : LogState)
+pub counted : (p : LogForm) (text : List ℕ) (forced known keep failures room : ℕ)
+    (failed : Bool) (s : LogState)
     (behind before : List LogRecord)
     → log_state p text forced failures room failed ≡ s → IsLogText p text forced failed
     → IsKnown p text forced known → forced ≤ length text

@@ -55,7 +55,8 @@ record_by_same : (place : ℕ) (s : SeenLog) (o : Option LogRecord) (f g : SeenL
 record_by_same place s None f g h = refl
 record_by_same place s (Some l) f g h = seen_by_same place l (after s l) f g h
 
-pub step_read : (p : LogForm) (place : ℕ) (s : SeenLog) (xs : List ℕ) (c : Cut) → first_frame p.format xs ≡ Some c
+pub step_read : (p : LogForm) (place : ℕ) (s : SeenLog) (xs : List ℕ) (c : Cut)
+    → first_frame p.format xs ≡ Some c
     → read_frames p place s 0 xs ≡ reads_one p place s c
 unfolding read_frames
 step_read p place s [] c e = let never = sym (no_bytes p.format) ∙ e in absurd (cc)
@@ -63,9 +64,11 @@ step_read p place s (b ∷ bs) c e =
     let k = is_behind p.format b bs c e in
     ap (λ o. frame_by p place s (length (b ∷ bs)) o (λ at t n. read_frames p at t n bs)) e
     ∙ record_by_same place s (read_record p c.0 c.1)
-    (λ t. read_frames p (place + suc (size_bytes p.format) + length c.1) t (size_bytes p.format + length c.1) bs)
+    (λ t. read_frames p (place + suc (size_bytes p.format) + length c.1) t
+    (size_bytes p.format + length c.1) bs)
     (λ t. read_frames p (place + suc (size_bytes p.format) + length c.1) t 0 c.2)
-    (λ t. passed_read p (place + suc (size_bytes p.format) + length c.1) t (size_bytes p.format + length c.1) bs
+    (λ t. passed_read p (place + suc (size_bytes p.format) + length c.1) t
+    (size_bytes p.format + length c.1) bs
     ∙ ap (read_frames p (place + suc (size_bytes p.format) + length c.1) t 0) k.left)
 
 drop_nil : (n : ℕ) → ◌≡◌ {A = List ℕ} (drop n []) []
@@ -150,10 +153,13 @@ reads_first p bytes s e = record {
 
 reads_record : (p : LogForm) (place : ℕ) (s t : SeenLog) (c : Cut) (l : LogRecord)
     → read_record p c.0 c.1 ≡ Some l → after s l ≡ Some t
-    → reads_one p place s c ≡ with_first l (read_frames p (place + suc (size_bytes p.format) + length c.1) t 0 c.2)
+    → reads_one p place s c ≡ with_first l (read_frames p
+    (place + suc (size_bytes p.format) + length c.1) t 0 c.2)
 reads_record p place s t c l r f =
-    ap (λ o. record_by place s o (λ u. read_frames p (place + suc (size_bytes p.format) + length c.1) u 0 c.2)) r
-    ∙ ap (λ o. seen_by place l o (λ u. read_frames p (place + suc (size_bytes p.format) + length c.1) u 0 c.2)) f
+    ap (λ o. record_by place s o (λ u. read_frames p
+    (place + suc (size_bytes p.format) + length c.1) u 0 c.2)) r
+    ∙ ap (λ o. seen_by place l o (λ u. read_frames p
+    (place + suc (size_bytes p.format) + length c.1) u 0 c.2)) f
 
 reads_on : (p : LogForm) (bytes rest : List ℕ) (s t : SeenLog) (c : Cut) (l : LogRecord)
     → Reads p bytes s rest → first_frame p.format rest ≡ Some c
@@ -166,7 +172,8 @@ reads_on p bytes rest s t c l h e r f =
     ∙ ap (λ o. whole_if o (is_whole p 0 [])) r ∙ nothing_whole p in
     let all : records_in p 0 (h.sound ++ a.frame) ≡ records_in p 0 h.sound ++ l ∷ [] =
     more_records p 0 h.sound a.frame h.whole ∙ ap (λ ls. records_in p 0 h.sound ++ ls) own in
-    let place : 5 + length h.sound + suc (size_bytes p.format) + length c.1 ≡ 5 + length (h.sound ++ a.frame) =
+    let place : 5 + length h.sound + suc (size_bytes p.format) + length c.1
+    ≡ 5 + length (h.sound ++ a.frame) =
     omega (arith, length-append h.sound a.frame, a.size) in
     record {
       sound = h.sound ++ a.frame;
@@ -182,7 +189,8 @@ reads_on p bytes rest s t c l h e r f =
 
 -- the record of the frame may follow
 pub reads_next : (p : LogForm) (bytes rest : List ℕ) (s t : SeenLog) (c : Cut) → Reads p bytes s rest
-    → first_frame p.format rest ≡ Some c → after_frame s (read_record p c.0 c.1) ≡ Some t → Reads p bytes t c.2
+    → first_frame p.format rest ≡ Some c → after_frame s (read_record p c.0 c.1) ≡ Some t
+    → Reads p bytes t c.2
 reads_next p bytes rest s t c h e f = by_record (read_record p c.0 c.1) refl f
   where
     by_record : (o : Option LogRecord) → read_record p c.0 c.1 ≡ o → after_frame s o ≡ Some t

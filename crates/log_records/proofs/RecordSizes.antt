@@ -116,9 +116,11 @@ module _ (form : LogForm) where
       if a then Some (Committed x) else if b then Some (RolledBack x) else if c then Some (HeurCommit x)
       else if d then Some (HeurRollback x) else if f then Some (Forgot x) else None
 
-  bare_long : (a b c d f : Bool) (p : Option ProcessId) (x : BranchName) (r : Record) → bare_by a b c d f x ≡ Some r
+  bare_long : (a b c d f : Bool) (p : Option ProcessId) (x : BranchName) (r : Record)
+      → bare_by a b c d f x ≡ Some r
       → length (payload_text form p r) ≡ length (name_text p x)
-  bare_long true b c d f p x r e = let is : Committed x ≡ r = cc in ap (λ z. length (payload_text form p z)) (sym is)
+  bare_long true b c d f p x r e =
+      let is : Committed x ≡ r = cc in ap (λ z. length (payload_text form p z)) (sym is)
   bare_long false true c d f p x r e = let is : RolledBack x ≡ r = cc in
       ap (λ z. length (payload_text form p z)) (sym is)
   bare_long false false true d f p x r e = let is : HeurCommit x ≡ r = cc in
@@ -164,14 +166,20 @@ module _ (form : LogForm) where
         ap (λ z. length (payload_text form p z)) is,
       )
 
-  branch_bare_long : (none : Bool) (kind : ℕ) (p : Option ProcessId) (b : BranchName) (rest : List ℕ) (r : Record)
+  branch_bare_long : (none : Bool) (kind : ℕ) (p : Option ProcessId) (b : BranchName)
+      (rest : List ℕ) (r : Record)
       → (length rest == 0) ≡ none
       → (if none then bare kind b else None) ≡ Some r
       → length (payload_text form p r) ≡ length (name_text p b) + length rest
   branch_bare_long false kind p b rest r n e = absurd (cc)
   branch_bare_long true kind p b rest r n e =
       let nothing : length rest ≡ 0 = grind (arith, nat_tests) in
-      omega (arith, nothing, bare_long (kind == 18) (kind == 19) (kind == 21) (kind == 22) (kind == 24) p b r e)
+      omega (
+        arith,
+        nothing,
+        bare_long (kind == 18) (kind == 19) (kind == 21) (kind == 22)
+            (kind == 24) p b r e,
+      )
 
   branch_long_by : (writes tells : Bool) (kind : ℕ) (p : Option ProcessId) (b : BranchName) (rest : List ℕ)
       (r : Record)
@@ -188,7 +196,11 @@ module _ (form : LogForm) where
   named_long kind p b rest None l f e = absurd (cc)
   named_long kind p b rest (Some r) l f e =
       let is : named p r ≡ l = cc in
-      omega (arith, branch_long_by ((kind == 17) || (kind == 20)) (kind == 23) kind p b rest r f, ap size_of is)
+      omega (
+        arith,
+        branch_long_by ((kind == 17) || (kind == 20)) (kind == 23) kind p b rest r f,
+        ap size_of is,
+      )
 
   of_branch_long : (kind : ℕ) (payload : List ℕ) (o : Front Name) (l : LogRecord) → name_at payload ≡ o
       → of_branch kind o ≡ Some l → length payload ≡ size_of l
@@ -215,7 +227,8 @@ module _ (form : LogForm) where
   pair_value_long k bytes (Some v) l f e = omega
       (arith, value_long bytes v.0 v.1 f, pair_end_long (length v.1 == 0) k v l refl e)
 
-  pair_long : (payload : List ℕ) (o : Front (List ℕ)) (l : LogRecord) → key_at payload ≡ o → pair_by o ≡ Some l
+  pair_long : (payload : List ℕ) (o : Front (List ℕ)) (l : LogRecord) → key_at payload ≡ o
+      → pair_by o ≡ Some l
       → length payload ≡ size_of l
   pair_long payload None l f e = absurd (cc)
   pair_long payload (Some k) l f e = omega (

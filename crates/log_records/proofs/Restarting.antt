@@ -58,7 +58,8 @@ pub sounds_torn : (p : LogForm) (bytes rest : List ℕ) → Passes p bytes rest 
 sounds_torn p bytes rest h e = sounds_of p bytes rest h (no_frame p rest e)
 
 pub sounds_strange : (p : LogForm) (bytes rest : List ℕ) (c : Cut) → Passes p bytes rest
-    → first_frame p.format rest ≡ Some c → read_record p c.0 c.1 ≡ None → Sounds p bytes (length bytes - length rest)
+    → first_frame p.format rest ≡ Some c → read_record p c.0 c.1 ≡ None
+    → Sounds p bytes (length bytes - length rest)
 sounds_strange p bytes rest c h e r = sounds_of p bytes rest h
     (step p rest c e ∙ ap (λ o. and_records o (records_in p 0 c.2)) r)
 
@@ -78,9 +79,11 @@ parts_of p left text rs h l =
     ∙ ap (λ t. t ++ drop 5 left) h ∙ ap (λ t. header p.format ++ t) s.split
     ∙ sym (append_assoc (header p.format) s.sound s.tail) in
     let size : l.end ≡ length (header p.format ++ s.sound) =
-    omega (arith, l.ends.header, s.sound_size, header_long p.format, length-append (header p.format) s.sound) in
+    omega (arith, l.ends.header, s.sound_size, header_long p.format, length-append (header p.format) s.sound)
+    in
     let cut : take l.end left ≡ header p.format ++ s.sound = ap (λ n. take n left) size
-    ∙ ap (take (length (header p.format ++ s.sound))) whole ∙ take-append_seam (header p.format ++ s.sound) s.tail in
+    ∙ ap (take (length (header p.format ++ s.sound))) whole
+    ∙ take-append_seam (header p.format ++ s.sound) s.tail in
     record {
       sound = s.sound;
       is = l.is ∙ ap (λ t. t ++ records_text p rs) cut
@@ -89,11 +92,13 @@ parts_of p left text rs h l =
       all = s.all;
     }
 
-text_records : (p : LogForm) (left text : List ℕ) (rs : List LogRecord) → AreRecords p.kind rs → Parts p left rs text
+text_records : (p : LogForm) (left text : List ℕ) (rs : List LogRecord) → AreRecords p.kind rs
+    → Parts p left rs text
     → records_in p 0 (body text) ≡ records_in p 0 (body left) ++ rs
 text_records p left text rs are q =
     ap (λ t. records_in p 0 (drop 5 t)) q.is
-    ∙ ap (records_in p 0) (header_dropped p.format (q.sound ++ records_text p rs)) ∙ more_records p 0 q.sound (records_text p rs) q.whole
+    ∙ ap (records_in p 0) (header_dropped p.format (q.sound ++ records_text p rs))
+    ∙ more_records p 0 q.sound (records_text p rs) q.whole
     ∙ ap (λ t. records_in p 0 q.sound ++ t) (written p rs are)
     ∙ ap (λ t. t ++ rs) (sym q.all)
 
@@ -130,7 +135,8 @@ pub restarted : (p : LogForm) (text new : List ℕ) (forced forced' keep failure
 restarted p text new forced forced' keep failures failures' room room' rs failed s view are is le l f g =
     let left = left_records p text forced keep failures room failed is.second is.header_forced le in
     let whole = (text_settled p (take (forced + keep) text) new rs forced' is.second are
-    (front_begins (forced + keep) text (header p.format) (omega (arith, is.header_forced)) is.begins) l f).whole refl in
+    (front_begins (forced + keep) text (header p.format) (omega (arith, is.header_forced)) is.begins) l
+    f).whole refl in
     let h = front_begins (forced + keep) text (header p.format) (omega (arith, is.header_forced)) is.begins in
     let q = parts_of p (take (forced + keep) text) new rs h l in
     let all : front new forced' ≡ body new = all_front new forced' f in
@@ -246,7 +252,12 @@ module _ (p : LogForm) (text : List ℕ) (forced keep failures room : ℕ) (fail
   }
   text_broken rs bytes forced' are (Anew l f) =
       let t = text_settled p left bytes rs forced' is.second are begins l f in
-      record { second = is.second; begins = t.begins; header_forced = t.header_forced; whole = λ h. absurd (cc) }
+      record {
+        second = is.second;
+        begins = t.begins;
+        header_forced = t.header_forced;
+        whole = λ h. absurd (cc);
+      }
   text_broken rs bytes forced' are (GoesOn came whole e f) = record {
     second = is.second;
     begins = ap (take 5) e ∙ take-append-le 5 left (take came (records_text p rs))
@@ -255,7 +266,8 @@ module _ (p : LogForm) (text : List ℕ) (forced keep failures room : ℕ) (fail
     whole = λ h. absurd (cc);
   }
 
-  pub breaks_restart : (rs : List LogRecord) (bytes : List ℕ) (forced' failures' room' : ℕ) → AreRecords p.kind rs
+  pub breaks_restart : (rs : List LogRecord) (bytes : List ℕ) (forced' failures' room' : ℕ)
+      → AreRecords p.kind rs
       → Broken p left rs forced bytes forced' → MoreFailures failures failures'
       → LogRestartBreaks before (log_state p bytes forced' failures' room' true) keep rs
   breaks_restart rs bytes forced' failures' room' are (AsLeft e f) cause = record {

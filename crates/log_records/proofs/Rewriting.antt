@@ -45,7 +45,8 @@ spelled p text frames ls e h = record {
   long = omega (arith, ap length e, header_long p.format, length-append (header p.format) frames);
   holds = record {
     whole = ap (λ t. is_whole p 0 (body t)) e ∙ ap (is_whole p 0) (header_dropped p.format frames) ∙ h.whole;
-    read = ap (λ t. records_in p 0 (body t)) e ∙ ap (records_in p 0) (header_dropped p.format frames) ∙ h.read;
+    read = ap (λ t. records_in p 0 (body t)) e ∙ ap (records_in p 0) (header_dropped p.format frames)
+        ∙ h.read;
   };
 }
 
@@ -62,7 +63,8 @@ spells_own p text ls s = record {
 }
 
 -- the text that is put in place of what stands here
-pub spells_inside : (p : LogForm) (text asked : List ℕ) (forced failures room : ℕ) (failed : Bool) (s : LogState)
+pub spells_inside : (p : LogForm) (text asked : List ℕ) (forced failures room : ℕ)
+    (failed : Bool) (s : LogState)
     → log_state p text forced failures room failed ≡ s
     → Spells s.sight.form asked (records_in s.sight.form 0 (body asked))
     → Spells p asked (records_in s.sight.form 0 (body asked))
@@ -156,7 +158,8 @@ kept_either p text bytes asked forced forced' rs s (inl e) =
 kept_either p text bytes asked forced forced' rs s (inr e) =
     inr (kept_alone p bytes rs forced' (same_text p asked bytes rs e.0 s) (e.1 ∙ ap length (sym e.0)))
 
-pub rewrite_breaks : (p : LogForm) (text bytes asked : List ℕ) (forced forced' failures failures' room room' : ℕ)
+pub rewrite_breaks : (p : LogForm) (text bytes asked : List ℕ)
+    (forced forced' failures failures' room room' : ℕ)
     (rs : List LogRecord) (failed : Bool) (s : LogState)
     → log_state p text forced failures room failed ≡ s → Spells p asked rs
     → Came text forced bytes forced' asked → MoreFailures failures failures'

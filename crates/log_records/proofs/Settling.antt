@@ -24,7 +24,8 @@ same_bytes_is [] (y ∷ ys) h = cc
 same_bytes_is (x ∷ xs) [] h = cc
 same_bytes_is (x ∷ xs) (y ∷ ys) h = grind (arith, same_bytes_is xs ys)
 
-pub read_by : (p : LogForm) (bytes : List ℕ) (short begins : Bool) (e : LogReading) → nat_lt (length bytes) 5 ≡ short
+pub read_by : (p : LogForm) (bytes : List ℕ) (short begins : Bool) (e : LogReading)
+    → nat_lt (length bytes) 5 ≡ short
     → same_bytes (take 5 bytes) (header p.format) ≡ begins → short ≡ false → begins ≡ true
     → read_log p bytes ≡ read_frames p 5 nothing_seen 0 (drop 5 bytes)
 unfolding read_log
@@ -37,7 +38,8 @@ pub read_sound : (p : LogForm) (bytes : List ℕ) → 5 ≤ length bytes
 read_sound p bytes h b = read_by p bytes false true (Damaged 0) (grind (arith, nat_tests)) b refl refl
 
 pub found_sound : (p : LogForm) (bytes : List ℕ) (torn : ℕ) → 5 ≤ length bytes
-    → same_bytes (take 5 bytes) (header p.format) ≡ true → EndsTorn p (drop 5 bytes) torn → IsLogFound p bytes (Sound torn)
+    → same_bytes (take 5 bytes) (header p.format) ≡ true → EndsTorn p (drop 5 bytes) torn
+    → IsLogFound p bytes (Sound torn)
 found_sound p bytes torn h b e = (
   same_bytes_is (take 5 bytes) (header p.format) b,
   h,
@@ -49,7 +51,8 @@ nothing_behind : (p : LogForm) (text : List ℕ) → text ≡ header p.format �
 nothing_behind p text e = ap (drop 5) (e ∙ sym (append-nil (header p.format))) ∙ header_dropped p.format []
 
 pub settles_empty : (p : LogForm) (bytes text : List ℕ) (before failures forced failures' : ℕ)
-    → IsLogFound p bytes Empty → before ≤ length bytes → text ≡ header p.format → forced ≡ length (header p.format)
+    → IsLogFound p bytes Empty → before ≤ length bytes → text ≡ header p.format
+    → forced ≡ length (header p.format)
     → failures' ≡ failures → SettlesText p bytes before failures text forced failures'
 settles_empty p bytes text before failures forced failures' found within e f g = record {
   begins = ap (take 5) (e ∙ sym (append-nil (header p.format))) ∙ header_taken p.format [];
@@ -77,7 +80,8 @@ settles_sound p bytes text sound before failures forced failures' torn e w r f k
   failures_stay = g;
 }
 
-joined : (p : LogForm) (bytes : List ℕ) (torn : ℕ) (e : EndsTorn p (drop 5 bytes) torn) → take 5 bytes ≡ header p.format
+joined : (p : LogForm) (bytes : List ℕ) (torn : ℕ) (e : EndsTorn p (drop 5 bytes) torn)
+    → take 5 bytes ≡ header p.format
     → bytes ≡ (header p.format ++ e.sound) ++ e.tail
 joined p bytes torn e h =
     sym (take-append-drop 5 bytes) ∙ ap (λ t. t ++ drop 5 bytes) h ∙ ap (λ t. header p.format ++ t) e.split
@@ -92,9 +96,16 @@ settles_front p bytes text before failures forced failures' torn found anew e f 
     let size : length bytes - torn ≡ length (header p.format ++ n.sound) =
     omega (arith, ap length j, length-append (header p.format ++ n.sound) n.tail, n.size) in
     let text_is : text ≡ header p.format ++ n.sound = e ∙ ap (λ k. take k bytes) size
-    ∙ ap (take (length (header p.format ++ n.sound))) j ∙ take-append_seam (header p.format ++ n.sound) n.tail in
+    ∙ ap (take (length (header p.format ++ n.sound))) j ∙ take-append_seam (header p.format ++ n.sound) n.tail
+    in
     settles_sound p bytes text n.sound before failures forced failures' torn text_is n.whole
-    (found.3 ∙ n.read) (omega (arith, f, ap length text_is, header_long p.format, length-append (header p.format) n.sound)) (inr (f, anew)) g
+    (found.3 ∙ n.read) (omega (
+      arith,
+      f,
+      ap length text_is,
+      header_long p.format,
+      length-append (header p.format) n.sound,
+    )) (inr (f, anew)) g
 
 no_tail : (xs tail : List ℕ) → length tail ≡ 0 → xs ++ tail ≡ xs
 no_tail xs [] h = append-nil xs

@@ -20,11 +20,13 @@ use Rattle.log_records.specs.Texts.{and_records, records_by, records_in}
 use Rattle.log_records.proofs.Frames.{cuts}
 
 -- the payload of a frame is bytes
-cut_bytes : (kind n : ℕ) (rest : List ℕ) (c : Cut) → AreBytes rest → cut_at kind n rest ≡ Some c → AreBytes c.1
+cut_bytes : (kind n : ℕ) (rest : List ℕ) (c : Cut) → AreBytes rest → cut_at kind n rest ≡ Some c
+    → AreBytes c.1
 cut_bytes kind n rest c h e =
     subst (λ (k : Cut). AreBytes k.1) (sym (cuts kind n rest c e).is) (first_bytes n rest h)
 
-pub payload_bytes : (f : LogFormat) (xs : List ℕ) (c : Cut) → AreBytes xs → first_frame f xs ≡ Some c → AreBytes c.1
+pub payload_bytes : (f : LogFormat) (xs : List ℕ) (c : Cut) → AreBytes xs → first_frame f xs ≡ Some c
+    → AreBytes c.1
 payload_bytes First [] c h e = absurd (none_some c e)
 payload_bytes First (a ∷ []) c h e = absurd (none_some c e)
 payload_bytes First (a ∷ b ∷ []) c h e = absurd (none_some c e)
@@ -44,8 +46,10 @@ and_sound : (p : Kind) (o : Option LogRecord) (more : List LogRecord)
 and_sound p None more is all = tt
 and_sound p (Some l) more is all = (is l refl, all)
 
-by_sound : (p : LogForm) (o : Option Cut) (more : ℕ → List LogRecord) → ((c : Cut) → o ≡ Some c → AreBytes c.1)
-    → ((k : ℕ) → AllByRecursion (IsSound p.kind) (more k)) → AllByRecursion (IsSound p.kind) (records_by p o more)
+by_sound : (p : LogForm) (o : Option Cut) (more : ℕ → List LogRecord)
+    → ((c : Cut) → o ≡ Some c → AreBytes c.1)
+    → ((k : ℕ) → AllByRecursion (IsSound p.kind) (more k))
+    → AllByRecursion (IsSound p.kind) (records_by p o more)
 by_sound p None more is all = tt
 by_sound p (Some c) more is all =
     and_sound p.kind (read_record p c.0 c.1) (more (size_bytes p.format + length c.1))
@@ -53,7 +57,8 @@ by_sound p (Some c) more is all =
     (all (size_bytes p.format + length c.1))
 
 -- so are all that are read off a text
-pub sound_in : (p : LogForm) (k : ℕ) (xs : List ℕ) → AreBytes xs → AllByRecursion (IsSound p.kind) (records_in p k xs)
+pub sound_in : (p : LogForm) (k : ℕ) (xs : List ℕ) → AreBytes xs
+    → AllByRecursion (IsSound p.kind) (records_in p k xs)
 unfolding records_in
 sound_in p zero [] h = tt
 sound_in p (suc k) [] h = tt

@@ -51,7 +51,8 @@ begins_with p bytes front n c m whole e s g marked =
     let next = is_next (read_record p c.0 c.1) (is_whole p 0 c.2) (sym (step_whole p bytes c e) ∙ whole) in
     let count : n ≡ length a.frame = s ∙ cut_front a.frame c.2 bytes a.split in
     let front_is : front ≡ a.frame = g ∙ (λ i. take (count i) (a.split i)) ∙ take-append_seam a.frame c.2 in
-    let alone : first_frame p.format front ≡ Some (c.0, c.1, []) = ap (first_frame p.format) front_is ∙ a.alone in
+    let alone : first_frame p.format front ≡ Some (c.0, c.1, []) = ap (first_frame p.format) front_is
+    ∙ a.alone in
     record {
       first = next.first;
       held = record {
@@ -74,14 +75,16 @@ nothing_held p frames e = subst (λ xs. Holds p xs []) (sym e) (no_bytes p)
 -- What a trim must know of the records.
 
 -- N records were read: this is the frame of the last Opened of them, and this is what they say of each name
-pub record MarksSoFar (p : LogForm) (all : List LogRecord) (i : ℕ) (t : SaidTable) (rest opened : List ℕ) : Type 0 where
+pub record MarksSoFar (p : LogForm) (all : List LogRecord) (i : ℕ) (t : SaidTable)
+    (rest opened : List ℕ) : Type 0 where
   pub whole : is_whole p 0 rest ≡ true
   pub last : List LogRecord
   pub held : Holds p opened last
   pub folds : last_opened all ≡ fold opened_after last (records_in p 0 rest)
   pub lives : lives_of all ≡ lives_from i t (records_in p 0 rest)
 
-pub marks_none : (p : LogForm) (t : SaidTable) (bytes opened : List ℕ) → is_whole p 0 bytes ≡ true → opened ≡ [] → t ≡ []
+pub marks_none : (p : LogForm) (t : SaidTable) (bytes opened : List ℕ) → is_whole p 0 bytes ≡ true
+    → opened ≡ [] → t ≡ []
     → MarksSoFar p (records_in p 0 bytes) 0 t bytes opened
 unfolding last_opened
 marks_none p t bytes opened w e f = record {
@@ -104,7 +107,8 @@ unfolding lives_from
 lives_next i t l later = refl
 
 pub marks_on : (p : LogForm) (all : List LogRecord) (i next : ℕ) (t u : SaidTable) (m : TrimMark)
-    (rest frame after opened new : List ℕ) → MarksSoFar p all i t rest opened → BeginsWith p rest frame m after
+    (rest frame after opened new : List ℕ) → MarksSoFar p all i t rest opened
+    → BeginsWith p rest frame m after
     → next ≡ suc i → new ≡ (if opens m.deed then frame else opened) → u ≡ marked i t m
     → MarksSoFar p all next u after new
 marks_on p all i next t u m rest frame after opened new s b n o f =
@@ -143,7 +147,8 @@ pub record KeepsSoFar (p : LogForm) (t : SaidTable) (all : List LogRecord) (i : 
   pub counted : count ≡ length stay
   pub picks : picked t 0 all ≡ stay ++ picked t i (records_in p 0 rest)
 
-pub keeps_none : (p : LogForm) (t : SaidTable) (bytes frames : List ℕ) → is_whole p 0 bytes ≡ true → frames ≡ []
+pub keeps_none : (p : LogForm) (t : SaidTable) (bytes frames : List ℕ) → is_whole p 0 bytes ≡ true
+    → frames ≡ []
     → KeepsSoFar p t (records_in p 0 bytes) 0 bytes frames 0
 keeps_none p t bytes frames w e = record {
   whole = w;
@@ -180,7 +185,8 @@ one_more count place one false h e = omega (arith, h, e)
 pub keeps_on : (p : LogForm) (t : SaidTable) (all : List LogRecord) (i next : ℕ) (m : TrimMark)
     (rest frame after frames new : List ℕ) (count more : ℕ) (b : Bool)
     → KeepsSoFar p t all i rest frames count → BeginsWith p rest frame m after → next ≡ suc i
-    → b ≡ keeps_by t i m.name → new ≡ frames ++ (if b then frame else []) → more ≡ count + (if b then 1 else 0)
+    → b ≡ keeps_by t i m.name → new ≡ frames ++ (if b then frame else [])
+    → more ≡ count + (if b then 1 else 0)
     → KeepsSoFar p t all next after new more
 keeps_on p t all i next m rest frame after frames new count more b s w n is f c =
     let test : keeps t i w.first ≡ b = ap (λ (z : TrimMark). keeps_by t i z.name) (sym w.marked) ∙ sym is in
@@ -204,12 +210,14 @@ unfolding picked
 all_picked p t all i rest frames count s e =
     sym (s.picks ∙ ap (λ ls. s.stay ++ picked t i ls) e ∙ append-nil s.stay)
 
-pub keeps_all : (p : LogForm) (t : SaidTable) (all : List LogRecord) (i : ℕ) (rest frames : List ℕ) (count : ℕ)
+pub keeps_all : (p : LogForm) (t : SaidTable) (all : List LogRecord) (i : ℕ)
+    (rest frames : List ℕ) (count : ℕ)
     → KeepsSoFar p t all i rest frames count → records_in p 0 rest ≡ [] → Holds p frames (picked t 0 all)
 keeps_all p t all i rest frames count s e =
     subst (Holds p frames) (all_picked p t all i rest frames count s e) s.held
 
-pub counts_all : (p : LogForm) (t : SaidTable) (all : List LogRecord) (i : ℕ) (rest frames : List ℕ) (count : ℕ)
+pub counts_all : (p : LogForm) (t : SaidTable) (all : List LogRecord) (i : ℕ)
+    (rest frames : List ℕ) (count : ℕ)
     → KeepsSoFar p t all i rest frames count → records_in p 0 rest ≡ [] → count ≡ length (picked t 0 all)
 counts_all p t all i rest frames count s e =
     s.counted ∙ ap length (all_picked p t all i rest frames count s e)
@@ -278,13 +286,15 @@ trim_counted p ls t opened rs first kept more o e f k m =
     )
 
 -- the text, of the bytes of its front
-pub front_text : (p : LogForm) (text front opened frames : List ℕ) (rs : List LogRecord) → front ≡ (header p.format ++ opened) ++ frames
+pub front_text : (p : LogForm) (text front opened frames : List ℕ) (rs : List LogRecord)
+    → front ≡ (header p.format ++ opened) ++ frames
     → text ≡ front ++ records_text p rs → text ≡ (header p.format ++ (opened ++ frames)) ++ records_text p rs
 front_text p text front opened frames rs e f =
     f ∙ ap (λ z. z ++ records_text p rs) (e ∙ append_assoc (header p.format) opened frames)
 
 pub text_of_trim : (p : LogForm) (text kept : List ℕ) (ls rs : List LogRecord)
-    → text ≡ (header p.format ++ kept) ++ records_text p rs → Holds p kept (front_of_trim ls) → AreRecords p.kind rs
+    → text ≡ (header p.format ++ kept) ++ records_text p rs → Holds p kept (front_of_trim ls)
+    → AreRecords p.kind rs
     → Spells p text (front_of_trim ls ++ rs)
 text_of_trim p text kept ls rs e s are =
     spelled p text (kept ++ records_text p rs) (front_of_trim ls ++ rs)
@@ -310,12 +320,14 @@ trim_read p text bytes made asked forced failures room failed s rs view e a spel
     ∙ ap (λ ls. front_of_trim ls ++ rs) (kept_is p text bytes forced failures room failed s view e)
 
 pub count_stands : (p : LogForm) (text bytes : List ℕ) (count forced failures room : ℕ) (failed : Bool)
-    (s : LogState) (rs : List LogRecord) → log_state p text forced failures room failed ≡ s → bytes ≡ body text
+    (s : LogState) (rs : List LogRecord) → log_state p text forced failures room failed ≡ s
+    → bytes ≡ body text
     → count ≡ length (front_of_trim (records_in p 0 bytes) ++ rs) → count ≡ length (trim_of s rs)
 count_stands p text bytes count forced failures room failed s rs view e c =
     c ∙ ap (λ ls. length (front_of_trim ls ++ rs)) (kept_is p text bytes forced failures room failed s view e)
 
-pub trimmed : (seen old new : LogState) (ls rs : List LogRecord) (count : ℕ) → seen ≡ old → ls ≡ trim_of old rs
+pub trimmed : (seen old new : LogState) (ls rs : List LogRecord) (count : ℕ) → seen ≡ old
+    → ls ≡ trim_of old rs
     → Rewritten seen new ls → count ≡ length (trim_of old rs) → LogTrimmed old new rs count
 trimmed seen old new ls rs count view e r c = record {
   log = subst (λ s. Rewritten s new (trim_of old rs)) view (subst (λ ms. Rewritten seen new ms) e r);
@@ -342,14 +354,17 @@ settled p text forced failures room count failed s view t =
     }
 
 -- so it is, if a count is told
-pub settled_if : (p : LogForm) (text : List ℕ) (forced failures room : ℕ) (failed : Bool) (s : LogState) (o : Option ℕ)
-    → log_state p text forced failures room failed ≡ s → IsTrimmed p text o → IfSome o (λ count. StaysTrimmed s count)
+pub settled_if : (p : LogForm) (text : List ℕ) (forced failures room : ℕ) (failed : Bool)
+    (s : LogState) (o : Option ℕ)
+    → log_state p text forced failures room failed ≡ s → IsTrimmed p text o
+    → IfSome o (λ count. StaysTrimmed s count)
 settled_if p text forced failures room failed s None view t = tt
 settled_if p text forced failures room failed s (Some count) view t =
     settled p text forced failures room count failed s view t
 
 -- the log's own bytes are a log
-pub own_text : (p : LogForm) (text bytes : List ℕ) (forced : ℕ) (failed : Bool) → IsLogText p text forced failed
+pub own_text : (p : LogForm) (text bytes : List ℕ) (forced : ℕ) (failed : Bool)
+    → IsLogText p text forced failed
     → failed ≡ false → bytes ≡ text → Spells p bytes (records_in p 0 (body bytes))
 own_text p text bytes forced failed is works e =
     subst (λ b. Spells p b (records_in p 0 (body b))) (sym e) (record {
@@ -376,7 +391,8 @@ trimmed_again p q text text' asked forced' failures' room' failed' (Some count) 
     )
 
 -- a trim left the log as it was
-pub trim_left : (p : LogForm) (text asked : List ℕ) (forced failures room count : ℕ) (failed : Bool) (old : LogState)
+pub trim_left : (p : LogForm) (text asked : List ℕ) (forced failures room count : ℕ) (failed : Bool)
+    (old : LogState)
     (rs : List LogRecord) → log_state p text forced failures room failed ≡ old → asked ≡ text
     → rs ≡ own_data old.sight → records_in p 0 (body asked) ≡ trim_of old rs → count ≡ length (trim_of old rs)
     → IsTrimmed p text (Some count)
@@ -384,7 +400,8 @@ trim_left p text asked forced failures room count failed old rs view e own read 
     let stands = kept_is p text (body text) forced failures room failed old view refl in
     let now : trim_of old rs ≡ records_in p 0 (body text) = sym read ∙ ap (λ b. records_in p 0 (body b)) e in
     let kept : records_of old.sight.kept ≡ records_in p 0 (body text) = sym stands in
-    let whole : front_of_trim (records_of old.sight.kept) ++ data_by old.sight.form.kind (records_of old.sight.kept)
+    let whole : front_of_trim (records_of old.sight.kept)
+    ++ data_by old.sight.form.kind (records_of old.sight.kept)
     ≡ records_of old.sight.kept =
     ap (λ ls. front_of_trim (records_of old.sight.kept) ++ ls) (sym own) ∙ now ∙ stands in (
       subst (StayWhole p.kind) kept (subst (λ (f : LogForm). StayWhole f.kind (records_of old.sight.kept))
@@ -393,16 +410,19 @@ trim_left p text asked forced failures room count failed old rs view e own read 
     )
 
 -- a trim put this text in the log's place: if there is a count, the text is what stood there
-pub trim_counts : (p q : LogForm) (text text' one other asked : List ℕ) (forced failures room forced' failures' room' count : ℕ)
+pub trim_counts : (p q : LogForm) (text text' one other asked : List ℕ)
+    (forced failures room forced' failures' room' count : ℕ)
     (failed failed' : Bool) (o : Option ℕ) (old new : LogState) (rs : List LogRecord)
     → log_state p text forced failures room failed ≡ old
     → log_state q text' forced' failures' room' failed' ≡ new → q ≡ p → asked ≡ one → other ≡ text
     → rs ≡ own_data old.sight → records_in p 0 (body asked) ≡ trim_of old rs → count ≡ length (trim_of old rs)
     → Rewritten old new (records_in p 0 (body asked)) → IfSome o (λ n. (n ≡ count) × (one ≡ other))
     → IsTrimmed q text' o
-trim_counts p q text text' one other asked forced failures room forced' failures' room' count failed failed' None old new rs
+trim_counts p q text text' one other asked forced failures room forced' failures' room' count failed
+    failed' None old new rs
     was is form is_one is_other own read c r h = tt
-trim_counts p q text text' one other asked forced failures room forced' failures' room' count failed failed' (Some n) old new
+trim_counts p q text text' one other asked forced failures room forced' failures' room' count failed failed'
+    (Some n) old new
     rs was is form is_one is_other own read c r h =
     let same : asked ≡ text = is_one ∙ h.1 ∙ is_other in
     trimmed_again p q text text' asked forced' failures' room' failed' (Some n) old new is form same r
@@ -418,5 +438,6 @@ settled_trimmed old new count s r = record {
 
 -- or it was not
 pub settled_untrimmed : (old new : LogState) (count : ℕ) (e : LogError) → StaysTrimmed old count
-    → NotRewritten old new (records_of old.sight.kept) e → NotRewritten old new (trim_of old (own_data old.sight)) e
+    → NotRewritten old new (records_of old.sight.kept) e
+    → NotRewritten old new (trim_of old (own_data old.sight)) e
 settled_untrimmed old new count e s r = subst (λ ls. NotRewritten old new ls e) (sym s.stays) r

@@ -111,7 +111,8 @@ text_failed p text text' more forced forced' failed is le e f = record {
   whole = λ h. absurd (cc);
 }
 
-pub append_breaks : (p : LogForm) (text text' : List ℕ) (forced forced' failures failures' room room' came : ℕ)
+pub append_breaks : (p : LogForm) (text text' : List ℕ)
+    (forced forced' failures failures' room room' came : ℕ)
     (l : LogRecord) (failed : Bool) → failed ≡ false → CanStandInForm p l
     → IsLogText p text forced failed → forced ≤ length text
     → text' ≡ text ++ take came (record_text p l) → forced' ≡ forced → MoreFailures failures failures'
@@ -225,7 +226,8 @@ force_breaks p text text' forced forced' failures failures' room room' failed se
       more = forced' - forced;
       leaves = λ keep.
           let sum : forced' + keep ≡ forced + (forced' - forced + keep) = omega (arith, f) in
-          sym (left_records p text' forced' keep failures' room' true second (omega (arith, header, f)) within')
+          sym (left_records p text' forced' keep failures' room' true second
+          (omega (arith, header, f)) within')
           ∙ ap (λ t. records_in p 0 (body (take (forced' + keep) t))) e
           ∙ ap (λ n. records_in p 0 (body (take n text))) sum
           ∙ left_records p text forced (forced' - forced + keep) failures room failed second header within

@@ -55,7 +55,8 @@ own_size p l = omega (
     head_size Second n = refl
 
 -- by the second format a record's size hangs on neither process nor sort
-pub frame_size : (p : LogForm) → p.format ≡ Second → (l : LogRecord) → length (record_text p l) ≡ record_size l
+pub frame_size : (p : LogForm) → p.format ≡ Second → (l : LogRecord)
+    → length (record_text p l) ≡ record_size l
 frame_size p second l = omega (
   arith,
   own_size p l,
@@ -64,7 +65,8 @@ frame_size p second l = omega (
   same_size p l.parent l.entry second,
 )
 
-frame_long : (p : LogForm) → p.format ≡ Second → (xs : List ℕ) (c : Cut) (l : LogRecord) (a : Frame p.format xs c)
+frame_long : (p : LogForm) → p.format ≡ Second → (xs : List ℕ) (c : Cut) (l : LogRecord)
+    (a : Frame p.format xs c)
     → read_record p c.0 c.1 ≡ Some l → record_size l ≡ length a.frame
 frame_long p second xs c l a r =
     omega (arith, own_size p l, frame_size p second l, read_long p c.0 c.1 l r, a.size)
@@ -77,7 +79,8 @@ some_is x y e = cc
 nothing_behind : (xs ys : List ℕ) → xs ++ ys ≡ [] → length ys ≡ 0
 nothing_behind xs ys e = omega (arith, length-append xs ys, ap length e)
 
-cut_frame : (f : LogFormat) (frame : List ℕ) (n : ℕ) (c : Cut) (o : Option Cut) → first_frame f frame ≡ Some (c.0, c.1, [])
+cut_frame : (f : LogFormat) (frame : List ℕ) (n : ℕ) (c : Cut) (o : Option Cut)
+    → first_frame f frame ≡ Some (c.0, c.1, [])
     → n < length frame → first_frame f (take n frame) ≡ o → o ≡ None
 cut_frame f frame n c None e h g = refl
 cut_frame f frame n c (Some d) e h g =
@@ -102,7 +105,8 @@ taken_none p n xs e =
     let f = front_of p 0 n xs in
     front_none (records_in p 0 (take n xs)) f.0 (sym e ∙ f.1) ∙ sym (ap (whole_within n) e ∙ within_none n)
 
-taken_whole : (p : LogForm) → p.format ≡ Second → (n : ℕ) (xs : List ℕ) (c : Cut) (l : LogRecord) → first_frame p.format xs ≡ Some c
+taken_whole : (p : LogForm) → p.format ≡ Second → (n : ℕ) (xs : List ℕ) (c : Cut) (l : LogRecord)
+    → first_frame p.format xs ≡ Some c
     → read_record p c.0 c.1 ≡ Some l → record_size l ≤ n
     → Taken p (n - record_size l) c.2 → Taken p n xs
 taken_whole p second n xs c l e r h more =
@@ -118,7 +122,8 @@ taken_whole p second n xs c l e r h more =
     ∙ sym (ap (whole_within n) (step p xs c e ∙ ap (λ o. and_records o (records_in p 0 c.2)) r)
     ∙ within_one n l (records_in p 0 c.2) h)
 
-taken_cut : (p : LogForm) → p.format ≡ Second → (n : ℕ) (xs : List ℕ) (c : Cut) (l : LogRecord) → first_frame p.format xs ≡ Some c
+taken_cut : (p : LogForm) → p.format ≡ Second → (n : ℕ) (xs : List ℕ) (c : Cut) (l : LogRecord)
+    → first_frame p.format xs ≡ Some c
     → read_record p c.0 c.1 ≡ Some l → n < record_size l → Taken p n xs
 taken_cut p second n xs c l e r h =
     let a = frame_at p.format xs c e in
@@ -130,27 +135,32 @@ taken_cut p second n xs c l e r h =
     ∙ sym (ap (whole_within n) (step p xs c e ∙ ap (λ o. and_records o (records_in p 0 c.2)) r)
     ∙ within_no n l (records_in p 0 c.2) h)
 
-taken_record : (p : LogForm) → p.format ≡ Second → (n : ℕ) (xs : List ℕ) (c : Cut) (l : LogRecord) (b : Bool) → first_frame p.format xs ≡ Some c
+taken_record : (p : LogForm) → p.format ≡ Second → (n : ℕ) (xs : List ℕ) (c : Cut) (l : LogRecord) (b : Bool)
+    → first_frame p.format xs ≡ Some c
     → read_record p c.0 c.1 ≡ Some l
     → nat_le (record_size l) n ≡ b → ((m : ℕ) → Taken p m c.2) → Taken p n xs
 taken_record p second n xs c l true e r t f = taken_whole p second n xs c l e r (grind (arith, nat_tests))
     (f (n - record_size l))
 taken_record p second n xs c l false e r t f = taken_cut p second n xs c l e r (grind (arith, nat_tests))
 
-taken_frame : (p : LogForm) → p.format ≡ Second → (n : ℕ) (xs : List ℕ) (c : Cut) (o : Option LogRecord) → first_frame p.format xs ≡ Some c
+taken_frame : (p : LogForm) → p.format ≡ Second → (n : ℕ) (xs : List ℕ) (c : Cut) (o : Option LogRecord)
+    → first_frame p.format xs ≡ Some c
     → read_record p c.0 c.1 ≡ o
     → ((m : ℕ) → Taken p m c.2) → Taken p n xs
 taken_frame p second n xs c None e r f = taken_none p n xs
     (step p xs c e ∙ ap (λ o. and_records o (records_in p 0 c.2)) r)
-taken_frame p second n xs c (Some l) e r f = taken_record p second n xs c l (nat_le (record_size l) n) e r refl f
+taken_frame p second n xs c (Some l) e r f = taken_record p second n xs c l
+    (nat_le (record_size l) n) e r refl f
 
-taken_by : (p : LogForm) → p.format ≡ Second → (n : ℕ) (xs : List ℕ) (o : Option Cut) → first_frame p.format xs ≡ o
+taken_by : (p : LogForm) → p.format ≡ Second → (n : ℕ) (xs : List ℕ) (o : Option Cut)
+    → first_frame p.format xs ≡ o
     → ((c : Cut) → length c.2 < length xs → (m : ℕ) → Taken p m c.2) → Taken p n xs
 taken_by p second n xs None e f = taken_none p n xs (no_frame p xs e)
 taken_by p second n xs (Some c) e f =
     taken_frame p second n xs c (read_record p c.0 c.1) e refl (f c (shorter p.format xs c e))
 
-records_taken_in : (p : LogForm) → p.format ≡ Second → (most n : ℕ) (xs : List ℕ) → length xs < most → Taken p n xs
+records_taken_in : (p : LogForm) → p.format ≡ Second → (most n : ℕ) (xs : List ℕ) → length xs < most
+    → Taken p n xs
 records_taken_in p second zero n xs h = absurd (omega arith)
 records_taken_in p second (suc most) n xs h = taken_by p second n xs (first_frame p.format xs) refl
     (λ c less m. records_taken_in p second most m c.2 (omega arith))
@@ -168,7 +178,8 @@ passed_size p (suc k) [] = refl
 passed_size p (suc k) (b ∷ bs) = passed_size p k bs
 
 step_size : (p : LogForm) (xs : List ℕ) (c : Cut) → first_frame p.format xs ≡ Some c
-    → whole_size p 0 xs ≡ size_if (read_record p c.0 c.1) (suc (size_bytes p.format) + length c.1 + whole_size p 0 c.2)
+    → whole_size p 0 xs ≡ size_if (read_record p c.0 c.1)
+    (suc (size_bytes p.format) + length c.1 + whole_size p 0 c.2)
 unfolding whole_size
 step_size p [] c e = let never = sym (no_bytes p.format) ∙ e in absurd (cc)
 step_size p (b ∷ bs) c e =
@@ -185,16 +196,19 @@ no_size p (b ∷ bs) e = ap (λ o. size_by p o (λ n. whole_size p n bs)) e
 abbrev Sized : LogForm → List ℕ → Type 0
 Sized p xs = whole_size p 0 xs ≡ frames_size (records_in p 0 xs)
 
-sized_frame : (p : LogForm) → p.format ≡ Second → (xs : List ℕ) (c : Cut) (o : Option LogRecord) → first_frame p.format xs ≡ Some c
+sized_frame : (p : LogForm) → p.format ≡ Second → (xs : List ℕ) (c : Cut) (o : Option LogRecord)
+    → first_frame p.format xs ≡ Some c
     → read_record p c.0 c.1 ≡ o → Sized p c.2 → Sized p xs
 unfolding frames_size
 sized_frame p second xs c None e r f =
     step_size p xs c e ∙ ap (λ o. size_if o (suc (size_bytes p.format) + length c.1 + whole_size p 0 c.2)) r
     ∙ sym (ap frames_size (step p xs c e ∙ ap (λ o. and_records o (records_in p 0 c.2)) r))
 sized_frame p second xs c (Some l) e r f =
-    let size : suc (size_bytes p.format) + length c.1 + whole_size p 0 c.2 ≡ record_size l + frames_size (records_in p 0 c.2) =
+    let size : suc (size_bytes p.format) + length c.1 + whole_size p 0 c.2
+    ≡ record_size l + frames_size (records_in p 0 c.2) =
     omega (arith, f, own_size p l, frame_size p second l, read_long p c.0 c.1 l r) in
-    step_size p xs c e ∙ ap (λ o. size_if o (suc (size_bytes p.format) + length c.1 + whole_size p 0 c.2)) r ∙ size
+    step_size p xs c e ∙ ap (λ o. size_if o (suc (size_bytes p.format) + length c.1 + whole_size p 0 c.2)) r
+    ∙ size
     ∙ sym (ap frames_size (step p xs c e ∙ ap (λ o. and_records o (records_in p 0 c.2)) r))
 
 sized_by : (p : LogForm) → p.format ≡ Second → (xs : List ℕ) (o : Option Cut) → first_frame p.format xs ≡ o
@@ -206,7 +220,8 @@ sized_by p second xs (Some c) e f =
 
 sized_in : (p : LogForm) → p.format ≡ Second → (most : ℕ) (xs : List ℕ) → length xs < most → Sized p xs
 sized_in p second zero xs h = absurd (omega arith)
-sized_in p second (suc most) xs h = sized_by p second xs (first_frame p.format xs) refl (λ c less. sized_in p second most c.2 (omega arith))
+sized_in p second (suc most) xs h = sized_by p second xs (first_frame p.format xs) refl
+    (λ c less. sized_in p second most c.2 (omega arith))
 
 pub sized : (p : LogForm) → p.format ≡ Second → (xs : List ℕ) → Sized p xs
 sized p second xs = sized_in p second (suc (length xs)) xs (omega arith)
@@ -228,7 +243,8 @@ full_frame p xs c (Some l) e r f w =
     step_size p xs c e ∙ ap (λ o. size_if o (suc (size_bytes p.format) + length c.1 + whole_size p 0 c.2)) r
     ∙ omega (arith, f rest, a.size, ap length a.split, length-append a.frame c.2)
 
-no_whole : (p : LogForm) (xs : List ℕ) → first_frame p.format xs ≡ None → is_whole p 0 xs ≡ true → length xs ≡ 0
+no_whole : (p : LogForm) (xs : List ℕ) → first_frame p.format xs ≡ None → is_whole p 0 xs ≡ true
+    → length xs ≡ 0
 unfolding is_whole
 no_whole p [] e w = refl
 no_whole p (b ∷ bs) e w = let never : false ≡ true = sym (ap (λ o. whole_by p o (λ n. is_whole p n bs)) e)
@@ -237,11 +253,13 @@ no_whole p (b ∷ bs) e w = let never : false ≡ true = sym (ap (λ o. whole_by
 full_by : (p : LogForm) (xs : List ℕ) (o : Option Cut) → first_frame p.format xs ≡ o
     → ((c : Cut) → length c.2 < length xs → Full p c.2) → Full p xs
 full_by p xs None e f w = omega (arith, no_size p xs e, no_whole p xs e w)
-full_by p xs (Some c) e f w = full_frame p xs c (read_record p c.0 c.1) e refl (f c (shorter p.format xs c e)) w
+full_by p xs (Some c) e f w = full_frame p xs c (read_record p c.0 c.1) e refl
+    (f c (shorter p.format xs c e)) w
 
 full_in : (p : LogForm) (most : ℕ) (xs : List ℕ) → length xs < most → Full p xs
 full_in p zero xs h = absurd (omega arith)
-full_in p (suc most) xs h = full_by p xs (first_frame p.format xs) refl (λ c less. full_in p most c.2 (omega arith))
+full_in p (suc most) xs h = full_by p xs (first_frame p.format xs) refl
+    (λ c less. full_in p most c.2 (omega arith))
 
 pub whole_is_full : (p : LogForm) (xs : List ℕ) → is_whole p 0 xs ≡ true → length xs - whole_size p 0 xs ≡ 0
 whole_is_full p xs w = omega (arith, full_in p (suc (length xs)) xs (omega arith) w)
@@ -292,7 +310,8 @@ left_records p text forced keep failures room failed second h le =
     let all = records_in p 0 (body text) in
     let n = forced - 5 in
     let sum : forced + keep - 5 ≡ n + keep = omega arith in
-    let now : records_in p 0 (front text forced) ≡ whole_within n all = records_taken p second n (body text) in
+    let now : records_in p 0 (front text forced) ≡ whole_within n all = records_taken p second n (body text)
+    in
     let long : length (front text forced) ≡ n =
     length-take-le n (body text) (omega (arith, length-drop 5 text)) in
     let F = records_in p 0 (front text forced) in
@@ -304,7 +323,8 @@ left_records p text forced keep failures room failed second h le =
     (sym now)
     ∙ ap (λ t. F ++ whole_within (t + keep) (drop (length F) all)) behind
 
-pub left_of_view : (p : LogForm) (text : List ℕ) (forced keep failures room : ℕ) (failed : Bool) (s : LogState)
+pub left_of_view : (p : LogForm) (text : List ℕ) (forced keep failures room : ℕ)
+    (failed : Bool) (s : LogState)
     (ls : List LogRecord)
     → log_state p text forced failures room failed ≡ s → p.format ≡ Second → 5 ≤ forced → forced ≤ length text
     → ls ≡ records_in p 0 (body (take (forced + keep) text)) → ls ≡ left_by s.sight keep
@@ -334,7 +354,8 @@ record Parts (l m : LogRecord) (ls ms : List LogRecord) : Type 0 where
 parts : (l m : LogRecord) (ls ms : List LogRecord) → l ∷ ls ≡ m ∷ ms → Parts l m ls ms
 parts l m ls ms e = record { head = cc; tail = cc }
 
-behind_first : (p : LogForm) → p.format ≡ Second → (l : LogRecord) (ls more : List LogRecord) (xs : List ℕ) (c : Cut)
+behind_first : (p : LogForm) → p.format ≡ Second → (l : LogRecord) (ls more : List LogRecord) (xs : List ℕ)
+    (c : Cut)
     (o : Option LogRecord) → first_frame p.format xs ≡ Some c → read_record p c.0 c.1 ≡ o
     → records_in p 0 xs ≡ l ∷ (ls ++ more)
     → (records_in p 0 c.2 ≡ ls ++ more
@@ -342,7 +363,8 @@ behind_first : (p : LogForm) → p.format ≡ Second → (l : LogRecord) (ls mor
     → records_in p 0 xs ≡ l ∷ (ls ++ records_in p 0 (drop (frames_size (l ∷ ls)) xs))
 unfolding frames_size
 behind_first p second l ls more xs c None e r is f =
-    absurd (no_first l (ls ++ more) (sym (step p xs c e ∙ ap (λ o. and_records o (records_in p 0 c.2)) r) ∙ is))
+    absurd (no_first l (ls ++ more) (sym (step p xs c e ∙ ap (λ o. and_records o (records_in p 0 c.2)) r)
+    ∙ is))
 behind_first p second l ls more xs c (Some m) e r is f =
     let a = frame_at p.format xs c e in
     let read : records_in p 0 xs ≡ m ∷ records_in p 0 c.2 =
@@ -376,7 +398,8 @@ records_behind p second (l ∷ ls) more xs is =
     (λ c h. records_behind p second ls more c.2 h)
 
 -- what a crash leaves after the first records
-pub left_behind_front : (p : LogForm) (text left : List ℕ) (forced keep size cut failures room : ℕ) (failed : Bool)
+pub left_behind_front : (p : LogForm) (text left : List ℕ)
+    (forced keep size cut failures room : ℕ) (failed : Bool)
     (s : LogState) (ls : List LogRecord)
     → log_state p text forced failures room failed ≡ s → p.format ≡ Second → 5 ≤ forced → forced ≤ length text
     → left ≡ take (forced + keep) text → cut ≡ min size (length left) → ls ≡ records_in p 0 (drop cut left)

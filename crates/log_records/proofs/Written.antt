@@ -8,12 +8,15 @@ use Rattle.log_records.specs.Texts.{is_whole, records_in}
 use Rattle.log_records.specs.Sights.{AreRecords, body}
 use Rattle.log_records.proofs.Frames.{no_records, nothing_whole, own_record, own_whole}
 
-pub written : (p : LogForm) (ls : List LogRecord) → AreRecords p.kind ls → records_in p 0 (records_text p ls) ≡ ls
+pub written : (p : LogForm) (ls : List LogRecord) → AreRecords p.kind ls
+    → records_in p 0 (records_text p ls) ≡ ls
 unfolding records_text
 written p [] are = no_records p
-written p (l ∷ ls) are = own_record p l (records_text p ls) (are.0 p refl) ∙ ap (λ t. l ∷ t) (written p ls are.1)
+written p (l ∷ ls) are = own_record p l (records_text p ls) (are.0 p refl)
+    ∙ ap (λ t. l ∷ t) (written p ls are.1)
 
-pub whole_text : (p : LogForm) (ls : List LogRecord) → AreRecords p.kind ls → is_whole p 0 (records_text p ls) ≡ true
+pub whole_text : (p : LogForm) (ls : List LogRecord) → AreRecords p.kind ls
+    → is_whole p 0 (records_text p ls) ≡ true
 unfolding records_text
 whole_text p [] are = nothing_whole p
 whole_text p (l ∷ ls) are = own_whole p l (records_text p ls) (are.0 p refl) ∙ whole_text p ls are.1

@@ -21,8 +21,8 @@ pub record Carries (p : LogForm) (old new : List ℕ) : Type 0 where
   pub text : new ≡ header p.format ++ records_text p records
   pub again : read_log p new ≡ Whole records 0
 
--- the text of a log of this form that takes the place of these bytes: a log of the first format is carried over,
--- and all of it forced; one of the second is settled, as where it is opened
+-- the text of a log of this form that takes the place of these bytes: a log of the first format is carried
+-- over, and all of it forced; one of the second is settled, as where it is opened
 abbrev pub IsMigrated : Bool → LogForm → List ℕ → ℕ → ℕ → List ℕ → ℕ → ℕ → Type 0
 IsMigrated true p old forced failures new forced' failures' =
     Carries p old new × (forced' ≡ length new) × (failures' ≡ failures)
@@ -71,7 +71,8 @@ error_of_open (opening.Damaged place) = DamagedError place
 error_of_open opening.OldFormat = Memory
 
 -- the store of a log of the first format that was not carried over
-abbrev pub NotCarried : {S : Type 0} → (S → List ℕ) → (S → ℕ) → (S → ℕ) → LogForm → S → S → LogOpenError → Type 0
+abbrev pub NotCarried : {S : Type 0} → (S → List ℕ) → (S → ℕ) → (S → ℕ) → LogForm → S → S → LogOpenError
+    → Type 0
 NotCarried bytes forced failures p old new opening.Memory = SameStore bytes forced failures old new
 NotCarried bytes forced failures p old new opening.Device =
     (text : List ℕ) × Carries p (bytes old) text × ReplaceBreaks bytes forced failures old new text

@@ -60,7 +60,8 @@ IsNoLog p bytes (DamagedError place) = read_log p bytes ≡ Damaged place
 abbrev pub IsWrittenAnew : ℕ → ℕ → Type 0
 IsWrittenAnew torn forced = (0 < torn) ⊎ (forced < 5)
 
--- what is forced of the records of these bytes is forced as it was; or they are written again, all of them forced
+-- what is forced of the records of these bytes is forced as it was; or they are written again, all of them
+-- forced
 abbrev pub StaysForced : LogForm → List ℕ → ℕ → ℕ → LogSight → Type 0
 StaysForced p bytes forced torn s =
     ((s.kept ≡ kept_of p bytes forced) × (s.behind ≡ bytes_behind p bytes forced))
@@ -96,7 +97,8 @@ pub record BreaksOpening {S : Type 0} (bytes : S → List ℕ) (forced failures 
   pub breaks : ReplaceBreaks bytes forced failures old new text
 
 -- why no log is opened, and what store is handed back
-abbrev pub LogNotOpened : {S : Type 0} → (S → List ℕ) → (S → ℕ) → (S → ℕ) → LogForm → S → S → LogOpenError → Type 0
+abbrev pub LogNotOpened : {S : Type 0} → (S → List ℕ) → (S → ℕ) → (S → ℕ) → LogForm → S → S → LogOpenError
+    → Type 0
 LogNotOpened bytes forced failures p old new Memory = SameStore bytes forced failures old new
 LogNotOpened bytes forced failures p old new Device = BreaksOpening bytes forced failures p old new
 LogNotOpened bytes forced failures p old new (DamagedError place) =
@@ -104,7 +106,8 @@ LogNotOpened bytes forced failures p old new (DamagedError place) =
 LogNotOpened bytes forced failures p old new OldFormat = (new ≡ old) × (is_old (bytes old) ≡ true)
 
 -- a text was not put in place
-abbrev pub IsRefused : {S : Type 0} → (S → List ℕ) → (S → ℕ) → (S → ℕ) → S → S → List ℕ → LogOpenError → Type 0
+abbrev pub IsRefused : {S : Type 0} → (S → List ℕ) → (S → ℕ) → (S → ℕ) → S → S → List ℕ → LogOpenError
+    → Type 0
 IsRefused bytes forced failures old new text Memory = SameStore bytes forced failures old new
 IsRefused bytes forced failures old new text Device = ReplaceBreaks bytes forced failures old new text
 IsRefused bytes forced failures old new text (DamagedError place) = ⊥

@@ -146,7 +146,8 @@ unfoldable pub frames_size : List LogRecord → ℕ
 frames_size [] = 0
 frames_size (l ∷ ls) = record_size l + frames_size ls
 
--- these records are the first ones of the log, all of them forced, and the header and their frames are N bytes
+-- these records are the first ones of the log, all of them forced, and the header and their frames are N
+-- bytes
 pub record IsLogFront (s : LogSight) (size : ℕ) (first : List LogRecord) : Type 0 where
   pub rest : List LogRecord
   pub split : first ++ rest ≡ s.kept.forced

@@ -52,11 +52,12 @@ impl LogError {
 pub struct RecLog<L: LogStore> {
     form: LogForm,
     store: L,
-    /// How many bytes at the front are known to be the header and whole records, all of them forced: a restart
-    /// looks for the end of the last whole record after them alone.
+    /// How many bytes at the front are known to be the header and whole records, all of them forced: a
+    /// restart looks for the end of the last whole record after them alone.
     known: usize,
     failed: bool,
-    /// How many records stand, if the last trim left the log as it was and nothing was written since: so will the next.
+    /// How many records stand, if the last trim left the log as it was and nothing was written since: so will
+    /// the next.
     trimmed: Option<usize>,
 }
 
@@ -336,8 +337,8 @@ fn settled_count(text: &[u8], bytes: &[u8], count: usize) -> Option<usize>
     }
 }
 
-/// How many bytes are known to be whole records and forced, if the first `size` are whole records and the first `forced`
-/// are forced.
+/// How many bytes are known to be whole records and forced, if the first `size` are whole records and the
+/// first `forced` are forced.
 fn known_of(size: usize, forced: usize) -> usize
     ensures { ((size ≤ forced) × (result ≡ size)) ⊎ (result ≡ 5) }
 {
@@ -355,7 +356,8 @@ impl<L: LogStore + Drop> RecLog<L> {
     ) -> Result<RecLog<L>, (LogOpenError, L)>
         ensures ok { IfOk result (λ log. OpensLog (log_form process kind) (L.bytes store) (L.forced store)
             (L.failures store) log) }
-        ensures err { IfErr result (λ e. LogNotOpened L.bytes L.forced L.failures (log_form process kind) store
+        ensures err { IfErr result (λ e. LogNotOpened L.bytes L.forced L.failures
+            (log_form process kind) store
             e.1 e.0) }
     {
         if is_old(store.bytes()) {
@@ -393,7 +395,8 @@ impl<L: LogStore> RecLog<L> {
 
     /// The store under the log, to be read.
     pub fn store(&self) -> &L
-        ensures { log_state self.now.sight.form (L.bytes result.now) (L.forced result.now) (L.failures result.now)
+        ensures { log_state self.now.sight.form (L.bytes result.now) (L.forced result.now)
+            (L.failures result.now)
             (L.room result.now) self.now.sight.failed ≡ self.now }
     {
         &self.store
@@ -428,8 +431,8 @@ impl<L: LogStore> RecLog<L> {
         Ok(())
     }
 
-    /// Forces all the records. Device: the device failed, and so has the log until its restart; of the records
-    /// that were not forced any first ones are now.
+    /// Forces all the records. Device: the device failed, and so has the log until its restart; of the
+    /// records that were not forced any first ones are now.
     pub fn force(&mut self) -> Result<(), LogError>
         requires { self.old.sight.failed ≡ false }
         ensures ok { OnOk result (Forced self.old self.new) }
@@ -478,8 +481,8 @@ impl<L: LogStore> RecLog<L> {
         records_in(self.form, body(left), alloc)
     }
 
-    /// Of the records that a crash would leave that keeps N bytes after the forced front, those after the first ones, if the
-    /// header and the first ones, all of them forced, are `size` bytes.
+    /// Of the records that a crash would leave that keeps N bytes after the forced front, those after the
+    /// first ones, if the header and the first ones, all of them forced, are `size` bytes.
     pub fn kept_after(
         &self,
         size: usize,
@@ -521,7 +524,8 @@ impl<L: LogStore> RecLog<L> {
         requires { AreRecords self.old.sight.form.kind (map frame_record new.now) }
         ensures form { self.new.sight.form ≡ self.old.sight.form }
         ensures ok { OnOk result (LogRestarts self.old self.new keep (map frame_record new.now)) }
-        ensures err { IfErr result (λ e. LogNotRestarted self.old self.new keep (map frame_record new.now) e) }
+        ensures err { IfErr result (λ e. LogNotRestarted self.old self.new keep
+            (map frame_record new.now) e) }
     {
         let forced = self.store.forced();
         let left = left_by(self.store.bytes(), forced, keep);
@@ -587,15 +591,16 @@ impl<L: LogStore> RecLog<L> {
         Ok(())
     }
 
-    /// How many records stand, if a trim would leave the log as it is: the last one did, and nothing was written since.
+    /// How many records stand, if a trim would leave the log as it is: the last one did, and nothing was
+    /// written since.
     pub fn trimmed(&self) -> Option<usize>
         ensures { IfSome result (λ count. StaysTrimmed self.now count) }
     {
         self.trimmed
     }
 
-    /// Puts all that is in its own place, by one `replace`, and reads nothing. Memory: nothing changed. Device: the
-    /// log stands as it was, and has failed.
+    /// Puts all that is in its own place, by one `replace`, and reads nothing. Memory: nothing changed.
+    /// Device: the log stands as it was, and has failed.
     pub fn put_again(&mut self, alloc: Global) -> Result<(), LogError>
         requires works { self.old.sight.failed ≡ false }
         ensures form { self.new.sight.form ≡ self.old.sight.form }
@@ -615,10 +620,10 @@ impl<L: LogStore> RecLog<L> {
         }
     }
 
-    /// Puts the records that stay in a trim in place of all that stand, and those of the data after them, forced by one
-    /// `replace`: the last Opened, the records of the cases and branches that are not forgotten, and these. Gives how
-    /// many they are. All memory is taken before. Memory: nothing changed. Device: the log stands as it was or trimmed,
-    /// and the log has failed.
+    /// Puts the records that stay in a trim in place of all that stand, and those of the data after them,
+    /// forced by one `replace`: the last Opened, the records of the cases and branches that are not
+    /// forgotten, and these. Gives how many they are. All memory is taken before. Memory: nothing changed.
+    /// Device: the log stands as it was or trimmed, and the log has failed.
     pub fn trim(&mut self, behind: &[Frame], alloc: Global) -> Result<usize, LogError>
         requires works { self.old.sight.failed ≡ false }
         requires sound { AreRecords self.old.sight.form.kind (map frame_record behind.now) }

@@ -69,7 +69,8 @@ no false r h = refl
 not_second : (a b c d f : ℕ) → f ≡ 1 → same_bytes (a ∷ b ∷ c ∷ d ∷ f ∷ []) (header Second) ≡ false
 unfolding same_bytes
 not_second a b c d f is =
-    no (a == 82) _ (no (b == 76) _ (no (c == 79) _ (no (d == 71) _ (ap (λ n. if n == 2 then true else false) is))))
+    no (a == 82) _ (no (b == 76) _ (no (c == 79) _
+    (no (d == 71) _ (ap (λ n. if n == 2 then true else false) is))))
 
 -- bytes that the fifth says to be of the first format, and that do not begin as one, are damaged by either
 neither : (bytes : List ℕ) (q : ProcessId) (k : Kind) → is_old bytes ≡ false → format_in bytes ≡ First

@@ -13,7 +13,8 @@ use Rattle.log_script.proofs.LineLaws.{line_again}
 
 -- One more line.
 
-pub at_skipped : (es : List TreeProcess) (ls : List ProcessLog) (n : ℕ) (line : List ℕ) (lines : List (List ℕ))
+pub at_skipped : (es : List TreeProcess) (ls : List ProcessLog) (n : ℕ) (line : List ℕ)
+    (lines : List (List ℕ))
     → is_skipped line ≡ true
     → logs_behind es ls n (line ∷ lines) ≡ logs_behind es ls (n + 1) lines
 unfolding logs_behind
@@ -32,7 +33,8 @@ pub at_log : (es : List TreeProcess) (ls : List ProcessLog) (n : ℕ) (line : Li
     → logs_behind es ls n (line ∷ lines) ≡ logs_behind es (ls ++ l ∷ []) (n + 1) lines
 at_log es ls n line lines l e is may = at_line es ls n line lines e ∙ rw (is, may) refl
 
-pub at_strange : (es : List TreeProcess) (ls : List ProcessLog) (n : ℕ) (line : List ℕ) (lines : List (List ℕ))
+pub at_strange : (es : List TreeProcess) (ls : List ProcessLog) (n : ℕ) (line : List ℕ)
+    (lines : List (List ℕ))
     → is_skipped line ≡ false
     → log_at line ≡ None → logs_behind es ls n (line ∷ lines) ≡ Err n
 at_strange es ls n line lines e is = at_line es ls n line lines e ∙ rw is refl

@@ -54,7 +54,8 @@ told_frame p place at size s (Some c) more ls torn behind same e =
     told_record place at s (read_record p c.0 c.1)
     (λ t. more (place + suc (size_bytes p.format) + length c.1) t (size_bytes p.format + length c.1)) ls torn
     (behind (at + suc (size_bytes p.format) + length c.1) (size_bytes p.format + length c.1))
-    (λ t ms k h. same (place + suc (size_bytes p.format) + length c.1) (at + suc (size_bytes p.format) + length c.1) t
+    (λ t ms k h. same (place + suc (size_bytes p.format) + length c.1)
+    (at + suc (size_bytes p.format) + length c.1) t
     (size_bytes p.format + length c.1) ms k h) e
 
 told : (p : LogForm) (place at : ℕ) (s : SeenLog) (k : ℕ) (bytes : List ℕ) (ls : List LogRecord) (torn : ℕ)
@@ -63,7 +64,8 @@ unfolding read_frames placed_in
 told p place at s k [] ls torn e = one [] ls 0 torn e
 told p place at s (suc k) (b ∷ bs) ls torn e = told p place at s k bs ls torn e
 told p place at s zero (b ∷ bs) ls torn e =
-    told_frame p place at (suc (length bs)) s (first_frame p.format (b ∷ bs)) (λ a t k. read_frames p a t k bs) ls torn
+    told_frame p place at (suc (length bs)) s (first_frame p.format (b ∷ bs))
+    (λ a t k. read_frames p a t k bs) ls torn
     (λ a k. placed_in p a k bs)
     (λ a c t k ms n h. told p a c t k bs ms n h) e
 

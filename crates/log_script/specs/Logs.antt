@@ -35,7 +35,8 @@ line_then es ls n (Some l) more = if may_follow es ls l then more (ls ++ l ∷ [
 
 -- these logs and those of the lines after them, the first of which has this number; or the number of the
 -- first line that is not the line of a log that may be there
-unfoldable pub logs_behind : List TreeProcess → List ProcessLog → ℕ → List (List ℕ) → Result (List ProcessLog) ℕ
+unfoldable pub logs_behind : List TreeProcess → List ProcessLog → ℕ → List (List ℕ)
+    → Result (List ProcessLog) ℕ
 logs_behind es ls n [] = Ok ls
 logs_behind es ls n (line ∷ lines) =
     if is_skipped line then logs_behind es ls (n + 1) lines

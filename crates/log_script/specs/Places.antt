@@ -44,5 +44,6 @@ placed_records p bytes = placed_in p 5 0 (drop 5 bytes)
 
 -- where a log is sound, these are the records that it reads as
 abbrev pub PlacesTell : Type 0
-PlacesTell = (p : LogForm) (bytes : List ℕ) (ls : List LogRecord) (torn : ℕ) → read_log p bytes ≡ Whole ls torn
+PlacesTell = (p : LogForm) (bytes : List ℕ) (ls : List LogRecord) (torn : ℕ)
+    → read_log p bytes ≡ Whole ls torn
     → map (λ x. x.read) (placed_records p bytes) ≡ ls

@@ -20,8 +20,8 @@ fault_failures s = if s.failed then 1 else 0
 abbrev pub no_failures : FaultStore → Bool
 no_failures s = not s.failed
 
--- At which call the device fails: the kind, how many calls of it there are up to the one that fails, and how many
--- bytes of that one are done.
+-- At which call the device fails: the kind, how many calls of it there are up to the one that fails, and how
+-- many bytes of that one are done.
 pub record FaultPlan : Type 0 where
   pub call : StoreCall
   pub left : ℕ
@@ -49,7 +49,8 @@ is_next s call = (s.left == 1) && same_call s.call call
 -- a call of this kind did not fail: it is counted, and nothing else moves
 pub record Passes (call : StoreCall) (old new : FaultStore) : Type 0 where
   pub store : new.store ≡ old.store
-  pub plan : fault_plan new ≡ plans old.call (if same_call old.call call then old.left - 1 else old.left) old.keep
+  pub plan : fault_plan new ≡ plans old.call
+      (if same_call old.call call then old.left - 1 else old.left) old.keep
   pub failed : new.failed ≡ old.failed
 
 -- the device failed, and none is to fail any more
@@ -61,7 +62,8 @@ pub record Fails (old new : FaultStore) : Type 0 where
 -- a call of this kind was made and did not fail: none was to fail at it, and it is counted
 pub record IsPassed (call : StoreCall) (old new : FaultStore) : Type 0 where
   pub due : is_next old call ≡ false
-  pub plan : fault_plan new ≡ plans old.call (if same_call old.call call then old.left - 1 else old.left) old.keep
+  pub plan : fault_plan new ≡ plans old.call
+      (if same_call old.call call then old.left - 1 else old.left) old.keep
   pub failed : new.failed ≡ old.failed
 
 -- memory was refused: the call is not counted
@@ -69,8 +71,8 @@ pub record IsUncounted (old new : FaultStore) : Type 0 where
   pub plan : fault_plan new ≡ fault_plan old
   pub failed : new.failed ≡ old.failed
 
--- The device failed at a call of this kind, as was planned: these bytes stand, N of them forced, and none is to
--- fail any more.
+-- The device failed at a call of this kind, as was planned: these bytes stand, N of them forced, and none is
+-- to fail any more.
 pub record IsBroken (call : StoreCall) (old new : FaultStore) (bytes : List ℕ) (forced : ℕ) : Type 0 where
   pub due : is_next old call ≡ true
   pub text : fault_bytes new ≡ bytes

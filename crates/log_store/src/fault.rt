@@ -17,8 +17,8 @@ pub enum StoreCall {
 }
 
 /// A store in memory whose device fails once: at the nth call of one kind. Of what that call was to do the
-/// first `keep` bytes are done: a failed append leaves these of its bytes, a failed force moves the
-/// forced front by `keep`, and a failed replace leaves the old bytes where `keep` is 0, and else the new ones.
+/// first `keep` bytes are done: a failed append leaves these of its bytes, a failed force moves the forced
+/// front by `keep`, and a failed replace leaves the old bytes where `keep` is 0, and else the new ones.
 #[derive(Drop)]
 pub struct FaultStore {
     store: MemoryStore,
@@ -118,7 +118,8 @@ impl LogStore for FaultStore {
     }
 
     fn append(&mut self, more: &[u8]) -> Result<(), StoreError>
-        ensures ok { OnOk result (Appends fault_bytes fault_forced fault_failures self.old self.new more.now) }
+        ensures ok { OnOk result (Appends fault_bytes fault_forced fault_failures self.old
+            self.new more.now) }
         ensures room { vec_capacity self.old.store.bytes ≤ vec_capacity self.new.store.bytes }
         ensures memory { IfErr result (λ e. e ≡ StoreError.Memory
             → MemoryRefuses fault_bytes fault_forced fault_failures self.old self.new
@@ -160,7 +161,8 @@ impl LogStore for FaultStore {
     }
 
     fn replace(&mut self, new: &[u8]) -> Result<(), StoreError>
-        ensures ok { OnOk result (Replaces fault_bytes fault_forced fault_failures self.old self.new new.now) }
+        ensures ok { OnOk result (Replaces fault_bytes fault_forced fault_failures self.old
+            self.new new.now) }
         ensures memory { IfErr result (λ e. e ≡ StoreError.Memory
             → MemoryRefuses fault_bytes fault_forced fault_failures self.old self.new
             (vec_capacity self.old.store.bytes) (length new.now)) }

@@ -40,7 +40,8 @@ impl MemoryStore {
     /// Forces N bytes more, at most all that stand. It takes no memory.
     pub(crate) fn force_more(&mut self, more: usize)
         ensures text { memory_bytes self.new ≡ memory_bytes self.old }
-        ensures front { memory_forced self.new ≡ min (memory_forced self.old + more) (length (memory_bytes self.old)) }
+        ensures front { memory_forced self.new ≡ min (memory_forced self.old + more)
+            (length (memory_bytes self.old)) }
         ensures room { vec_capacity self.new.bytes ≡ vec_capacity self.old.bytes }
     {
         self.forced = self.forced.saturating_add(more).min(self.bytes.len());

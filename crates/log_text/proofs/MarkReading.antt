@@ -80,10 +80,12 @@ decided (suc n ∷ rest) ts e = names_first (ticket_at rest) (front_of ticket_at
 
 -- the mark of a record of this kind under this name, with these bytes after it
 abbrev IsMarked : Option ProcessId → BranchName → ℕ → List ℕ → LogRecord → Type 0
-IsMarked p b kind rest l = ◌≡◌ {A = TrimMark} (record { name = Some (name_xid p b); deed = deed_in kind rest }) (mark_of l)
+IsMarked p b kind rest l = ◌≡◌ {A = TrimMark}
+    (record { name = Some (name_xid p b); deed = deed_in kind rest }) (mark_of l)
 
 -- of a record that is known, by its kind
-marked_as : (p : Option ProcessId) (b : BranchName) (kind n : ℕ) (rest : List ℕ) (l r : LogRecord) → kind ≡ n → r ≡ l
+marked_as : (p : Option ProcessId) (b : BranchName) (kind n : ℕ) (rest : List ℕ) (l r : LogRecord) → kind ≡ n
+    → r ≡ l
     → IsMarked p b n rest r → IsMarked p b kind rest l
 marked_as p b kind n rest l r is e m =
     subst (λ (k : LogRecord). IsMarked p b kind rest k) e
@@ -101,8 +103,10 @@ listed_mark kind p c rest l ts bounds is e = by_tests (kind == 2) (kind == 3) (k
     by_tests : (a b d : Bool) → (kind == 2) ≡ a → (kind == 3) ≡ b → (kind == 4) ≡ d
         → named p (cond a (Collecting c ts) (cond b (Prepare c ts) (cond d (Commit c ts) (Abort c ts)))) ≡ l
         → IsMarked p (CaseBranch c) kind rest l
-    by_tests true b d two three four f = marked_as p (CaseBranch c) kind 2 rest l _ (is_number kind 2 two) f refl
-    by_tests false true d two three four f = marked_as p (CaseBranch c) kind 3 rest l _ (is_number kind 3 three) f refl
+    by_tests true b d two three four f = marked_as p (CaseBranch c) kind 2 rest l _
+        (is_number kind 2 two) f refl
+    by_tests false true d two three four f = marked_as p (CaseBranch c) kind 3 rest l _
+        (is_number kind 3 three) f refl
     by_tests false false true two three four f =
         marked_as p (CaseBranch c) kind 4 rest l _ (is_number kind 4 four) f
         (ap (named_as (mark_of (named p (Commit c ts)))) (sym (decided rest ts is)))
@@ -137,7 +141,8 @@ case_mark kind p c rest l e = by_kind (kind == 6) (kind == 7) (kind == 8) (nat_l
         (cond d (alone_record p (Cleared c) rest)
         (cond f (option_map (λ ts. named p (listing kind c ts)) (tickets_of rest)) None))) ≡ Some l
         → IsMarked p (CaseBranch c) kind rest l
-    by_kind true b d f six seven eight r g = by_rest 6 (End c None) (length rest == 0) (is_number kind 6 six) refl g
+    by_kind true b d f six seven eight r g = by_rest 6 (End c None) (length rest == 0)
+        (is_number kind 6 six) refl g
     by_kind false true d f six seven eight r g = by_reports (reports_of rest) (is_number kind 7 seven) g
     by_kind false false true f six seven eight r g =
         by_rest 8 (Cleared c) (length rest == 0) (is_number kind 8 eight) refl g
@@ -151,12 +156,15 @@ branch_name (CaseBranch c) = refl
 branch_name (Foreign x) = refl
 
 -- of a record of a branch that is known, by its kind
-branch_as : (p : Option ProcessId) (b : BranchName) (kind n : ℕ) (rest : List ℕ) (r s : Record) → kind ≡ n → s ≡ r
+branch_as : (p : Option ProcessId) (b : BranchName) (kind n : ℕ) (rest : List ℕ) (r s : Record) → kind ≡ n
+    → s ≡ r
     → record_name s ≡ Some b → deed_of s ≡ deed_in n rest → IsMarked p b kind rest (named p r)
-branch_as p b kind n rest r s is e name does = marked_as p b kind n rest (named p r) (named p s) is (ap (named p) e)
+branch_as p b kind n rest r s is e name does = marked_as p b kind n rest (named p r) (named p s) is
+    (ap (named p) e)
     (λ i. record { name = option_map (name_xid p) (sym name i); deed = sym does i })
 
-bare_mark : (p : Option ProcessId) (b : BranchName) (kind : ℕ) (rest : List ℕ) (r : Record) → bare kind b ≡ Some r
+bare_mark : (p : Option ProcessId) (b : BranchName) (kind : ℕ) (rest : List ℕ) (r : Record)
+    → bare kind b ≡ Some r
     → IsMarked p b kind rest (named p r)
 bare_mark p b kind rest r e = by_tests (kind == 18) (kind == 19) (kind == 21) (kind == 22) (kind == 24)
     refl refl refl refl refl e
@@ -167,8 +175,10 @@ bare_mark p b kind rest r e = by_tests (kind == 18) (kind == 19) (kind == 21) (k
         (cond d (Some (HeurCommit b)) (cond f (Some (HeurRollback b)) (cond g (Some (Forgot b)) None))))
         ≡ Some r
         → IsMarked p b kind rest (named p r)
-    by_tests true c d f g i j k m n q = branch_as p b kind 18 rest r _ (is_number kind 18 i) (some_is _ _ q) (branch_name b) refl
-    by_tests false true d f g i j k m n q = branch_as p b kind 19 rest r _ (is_number kind 19 j) (some_is _ _ q) (branch_name b) refl
+    by_tests true c d f g i j k m n q = branch_as p b kind 18 rest r _ (is_number kind 18 i) (some_is _ _ q)
+        (branch_name b) refl
+    by_tests false true d f g i j k m n q = branch_as p b kind 19 rest r _ (is_number kind 19 j)
+        (some_is _ _ q) (branch_name b) refl
     by_tests false false true f g i j k m n q =
         branch_as p b kind 21 rest r _ (is_number kind 21 k) (some_is _ _ q) (branch_name b) refl
     by_tests false false false true g i j k m n q =
@@ -190,7 +200,8 @@ told_mark p b kind (o ∷ []) r is e = by_tests (o == 1) (o == 0) e
     by_tests false true f = branch_as p b kind 23 (o ∷ []) r _ is (some_is _ _ f) (branch_name b) refl
     by_tests false false f = absurd (none_some r f)
 
-writing_mark : (p : Option ProcessId) (b : BranchName) (kind : ℕ) (rest : List ℕ) (r : Record) (o : Option (List Write))
+writing_mark : (p : Option ProcessId) (b : BranchName) (kind : ℕ) (rest : List ℕ) (r : Record)
+    (o : Option (List Write))
     → ((kind == 17) || (kind == 20)) ≡ true → option_map (writing kind b) o ≡ Some r
     → IsMarked p b kind rest (named p r)
 writing_mark p b kind rest r None of e = absurd (none_some r e)
@@ -204,7 +215,8 @@ writing_mark p b kind rest r (Some ws) of e = by_kind (kind == 17) refl (some_is
 
 branch_mark : (p : Option ProcessId) (b : BranchName) (kind : ℕ) (rest : List ℕ) (r : Record)
     → branch_record kind b rest ≡ Some r → IsMarked p b kind rest (named p r)
-branch_mark p b kind rest r e = by_tests ((kind == 17) || (kind == 20)) (kind == 23) (length rest == 0) refl refl e
+branch_mark p b kind rest r e = by_tests ((kind == 17) || (kind == 20)) (kind == 23)
+    (length rest == 0) refl refl e
   where
     by_tests : (a c d : Bool) → ((kind == 17) || (kind == 20)) ≡ a → (kind == 23) ≡ c
         → cond a (option_map (writing kind b) (writes_of rest))
@@ -222,7 +234,8 @@ of_case_mark : (kind : ℕ) (p : Option ProcessId) (b : BranchName) (rest : List
 of_case_mark kind p (CaseBranch c) rest l e = case_mark kind p c rest l e
 of_case_mark kind p (Foreign x) rest l e = absurd (none_some l e)
 
-of_branch_mark : (kind : ℕ) (p : Option ProcessId) (b : BranchName) (rest : List ℕ) (l : LogRecord) (o : Option Record)
+of_branch_mark : (kind : ℕ) (p : Option ProcessId) (b : BranchName) (rest : List ℕ) (l : LogRecord)
+    (o : Option Record)
     → branch_record kind b rest ≡ o → option_map (named p) o ≡ Some l → IsMarked p b kind rest l
 of_branch_mark kind p b rest l None is e = absurd (none_some l e)
 of_branch_mark kind p b rest l (Some r) is e =
@@ -367,11 +380,13 @@ unnamed_mark f kind payload d l none e = by_tests (kind == 1) (kind == 25) (kind
   where
     as_deed : (c : MarkDeed) → c ≡ d → ◌≡◌ {A = TrimMark} (record { name = None; deed = c }) (mark_of l)
         → ◌≡◌ {A = TrimMark} (record { name = None; deed = d }) (mark_of l)
-    as_deed c same m = subst (λ (b : MarkDeed). ◌≡◌ {A = TrimMark} (record { name = None; deed = b }) (mark_of l)) same m
+    as_deed c same m = subst (λ (b : MarkDeed). ◌≡◌ {A = TrimMark} (record { name = None; deed = b })
+        (mark_of l)) same m
 
     by_tests : (a b c : Bool) → (kind == 1) ≡ a → (kind == 25) ≡ b → (kind == 26) ≡ c
         → cond a (Some deed.Opens) (cond (b || c) (Some deed.Nothing) None) ≡ Some d
-        → cond a (option_map (λ n. unnamed (Opened n)) (opened_boot f payload)) (kind_record f.kind kind payload)
+        → cond a (option_map (λ n. unnamed (Opened n)) (opened_boot f payload))
+        (kind_record f.kind kind payload)
         ≡ Some l
         → ◌≡◌ {A = TrimMark} (record { name = None; deed = d }) (mark_of l)
     by_tests true b c i j k q g = as_deed _ (some_is _ _ q) (opened_mark (opened_boot f payload) l g)
@@ -387,10 +402,12 @@ no_xid : (payload : List ℕ) (fault : XidError) → front_fault payload ≡ Som
 unfolding xid_at
 no_xid payload fault e = rw e refl
 
-pub front_mark : (f : LogForm) (kind : ℕ) (payload : List ℕ) (x : XidParts) (size : ℕ) (rest : List ℕ) (d : MarkDeed)
+pub front_mark : (f : LogForm) (kind : ℕ) (payload : List ℕ) (x : XidParts) (size : ℕ)
+    (rest : List ℕ) (d : MarkDeed)
     (l : LogRecord) → nameless kind ≡ None → IsXid x → size ≡ length (xid_bytes x)
     → payload ≡ xid_bytes x ++ drop size payload → rest ≡ drop size payload → d ≡ deed_in kind rest
-    → read_record f kind payload ≡ Some l → ◌≡◌ {A = TrimMark} (record { name = Some x; deed = d }) (mark_of l)
+    → read_record f kind payload ≡ Some l → ◌≡◌ {A = TrimMark}
+    (record { name = Some x; deed = d }) (mark_of l)
 front_mark f kind payload x size rest d l none is s w r is_deed e =
     let at = xid_front x payload is (w ∙ ap (λ k. xid_bytes x ++ drop k payload) s) in
     ap (λ (c : MarkDeed). record { name = Some x; deed = c })
@@ -398,5 +415,7 @@ front_mark f kind payload x size rest d l none is s w r is_deed e =
     ∙ named_mark f kind payload x (drop (length (xid_bytes x)) payload) l none at e
 
 pub fault_mark : (f : LogForm) (kind : ℕ) (payload : List ℕ) (fault : XidError) (m : TrimMark) (l : LogRecord)
-    → nameless kind ≡ None → front_fault payload ≡ Some fault → read_record f kind payload ≡ Some l → m ≡ mark_of l
-fault_mark f kind payload fault m l none w e = absurd (no_named f kind payload l none (no_xid payload fault w) e)
+    → nameless kind ≡ None → front_fault payload ≡ Some fault → read_record f kind payload ≡ Some l
+    → m ≡ mark_of l
+fault_mark f kind payload fault m l none w e =
+    absurd (no_named f kind payload l none (no_xid payload fault w) e)

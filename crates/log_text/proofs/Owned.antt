@@ -24,7 +24,8 @@ pub opened_is : (f : LogForm) (boot : ℕ) (xs ys : List ℕ) → f.format ≡ S
     → ys ≡ owner_text f → laid xs ys ≡ record_text f (unnamed (Opened boot))
 unfolding record_text frame_text
 opened_is f boot xs ys e b o = (λ i. laid (b i) (o i))
-    ∙ sym (ap (λ (g : LogFormat). 1 ∷ (big_bytes (size_bytes g) (length (opened_by g f boot)) ++ opened_by g f boot))
+    ∙ sym (ap (λ (g : LogFormat). 1 ∷ (big_bytes (size_bytes g) (length (opened_by g f boot))
+    ++ opened_by g f boot))
     e)
 
 -- the payload of any other record does not hang on the form
@@ -53,7 +54,8 @@ other_payload f q (Pair k v) e = refl
 pub other_is : (f : LogForm) (l : LogRecord) → f.format ≡ Second → boot_in l.entry ≡ None
     → record_text unowned l ≡ record_text f l
 unfolding record_text
-other_is f l e none = ap (λ t. frame_text Second (kind_byte l.entry) t) (other_payload f l.parent l.entry none)
+other_is f l e none = ap (λ t. frame_text Second (kind_byte l.entry) t)
+    (other_payload f l.parent l.entry none)
     ∙ ap (λ g. frame_text g (kind_byte l.entry) (payload_text f l.parent l.entry)) (sym e)
 
 opened_entry : (f : LogForm) (q : Option ProcessId) (r : Record) (n : ℕ) → boot_in r ≡ Some n

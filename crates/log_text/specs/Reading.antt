@@ -133,8 +133,8 @@ abbrev pub kind_record : Kind → ℕ → List ℕ → Option LogRecord
 kind_record Coordinator kind payload = coordinator_record kind payload
 kind_record Manager kind payload = manager_record kind payload
 
--- The record of a frame in a log of this form: none where its kind is unknown or of the other sort of process,
--- or its payload is not exactly that of a record.
+-- The record of a frame in a log of this form: none where its kind is unknown or of the other sort of
+-- process, or its payload is not exactly that of a record.
 unfoldable pub read_record : LogForm → ℕ → List ℕ → Option LogRecord
 read_record f kind payload =
     if kind == 1 then option_map (λ n. unnamed (Opened n)) (opened_boot f payload)

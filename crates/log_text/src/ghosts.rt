@@ -9,7 +9,8 @@ use protocol::{ProcessId, Record};
 use std::marker::Model;
 use xa_xid::Xid;
 
-/// A record as clauses see it. It has no bytes: a frame keeps so which record it is of, and no copy of it is made.
+/// A record as clauses see it. It has no bytes: a frame keeps so which record it is of, and no copy of it is
+/// made.
 #[derive(Drop)]
 pub(crate) struct GhostRecord {
     pub ghost value: { LogRecord },

@@ -33,7 +33,8 @@ pub enum MarkDeed {
     Clears,
 }
 
-/// What a trim must know of a record: the name that it has in the log, and what it does to what is said of it.
+/// What a trim must know of a record: the name that it has in the log, and what it does to what is said of
+/// it.
 #[derive(Clone, Copy)]
 pub struct TrimMark {
     /// The name, as the log writes it; Opened, Base and Pair have none.
@@ -70,8 +71,8 @@ fn deed_in(kind: u8, rest: &[u8]) -> MarkDeed
 }
 
 impl TrimMark {
-    /// The mark of the record that a frame of this kind and payload reads as, if it reads as one. Of the payload only
-    /// the name is read, and whether a decision names anybody. It takes no memory.
+    /// The mark of the record that a frame of this kind and payload reads as, if it reads as one. Of the
+    /// payload only the name is read, and whether a decision names anybody. It takes no memory.
     pub fn in_frame(kind: u8, payload: &[u8]) -> TrimMark
         ensures { (f : LogForm) (l : LogRecord) → read_record f kind payload.now ≡ Some l
             → result ≡ mark_of l }

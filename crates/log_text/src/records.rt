@@ -186,8 +186,8 @@ fn opened_boot(form: LogForm, payload: &[u8]) -> Option<u64>
 }
 
 /// The record of a frame of this kind and payload, in a log of this form. Malformed comes exactly where the
-/// kind is unknown or of the other sort of process, or the payload is not exactly that of a record; by the second
-/// format also where Opened says that the log is another's.
+/// kind is unknown or of the other sort of process, or the payload is not exactly that of a record; by the
+/// second format also where Opened says that the log is another's.
 #[tactic(auto, unfolding(crate::specs::Reading::read_record))]
 pub fn read_record(
     form: LogForm,

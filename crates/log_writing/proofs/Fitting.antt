@@ -33,7 +33,8 @@ short_so q (Forgot b) h = h
 short_so q (Base k) h = h
 short_so q (Pair k v) h = h
 
-pub room_for : (log : LogState) (l : LogRecord) → HasRecordRoom log → IsRecord Coordinator l → record_size l ≤ log.room
+pub room_for : (log : LogState) (l : LogRecord) → HasRecordRoom log → IsRecord Coordinator l
+    → record_size l ≤ log.room
 room_for log l room is = omega (
   arith,
   own_size unowned l,

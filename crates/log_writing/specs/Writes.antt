@@ -24,8 +24,8 @@ pub record WritesRecord (old new : LogState) (l : LogRecord) (forced : Bool) : T
 abbrev pub AreHeld : Option ProcessId → List Record → Type 0
 AreHeld parent rs = AllByRecursion (IsSound Coordinator) (map (in_log parent) rs)
 
--- why a coordinator below this parent has no frames of these records: memory was refused, or one of them can be in
--- no log of a coordinator
+-- why a coordinator below this parent has no frames of these records: memory was refused, or one of them can
+-- be in no log of a coordinator
 abbrev pub NotFramed : Option ProcessId → List Record → StepError → Type 0
 NotFramed parent rs Memory = ⊤
 NotFramed parent rs Exhausted = AreHeld parent rs → ⊥

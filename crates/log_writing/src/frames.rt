@@ -44,7 +44,8 @@ fn is_whole(parent: Option<ProcessId>, case: Case) -> bool
 
 /// Whether a coordinator's log can hold the record under this parent.
 fn is_writable(entry: &Record, parent: Option<ProcessId>) -> bool
-    ensures yes { IsTrue result → IsSound AnyKind.Coordinator (record { entry = entry.now; parent = parent }) }
+    ensures yes { IsTrue result → IsSound AnyKind.Coordinator
+        (record { entry = entry.now; parent = parent }) }
     ensures no { IsSound AnyKind.Coordinator (record { entry = entry.now; parent = parent }) → IsTrue result }
 {
     match entry {

@@ -26,7 +26,8 @@ use Rattle.migrate_engine.specs.Migrations.{MigratesTo, NotMigrated, migrated_lo
 two_parts : (bytes : List ℕ) (p : LogForm) (frames : List ℕ) → take 5 bytes ≡ header p.format
     → drop 5 bytes ≡ frames → bytes ≡ header p.format ++ frames
 two_parts bytes p frames begins behind =
-    sym (take-append-drop 5 bytes) ∙ ap (λ t. t ++ drop 5 bytes) begins ∙ ap (λ t. header p.format ++ t) behind
+    sym (take-append-drop 5 bytes) ∙ ap (λ t. t ++ drop 5 bytes) begins
+    ∙ ap (λ t. header p.format ++ t) behind
 
 module _ (e : TreeProcess) (old new : List ℕ) where
   abbrev form : LogForm
@@ -62,7 +63,8 @@ damaged_so e bytes place false is h = read_by_second bytes e.id e.kind is ∙ h
 -- Why a log was not migrated.
 
 -- a store whose device never fails: the log is damaged, or memory was refused
-pub not_migrated : {S : Type 0} (bytes : S → List ℕ) (forced : S → ℕ) (e : TreeProcess) (old new : S) (is : MigrateError)
+pub not_migrated : {S : Type 0} (bytes : S → List ℕ) (forced : S → ℕ) (e : TreeProcess) (old new : S)
+    (is : MigrateError)
     → IsLogNotMigrated bytes forced (λ s. 0) (log_form e.id e.kind) old new is → NotMigrated e (bytes old) is
 not_migrated bytes forced e old new error.Memory h = tt
 not_migrated bytes forced e old new error.Device h = absurd (omega (arith, h.breaks.cause))
@@ -101,7 +103,8 @@ pub all_migrated : (new : List ProcessLog) (rest : List TreeProcess) (logs : Lis
 unfolding migrated_logs
 all_migrated new rest logs is = ap (λ es. new ++ migrated_logs es logs) is ∙ append-nil new
 
-pub logs_more : (old new total : List ProcessLog) (e : TreeProcess) (es rest : List TreeProcess) (logs : List ProcessLog)
+pub logs_more : (old new total : List ProcessLog) (e : TreeProcess) (es rest : List TreeProcess)
+    (logs : List ProcessLog)
     (log : ProcessLog) → new ≡ old ++ log ∷ [] → log ≡ migrated_log e (bytes_of logs e.id) → rest ≡ e ∷ es
     → old ++ migrated_logs rest logs ≡ total → new ++ migrated_logs es logs ≡ total
 unfolding migrated_logs

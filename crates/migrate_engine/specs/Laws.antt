@@ -15,5 +15,6 @@ SameRecords = (e : TreeProcess) (bytes : List ℕ) (ls : List LogRecord) (torn :
 
 -- a log that was migrated is migrated to itself
 abbrev pub MigratedStays : Type 0
-MigratedStays = (e : TreeProcess) (bytes : List ℕ) (log : ProcessLog) → AreBytes bytes → MigratesTo e bytes log
+MigratedStays = (e : TreeProcess) (bytes : List ℕ) (log : ProcessLog) → AreBytes bytes
+    → MigratesTo e bytes log
     → MigratesTo e log.bytes log

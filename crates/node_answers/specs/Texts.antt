@@ -36,8 +36,8 @@ help_text =
     ++ codes "status\nlog\ndata\nhelp\nend\n"
     ++ ok_text
 
--- how a log stands: the boot; how many records it has, and how many of them are not forced; how many bytes; how many
--- cases are in doubt by it, and how many an operator decided that wait to be told
+-- how a log stands: the boot; how many records it has, and how many of them are not forced; how many bytes;
+-- how many cases are in doubt by it, and how many an operator decided that wait to be told
 abbrev pub status_text : NodeStatus → List ℕ
 status_text s =
     codes "status boot " ++ decimal s.boot ++ codes " records " ++ decimal s.records ++ codes " unforced "

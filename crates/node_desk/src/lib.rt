@@ -1,6 +1,7 @@
 //! Floor: engines and program.
 //!
-//! What a desk says to a node beside the lines of the input, when it says it, and what it tells of the answers.
+//! What a desk says to a node beside the lines of the input, when it says it, and what it tells of the
+//! answers.
 //!
 //! ```text
 //! joining  a JOINED of the input, and what is asked and told of it

@@ -92,7 +92,12 @@ module _ {A : Type 0} (old : NodeState) (core : CoreState) (d : ManagerData) (in
       → IfErr r (TakesInput old (moved old core d) input)
   refused_err e (Ok text) refuses why = tt
   refused_err e (Err f) refuses why =
-      record { seat = record { tree = refl; me = refl; manner = refl; name = refl }; end = Err e; took = refuses; untold = why }
+      record {
+        seat = record { tree = refl; me = refl; manner = refl; name = refl };
+        end = Err e;
+        took = refuses;
+        untold = why;
+      }
 
 -- Trims.
 
@@ -114,7 +119,12 @@ module _ {A : Type 0} (old : NodeState) (core : CoreState) (d : ManagerData) whe
       → IfErr r (IsUnrefused e) → IfErr r (TakesTrim old (moved old core d))
   trim_refused_err e (Ok text) refuses why = tt
   trim_refused_err e (Err f) refuses why =
-      record { seat = record { tree = refl; me = refl; manner = refl; name = refl }; end = Err e; took = refuses; untold = why }
+      record {
+        seat = record { tree = refl; me = refl; manner = refl; name = refl };
+        end = Err e;
+        took = refuses;
+        untold = why;
+      }
 
 -- Whose they are.
 
@@ -167,7 +177,8 @@ module _ {A E : Type 0} (items : A → List ℕ) (x : Txn) (s : NodeState) where
 
 -- How the log stands.
 
-module _ {A E : Type 0} (items : A → List ℕ) (s : NodeState) (log : List ℕ) (spells : SpellsLog s.core log) where
+module _ {A E : Type 0} (items : A → List ℕ) (s : NodeState) (log : List ℕ)
+    (spells : SpellsLog s.core log) where
   pub status_told : (t : NodeStatus) (r : Result A E) → t ≡ status_by s (length log)
       → IfOk r (λ text. items text ≡ status_text t) → IfOk r (λ text. TellsStatus s (items text))
   status_told t (Ok text) is h = record { log = log; spells = spells; told = h ∙ ap status_text is }
@@ -192,7 +203,8 @@ again_nothing (Some es) s = (refl, tt)
 
 pub takes_nothing : (a : NodeLine) (s : NodeState) → NodeTakes a s s failure.Memory
 takes_nothing asked.Nothing s = (refl, refl)
-takes_nothing (asked.Act a) s = if_nothing (same_process (process_of_act (root_of s.tree) a) s.me) s (ActInput a)
+takes_nothing (asked.Act a) s = if_nothing
+    (same_process (process_of_act (root_of s.tree) a) s.me) s (ActInput a)
 takes_nothing (asked.Message n e) s = if_nothing (hears s e) s (MessageInput n e.message)
 takes_nothing asked.Trim s = record {
   seat = record { tree = refl; me = refl; manner = refl; name = refl };
@@ -214,7 +226,8 @@ takes_nothing asked.NoText s = (refl, refl)
 
 module _ {A E : Type 0} (items : A → List ℕ) (line : List ℕ) (a : NodeLine) (old new : NodeState)
     (r : Result A E) (text : IsUtf8 line) (is : a ≡ asked_at (root_of old.tree) line) where
-  pub line_answered : IfOk r (λ t. AnswersAsked a old new (items t)) → IfOk r (λ t. AnswersLine line old new (items t))
+  pub line_answered : IfOk r (λ t. AnswersAsked a old new (items t))
+      → IfOk r (λ t. AnswersLine line old new (items t))
   line_answered h = by_result r h
     where
       by_result : (q : Result A E) → IfOk q (λ t. AnswersAsked a old new (items t))
@@ -224,6 +237,7 @@ module _ {A E : Type 0} (items : A → List ℕ) (line : List ℕ) (a : NodeLine
 
 module _ {A : Type 0} (line : List ℕ) (a : NodeLine) (old new : NodeState) (text : IsUtf8 line)
     (is : a ≡ asked_at (root_of old.tree) line) where
-  pub line_taken : (r : Result A NodeFailure) → IfErr r (NodeTakes a old new) → IfErr r (TakesLine line old new)
+  pub line_taken : (r : Result A NodeFailure) → IfErr r (NodeTakes a old new)
+      → IfErr r (TakesLine line old new)
   line_taken (Ok t) h = tt
   line_taken (Err e) h = record { asked = a; asks = inl (text, is); takes = h }

@@ -69,12 +69,14 @@ module _ (tree : List TreeProcess) (e : TreeProcess) (bytes : List ℕ) where
   pub opened_names_own : (log : LogState) → CopyOpens (form_by e) bytes (Some log)
       → list_all (is_own_record e.id e.parent tree) (records_of log.sight.kept) ≡ true → NamesOwn tree e bytes
   opened_names_own log h own = record {
-    at_home = λ ls torn read. subst (λ (rs : List LogRecord). list_all (is_own_record e.id e.parent tree) rs ≡ true)
+    at_home = λ ls torn read. subst (λ (rs : List LogRecord). list_all
+        (is_own_record e.id e.parent tree) rs ≡ true)
         (same_records (records_of log.sight.kept) ls h.2.torn torn (sym h.2.read ∙ read)) own;
   }
 
   pub opened_names_others : (log : LogState) → CopyOpens (form_by e) bytes (Some log)
-      → list_all (is_own_record e.id e.parent tree) (records_of log.sight.kept) ≡ false → NamesOthers tree e bytes
+      → list_all (is_own_record e.id e.parent tree) (records_of log.sight.kept) ≡ false
+      → NamesOthers tree e bytes
   opened_names_others log h others = record {
     forced = h.0;
     failures = h.1;
@@ -84,7 +86,8 @@ module _ (tree : List TreeProcess) (e : TreeProcess) (bytes : List ℕ) where
   }
 
 -- a refusal is passed on
-pub not_started : {L : Type 0} (bytes : L → List ℕ) (forced failures : L → ℕ) (tree : List TreeProcess) (e : TreeProcess)
+pub not_started : {L : Type 0} (bytes : L → List ℕ) (forced failures : L → ℕ) (tree : List TreeProcess)
+    (e : TreeProcess)
     (store : L) (error : StartError) → NotHome tree e (bytes store) error
     → NoStart bytes forced failures tree e store error
 not_started bytes forced failures tree e store Stranger h = h

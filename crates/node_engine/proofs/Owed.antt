@@ -24,7 +24,8 @@ told_to me c ts None = None
 told_to me c ts (Some o) = Some (map (telling me c o) ts)
 
 by_standing : (me : ProcessId) (c : Case) (owed : List Ticket) (s : Summary) (st : Standing)
-    → tellings_by me c (still_owing owed (known_view st (restored_view st s))) (known_view st (restored_view st s)).standing
+    → tellings_by me c (still_owing owed (known_view st (restored_view st s)))
+    (known_view st (restored_view st s)).standing
     ≡ told_to me c (filter (in_list owed) s.owing) (decided_by st)
 by_standing me c owed s Unknown = refl
 by_standing me c owed s Active = refl
@@ -41,18 +42,23 @@ pub by_summary : (me : ProcessId) (c : Case) (owed : List Ticket) (s : Summary)
 by_summary me c owed s = by_standing me c owed s (standing_of s)
 
 -- of a case of which nothing was read
-pub nothing_read_of : (me : ProcessId) (c : Case) (owed : List Ticket) (t : SummaryTable) → lookup (same c) t ≡ None
+pub nothing_read_of : (me : ProcessId) (c : Case) (owed : List Ticket) (t : SummaryTable)
+    → lookup (same c) t ≡ None
     → tellings_by me c (still_owing owed (view_in t c)) (view_in t c).standing ≡ None
 nothing_read_of me c owed t e =
     ap (λ (o : Option Summary). tellings_by me c (still_owing owed (view_of (unwrap_or o no_records)))
     (view_of (unwrap_or o no_records)).standing) e
 
 -- of what was read of records
-pub read_exactly : {A E : Type 0} (value : A → Option (List Envelope)) (me : ProcessId) (c : Case) (owed : List Ticket)
+pub read_exactly : {A E : Type 0} (value : A → Option (List Envelope)) (me : ProcessId) (c : Case)
+    (owed : List Ticket)
     (rs : List Record) (reading : ReadLog) (r : Result A E) → reading ≡ reading_of rs
-    → IfOk r (λ o. value o ≡ tellings_by me c (still_owing owed (view_in reading.table c)) (view_in reading.table c).standing)
-    → IfOk r (λ o. value o ≡ tellings_by me c (still_owing owed (recorded_view rs c)) (recorded_view rs c).standing)
+    → IfOk r (λ o. value o ≡ tellings_by me c (still_owing owed (view_in reading.table c))
+    (view_in reading.table c).standing)
+    → IfOk r (λ o. value o ≡ tellings_by me c (still_owing owed (recorded_view rs c))
+    (recorded_view rs c).standing)
 read_exactly value me c owed rs reading (Ok o) is h =
-    h ∙ ap (λ (l : ReadLog). tellings_by me c (still_owing owed (view_in l.table c)) (view_in l.table c).standing) is
+    h ∙ ap (λ (l : ReadLog). tellings_by me c (still_owing owed (view_in l.table c))
+    (view_in l.table c).standing) is
     ∙ ap (λ (v : CoordinatorView). tellings_by me c (still_owing owed v) v.standing) (view_is rs c)
 read_exactly value me c owed rs reading (Err e) is h = tt

@@ -43,8 +43,10 @@ module _ (tree : List TreeProcess) (logs : List ProcessLog) (trust : Trust) (of 
   none_of_a_damage q place h = λ t. (q, place, h)
 
 -- what was found by the log is what the node finds
-pub found_at : (s : NodeState) (of : Naming) (log : List ℕ) (t : Trust) (a : Option BranchAnswer) → SpellsLog s.core log
-    → t ≡ trust_of (is_root s) s.core of → IsBranchAnswer s.tree (own_logs s.me log) t of a → FindsInLog s of a
+pub found_at : (s : NodeState) (of : Naming) (log : List ℕ) (t : Trust) (a : Option BranchAnswer)
+    → SpellsLog s.core log
+    → t ≡ trust_of (is_root s) s.core of → IsBranchAnswer s.tree (own_logs s.me log) t of a
+    → FindsInLog s of a
 found_at s of log t a spells is h = record {
   log = log;
   spells = spells;
@@ -52,7 +54,8 @@ found_at s of log t a spells is h = record {
 }
 
 module _ (s : NodeState) (name text : List ℕ) where
-  pub resolved_at : (of : Naming) (answer : Option BranchAnswer) → IsNaming s.tree s.name name of → FindsInLog s of answer
+  pub resolved_at : (of : Naming) (answer : Option BranchAnswer) → IsNaming s.tree s.name name of
+      → FindsInLog s of answer
       → text ≡ name_text s.manner name answer → Resolves s name text
   resolved_at of answer named finds told =
       record { of = of; named = named; answer = answer; finds = finds; told = told }
@@ -61,7 +64,8 @@ module _ (s : NodeState) (name text : List ℕ) where
   no_text_at is told = inr (is, told)
 
 -- a name that is a text
-pub text_so : {A E : Type 0} (items : A → List ℕ) (s : NodeState) (name : List ℕ) (r : Result A E) → IsUtf8 name
+pub text_so : {A E : Type 0} (items : A → List ℕ) (s : NodeState) (name : List ℕ) (r : Result A E)
+    → IsUtf8 name
     → IfOk r (λ text. Resolves s name (items text)) → IfOk r (λ text. TellsName s name (items text))
 text_so items s name (Ok text) is h = inl (is, h)
 text_so items s name (Err e) is h = tt

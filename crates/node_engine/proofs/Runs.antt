@@ -267,8 +267,10 @@ pub appends_nothing : (a : Known) → Appends a a []
 appends_nothing None = tt
 appends_nothing (Some x) = sym (append-nil x)
 
-module _ {L : Type 0} (bytes : L → List ℕ) (forced failures : L → ℕ) (start : Stand) (opening : Reaction) (by : Ended)
-    (left held : Known) (s : NodeState) (ends : EndsBy by start opening (stand left held s)) (r : Result L NodeFailure)
+module _ {L : Type 0} (bytes : L → List ℕ) (forced failures : L → ℕ) (start : Stand)
+    (opening : Reaction) (by : Ended)
+    (left held : Known) (s : NodeState) (ends : EndsBy by start opening (stand left held s))
+    (r : Result L NodeFailure)
     (now : Known) where
   -- a node whose input ended, whose log is forced, and which wrote what is written then
   pub in_order : IfOk r (ClosesLog bytes forced failures s.core) → OnOk r (Appends held now (end_text by))
@@ -276,7 +278,8 @@ module _ {L : Type 0} (bytes : L → List ℕ) (forced failures : L → ℕ) (st
   in_order closes writes = by_result r closes writes
     where
       by_result : (q : Result L NodeFailure) → IfOk q (ClosesLog bytes forced failures s.core)
-          → OnOk q (Appends held now (end_text by)) → IfOk q (EndsInOrder bytes forced failures start opening left now)
+          → OnOk q (Appends held now (end_text by))
+          → IfOk q (EndsInOrder bytes forced failures start opening left now)
       by_result (Err e) c w = tt
       by_result (Ok store) c w =
           record { by = by; last = stand left held s; ends = ends; reads = refl; closes = c; writes = w }
@@ -307,7 +310,8 @@ module _ {L : Type 0} (bytes : L → List ℕ) (forced failures : L → ℕ) (st
       by_result (Err e) g = fails e g
 
 -- what is closed is forced
-pub closes_all : {L : Type 0} (bytes : L → List ℕ) (forced failures : L → ℕ) (s : CoreState) (r : Result L NodeFailure)
+pub closes_all : {L : Type 0} (bytes : L → List ℕ) (forced failures : L → ℕ) (s : CoreState)
+    (r : Result L NodeFailure)
     → IfOk r (ClosesLog bytes forced failures s) → IfOk r (λ store. forced store ≡ length (bytes store))
 closes_all bytes forced failures s (Ok store) h = h.forces.all ∙ ap length (sym h.forces.text)
 closes_all bytes forced failures s (Err e) h = tt

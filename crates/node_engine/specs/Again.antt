@@ -39,8 +39,8 @@ tellings_by me c v s = tellings_for me c v (decided_by s)
 abbrev pub still_owing : List Ticket → CoordinatorView → CoordinatorView
 still_owing owed v = record v { owed = filter (in_list owed) v.owed }
 
--- what a process sends once more of a case by the records of its log, while these owe an acknowledgement: what a restart
--- over them would send of it to these, but no inquiry
+-- what a process sends once more of a case by the records of its log, while these owe an acknowledgement:
+-- what a restart over them would send of it to these, but no inquiry
 abbrev pub owed_again : Place → List LogRecord → List Ticket → Case → Option (List Envelope)
 owed_again place ls owed c =
     let v = recorded_view (own_records place ls) c in tellings_by place.me c (still_owing owed v) v.standing

@@ -47,8 +47,9 @@ use Rattle.node_answers.specs.declared.refusing.Manner.{Manner}
 use Rattle.node_answers.specs.declared.refusing.Manner.TheVariants.{Numbers}
 use Rattle.node_answers.specs.declared.refusing.Nothing.TheVariants.{NoLine, NoText}
 
--- the tree, and the process; what it keeps and, at a manager, its data; how many messages it sent since it opened; how much it
--- says of a line that it refuses; and the name of the tree in the names of branches in databases, if it has one
+-- the tree, and the process; what it keeps and, at a manager, its data; how many messages it sent since it
+-- opened; how much it says of a line that it refuses; and the name of the tree in the names of branches in
+-- databases, if it has one
 pub record NodeState : Type 0 where
   pub tree : List TreeProcess
   pub me : ProcessId
@@ -70,7 +71,8 @@ state_of s = record {
   name = option_map string_bytes s.name;
 }
 
--- the node of a process of this tree, which has sent nothing yet, says numbers alone and knows no name of the tree
+-- the node of a process of this tree, which has sent nothing yet, says numbers alone and knows no name of the
+-- tree
 abbrev pub opened : {L : Type 0} → List TreeProcess → ProcessId → Process L → NodeState
 opened tree me node = record {
   tree = tree;
@@ -233,7 +235,8 @@ TellsOutcome false x old new text = Tells old new text (refused_text old.manner 
 
 -- the cases in doubt, and those that an operator decided and that wait to be told
 abbrev pub doubt_text : NodeState → List ℕ
-doubt_text s = doubts_text (doubts_in (records_at s)) ++ decisions_text (decisions_in (records_at s)) ++ ok_text
+doubt_text s = doubts_text (doubts_in (records_at s)) ++ decisions_text
+    (decisions_in (records_at s)) ++ ok_text
 
 -- how the log stands that has N bytes
 abbrev pub status_by : NodeState → ℕ → NodeStatus
@@ -266,7 +269,8 @@ pub record TellsLog (s : NodeState) (text : List ℕ) : Type 0 where
 abbrev pub own_place : NodeState → Place
 own_place s = place_below s.me (parent_of s.tree s.me) s.tree
 
--- what is sent once more of a case, by the log, to those who owe an acknowledgement; none of one that waits for none
+-- what is sent once more of a case, by the log, to those who owe an acknowledgement; none of one that waits
+-- for none
 abbrev pub owed_at : NodeState → Case → Option (List Envelope)
 owed_at s c = owed_again (own_place s) (records_at s) (s.core.view_of c).owed c
 
@@ -274,7 +278,8 @@ owed_at s c = owed_again (own_place s) (records_at s) (s.core.view_of c).owed c
 abbrev pub resends : List Envelope → Reaction
 resends es = reaction_of (sends_only es)
 
--- These messages are told, under the next numbers, and nothing else is otherwise; without them there is a refusal.
+-- These messages are told, under the next numbers, and nothing else is otherwise; without them there is a
+-- refusal.
 abbrev pub AnswersAgain : Option (List Envelope) → NodeState → NodeState → List ℕ → Type 0
 AnswersAgain None old new text = Tells old new text (refused_text old.manner NoSuch)
 AnswersAgain (Some es) old new text = Shows old new (resends es) text
@@ -310,8 +315,10 @@ TellsName s name text =
 -- what was asked is answered
 abbrev pub AnswersAsked : NodeLine → NodeState → NodeState → List ℕ → Type 0
 AnswersAsked asked.Nothing old new text = Tells old new text []
-AnswersAsked (asked.Act a) old new text = AnswersFor (process_of_act (root_of old.tree) a) old new (ActInput a) text
-AnswersAsked (asked.Message n e) old new text = AnswersIf (hears old e) old new (MessageInput n e.message) text
+AnswersAsked (asked.Act a) old new text = AnswersFor (process_of_act (root_of old.tree) a) old new
+    (ActInput a) text
+AnswersAsked (asked.Message n e) old new text = AnswersIf (hears old e) old new
+    (MessageInput n e.message) text
 AnswersAsked asked.Trim old new text = AnswersTrim old new text
 AnswersAsked asked.Doubt old new text = Tells old new text (doubt_text old)
 AnswersAsked (asked.Outcome x) old new text = TellsOutcome (is_root old) x old new text

@@ -26,8 +26,8 @@ use Rattle.node_answers.specs.Texts.{ok_text, refused_text}
 abbrev pub own_logs : ProcessId → List ℕ → List ProcessLog
 own_logs me log = record { process = me; bytes = log } ∷ []
 
--- What is not in the log counts at the root alone, of branches below it, and only if their transaction is not under
--- way: nothing but the log says anything of it then. Of all others just what is in the log counts.
+-- What is not in the log counts at the root alone, of branches below it, and only if their transaction is not
+-- under way: nothing but the log says anything of it then. Of all others just what is in the log counts.
 abbrev pub trust_by : Bool → Standing → Trust
 trust_by true Unknown = Complete
 trust_by root standing = Parts

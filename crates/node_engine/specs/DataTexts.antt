@@ -7,8 +7,8 @@ use Rattle.kv_state.specs.Replays.{AreMalformed, CountTooFar}
 use Rattle.node_answers.specs.declared.refusing.Manner.{Manner}
 use Rattle.node_answers.specs.Texts.{data_text, refused_text}
 
--- the keys and values that the records of a log make, keys rising; or none, as the records are no key store's: one of them
--- may not follow those before it, or their commits count 2^63
+-- the keys and values that the records of a log make, keys rising; or none, as the records are no key
+-- store's: one of them may not follow those before it, or their commits count 2^63
 abbrev pub DataAre : List LogRecord → Option (List (List ℕ × List ℕ)) → Type 0
 DataAre ls (Some ps) = ps ≡ (data_of ls).pairs
 DataAre ls None = AreMalformed ls ⊎ CountTooFar ls

@@ -107,7 +107,8 @@ pub record AsksEnd (start : Stand) (opening : Reaction) (now : Stand) : Type 0 w
   pub state : now.state ≡ before.state
   pub held : now.held ≡ before.held
 
--- how a node stands whose input ended: each line was answered and there is none any more, or one asked it to end
+-- how a node stands whose input ended: each line was answered and there is none any more, or one asked it to
+-- end
 abbrev pub EndsBy : Ended → Stand → Reaction → Stand → Type 0
 EndsBy Input start opening now = Served start opening now × ReadsAll start.left now.left
 EndsBy Asked start opening now = AsksEnd start opening now
@@ -122,8 +123,8 @@ abbrev pub end_text : Ended → List ℕ
 end_text Input = []
 end_text Asked = ok_text
 
--- why a node does not end in order whose input ended so: its device failed, and nothing is written; or `ok` was to be
--- written, and a front of it was
+-- why a node does not end in order whose input ended so: its device failed, and nothing is written; or `ok`
+-- was to be written, and a front of it was
 abbrev pub FailsToEnd : Ended → Known → Known → NodeFailure → Type 0
 FailsToEnd by old new Device = new ≡ old
 FailsToEnd by old new Write = (by ≡ Asked) × WritesFront old new ok_text
@@ -136,8 +137,8 @@ pub record ClosesLog {L : Type 0} (bytes : L → List ℕ) (forced failures : L 
   pub holds : HoldsLog bytes forced failures s was
   pub forces : Forces bytes forced failures was store
 
--- From its start on a node told what it did as it opened and answered each line, or each before one that asked it to
--- end; then all that is in its log was forced, and `ok` is the answer to that line.
+-- From its start on a node told what it did as it opened and answered each line, or each before one that
+-- asked it to end; then all that is in its log was forced, and `ok` is the answer to that line.
 pub record EndsInOrder {L : Type 0} (bytes : L → List ℕ) (forced failures : L → ℕ) (start : Stand)
     (opening : Reaction) (left held : Known) (store : L) : Type 0 where
   pub by : Ended

@@ -35,7 +35,8 @@ owns me parent tree named (Some c) = is_own (place_below me parent tree) named c
 abbrev pub is_of_child : List TreeProcess → ProcessId → Ticket → Bool
 is_of_child tree me t = is_parent me (parent_of tree t.child)
 
--- the tickets that a record names, whose votes or acknowledgements it waits for, are of children of the process
+-- the tickets that a record names, whose votes or acknowledgements it waits for, are of children of the
+-- process
 abbrev pub names_children : List TreeProcess → ProcessId → Record → Bool
 names_children tree me (Collecting c ts) = list_all (is_of_child tree me) ts
 names_children tree me (Prepare c ts) = list_all (is_of_child tree me) ts
@@ -48,7 +49,8 @@ abbrev pub is_own_record : ProcessId → Option ProcessId → List TreeProcess �
 is_own_record me parent tree l =
     owns me parent tree l.parent (record_case l.entry) && names_children tree me l.entry
 
--- the bytes are a log with a record of a case that is not the process's own, or with a ticket of no child of it
+-- the bytes are a log with a record of a case that is not the process's own, or with a ticket of no child of
+-- it
 pub record NamesOthers (tree : List TreeProcess) (e : TreeProcess) (bytes : List ℕ) : Type 0 where
   pub forced : ℕ
   pub failures : ℕ
@@ -56,8 +58,8 @@ pub record NamesOthers (tree : List TreeProcess) (e : TreeProcess) (bytes : List
   pub opens : OpensLog (form_by e) bytes forced failures log
   pub others : list_all (is_own_record e.id e.parent tree) (records_of log.sight.kept) ≡ false
 
--- where the bytes are a log, each of its records is at home: it names no case but the process's own, and no ticket but
--- of its children
+-- where the bytes are a log, each of its records is at home: it names no case but the process's own, and no
+-- ticket but of its children
 pub record NamesOwn (tree : List TreeProcess) (e : TreeProcess) (bytes : List ℕ) : Type 0 where
   pub at_home : (ls : List LogRecord) (torn : ℕ) → read_log (form_by e) bytes ≡ Whole ls torn
       → list_all (is_own_record e.id e.parent tree) ls ≡ true
@@ -74,7 +76,8 @@ NotHome tree e bytes (Reopen Memory) = ⊤
 NotHome tree e bytes error = ⊥
 
 -- a node that has told nothing yet, of the process that goes on over these bytes
-pub record IsStart {L : Type 0} (tree : List TreeProcess) (e : TreeProcess) (bytes : List ℕ) (forced failures : ℕ)
+pub record IsStart {L : Type 0} (tree : List TreeProcess) (e : TreeProcess) (bytes : List ℕ)
+    (forced failures : ℕ)
     (s : Serving L) (opening : Reaction) : Type 0 where
   pub reopens : ReopensAs tree e bytes forced failures (core_of s.node) (data_of s.node) opening
   pub state : state_of s ≡ opened tree e.id s.node

@@ -86,8 +86,8 @@ fn still_owing(
     Ok(owing)
 }
 
-/// What is sent once more of a case of which the records say this, while these owe an acknowledgement; None, if it waits
-/// for none.
+/// What is sent once more of a case of which the records say this, while these owe an acknowledgement; None,
+/// if it waits for none.
 #[tactic(auto, using(crate::proofs::Owed::by_summary))]
 fn owed_by(
     alloc: Global,
@@ -97,7 +97,8 @@ fn owed_by(
     owed: &[Ticket],
 ) -> Result<Option<Envelopes>, AllocError>
     ensures { IfOk result (λ told. told
-        ≡ tellings_by me case.now (still_owing owed.now (view_of recorded.now)) (view_of recorded.now).standing) }
+        ≡ tellings_by me case.now (still_owing owed.now (view_of recorded.now))
+        (view_of recorded.now).standing) }
 {
     match decided(recorded.standing()) {
         None => Ok(None),
@@ -125,7 +126,8 @@ fn owed_in(
     owed: &[Ticket],
 ) -> Result<Option<Envelopes>, AllocError>
     ensures { IfOk result (λ told. told ≡ tellings_by me case.now
-        (still_owing owed.now (view_in reading.now.table case.now)) (view_in reading.now.table case.now).standing) }
+        (still_owing owed.now (view_in reading.now.table case.now))
+        (view_in reading.now.table case.now).standing) }
 {
     match recorded_of(reading, case) {
         None => Ok(None),
@@ -133,9 +135,9 @@ fn owed_in(
     }
 }
 
-/// What the process `me` below this parent sends once more of a case, by the records of its log: the decision, to
-/// those whom it names and who are among these, which owe an acknowledgement. None: the case is not its own, or waits for
-/// no acknowledgement.
+/// What the process `me` below this parent sends once more of a case, by the records of its log: the
+/// decision, to those whom it names and who are among these, which owe an acknowledgement. None: the case is
+/// not its own, or waits for no acknowledgement.
 pub(crate) fn owed_again(
     alloc: Global,
     me: ProcessId,

@@ -13,8 +13,8 @@ use resolve_engine::{BranchAnswer, Trust, answer_named, push_answer};
 use std::alloc::{AllocError, Global};
 use trace_lines::push;
 
-/// How far the log of a process counts, by whether it is the root of a branch below it, and by where the root's case of the
-/// transaction is there.
+/// How far the log of a process counts, by whether it is the root of a branch below it, and by where the
+/// root's case of the transaction is there.
 pub(crate) fn trust_by(is_above: bool, standing: Standing) -> Trust
     ensures { result ≡ trust_by is_above standing }
 {

@@ -90,7 +90,8 @@ fn read_line<R: BufRead>(alloc: Global, reader: &mut R) -> Result<Vec<u8>, NodeF
     }
 }
 
-/// Reads a line and answers it, but one that asks the node to end; says so where it does, or where there is none.
+/// Reads a line and answers it, but one that asks the node to end; says so where it does, or where there is
+/// none.
 fn serve_line<R: BufRead, W: Write, L: LogStore, N: Witness>(
     alloc: Global,
     serving: &mut Serving<L>,
@@ -104,7 +105,8 @@ fn serve_line<R: BufRead, W: Write, L: LogStore, N: Witness>(
         (stand (R.remaining reader.new) (W.contents writer.new) (state_of serving.new))) }
     ensures stops { IfErr result (λ e. (start : Stand) (opening : AnyReaction)
         → Served start opening (stand (R.remaining reader.old) (W.contents writer.old) (state_of serving.old))
-        → Stops start opening (stand (R.remaining reader.new) (W.contents writer.new) (state_of serving.new)) e) }
+        → Stops start opening (stand (R.remaining reader.new) (W.contents writer.new) (state_of serving.new))
+        e) }
 {
     let line = read_line(alloc, reader)?;
     if line.is_empty() {
@@ -134,7 +136,8 @@ fn serve_lines<R: BufRead, W: Write, L: LogStore, N: Witness>(
         (stand (R.remaining reader.new) (W.contents writer.new) (state_of serving.new))) }
     ensures stops { IfErr result (λ e. (start : Stand) (opening : AnyReaction)
         → Served start opening (stand (R.remaining reader.old) (W.contents writer.old) (state_of serving.old))
-        → Stops start opening (stand (R.remaining reader.new) (W.contents writer.new) (state_of serving.new)) e) }
+        → Stops start opening (stand (R.remaining reader.new) (W.contents writer.new) (state_of serving.new))
+        e) }
 {
     for _ in 0..u64::MAX {
         if let Some(ended) = serve_line(alloc, serving, reader, writer, witness)? {
@@ -185,7 +188,8 @@ fn serve<R: BufRead, W: Write, L: LogStore, N: Witness>(
     }
 }
 
-/// Lets a node go. One function does it: what letting go of one means is proved once, and not at each way out.
+/// Lets a node go. One function does it: what letting go of one means is proved once, and not at each way
+/// out.
 fn let_go<L: LogStore + Drop>(_serving: Serving<L>) {}
 
 /// Lets a store go.
@@ -251,9 +255,9 @@ fn finish<W: Write, L: LogStore + Drop, N: Witness>(
 }
 
 /// Writes what a process did as it opened, and answers each line of the input: by the lines of a trace and
-/// `ok`, by `refused` and a number, or by `error` where it asks for nothing. Each answer is written
-/// before the next line is read, and after the records that it rests on, which are forced where the process
-/// forces them. After each answer the witness sees it with its line. At the end of the input, and at a line `end`,
+/// `ok`, by `refused` and a number, or by `error` where it asks for nothing. Each answer is written before
+/// the next line is read, and after the records that it rests on, which are forced where the process forces
+/// them. After each answer the witness sees it with its line. At the end of the input, and at a line `end`,
 /// all that is in the log is forced; `end` is answered then, and nothing is read after it. Ok: so it ended,
 /// and this is its store.
 pub fn run_node<R: BufRead, W: Write, L: LogStore + Drop, N: Witness>(

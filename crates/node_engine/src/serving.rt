@@ -107,7 +107,8 @@ fn repeated(alloc: Global, messages: Envelopes) -> Reaction
 }
 
 impl<L: LogStore> Serving<L> {
-    /// The process `me` of this tree, which has sent nothing yet, says numbers alone and knows no name of the tree.
+    /// The process `me` of this tree, which has sent nothing yet, says numbers alone and knows no name of the
+    /// tree.
     pub fn new(alloc: Global, tree: Tree, me: ProcessId, node: Process<L>) -> Self
         ensures { state_of result ≡ opened tree me node }
     {
@@ -141,7 +142,8 @@ impl<L: LogStore> Serving<L> {
 
     /// The lines of a reaction that was made. Exhausted: with its messages 2^64 or more were sent.
     pub fn show(&mut self, reaction: &Reaction) -> Result<Vec<u8>, NodeFailure>
-        ensures ok { IfOk result (λ text. Shows (state_of self.old) (state_of self.new) reaction.now text.items) }
+        ensures ok { IfOk result (λ text. Shows (state_of self.old) (state_of self.new)
+            reaction.now text.items) }
         ensures err { OnErr result (state_of self.new ≡ state_of self.old) }
         ensures why { IfErr result (IsUnshown self.old.sent reaction.now) }
     {
@@ -267,7 +269,8 @@ impl<L: LogStore> Serving<L> {
 
     /// The data of a manager; a coordinator has none.
     fn data(&self) -> Result<Vec<u8>, NodeFailure>
-        ensures ok { IfOk result (λ text. TellsData (state_of self.now).manner (records_at (state_of self.now)) text.items) }
+        ensures ok { IfOk result (λ text. TellsData (state_of self.now).manner
+            (records_at (state_of self.now)) text.items) }
         ensures err { IfErr result (λ e. e ≡ NodeFailure.Memory) }
     {
         let records = self.node.records()?;
@@ -298,9 +301,9 @@ impl<L: LogStore> Serving<L> {
         )?)
     }
 
-    /// The answer to a line that asks for a decision once more: its messages, under the next numbers; nothing is
-    /// recorded. Refused, if the case is not this process's or waits for no acknowledgement: there is no such
-    /// message.
+    /// The answer to a line that asks for a decision once more: its messages, under the next numbers; nothing
+    /// is recorded. Refused, if the case is not this process's or waits for no acknowledgement: there is no
+    /// such message.
     fn again(&mut self, case: &Case) -> Result<Vec<u8>, NodeFailure>
         ensures ok { IfOk result (λ text. AnswersAgain (owed_at (state_of self.old) case.now)
             (state_of self.old) (state_of self.new) text.items) }
@@ -408,8 +411,9 @@ impl<L: LogStore> Serving<L> {
         Ok(name_text(self.alloc, self.manner, name, &answer)?)
     }
 
-    /// What is to be done with a branch of this name, by the node's own log: what is there counts; at the root, of a
-    /// branch below it whose transaction is not under way, also that nothing does. Refused, if the log does not read.
+    /// What is to be done with a branch of this name, by the node's own log: what is there counts; at the
+    /// root, of a branch below it whose transaction is not under way, also that nothing does. Refused, if the
+    /// log does not read.
     #[tactic(auto, using(crate::proofs::Resolving::text_so, crate::proofs::Resolving::no_text_at))]
     fn resolve(&self, name: &Bytes) -> Result<Vec<u8>, NodeFailure>
         ensures ok { IfOk result (λ text. TellsName (state_of self.now) name.now text.items) }

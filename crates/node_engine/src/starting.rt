@@ -19,8 +19,8 @@ use tree_process::{ProcessReopenError, copied_tree, reopen_node};
 /// Why no node was started.
 #[derive(Clone, Copy, Debug, PartialEq, Eq, Error)]
 pub enum StartError {
-    /// The log has a record of a case of another process's or of another tree's, or one that names a ticket of
-    /// no child in this tree.
+    /// The log has a record of a case of another process's or of another tree's, or one that names a ticket
+    /// of no child in this tree.
     #[error("it is the log of another process or of another tree")]
     Stranger,
     /// The process does not go on over the log.
@@ -140,8 +140,8 @@ fn is_own_log(
     Ok(name_own(entry.id, entry.parent, tree, &records))
 }
 
-/// That the log which these bytes are is the process's own, as far as its records tell; bytes that are none name
-/// nobody.
+/// That the log which these bytes are is the process's own, as far as its records tell; bytes that are none
+/// name nobody.
 #[tactic(auto, using(crate::proofs::Homes::none_names_own, crate::proofs::Homes::opened_names_own, crate::proofs::Homes::opened_names_others,))]
 fn check_home(
     alloc: Global,
@@ -163,9 +163,9 @@ fn check_home(
 }
 
 /// The process of an entry as a node, over the log in a store, and what it did as it opened (`reopen_node`).
-/// Stranger: the log has a record of a case that is not the process's own in this tree, or one that names a ticket
-/// of no child of it, as where the tree was changed; nothing was written.
-/// After a refusal the store is let go.
+/// Stranger: the log has a record of a case that is not the process's own in this tree, or one that names a
+/// ticket of no child of it, as where the tree was changed; nothing was written. After a refusal the store is
+/// let go.
 #[tactic(auto, using(crate::proofs::Homes::not_started))]
 pub fn start<L: LogStore + Drop>(
     alloc: Global,

@@ -66,7 +66,8 @@ other_bytes (b ∷ w) h =
           (other_bytes w (let rest : misses 32 w ≡ true = rw (not_at 32 b e) at h in rest))
     ]
 
-pub words_again : (w : List ℕ) (ws : List (List ℕ)) → HaveNoBlank (w ∷ ws) → words_in (w ++ behind ws) ≡ w ∷ ws
+pub words_again : (w : List ℕ) (ws : List (List ℕ)) → HaveNoBlank (w ∷ ws)
+    → words_in (w ++ behind ws) ≡ w ∷ ws
 words_again w [] h = ap words_in (append-nil w) ∙ slice_split_none (λ b. eqb b 32) w (other_bytes w h.0)
 words_again w (v ∷ ws) h =
     slice_split_at (λ b. eqb b 32) w 32 (v ++ behind ws) (other_bytes w h.0) refl
@@ -85,7 +86,8 @@ within_more false n m h = omega arith
 
 within : (ws : List (Bor (List ℕ))) → position_or_len (λ w. begins_unreported w.now) ws ≤ length ws
 within [] = omega arith
-within (w ∷ ws) = within_more (not (begins_unreported w.now)) (position_or_len (λ v. begins_unreported v.now) ws)
+within (w ∷ ws) = within_more (not (begins_unreported w.now))
+    (position_or_len (λ v. begins_unreported v.now) ws)
     (length ws) (within ws)
 
 abbrev place : List (Bor (List ℕ)) → ℕ
@@ -107,7 +109,8 @@ some_there ws n h = found_place ws (nat_lt (place ws) (length ws)) refl n h ∙ 
 
 pub some_within : (ws : List (Bor (List ℕ))) (n : ℕ) → Some n ≡ position (λ w. begins_unreported w.now) ws
     → n ≤ length ws
-some_within ws n h = subst (λ k. k ≤ length ws) (sym (found_place ws (nat_lt (place ws) (length ws)) refl n h)) (within ws)
+some_within ws n h = subst (λ k. k ≤ length ws)
+    (sym (found_place ws (nat_lt (place ws) (length ws)) refl n h)) (within ws)
 
 pub none_there : (ws : List (Bor (List ℕ))) → None ≡ position (λ w. begins_unreported w.now) ws
     → length ws ≡ position_or_len begins_unreported (map (λ w. w.now) ws)
@@ -128,7 +131,8 @@ tickets_take (w ∷ ws) ts h =
     let b = bind_some (tickets_at ws) _ ts a.2 in
     let one = ticket_takes w a.0 a.1 in
     let more = tickets_take ws b.0 b.1 in
-    subst (λ (us : List Ticket). (w ∷ ws ≡ map ticket_text us) × FitsTickets us) (some_is (a.0 ∷ b.0) ts b.2) (
+    subst (λ (us : List Ticket). (w ∷ ws ≡ map ticket_text us) × FitsTickets us)
+    (some_is (a.0 ∷ b.0) ts b.2) (
       ap (λ v. v ∷ ws) one.0 ∙ ap (λ vs. ticket_text a.0 ∷ vs) more.0,
       (one.1, more.1),
     )
@@ -187,7 +191,8 @@ record Parts (ws : List (List ℕ)) (fs : List Finding) : Type 0 where
 parts_take : (ws : List (List ℕ)) (fs : List Finding) → parts_at ws ≡ Some fs → Parts ws fs
 parts_take ws fs h =
     let a = bind_some (part_at (codes "mixed") (before_first begins_unreported ws)) _ fs h in
-    let b = bind_some (part_at (codes "unreported") (drop (position_or_len begins_unreported ws) ws)) _ fs a.2 in
+    let b = bind_some (part_at (codes "unreported") (drop (position_or_len begins_unreported ws) ws)) _ fs a.2
+    in
     let ms = part_takes (codes "mixed") (before_first begins_unreported ws) a.0 a.1 in
     let us = part_takes (codes "unreported") (drop (position_or_len begins_unreported ws) ws) b.0 b.1 in
     record {
@@ -223,7 +228,10 @@ no_name t f true e = absurd (
 
 tickets_begin_none : (ts : List Ticket) → FitsTickets ts → BeginNone (map ticket_text ts)
 tickets_begin_none [] f = tt
-tickets_begin_none (t ∷ ts) f = (no_name t f.0 (begins_unreported (ticket_text t)) refl, tickets_begin_none ts f.1)
+tickets_begin_none (t ∷ ts) f = (
+  no_name t f.0 (begins_unreported (ticket_text t)) refl,
+  tickets_begin_none ts f.1,
+)
 
 mixed_begin_none : (ts : List Ticket) → FitsTickets ts → BeginNone (part_words (codes "mixed") ts)
 mixed_begin_none [] f = tt
@@ -286,7 +294,8 @@ mixed_part : (ms us : List Ticket) → (if list_any is_mixed (mixed_first ms us)
 mixed_part [] us = rw (none_mixed us) refl
 mixed_part (m ∷ ms) us = refl
 
-unreported_part : (us : List Ticket) → (if list_any is_unreported (map (λ t. Unreported t) us) then codes " unreported" else [])
+unreported_part : (us : List Ticket) → (if list_any is_unreported (map (λ t. Unreported t) us)
+    then codes " unreported" else [])
     ++ behind (map ticket_text us) ≡ behind (part_words (codes "unreported") us)
 unreported_part [] = refl
 unreported_part (u ∷ us) = refl
@@ -358,7 +367,8 @@ nothing_found : [] ≡ findings_text []
 unfolding findings_text
 nothing_found = refl
 
-is_found : (ms us : List Ticket) → FitsTickets ms → FitsTickets us → (text : List ℕ) → text ≡ behind (both_words ms us)
+is_found : (ms us : List Ticket) → FitsTickets ms → FitsTickets us → (text : List ℕ)
+    → text ≡ behind (both_words ms us)
     → IsFound text (mixed_first ms us)
 is_found ms us f g text e = record {
   spelled = e ∙ sym (both_text ms us);
@@ -369,7 +379,8 @@ is_found ms us f g text e = record {
 pub found_takes : (text : Option (List ℕ)) (fs : List Finding) → found_at text ≡ Some fs
     → IsFound (behind_text text) fs
 unfolding findings_at
-found_takes None fs h = subst (λ (gs : List Finding). IsFound [] gs) (some_is [] fs h) (is_found [] [] tt tt [] refl)
+found_takes None fs h = subst (λ (gs : List Finding). IsFound [] gs) (some_is [] fs h)
+    (is_found [] [] tt tt [] refl)
 found_takes (Some text) fs h =
     let p = parts_take (words_in text) fs h in
     subst (λ (gs : List Finding). IsFound (32 ∷ text) gs) (sym p.found)
@@ -401,7 +412,8 @@ words_found w ws fs h e = ap parts_at (words_again w ws h) ∙ e
 pub found_again : (ms us : List Ticket) → FitsTickets ms → FitsTickets us
     → found_at (text_of (both_words ms us)) ≡ Some (mixed_first ms us)
 found_again [] [] f g = refl
-found_again [] (u ∷ us) f g = words_found (codes "unreported") (map ticket_text (u ∷ us)) (mixed_first [] (u ∷ us))
+found_again [] (u ∷ us) f g = words_found (codes "unreported") (map ticket_text (u ∷ us))
+    (mixed_first [] (u ∷ us))
     (words_no_blank [] (u ∷ us) f g) (parts_again [] (u ∷ us) f g)
 found_again (m ∷ ms) us f g = words_found (codes "mixed")
     (map ticket_text (m ∷ ms) ++ part_words (codes "unreported") us) (mixed_first (m ∷ ms) us)

@@ -203,7 +203,8 @@ unfolding prepare_at
 prepare_again root c n f g = rw (case_cut root c (decimal n) f, case_again root c f, number_again n g) refl
 
 -- the first word in front of words without a blank
-first_again : (w : List ℕ) (ws : List (List ℕ)) → misses 32 w ≡ true → first_word (w ++ behind ws) ≡ (w, text_of ws)
+first_again : (w : List ℕ) (ws : List (List ℕ)) → misses 32 w ≡ true
+    → first_word (w ++ behind ws) ≡ (w, text_of ws)
 first_again w [] h = rw (append-nil w, cut_none 32 w h) refl
 first_again w (v ∷ ws) h = rw (cut_again 32 w (v ++ behind ws) (misses_without 32 w h)) refl
 
@@ -226,7 +227,8 @@ ack_words_again root c o ws f =
       ending_again o,
     ) refl
 
-ack_again : (root : ProcessId) (c : Case) (o : Outcome) (ms us : List Ticket) → FitsCase root c → FitsTickets ms
+ack_again : (root : ProcessId) (c : Case) (o : Outcome) (ms us : List Ticket) → FitsCase root c
+    → FitsTickets ms
     → FitsTickets us
     → ack_at root (case_text c ++ 32 ∷ (outcome_word o ++ findings_text (mixed_first ms us)))
     ≡ Some (Ack c o (mixed_first ms us))
@@ -234,7 +236,8 @@ ack_again root c o ms us f g h =
     ap (λ t. ack_at root (case_text c ++ 32 ∷ (outcome_word o ++ t))) (both_text ms us)
     ∙ rw (ack_words_again root c o (both_words ms us) f, found_again ms us g h) refl
 
-number_cut : (n : ℕ) (rest : List ℕ) → n < 2 ^ 64 → cut_at 32 (decimal n ++ 32 ∷ rest) ≡ Some (decimal n, rest)
+number_cut : (n : ℕ) (rest : List ℕ) → n < 2 ^ 64
+    → cut_at 32 (decimal n ++ 32 ∷ rest) ≡ Some (decimal n, rest)
 number_cut n rest fits = cut_again 32 (decimal n) rest
     (misses_without 32 (decimal n) (decimal_misses 32 blank n fits))
 
@@ -259,7 +262,8 @@ text_by root word rest m free h = rw (cut_again 32 word rest (misses_without 32 
 ack_form : (c o t : List ℕ) → codes "ACK " ++ c ++ codes " " ++ o ++ t ≡ codes "ACK " ++ (c ++ 32 ∷ (o ++ t))
 ack_form c o t = simp append_assoc
 
-found_so : (root : ProcessId) (c : Case) (o : Outcome) → FitsCase root c → (ms us : List Ticket) → FitsTickets ms
+found_so : (root : ProcessId) (c : Case) (o : Outcome) → FitsCase root c → (ms us : List Ticket)
+    → FitsTickets ms
     → FitsTickets us
     → message_at root (message_text (Ack c o (mixed_first ms us))) ≡ Some (Ack c o (mixed_first ms us))
 found_so root c o f ms us g h =
@@ -420,7 +424,8 @@ pub line_again : (root : ProcessId) → SpelledIsRead (line_at root) spelled_lin
 line_again root line f =
     let e = line.1 in
     let way : Way = (e.from, e.to) in
-    ap (line_at root) (line_form (decimal line.0) (decimal e.from.0) (decimal e.to.0) (message_text e.message))
+    ap (line_at root) (line_form (decimal line.0) (decimal e.from.0) (decimal e.to.0)
+    (message_text e.message))
     ∙ read_behind root _ line.0 way (message_text e.message) e.message
     (head_again line.0 way (message_text e.message) f.number_fits f.sender_fits f.receiver_fits)
     (message_again root e.message f.message_fits)

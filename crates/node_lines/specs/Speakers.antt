@@ -18,12 +18,14 @@ goes_up tree e c = same_process (process_of c) e.from && is_parent e.to (parent_
 abbrev pub goes_down : List TreeProcess → Envelope → Case → Bool
 goes_down tree e c = same_process (process_of c) e.to && is_parent e.from (parent_of tree e.to)
 
--- a parent invites a child into a case of its own, and the child that gave the ticket answers; works, PREPARE and an
--- outcome come from the parent, and votes, acknowledgements and questions from the child, whose ticket the case names
+-- a parent invites a child into a case of its own, and the child that gave the ticket answers; works, PREPARE
+-- and an outcome come from the parent, and votes, acknowledgements and questions from the child, whose ticket
+-- the case names
 abbrev pub speaks_so : List TreeProcess → Envelope → Message → Bool
 speaks_so tree e (Join c) = same_process (process_of c) e.from && is_parent e.from (parent_of tree e.to)
 speaks_so tree e (Joined c t) =
-    same_process (process_of c) e.to && (same_process t.child e.from && is_parent e.to (parent_of tree e.from))
+    same_process (process_of c) e.to && (same_process t.child e.from
+    && is_parent e.to (parent_of tree e.from))
 speaks_so tree e (Work c k op) = goes_down tree e c
 speaks_so tree e (Prepare c k) = goes_down tree e c
 speaks_so tree e (Commit c) = goes_down tree e c

@@ -27,7 +27,8 @@ pub(crate) fn found_in(alloc: Global, text: Option<&str>) -> Result<Option<Findi
     }
 }
 
-/// The findings of a text: `mixed` and tickets, then `unreported` and tickets, each only where there are some.
+/// The findings of a text: `mixed` and tickets, then `unreported` and tickets, each only where there are
+/// some.
 #[tactic(auto, unfolding(crate::specs::Findings::findings_at))]
 fn findings_of(alloc: Global, text: &str) -> Result<Option<Findings>, AllocError>
     ensures { IfOk result (λ found. found ≡ findings_at text.now) }

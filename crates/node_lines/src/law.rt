@@ -11,7 +11,8 @@ ghost use Rattle.node_lines.specs.Spellings.{FitsLine, FitsMessage, spelled_line
 /// messages of one root's transactions. So a line that one process writes is read by another as that message,
 /// and a line that was altered as another message or as none.
 pub fn messages_are_spelled_once()
-    ensures message_read { (root : ProcessId) → ReadIsSpelled (message_at root) message_text (FitsMessage root) }
+    ensures message_read { (root : ProcessId) → ReadIsSpelled (message_at root) message_text
+        (FitsMessage root) }
     ensures message_spelled { (root : ProcessId)
         → SpelledIsRead (message_at root) message_text (FitsMessage root) }
     ensures line_read { (root : ProcessId) → ReadIsSpelled (line_at root) spelled_line (FitsLine root) }

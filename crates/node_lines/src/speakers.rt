@@ -34,9 +34,9 @@ fn goes_down(tree: &Tree, envelope: &Envelope, case: &Case) -> bool
     case.process() == envelope.to && is_below(tree, envelope.to, envelope.from)
 }
 
-/// Whether the sender of a message may send it to its receiver in this tree. JOIN comes from the parent whose case it
-/// names, and JOINED from the child that its ticket names; works, PREPARE and an outcome come from the parent, and
-/// votes, acknowledgements and questions from the child, whose ticket the case names.
+/// Whether the sender of a message may send it to its receiver in this tree. JOIN comes from the parent whose
+/// case it names, and JOINED from the child that its ticket names; works, PREPARE and an outcome come from
+/// the parent, and votes, acknowledgements and questions from the child, whose ticket the case names.
 #[tactic(auto, unfolding(crate::specs::Speakers::may_speak, protocol::specs::Names::same_process))]
 pub fn may_speak(tree: &Tree, envelope: &Envelope) -> bool
     ensures { result ≡ may_speak tree.now envelope.now }

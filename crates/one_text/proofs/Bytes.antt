@@ -25,5 +25,6 @@ pub log_is : (p : LogForm) (text : List ℕ) (ls : List LogRecord) → All (λ b
     → ReadsAs p text ls false → text ≡ header p.format ++ records_text p ls
 log_is p text ls all reads =
     sym (take-append-drop 5 text) ∙ ap (λ (t : List ℕ). t ++ drop 5 text) reads.begins
-    ∙ ap (λ (t : List ℕ). header p.format ++ t) (whole_is_text p (drop 5 text) (bytes_behind 5 text (each_byte text all))
+    ∙ ap (λ (t : List ℕ). header p.format ++ t)
+    (whole_is_text p (drop 5 text) (bytes_behind 5 text (each_byte text all))
     (reads.whole refl) ∙ ap (records_text p) reads.read)

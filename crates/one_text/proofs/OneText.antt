@@ -29,14 +29,17 @@ use Rattle.one_text.proofs.Processes.{same_logs}
 -- Runs to their end.
 
 -- the logs that the same events leave are the same text
-one_logs : (tree : List TreeProcess) (s t v w : WorldState) (events : List Event) (text second : List ℕ) → IsTree tree
-    → IsOpenedTree s tree → IsOpenedTree t tree → EventsLead s events v → EventsLead t events w → LeavesLogs v text → LeavesLogs w second
+one_logs : (tree : List TreeProcess) (s t v w : WorldState) (events : List Event) (text second : List ℕ)
+    → IsTree tree
+    → IsOpenedTree s tree → IsOpenedTree t tree → EventsLead s events v → EventsLead t events w
+    → LeavesLogs v text → LeavesLogs w second
     → second ≡ text
 one_logs tree s t v w events text second is_tree a b h k one two =
     let alike = leads_alike s v t w events (opened_alike tree s t is_tree a b) h k in
     let none = none_failed tree s v events alike.moves a h alike.here.shown in
     let up = all_up v.tree alike.moves alike.world alike.here.follows.is_run none in
-    let are : AreLogs w v.tree two.logs = subst (λ (es : List TreeProcess). AreLogs w es two.logs) alike.tree two.are in
+    let are : AreLogs w v.tree two.logs = subst (λ (es : List TreeProcess). AreLogs w es two.logs)
+    alike.tree two.are in
     let logs = same_logs v w alike up v.tree one.logs two.logs one.bytes two.bytes one.are are in
     two.is ∙ ap (λ (es : List TreeProcess). logs_text es two.logs) alike.tree
     ∙ ap (λ (ls : List ProcessLog). logs_text v.tree ls) logs ∙ sym one.is
@@ -92,7 +95,8 @@ as_trace status input text h = record {
 }
 
 -- a run that was refused an event tells its trace
-told : (es : List Event) (w : WorldState) (r : Refusal) (text : List ℕ) → Stopped ≡ ending r → Tells false Logs es w r text
+told : (es : List Event) (w : WorldState) (r : Refusal) (text : List ℕ) → Stopped ≡ ending r
+    → Tells false Logs es w r text
     → text ≡ trace_by false w ++ last_line r
 told es w None text stops h = absurd (cc)
 told es w (Some refused) text stops h = h
@@ -109,7 +113,8 @@ stopped input text second none h k =
 
 module _ (input : List ℕ) (none : BeginsWithNone input) where
   -- an input without logs runs as one
-  runs : (status : Status) (text : List ℕ) → RunsScript Logs status input text ⊎ ReopensScript Logs status input text
+  runs : (status : Status) (text : List ℕ) → RunsScript Logs status input text
+      ⊎ ReopensScript Logs status input text
       → RunsScript Logs status input text
   runs status text (inl h) = h
   runs status text (inr r) = absurd (none_begin input r.tree r.logs r.events none r.script)
@@ -132,13 +137,15 @@ module _ (input : List ℕ) (none : BeginsWithNone input) where
   one_status : (status other : Status) (text second : List ℕ) → IsTreeReport Logs status input text
       → IsTreeReport Logs other input second → other ≡ status
   one_status status other text second h k =
-      (OneText.one_input Trace status other input _ _ tt none (trace_report status text h) (trace_report other second k)).0
+      (OneText.one_input Trace status other input _ _ tt none (trace_report status text h)
+      (trace_report other second k)).0
 
   -- reports of one status are one text
   one_of : (status : Status) (text second : List ℕ) → IsTreeReport Logs status input text
       → IsTreeReport Logs status input second → second ≡ text
   one_of Ended text second h k = ended input text second (runs Ended text h) (runs Ended second k)
-  one_of Stopped text second h k = stopped input text second none (runs Stopped text h) (runs Stopped second k)
+  one_of Stopped text second h k = stopped input text second none (runs Stopped text h)
+      (runs Stopped second k)
   one_of Refused text second h k = (OneText.one_input Trace Refused Refused input text second tt none h k).1
 
   one : (status other : Status) (text second : List ℕ) → IsTreeReport Logs status input text

@@ -28,7 +28,8 @@ named place n = map (in_log (parent_of place.role)) n.forced ++ map (in_log (par
 abbrev spelled : Place → Node → List ℕ
 spelled place n = header (form_of place).format ++ records_text (form_of place) (named place n)
 
-module _ (v w : WorldState) (alike : AlikeTrees v w) (up : (q : ProcessId) → (alike.world.at q).failed ≡ false) where
+module _ (v w : WorldState) (alike : AlikeTrees v w)
+    (up : (q : ProcessId) → (alike.world.at q).failed ≡ false) where
   -- what a process spells is what the model's process there spells
   spells : (s : WorldState) (q : ProcessId) (c : CoreState) (text : List ℕ) → StandsAt alike.world s q c
       → All (λ b. b < 256) text → SpellsLog c text → text ≡ spelled c.place (alike.world.at q)
@@ -38,9 +39,11 @@ module _ (v w : WorldState) (alike : AlikeTrees v w) (up : (q : ProcessId) → (
       ap (λ (l : List LogRecord). l ++ c.log.kept.unforced) at.stands.forced
       ∙ ap (λ (l : List LogRecord). logged c n.forced ++ l) at.stands.unforced in
       let whole : ReadsAs (form_of c.place) text (records_of c.log.kept) false =
-      subst (λ (b : Bool). ReadsAs (form_of c.place) text (records_of c.log.kept) b) (at.stands.failed ∙ up q) reads in
+      subst (λ (b : Bool). ReadsAs (form_of c.place) text (records_of c.log.kept) b)
+      (at.stands.failed ∙ up q) reads in
       log_is (form_of c.place) text (records_of c.log.kept) bytes whole
-      ∙ ap (λ (l : List LogRecord). header (form_of c.place).format ++ records_text (form_of c.place) l) records
+      ∙ ap (λ (l : List LogRecord). header (form_of c.place).format ++ records_text (form_of c.place) l)
+      records
 
   both_spell : (q : ProcessId) (c d : CoreState) (a b : List ℕ) → v.node_at q ≡ Some c → w.node_at q ≡ Some d
       → All (λ x. x < 256) a → All (λ x. x < 256) b → SpellsLog c a → SpellsLog d b → b ≡ a
@@ -82,4 +85,5 @@ module _ (v w : WorldState) (alike : AlikeTrees v w) (up : (q : ProcessId) → (
       same_log e.id (v.node_at e.id) (w.node_at e.id) l.bytes m.bytes refl refl xs.0 ys.0 h.1 k.1 in
       let same : m ≡ l =
       ap (λ (p : ProcessId). process_log p m.bytes) process ∙ ap (process_log l.process) bytes in
-      ap (λ (x : ProcessLog). x ∷ ms) same ∙ ap (λ (xs : List ProcessLog). l ∷ xs) (same_logs es ls ms xs.1 ys.1 h.2 k.2)
+      ap (λ (x : ProcessLog). x ∷ ms) same ∙ ap (λ (xs : List ProcessLog). l ∷ xs)
+      (same_logs es ls ms xs.1 ys.1 h.2 k.2)

@@ -16,7 +16,8 @@ split_first false k all rest last is = is
 
 -- the step after the others is the first only if none of them is
 first_heard-append : (n s k : ℕ) (es : List JournalEntry) (e : JournalEntry)
-    → first_heard n s k (es ++ e ∷ []) ≡ option_or (first_heard n s k es) (first_heard n s (k + length es) (e ∷ []))
+    → first_heard n s k (es ++ e ∷ []) ≡ option_or (first_heard n s k es)
+    (first_heard n s (k + length es) (e ∷ []))
 unfolding first_heard
 first_heard-append n s k [] e =
     let at : k ≡ k + 0 = omega arith in
@@ -24,11 +25,13 @@ first_heard-append n s k [] e =
 first_heard-append n s k (x ∷ es) e =
     let at : k + 1 + length es ≡ k + length (x ∷ es) = omega arith in
     split_first (nat_lt s k && is_named n (heard_in x.step.happening)) k
-    (first_heard n s (k + 1) (es ++ e ∷ [])) (first_heard n s (k + 1) es) (first_heard n s (k + length (x ∷ es)) (e ∷ []))
+    (first_heard n s (k + 1) (es ++ e ∷ [])) (first_heard n s (k + 1) es)
+    (first_heard n s (k + length (x ∷ es)) (e ∷ []))
     (first_heard-append n s (k + 1) es e
     ∙ ap (λ j. option_or (first_heard n s (k + 1) es) (first_heard n s j (e ∷ []))) at)
 
-none_at : (s k : ℕ) (b : Bool) (rest : Option ℕ) → k ≤ s → rest ≡ None → (if nat_lt s k && b then Some k else rest) ≡ None
+none_at : (s k : ℕ) (b : Bool) (rest : Option ℕ) → k ≤ s → rest ≡ None
+    → (if nat_lt s k && b then Some k else rest) ≡ None
 none_at s k b rest past is =
     let not_yet : nat_lt s k ≡ false = grind (arith, past) in
     ap (λ c. if c && b then Some k else rest) not_yet ∙ is
@@ -40,7 +43,8 @@ none_yet n s k [] past = refl
 none_yet n s k (e ∷ es) past =
     let here : k ≤ s = omega (arith, past) in
     let rest : k + 1 + length es ≤ s + 1 = omega (arith, past) in
-    none_at s k (is_named n (heard_in e.step.happening)) (first_heard n s (k + 1) es) here (none_yet n s (k + 1) es rest)
+    none_at s k (is_named n (heard_in e.step.happening)) (first_heard n s (k + 1) es) here
+    (none_yet n s (k + 1) es rest)
 
 -- fates by which this message is named: it is delivered at this step, if by none before
 unfoldable pub hear_all : ℕ → ℕ → Option ℕ → List Fate → List Fate
@@ -52,7 +56,8 @@ unfolding hear_all
 hear_none n k [] = refl
 hear_none n k (f ∷ fs) = ap (λ gs. f ∷ gs) (hear_none (n + 1) k fs)
 
-one_named : (n m k : ℕ) (f : Fate) → nat_eq m n ≡ false → (if is_named n (Some m) then heard_at k f else f) ≡ f
+one_named : (n m k : ℕ) (f : Fate) → nat_eq m n ≡ false
+    → (if is_named n (Some m) then heard_at k f else f) ≡ f
 one_named n m k f other = ap (λ b. if b then heard_at k f else f) other
 
 -- a number beyond the list names none of it
@@ -101,7 +106,8 @@ heard_by_one : (b : Bool) (k : ℕ) (f : Fate)
 heard_by_one true k f = refl
 heard_by_one false k f = sym (or_none f.heard)
 
-one_heard : (n : ℕ) (es : List JournalEntry) (e : JournalEntry) (f : Fate) → f.sent < length es → f.heard ≡ first_heard n f.sent 0 es
+one_heard : (n : ℕ) (es : List JournalEntry) (e : JournalEntry) (f : Fate) → f.sent < length es
+    → f.heard ≡ first_heard n f.sent 0 es
     → (if is_named n (heard_in e.step.happening) then heard_at (length es) f else f).heard
     ≡ first_heard n f.sent 0 (es ++ e ∷ [])
 unfolding first_heard
@@ -113,7 +119,8 @@ one_heard n es e f before is =
     ∙ ap (λ b. option_or (first_heard n f.sent 0 es)
     (if b && is_named n (heard_in e.step.happening) then Some (length es) else None)) (sym late)
     ∙ ap (λ j. option_or (first_heard n f.sent 0 es)
-    (if nat_lt f.sent (0 + length es) && is_named n (heard_in e.step.happening) then Some j else None)) (sym at)
+    (if nat_lt f.sent (0 + length es) && is_named n (heard_in e.step.happening) then Some j else None))
+    (sym at)
     ∙ sym (first_heard-append n f.sent 0 es e)
 
 sent_same : (b : Bool) (k : ℕ) (f : Fate) → (if b then heard_at k f else f).sent ≡ f.sent
@@ -129,14 +136,16 @@ heard_more n es e (f ∷ fs) all =
     let named = is_named n (heard_in e.step.happening) in
     let sent = sent_same named (length es) f in
     let more : length (es ++ e ∷ []) ≡ length es + 1 = length-append es (e ∷ []) in
-    let within : (if named then heard_at (length es) f else f).sent < length (es ++ e ∷ []) = omega (arith, sent, more, all.0) in (
+    let within : (if named then heard_at (length es) f else f).sent < length (es ++ e ∷ []) =
+    omega (arith, sent, more, all.0) in (
       within,
       one_heard n es e f all.0 all.1 ∙ ap (λ s. first_heard n s 0 (es ++ e ∷ [])) (sym sent),
       heard_more (n + 1) es e fs all.2,
     )
 
 -- the messages of two lists, one after the other
-heard-append : (n : ℕ) (es : List JournalEntry) (fs gs : List Fate) → HeardFrom n es fs → HeardFrom (n + length fs) es gs
+heard-append : (n : ℕ) (es : List JournalEntry) (fs gs : List Fate) → HeardFrom n es fs
+    → HeardFrom (n + length fs) es gs
     → HeardFrom n es (fs ++ gs)
 unfolding HeardFrom
 heard-append n es [] gs first rest =
@@ -146,7 +155,8 @@ heard-append n es (f ∷ fs) gs first rest =
     (first.0, first.1, heard-append (n + 1) es fs gs first.2 (subst (λ m. HeardFrom m es gs) at rest))
 
 -- messages that the last step sent
-just_sent : (n count : ℕ) (es : List JournalEntry) (e : JournalEntry) → HeardFrom n (es ++ e ∷ []) (replicate count (unheard (length es)))
+just_sent : (n count : ℕ) (es : List JournalEntry) (e : JournalEntry)
+    → HeardFrom n (es ++ e ∷ []) (replicate count (unheard (length es)))
 unfolding HeardFrom
 just_sent n zero es e = tt
 just_sent n (suc count) es e =
@@ -156,7 +166,8 @@ just_sent n (suc count) es e =
     (within, sym (none_yet n (length es) 0 (es ++ e ∷ []) past), just_sent (n + 1) count es e)
 
 -- one more of the first steps: what it delivers, and what it sends
-pub each_more : (es : List JournalEntry) (k count : ℕ) (e : JournalEntry) (heard new : List Fate) → k < length es → e ≡ get_or es k e
+pub each_more : (es : List JournalEntry) (k count : ℕ) (e : JournalEntry) (heard new : List Fate)
+    → k < length es → e ≡ get_or es k e
     → HeardFrom 1 (take k es ++ e ∷ []) heard → new ≡ heard ++ replicate count (unheard k)
     → HeardFrom 1 (take (k + 1) es) new
 each_more es k count e heard new there at all is =
@@ -168,13 +179,16 @@ each_more es k count e heard new there at all is =
     subst (λ j. HeardFrom (1 + length heard) (take k es ++ e ∷ []) (replicate count (unheard j))) taken
     (just_sent (1 + length heard) count (take k es) e) in
     subst (λ xs. HeardFrom 1 xs new) (sym next)
-    (subst (λ fs. HeardFrom 1 (take k es ++ e ∷ []) fs) (sym is) (heard-append 1 (take k es ++ e ∷ []) heard (replicate count (unheard k)) all last))
+    (subst (λ fs. HeardFrom 1 (take k es ++ e ∷ []) fs) (sym is)
+    (heard-append 1 (take k es ++ e ∷ []) heard (replicate count (unheard k)) all last))
 
 -- a step that delivers no message
-pub hears_none : (es : List JournalEntry) (e : JournalEntry) (fs : List Fate) → heard_in e.step.happening ≡ None → HeardFrom 1 es fs
+pub hears_none : (es : List JournalEntry) (e : JournalEntry) (fs : List Fate)
+    → heard_in e.step.happening ≡ None → HeardFrom 1 es fs
     → HeardFrom 1 (es ++ e ∷ []) fs
 hears_none es e fs is all =
-    subst (λ gs. HeardFrom 1 (es ++ e ∷ []) gs) (ap (λ o. hear_all 1 (length es) o fs) is ∙ hear_none 1 (length es) fs)
+    subst (λ gs. HeardFrom 1 (es ++ e ∷ []) gs)
+    (ap (λ o. hear_all 1 (length es) o fs) is ∙ hear_none 1 (length es) fs)
     (heard_more 1 es e fs all)
 
 hears_known : (b : Bool) (m k : ℕ) (fs new : List Fate) → is_known (length fs) m ≡ b
@@ -192,21 +206,26 @@ hears_known false (suc m) k fs new is known other =
     let above : 1 + length fs ≤ suc m = grind (arith, is) in other is ∙ sym (hear_above 1 (suc m) k fs above)
 
 -- a step that delivers the message with this number, if there is one
-pub hears_one : (es : List JournalEntry) (e : JournalEntry) (m : ℕ) (fs new : List Fate) → heard_in e.step.happening ≡ Some m
-    → (is_known (length fs) m ≡ true → new ≡ set fs (m - 1) (heard_at (length es) (get_or fs (m - 1) no_fate)))
+pub hears_one : (es : List JournalEntry) (e : JournalEntry) (m : ℕ) (fs new : List Fate)
+    → heard_in e.step.happening ≡ Some m
+    → (is_known (length fs) m ≡ true → new ≡ set fs (m - 1)
+    (heard_at (length es) (get_or fs (m - 1) no_fate)))
     → (is_known (length fs) m ≡ false → new ≡ fs) → HeardFrom 1 es fs → HeardFrom 1 (es ++ e ∷ []) new
 hears_one es e m fs new is known other all =
     subst (λ gs. HeardFrom 1 (es ++ e ∷ []) gs)
-    (ap (λ o. hear_all 1 (length es) o fs) is ∙ sym (hears_known (is_known (length fs) m) m (length es) fs new refl known other))
+    (ap (λ o. hear_all 1 (length es) o fs) is
+    ∙ sym (hears_known (is_known (length fs) m) m (length es) fs new refl known other))
     (heard_more 1 es e fs all)
 
 -- messages that a step sent, by their sender
-pub sent_all : (count step : ℕ) → map (λ (f : Fate). f.sent) (replicate count (unheard step)) ≡ replicate count step
+pub sent_all : (count step : ℕ) → map (λ (f : Fate). f.sent) (replicate count (unheard step))
+    ≡ replicate count step
 sent_all zero step = refl
 sent_all (suc count) step = ap (λ ns. step ∷ ns) (sent_all count step)
 
 -- as many as there were are written over them all
-pub written_back : (new old : List Fate) (len : ℕ) → length new ≡ len → take len (new ++ drop (length new) old) ≡ new
+pub written_back : (new old : List Fate) (len : ℕ) → length new ≡ len
+    → take len (new ++ drop (length new) old) ≡ new
 written_back new old len is =
     ap (λ n. take n (new ++ drop (length new) old)) (sym is) ∙ take-append_seam new (drop (length new) old)
 

@@ -12,8 +12,10 @@ use Rattle.picture_layout.specs.Fates.{Leaving, is_late, leaving_in, leaving_of,
 one_leaving : List Column → List StepRows → List JournalEntry → ℕ → Fate → List Leaving
 one_leaving seats rows es n f = if is_late f.sent f.heard then leaving_of seats rows es n f ∷ [] else []
 
-leavings-append : (seats : List Column) (rows : List StepRows) (es : List JournalEntry) (n : ℕ) (fs : List Fate) (f : Fate)
-    → leavings_from seats rows es n (fs ++ f ∷ []) ≡ leavings_from seats rows es n fs ++ one_leaving seats rows es (n + length fs) f
+leavings-append : (seats : List Column) (rows : List StepRows) (es : List JournalEntry) (n : ℕ)
+    (fs : List Fate) (f : Fate)
+    → leavings_from seats rows es n (fs ++ f ∷ []) ≡ leavings_from seats rows es n fs
+    ++ one_leaving seats rows es (n + length fs) f
 unfolding leavings_from one_leaving
 leavings-append seats rows es n [] f =
     let at : n ≡ n + 0 = omega arith in
@@ -21,39 +23,47 @@ leavings-append seats rows es n [] f =
 leavings-append seats rows es n (g ∷ fs) f =
     let at : n + 1 + length fs ≡ n + length (g ∷ fs) = omega arith in
     ap (λ xs. one_leaving seats rows es n g ++ xs) (leavings-append seats rows es (n + 1) fs f)
-    ∙ ap (λ m. one_leaving seats rows es n g ++ (leavings_from seats rows es (n + 1) fs ++ one_leaving seats rows es m f)) at
+    ∙ ap (λ m. one_leaving seats rows es n g
+    ++ (leavings_from seats rows es (n + 1) fs ++ one_leaving seats rows es m f)) at
     ∙ sym (append_assoc (one_leaving seats rows es n g) (leavings_from seats rows es (n + 1) fs)
     (one_leaving seats rows es (n + length (g ∷ fs)) f))
 
-leavings_more : (seats : List Column) (rows : List StepRows) (es : List JournalEntry) (fates : List Fate) (k : ℕ) (f : Fate)
+leavings_more : (seats : List Column) (rows : List StepRows) (es : List JournalEntry) (fates : List Fate)
+    (k : ℕ) (f : Fate)
     → k < length fates → f ≡ get_or fates k f
-    → leavings seats rows es (take (k + 1) fates) ≡ leavings seats rows es (take k fates) ++ one_leaving seats rows es (k + 1) f
+    → leavings seats rows es (take (k + 1) fates) ≡ leavings seats rows es (take k fates)
+    ++ one_leaving seats rows es (k + 1) f
 leavings_more seats rows es fates k f there at =
     let within : k ≤ length fates = omega (arith, there) in
     let taken = length-take-le k fates within in
     let number : 1 + length (take k fates) ≡ k + 1 = omega (arith, taken) in
-    ap (λ fs. leavings seats rows es fs) (take_more fates k f there ∙ ap (λ x. take k fates ++ x ∷ []) (sym at))
+    ap (λ fs. leavings seats rows es fs) (take_more fates k f there
+    ∙ ap (λ x. take k fates ++ x ∷ []) (sym at))
     ∙ leavings-append seats rows es 1 (take k fates) f
     ∙ ap (λ n. leavings seats rows es (take k fates) ++ one_leaving seats rows es n f) number
 
 -- before the first message none is drawn
-pub none_left : (seats : List Column) (rows : List StepRows) (es : List JournalEntry) → [] ≡ leavings seats rows es []
+pub none_left : (seats : List Column) (rows : List StepRows) (es : List JournalEntry)
+    → [] ≡ leavings seats rows es []
 unfolding leavings_from
 none_left seats rows es = refl
 
 -- a message that is not drawn apart
-pub passed : (seats : List Column) (rows : List StepRows) (es : List JournalEntry) (fates : List Fate) (k : ℕ) (f : Fate) (stubs : List Stub)
+pub passed : (seats : List Column) (rows : List StepRows) (es : List JournalEntry) (fates : List Fate) (k : ℕ)
+    (f : Fate) (stubs : List Stub)
     → k < length fates → f ≡ get_or fates k f → is_late f.sent f.heard ≡ false
     → map leaving_in stubs ≡ leavings seats rows es (take k fates)
     → map leaving_in stubs ≡ leavings seats rows es (take (k + 1) fates)
 unfolding one_leaving
 passed seats rows es fates k f stubs there at late was =
     was ∙ sym (leavings_more seats rows es fates k f there at
-    ∙ ap (λ b. leavings seats rows es (take k fates) ++ (if b then leaving_of seats rows es (k + 1) f ∷ [] else [])) late
+    ∙ ap (λ b. leavings seats rows es (take k fates)
+    ++ (if b then leaving_of seats rows es (k + 1) f ∷ [] else [])) late
     ∙ append-nil (leavings seats rows es (take k fates)))
 
 -- one that is
-pub left_more : (seats : List Column) (rows : List StepRows) (es : List JournalEntry) (fates : List Fate) (k : ℕ) (f : Fate)
+pub left_more : (seats : List Column) (rows : List StepRows) (es : List JournalEntry) (fates : List Fate)
+    (k : ℕ) (f : Fate)
     (old new : List Stub) (s : Stub) → k < length fates → f ≡ get_or fates k f → is_late f.sent f.heard ≡ true
     → new ≡ old ++ s ∷ [] → leaving_in s ≡ leaving_of seats rows es (k + 1) f
     → map leaving_in old ≡ leavings seats rows es (take k fates)
@@ -64,4 +74,5 @@ left_more seats rows es fates k f old new s there at late is one was =
     ∙ ap (λ xs. xs ++ leaving_in s ∷ []) was
     ∙ ap (λ x. leavings seats rows es (take k fates) ++ x ∷ []) one
     ∙ sym (leavings_more seats rows es fates k f there at
-    ∙ ap (λ b. leavings seats rows es (take k fates) ++ (if b then leaving_of seats rows es (k + 1) f ∷ [] else [])) late)
+    ∙ ap (λ b. leavings seats rows es (take k fates)
+    ++ (if b then leaving_of seats rows es (k + 1) f ∷ [] else [])) late)

@@ -16,7 +16,8 @@ has_later from later r h has =
 -- a step after the others
 pub rise_more : (from : ℕ) (rs : List StepRows) (end : ℕ) (r : StepRows) → RiseTo from rs end
     → HasRows end r → RiseTo from (rs ++ r ∷ []) r.next
-rise_more from [] end r rise has = let rest : r.next ≤ r.next = omega arith in (has_later from end r rise has, rest)
+rise_more from [] end r rise has =
+    let rest : r.next ≤ r.next = omega arith in (has_later from end r rise has, rest)
 rise_more from (s ∷ rs) end r rise has = (rise.0, rise_more s.next rs end r rise.1 has)
 
 -- the rows after a step

@@ -24,7 +24,8 @@ all_more P tree k e there at before one =
 
 -- one more process has a seat
 pub seated_more : (tree : List TreeProcess) (k : ℕ) (e : TreeProcess) (seats : List Column) → k < length tree
-    → e ≡ get_or tree k e → All (HasSeat seats) (take k tree) → HasSeat seats e → All (HasSeat seats) (take (k + 1) tree)
+    → e ≡ get_or tree k e → All (HasSeat seats) (take k tree) → HasSeat seats e
+    → All (HasSeat seats) (take (k + 1) tree)
 seated_more tree k e seats there at before one = all_more (HasSeat seats) tree k e there at before one
 
 first_stays : {A : Type 0} (a b : Option A) → is_some a ≡ true → is_some (option_or a b) ≡ true
@@ -38,7 +39,8 @@ stays seats s e has =
     ∙ first_stays (find (λ (t : Column). same_process t.process e.id) seats)
     (find (λ (t : Column). same_process t.process e.id) (s ∷ [])) has
 
-all_stay : (seats : List Column) (s : Column) (es : List TreeProcess) → All (HasSeat seats) es → All (HasSeat (seats ++ s ∷ [])) es
+all_stay : (seats : List Column) (s : Column) (es : List TreeProcess) → All (HasSeat seats) es
+    → All (HasSeat (seats ++ s ∷ [])) es
 all_stay seats s es all = λ k d there. stays seats s (get_or es k d) (all k d there)
 
 last_stays : {A : Type 0} (a b : Option A) → is_some b ≡ true → is_some (option_or a b) ≡ true
@@ -46,7 +48,8 @@ last_stays (Some x) b some = refl
 last_stays None b some = some
 
 -- who sits has a seat
-sits : (seats : List Column) (s : Column) (e : TreeProcess) → same_process s.process e.id ≡ true → HasSeat (seats ++ s ∷ []) e
+sits : (seats : List Column) (s : Column) (e : TreeProcess) → same_process s.process e.id ≡ true
+    → HasSeat (seats ++ s ∷ []) e
 sits seats s e same =
     ap is_some (find-append (λ (t : Column). same_process t.process e.id) seats (s ∷ []))
     ∙ last_stays (find (λ (t : Column). same_process t.process e.id) seats)
@@ -54,11 +57,13 @@ sits seats s e same =
     (ap (λ b. is_some (if b then Some s else None)) same)
 
 -- one more entry sits
-pub sat_more : (tree : List TreeProcess) (k : ℕ) (e : TreeProcess) (old new : List Column) (s : Column) → k < length tree
+pub sat_more : (tree : List TreeProcess) (k : ℕ) (e : TreeProcess) (old new : List Column) (s : Column)
+    → k < length tree
     → e ≡ get_or tree k e → new ≡ old ++ s ∷ [] → s.process ≡ e.id
     → All (HasSeat old) (take k tree) → All (HasSeat new) (take (k + 1) tree)
 unfolding same_process
 sat_more tree k e old new s there at is process before =
     let same : same_process s.process e.id ≡ true = grind (arith, ap (λ (p : ProcessId). p.0) process) in
     subst (λ seats. All (HasSeat seats) (take (k + 1) tree)) (sym is)
-    (all_more (HasSeat (old ++ s ∷ [])) tree k e there at (all_stay old s (take k tree) before) (sits old s e same))
+    (all_more (HasSeat (old ++ s ∷ [])) tree k e there at (all_stay old s (take k tree) before)
+    (sits old s e same))

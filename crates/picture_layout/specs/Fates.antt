@@ -21,10 +21,12 @@ first_heard n sent step (e ∷ es) =
     if nat_lt sent step && is_named n (heard_in e.step.happening) then Some step
     else first_heard n sent (step + 1) es
 
--- the messages from this number on were sent by these steps, and each was delivered first by the step that is said, if by any
+-- the messages from this number on were sent by these steps, and each was delivered first by the step that is
+-- said, if by any
 unfoldable pub HeardFrom : ℕ → List JournalEntry → List Fate → Type 0
 HeardFrom n es [] = ⊤
-HeardFrom n es (f ∷ fs) = (f.sent < length es) × (f.heard ≡ first_heard n f.sent 0 es) × HeardFrom (n + 1) es fs
+HeardFrom n es (f ∷ fs) = (f.sent < length es) × (f.heard ≡ first_heard n f.sent 0 es)
+    × HeardFrom (n + 1) es fs
 
 -- what becomes of all messages of these steps, in the order of their numbers
 pub record AreFates (es : List JournalEntry) (fates : List Fate) : Type 0 where
@@ -43,13 +45,14 @@ unheard step = record { sent = step; heard = None }
 abbrev pub heard_at : ℕ → Fate → Fate
 heard_at step f = record { sent = f.sent; heard = option_or f.heard (Some step) }
 
--- a message that a step sent is drawn apart, where it was sent, if no step delivers it, or only one more than 24 steps later
+-- a message that a step sent is drawn apart, where it was sent, if no step delivers it, or only one more than
+-- 24 steps later
 abbrev pub is_late : ℕ → Option ℕ → Bool
 is_late sent None = true
 is_late sent (Some heard) = nat_lt 24 (heard - sent)
 
--- where a message leaves that is drawn apart: its number, the place of its sender, the last row of the step that sent it, and
--- whether it is never delivered
+-- where a message leaves that is drawn apart: its number, the place of its sender, the last row of the step
+-- that sent it, and whether it is never delivered
 pub record Leaving : Type 0 where
   pub number : ℕ
   pub place : ℕ
@@ -69,7 +72,8 @@ leaving_of seats rows es n f = record {
 unfoldable pub leavings_from : List Column → List StepRows → List JournalEntry → ℕ → List Fate → List Leaving
 leavings_from seats rows es n [] = []
 leavings_from seats rows es n (f ∷ fs) =
-    (if is_late f.sent f.heard then leaving_of seats rows es n f ∷ [] else []) ++ leavings_from seats rows es (n + 1) fs
+    (if is_late f.sent f.heard then leaving_of seats rows es n f ∷ [] else [])
+    ++ leavings_from seats rows es (n + 1) fs
 
 -- those of all messages that are drawn apart, in the order of their numbers
 abbrev pub leavings : List Column → List StepRows → List JournalEntry → List Fate → List Leaving

@@ -53,8 +53,9 @@ by_step adds step (e ∷ es) = adds step e ++ by_step adds (step + 1) es
 abbrev pub senders : List JournalEntry → List ℕ
 senders es = by_step (λ step e. replicate (length e.reaction.messages) step) 0 es
 
--- the way of a message to the step that it made: from its sender's place, at the last row of the step that sent it, to its
--- receiver's, at the first row of that step; it is far if more than 24 steps were made between
+-- the way of a message to the step that it made: from its sender's place, at the last row of the step that
+-- sent it, to its receiver's, at the first row of that step; it is far if more than 24 steps were made
+-- between
 abbrev pub way_to : List Column → List StepRows → List ℕ → List JournalEntry → ℕ → JournalEntry → ℕ → Way
 way_to seats rows sent es step e number = record {
   from = place_of_step seats (slice_get es (get_or sent (number - 1) 0));
@@ -64,9 +65,11 @@ way_to seats rows sent es step e number = record {
   far = nat_lt 24 (step - get_or sent (number - 1) 0);
 }
 
--- the ways of the deliveries of the first steps, in their order, where these steps sent the messages of all steps
+-- the ways of the deliveries of the first steps, in their order, where these steps sent the messages of all
+-- steps
 abbrev pub ways_of : List Column → List StepRows → List ℕ → List JournalEntry → List JournalEntry → List Way
-ways_of seats rows sent all es = by_step (λ step e. option_to_list (option_map (way_to seats rows sent all step e)
+ways_of seats rows sent all es = by_step
+    (λ step e. option_to_list (option_map (way_to seats rows sent all step e)
     (delivery (length sent) e))) 0 es
 
 -- the ways of all deliveries, in the order of the steps

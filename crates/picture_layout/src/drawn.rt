@@ -34,8 +34,8 @@ pub struct Arrow {
     pub again: bool,
 }
 
-/// A message at the step that sent it, which is never delivered, or only much later: from the row that it left
-/// to a row of its own.
+/// A message at the step that sent it, which is never delivered, or only much later: from the row that it
+/// left to a row of its own.
 #[derive(Clone, Copy)]
 pub struct Stub {
     pub number: u64,
@@ -84,7 +84,8 @@ fn place_at(seats: &[Column], entries: &[JournalEntry], step: usize) -> u32
 /// The fate of a message.
 fn fate_of(fates: &[Fate], number: u64) -> Option<Fate>
     ensures known { is_some result ≡ is_known (length fates.now) number }
-    ensures sent { IfSome result (λ fate. fate.sent ≡ get_or (map (λ (f : AnyFate). f.sent) fates.now) (number - 1) 0) }
+    ensures sent { IfSome result (λ fate. fate.sent ≡ get_or (map (λ (f : AnyFate). f.sent) fates.now)
+        (number - 1) 0) }
 {
     if number == 0 || number > fates.len() as u64 {
         return None;
@@ -103,7 +104,8 @@ fn arrow_of(
 ) -> Option<Arrow>
     ensures number { option_map (λ (a : AnyArrow). a.number) result ≡ delivery (length fates.now) entry.now }
     ensures way { option_map (λ (a : AnyArrow). a.way) result
-        ≡ option_map (way_to seats.now rows.now (map (λ (f : AnyFate). f.sent) fates.now) entries.now step entry.now)
+        ≡ option_map (way_to seats.now rows.now (map (λ (f : AnyFate). f.sent) fates.now)
+        entries.now step entry.now)
         (delivery (length (map (λ (f : AnyFate). f.sent) fates.now)) entry.now) }
 {
     let Some(number) = heard_by(entry) else {
@@ -162,8 +164,8 @@ pub fn arrows(
     Ok(arrows)
 }
 
-/// The row of a stub: below the last one of the step that sent its message, or below that of the stub before it, where one
-/// step sent both.
+/// The row of a stub: below the last one of the step that sent its message, or below that of the stub before
+/// it, where one step sent both.
 fn stub_row(left: u32, sent: usize, last: Option<(usize, u32)>) -> u32 {
     match last {
         Some((step, row)) if step == sent => row.saturating_add(1),
@@ -207,7 +209,8 @@ pub fn stubs(
     fates: &[Fate],
     rows: &[StepRows],
 ) -> Result<Vec<Stub>, AllocError>
-    ensures { IfOk result (λ stubs. map leaving_in stubs.items ≡ leavings seats.now rows.now entries.now fates.now) }
+    ensures { IfOk result (λ stubs. map leaving_in stubs.items
+        ≡ leavings seats.now rows.now entries.now fates.now) }
 {
     let mut stubs = Vec::new(alloc);
     let mut last = None;

@@ -60,7 +60,8 @@ fn send(fates: &mut Vec<Fate>, step: usize, count: usize) -> Result<(), AllocErr
 fn hear_step(fates: &mut Vec<Fate>, step: usize, entry: &JournalEntry)
     ensures heard { (es : List AnyEntry) → length es ≡ step → HeardFrom 1 es fates.old.items
         → HeardFrom 1 (es ++ entry.now ∷ []) fates.new.items }
-    ensures sent { map (λ (f : AnyFate). f.sent) fates.new.items ≡ map (λ (f : AnyFate). f.sent) fates.old.items }
+    ensures sent { map (λ (f : AnyFate). f.sent) fates.new.items
+        ≡ map (λ (f : AnyFate). f.sent) fates.old.items }
 {
     if let Some(number) = heard_by(entry) {
         hear(fates.as_mut_slice(), number, step);

@@ -252,7 +252,8 @@ fn event_rows(
 ) -> Result<(), PictureError>
     ensures rise { OnOk result (RiseTo 1 rows.old.steps.items count.old.row
         → RiseTo 1 rows.new.steps.items count.new.row) }
-    ensures each { OnOk result (ForEach steps.old rows.old.steps.items → ForEach steps.new rows.new.steps.items) }
+    ensures each { OnOk result (ForEach steps.old rows.old.steps.items
+        → ForEach steps.new rows.new.steps.items) }
     ensures same { OnOk result (steps.new.entries ≡ steps.old.entries) }
     ensures few { OnOk result (rows_with count.new steps.new ≤ rows_with count.old steps.old + 2) }
     ensures err { IfErr result (λ e. e ≡ PictureError.TooLong → 2 ^ 32 ≤ rows_with count.old steps.old + 2) }
@@ -267,8 +268,9 @@ fn event_rows(
     add_idle(event, is_ruled, turn.refused, count, rows)
 }
 
-/// The rows of a run of these events and steps; steps after the last event have no rule. TooLong: there are 2^32 rows; at most two are drawn for each
-/// event, one for each record and each message, and four more for each step.
+/// The rows of a run of these events and steps; steps after the last event have no rule. TooLong: there are
+/// 2^32 rows; at most two are drawn for each event, one for each record and each message, and four more for
+/// each step.
 pub fn rows_of(
     alloc: Global,
     turns: &[EventSteps],

@@ -106,8 +106,8 @@ fn sit_in_order(alloc: Global, tree: &[TreeProcess]) -> Result<Vec<Column>, Pict
     Ok(seats)
 }
 
-/// The processes of a tree, each at a place of its own: depth first, the children of each in the order of the tree. Those of
-/// a list that is no tree sit in its order. TooLong: it lists 2^32 processes.
+/// The processes of a tree, each at a place of its own: depth first, the children of each in the order of the
+/// tree. Those of a list that is no tree sit in its order. TooLong: it lists 2^32 processes.
 pub fn seats_of(alloc: Global, tree: &[TreeProcess]) -> Result<Vec<Column>, PictureError>
     ensures order { IfOk result (λ seats. SitFrom 0 seats.items) }
     ensures few { IfOk result (λ seats. length seats.items ≤ length tree.now) }

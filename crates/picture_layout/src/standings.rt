@@ -1,5 +1,5 @@
-//! How the cases of a run stand, from step to step: in doubt, decided by an operator, or neither; and what its
-//! crashes take.
+//! How the cases of a run stand, from step to step: in doubt, decided by an operator, or neither; and what
+//! its crashes take.
 
 use crate::seats::{Column, place_of};
 use crate::stretches::{Band, Change};

@@ -20,7 +20,8 @@ unfolding marks_of
 none_marked choice ms is = is
 
 -- one more step
-pub marked_more : (choice : Choice) (es : List JournalEntry) (k : ℕ) (e : JournalEntry) (old new : List Belonging)
+pub marked_more : (choice : Choice) (es : List JournalEntry) (k : ℕ) (e : JournalEntry)
+    (old new : List Belonging)
     → slice_get es k ≡ Some e → old ≡ marks_of choice (take k es) → new ≡ with_mark choice old e
     → new ≡ marks_of choice (take (k + 1) es)
 unfolding marks_of
@@ -71,7 +72,8 @@ part_there q ps there p = by (same_process q p) refl
     by false is = grind arith
 
 -- a step is drawn, if the processes that took part are known
-pub shown_so : (choice : Choice) (t : Txn) (before : List Belonging) (ps : List ProcessId) (e : JournalEntry) (b : Bool)
+pub shown_so : (choice : Choice) (t : Txn) (before : List Belonging) (ps : List ProcessId)
+    (e : JournalEntry) (b : Bool)
     → choice ≡ OfTxn t → TookPart choice before ps
     → b ≡ (is_of t e || (is_restart e.step.happening && is_among e.step.process ps))
     → b ≡ is_shown choice before e
@@ -83,7 +85,8 @@ shown_so choice t before ps e b is took made =
     shown ∙ ap (λ c. is_shown c before e) (sym is)
 
 -- of one more step
-pub parts_more : (choice : Choice) (before : List Belonging) (old new : List ProcessId) (e : JournalEntry) (shown : Bool)
+pub parts_more : (choice : Choice) (before : List Belonging) (old new : List ProcessId)
+    (e : JournalEntry) (shown : Bool)
     → TookPart choice before old → AddsParts choice e old new
     → TookPart choice (before ++ record { entry = e; shown = shown } ∷ []) new
 parts_more (OfTxn t) before old new e shown took adds = λ p.

@@ -32,7 +32,8 @@ step_added only m old mid new t u was kept makes is keeps p =
     by false e tells = keeps p e ∙ kept p e
 
 -- one more step
-pub tails_more : (only : Option Txn) (ms : List Belonging) (k : ℕ) (m : Belonging) (old new : List (ProcessId × Tail))
+pub tails_more : (only : Option Txn) (ms : List Belonging) (k : ℕ) (m : Belonging)
+    (old new : List (ProcessId × Tail))
     → take (k + 1) ms ≡ take k ms ++ m ∷ [] → AreTails only (take k ms) old → AddsStep only m old new
     → AreTails only (take (k + 1) ms) new
 unfolding tail_at
@@ -48,10 +49,13 @@ no_tails only ts is p = ap (λ xs. tail_in xs p) is
 
 -- one more step is drawn, or not
 pub drawn_more : (only : Option Txn) (numbers ns : List ℕ) (ms : List Belonging) (k : ℕ) (m : Belonging)
-    (old new : List JournalEntry) (ts : List (ProcessId × Tail)) → take (k + 1) ms ≡ take k ms ++ m ∷ [] → ns ≡ numbers
-    → (drawn_by only numbers (take k ms)).before ≡ take k ms → (drawn_by only numbers (take k ms)).entries ≡ old
+    (old new : List JournalEntry) (ts : List (ProcessId × Tail)) → take (k + 1) ms ≡ take k ms ++ m ∷ []
+    → ns ≡ numbers
+    → (drawn_by only numbers (take k ms)).before ≡ take k ms
+    → (drawn_by only numbers (take k ms)).entries ≡ old
     → AreTails only (take k ms) ts
-    → new ≡ (if m.shown then old ++ drawn_entry only ns (tail_in ts m.entry.step.process) m.entry ∷ [] else old)
+    → new ≡ (if m.shown then old ++ drawn_entry only ns (tail_in ts m.entry.step.process) m.entry ∷ []
+    else old)
     → ((drawn_by only numbers (take (k + 1) ms)).before ≡ take (k + 1) ms)
     × ((drawn_by only numbers (take (k + 1) ms)).entries ≡ new)
 drawn_more only numbers ns ms k m old new ts all same before entries tails is =
@@ -65,7 +69,8 @@ drawn_more only numbers ns ms k m old new ts all same before entries tails is =
           ∙ ap (λ (xs : List Belonging). if m.shown
           then (drawn_by only numbers (take k ms)).entries ++ drawn_after only numbers xs m.entry ∷ []
           else (drawn_by only numbers (take k ms)).entries) before
-          ∙ ap (λ (es : List JournalEntry). if m.shown then es ++ drawn_after only numbers (take k ms) m.entry ∷ [] else es)
+          ∙ ap (λ (es : List JournalEntry). if m.shown then es ++ drawn_after only numbers (take k ms) m.entry
+          ∷ [] else es)
           entries
           ∙ ap (λ (t : TailState). if m.shown then old ++ drawn_entry only numbers t m.entry ∷ [] else old)
           (sym (tails m.entry.step.process))

@@ -18,7 +18,8 @@ taken_more (y ∷ xs) (suc k) x rest is =
     let at : suc k + 1 ≡ suc (k + 1) = omega arith in
     rw at (ap (λ zs. y ∷ zs) (taken_more xs k x rest is))
 
-item_at : (xs : List Event) (k : ℕ) (x : Event) (rest : List Event) → drop k xs ≡ x ∷ rest → slice_get xs k ≡ Some x
+item_at : (xs : List Event) (k : ℕ) (x : Event) (rest : List Event) → drop k xs ≡ x ∷ rest
+    → slice_get xs k ≡ Some x
 item_at [] zero x rest is = absurd (cc)
 item_at [] (suc k) x rest is = absurd (cc)
 item_at (y ∷ xs) zero x rest is = let same : y ≡ x = cc in ap Some same
@@ -37,7 +38,8 @@ module _ (start : WorldState) (events : List Event) (k : ℕ) (e : Event) (rest 
       (subst (λ ns. Counts start (take k events ++ e ∷ []) now ns) (sym is) more)
 
   -- an event that is refused
-  pub counted_until : (why : StepError) → Stops mid e why now → IsOwn why → CountsUntil start events k why now then
+  pub counted_until : (why : StepError) → Stops mid e why now → IsOwn why → CountsUntil start events k why now
+      then
   counted_until why stops own = record {
     mid = mid;
     front = counts;

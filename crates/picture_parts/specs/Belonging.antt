@@ -90,13 +90,14 @@ is_of_at t p e = same_process e.step.process p && is_of t e
 abbrev pub took_part : Txn → ProcessId → List Belonging → Bool
 took_part t p before = not (count_by (λ m. is_of_at t p m.entry) before == 0)
 
--- The steps that are drawn: those of a transaction, with the restarts of the processes that took part in it before; or
--- those from one on, up to the one before another.
+-- The steps that are drawn: those of a transaction, with the restarts of the processes that took part in it
+-- before; or those from one on, up to the one before another.
 unfoldable pub is_shown : Choice → List Belonging → JournalEntry → Bool
 is_shown (OfTxn t) before e = is_of t e || (is_restart e.step.happening && took_part t e.step.process before)
 is_shown (Between from to) before e = leb from (length before) && ltb (length before) to
 
--- What is kept while the steps are gone over: the processes that took part so far, so that no restart looks back.
+-- What is kept while the steps are gone over: the processes that took part so far, so that no restart looks
+-- back.
 
 -- a process is one of these
 abbrev pub is_among : ProcessId → List ProcessId → Bool

@@ -77,13 +77,14 @@ number_in numbers n = if n == 0 then 0 else unwrap_or (slice_get numbers (n - 1)
 
 -- A crash takes of the records that are drawn those that it takes in the run.
 
--- Of the records of a process that a crash may take: of each, whether it is drawn; and how many of those that are drawn a
--- crash could take, if the process had no others.
+-- Of the records of a process that a crash may take: of each, whether it is drawn; and how many of those that
+-- are drawn a crash could take, if the process had no others.
 pub record TailState : Type 0 where
   pub own : ℕ
   pub all : List Bool
 
--- with one more record, which is forced or not, and drawn or not: a forced one leaves none that a crash may take
+-- with one more record, which is forced or not, and drawn or not: a forced one leaves none that a crash may
+-- take
 abbrev pub with_record : Bool → Bool → TailState → TailState
 with_record true true t = record { own = 0; all = [] }
 with_record true false t = record { own = t.own; all = [] }
@@ -102,7 +103,8 @@ begun_by shown happening.Trim t = with_record true shown t
 
 -- with a step of a process
 abbrev pub with_step : Option Txn → TailState → Belonging → TailState
-with_step only t m = with_records only m.shown (begun_by m.shown m.entry.step.happening t) m.entry.reaction.written
+with_step only t m = with_records only m.shown (begun_by m.shown m.entry.step.happening t)
+    m.entry.reaction.written
 
 -- with one more step, if it is of this process
 unfoldable pub with_step_at : Option Txn → ProcessId → TailState → Belonging → TailState
@@ -156,7 +158,8 @@ with_drawn only numbers d m = record {
 abbrev pub drawn_by : Option Txn → List ℕ → List Belonging → Drawn
 drawn_by only numbers ms = fold (with_drawn only numbers) (record { before = []; entries = [] }) ms
 
--- The steps that are drawn of a run, in order: what is of one transaction, if only that is drawn, or all; their messages
--- with their numbers in the picture, and their crashes with the records that they leave of those that are drawn.
+-- The steps that are drawn of a run, in order: what is of one transaction, if only that is drawn, or all;
+-- their messages with their numbers in the picture, and their crashes with the records that they leave of
+-- those that are drawn.
 unfoldable pub drawn_from : Option Txn → List Belonging → List JournalEntry
 drawn_from only ms = (drawn_by only (numbers_of (drawn_sent only ms)) ms).entries

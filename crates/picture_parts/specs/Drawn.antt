@@ -23,7 +23,8 @@ use Rattle.picture_parts.specs.Counted.{CountsTo}
 use Rattle.picture_parts.specs.Parts.{IsDrawn, IsFault}
 
 -- the text is the picture of a part of the run of these events, from this state on, in a tree with this root
-pub record DrawsFrom (part : PicturePart) (root : ProcessId) (start : WorldState) (events : List Event) (status : Status)
+pub record DrawsFrom (part : PicturePart) (root : ProcessId) (start : WorldState) (events : List Event)
+    (status : Status)
     (text : List ℕ) : Type 0 where
   pub refusal : Refusal
   pub end : WorldState
@@ -33,7 +34,8 @@ pub record DrawsFrom (part : PicturePart) (root : ProcessId) (start : WorldState
   pub drawn : IsDrawn part end.tree root (length start.entries) end.entries counts text
 
 -- of that run the part is not drawn for this reason
-pub record RefusesFrom (part : PicturePart) (root : ProcessId) (start : WorldState) (events : List Event) (fault : PartFault)
+pub record RefusesFrom (part : PicturePart) (root : ProcessId) (start : WorldState) (events : List Event)
+    (fault : PartFault)
     : Type 0 where
   pub refusal : Refusal
   pub end : WorldState
@@ -41,12 +43,14 @@ pub record RefusesFrom (part : PicturePart) (root : ProcessId) (start : WorldSta
   pub counted : CountsTo start events refusal end counts
   pub there : IsFault part root end.entries counts fault
 
-abbrev pub AnswersFrom : PicturePart → ProcessId → WorldState → List Event → Result (Vec ℕ × Status) PartFault → Type 0
+abbrev pub AnswersFrom : PicturePart → ProcessId → WorldState → List Event → Result (Vec ℕ × Status) PartFault
+    → Type 0
 AnswersFrom part root start events (Ok r) = DrawsFrom part root start events r.1 r.0.items
 AnswersFrom part root start events (Err fault) = RefusesFrom part root start events fault
 
 -- the input is a script of a tree of 40 processes at most, and this is the answer for a part of its run
-pub record AnswersRun (part : PicturePart) (input : List ℕ) (answer : Result (Vec ℕ × Status) PartFault) : Type 0 where
+pub record AnswersRun (part : PicturePart) (input : List ℕ)
+    (answer : Result (Vec ℕ × Status) PartFault) : Type 0 where
   pub tree : List TreeProcess
   pub logs : Option (List ProcessLog)
   pub events : List Event

@@ -59,7 +59,8 @@ abbrev pub marks_of_case : ProcessId → Txn → List JournalEntry → List Belo
 marks_of_case root t es = marks_of (OfTxn (at_root root t)) es
 
 abbrev pub marks_of_events : ℕ → List ℕ → Range → List JournalEntry → List Belonging
-marks_of_events start counts r es = marks_of (Between (count_at start counts (r.first - 1)) (count_at start counts r.last)) es
+marks_of_events start counts r es = marks_of
+    (Between (count_at start counts (r.first - 1)) (count_at start counts r.last)) es
 
 -- how many events a part has
 abbrev pub part_size : PicturePart → ProcessId → List JournalEntry → List ℕ → ℕ
@@ -76,8 +77,8 @@ abbrev pub part_of : PicturePart → ProcessId → ℕ → List JournalEntry →
 part_of (Case t) root start es counts = drawn_from (Some (at_root root t)) (marks_of_case root t es)
 part_of (Events r) root start es counts = drawn_from None (marks_of_events start counts r es)
 
--- The text has a picture of these steps of a tree, of a run of some events. What is before and after it, as its caption, is not
--- said.
+-- The text has a picture of these steps of a tree, of a run of some events. What is before and after it, as
+-- its caption, is not said.
 pub record HasPicture (tree : List TreeProcess) (entries : List JournalEntry) (text : List ℕ) : Type 0 where
   -- how many events are drawn, and which of them was refused, if one was
   pub events : ℕ
@@ -86,9 +87,10 @@ pub record HasPicture (tree : List TreeProcess) (entries : List JournalEntry) (t
   pub picture : IsPicture tree events entries refused inner
   pub captioned : Surrounds inner text
 
--- the text is the picture of a part of a run of a tree that has this root: it made the first number of steps before its events, these
--- steps in all, and the numbers of steps after each event
-pub record IsDrawn (part : PicturePart) (tree : List TreeProcess) (root : ProcessId) (start : ℕ) (es : List JournalEntry)
+-- the text is the picture of a part of a run of a tree that has this root: it made the first number of steps
+-- before its events, these steps in all, and the numbers of steps after each event
+pub record IsDrawn (part : PicturePart) (tree : List TreeProcess) (root : ProcessId) (start : ℕ)
+    (es : List JournalEntry)
     (counts : List ℕ) (text : List ℕ) : Type 0 where
   pub has : HasPart part root es counts
   pub small : part_size part root es counts ≤ 2000
@@ -102,6 +104,7 @@ IsFault (Events r) root es counts (faults.Beyond n) = (n ≡ length counts) × (
 IsFault part root es counts fault = ⊥
 
 -- the picture, or why there is none
-abbrev pub Answers : PicturePart → List TreeProcess → ProcessId → ℕ → List JournalEntry → List ℕ → Result (Vec ℕ) PartFault → Type 0
+abbrev pub Answers : PicturePart → List TreeProcess → ProcessId → ℕ → List JournalEntry → List ℕ
+    → Result (Vec ℕ) PartFault → Type 0
 Answers part tree root start es counts (Ok text) = IsDrawn part tree root start es counts text.items
 Answers part tree root start es counts (Err fault) = IsFault part root es counts fault

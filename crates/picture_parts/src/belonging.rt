@@ -88,7 +88,8 @@ pub(crate) fn is_message_of(txn: &Txn, envelope: &Envelope) -> bool
     case_of(&envelope.message).txn.is(txn)
 }
 
-/// Whether a step is of a transaction: it handles an act or a message of it, or makes a record or a message of it.
+/// Whether a step is of a transaction: it handles an act or a message of it, or makes a record or a message
+/// of it.
 #[tactic(auto, unfolding(crate::specs::Belonging::is_of))]
 pub(crate) fn is_of(txn: &Txn, entry: &JournalEntry) -> bool
     ensures { result ≡ is_of txn.now entry.now }

@@ -1,4 +1,5 @@
-//! What is above the picture of a part: which part it is, and how its events and messages are numbered in the run.
+//! What is above the picture of a part: which part it is, and how its events and messages are numbered in the
+//! run.
 
 ghost use Rattle.std.specs.Prelude.{◌≡◌, ◌++◌, IfOk, codes};
 ghost use Rattle.picture_parts.specs.Captions.{Surrounds};
@@ -13,8 +14,8 @@ use trace_lines::{push, push_number};
 /// The height of a caption.
 const HEIGHT: u64 = 30;
 
-/// What the caption of the picture of some events says: of how many of the run they are, and what number its first message
-/// has in the run, if it has one.
+/// What the caption of the picture of some events says: of how many of the run they are, and what number its
+/// first message has in the run, if it has one.
 pub(crate) fn caption_of_events(
     alloc: Global,
     range: &Range,
@@ -51,8 +52,8 @@ fn push_numbers(out: &mut Vec<u8>, sent: &[bool]) -> Result<(), AllocError> {
     Ok(())
 }
 
-/// What the caption of the picture of a transaction says; which events and messages of the run they are is told by a
-/// tooltip.
+/// What the caption of the picture of a transaction says; which events and messages of the run they are is
+/// told by a tooltip.
 pub(crate) fn caption_of_case(
     alloc: Global,
     txn: &Txn,

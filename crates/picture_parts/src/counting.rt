@@ -10,8 +10,8 @@ use protocol::{Happening, ProcessId, ShownRecord, Subject, Txn};
 use report_io::Failure;
 use std::alloc::{AllocError, Global};
 
-/// Of the records of a process that a crash may take: of each, whether it is drawn; and how many of those that are drawn a
-/// crash could take, if the process had no others.
+/// Of the records of a process that a crash may take: of each, whether it is drawn; and how many of those
+/// that are drawn a crash could take, if the process had no others.
 #[derive(Drop)]
 struct Tail {
     own: u64,
@@ -111,7 +111,8 @@ impl Tail {
     }
 }
 
-/// The records of each process that a crash may take. They are kept while steps are gone over, so that no crash looks back.
+/// The records of each process that a crash may take. They are kept while steps are gone over, so that no
+/// crash looks back.
 #[derive(Drop)]
 pub(crate) struct Tails {
     alloc: Global,

@@ -98,7 +98,8 @@ pub(crate) fn sent_of(
     Ok(sent)
 }
 
-/// Adds the number of a message in the picture, of which N messages before it are drawn: how many are drawn with it.
+/// Adds the number of a message in the picture, of which N messages before it are drawn: how many are drawn
+/// with it.
 fn push_drawn_number(numbers: &mut Vec<u64>, drawn: u64, flag: bool) -> Result<u64, Failure>
     ensures items { OnOk result (numbers.new.items
         ≡ numbers.old.items ++ (if flag then drawn + 1 else 0) ∷ []) }
@@ -197,8 +198,10 @@ fn push_entry(
     tails: &Tails,
     marked: &Belonging,
 ) -> Result<(), AllocError>
-    ensures { OnOk result (drawn.new.items ≡ (if marked.now.shown then drawn.old.items ++ drawn_entry only numbers.now
-        (tail_in tails.now.tails.entries marked.now.entry.step.process) marked.now.entry ∷ [] else drawn.old.items)) }
+    ensures { OnOk result (drawn.new.items ≡ (if marked.now.shown
+        then drawn.old.items ++ drawn_entry only numbers.now
+        (tail_in tails.now.tails.entries marked.now.entry.step.process) marked.now.entry ∷ []
+        else drawn.old.items)) }
 {
     if marked.shown {
         drawn.push(entry_of(alloc, only, numbers, tails, &marked.entry)?)?;
@@ -206,7 +209,8 @@ fn push_entry(
     Ok(())
 }
 
-/// The steps that are drawn of a run, as they are drawn: what is of one transaction, if only that is drawn, or all.
+/// The steps that are drawn of a run, as they are drawn: what is of one transaction, if only that is drawn,
+/// or all.
 #[tactic(auto, unfolding(crate::specs::Cut::drawn_from))]
 pub fn drawn_from(
     alloc: Global,

@@ -42,8 +42,8 @@ fn count_at(start: usize, counts: &[usize], events: usize) -> usize
     }
 }
 
-/// A run: its tree, the events of its script, how many steps are made after each of those that were made, and which was
-/// refused, if one was.
+/// A run: its tree, the events of its script, how many steps are made after each of those that were made, and
+/// which was refused, if one was.
 #[derive(Clone, Copy)]
 struct Run<'a> {
     world: &'a World<MemoryStore>,
@@ -228,10 +228,11 @@ fn draw_events(
     }
 }
 
-/// The picture of a part of the run of a script, as one SVG file, or why it is not drawn. The steps of the transaction or of
-/// the events are drawn; of a transaction also the restarts of the processes that took part in it before, and of all these
-/// steps what is of no other. Messages are numbered from 1 in the picture. None: the script is refused, or a log that it
-/// begins with is damaged. An error says that memory was refused, or why an event could not be made.
+/// The picture of a part of the run of a script, as one SVG file, or why it is not drawn. The steps of the
+/// transaction or of the events are drawn; of a transaction also the restarts of the processes that took part
+/// in it before, and of all these steps what is of no other. Messages are numbered from 1 in the picture.
+/// None: the script is refused, or a log that it begins with is damaged. An error says that memory was
+/// refused, or why an event could not be made.
 #[tactic(auto, using(crate::proofs::Answering::answers_script))]
 pub fn picture_of(
     alloc: Global,
@@ -262,8 +263,8 @@ pub fn picture_of(
     }
 }
 
-/// Why the whole run of a script is not to be drawn: its tree has more than 40 processes, or it more than 2,000 events. None:
-/// neither is so, or the script is refused.
+/// Why the whole run of a script is not to be drawn: its tree has more than 40 processes, or it more than
+/// 2,000 events. None: neither is so, or the script is refused.
 pub fn whole_fault(alloc: Global, input: &[u8]) -> Result<Option<PartFault>, Failure>
     ensures fault { IfOk result (λ found. IfSome found (IsTooLarge input.now)) }
     ensures none { IfOk result (λ found. IfNone found (IsNotTooLarge input.now)) }

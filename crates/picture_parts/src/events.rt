@@ -20,9 +20,11 @@ fn make_event(
     event: Event,
 ) -> Result<Result<(), StepError>, Failure>
     ensures made { IfOk result (λ made. OnOk made (Applies (state world.old) event (state world.new))) }
-    ensures refused { IfOk result (λ made. IfErr made (λ why. Stops (state world.old) event why (state world.new))) }
+    ensures refused { IfOk result (λ made. IfErr made
+        (λ why. Stops (state world.old) event why (state world.new))) }
     ensures own { IfOk result (λ made. IfErr made IsOwn) }
-    ensures counts { OnOk result (counts.new.items ≡ counts.old.items ++ length (state world.new).entries ∷ []) }
+    ensures counts { OnOk result (counts.new.items ≡ counts.old.items ++ length
+        (state world.new).entries ∷ []) }
 {
     let refusal = match world.apply(event) {
         Ok(()) => None,

@@ -1,7 +1,7 @@
 //! Floor: engines and program.
 //!
-//! The picture of a part of a run, the steps of a transaction or of some of its events: `tree --picture --case` and
-//! `--events`; and how large a picture may be.
+//! The picture of a part of a run, the steps of a transaction or of some of its events:
+//! `tree --picture --case` and `--events`; and how large a picture may be.
 #![tactic(auto)]
 
 mod belonging;

@@ -24,8 +24,8 @@ pub struct Range {
 /// A part of a run.
 #[derive(Clone, Copy, PartialEq, Eq)]
 pub enum PicturePart {
-    /// The steps of a transaction of this presumption, boot and number, and the restarts of the processes that took part
-    /// in it before.
+    /// The steps of a transaction of this presumption, boot and number, and the restarts of the processes
+    /// that took part in it before.
     Case(Txn),
     /// The steps of these events.
     Events(Range),
@@ -100,7 +100,8 @@ impl Turns {
         Ok(())
     }
 
-    /// The events of these numbers, of which the last of the run is refused or not; N steps were made before them.
+    /// The events of these numbers, of which the last of the run is refused or not; N steps were made before
+    /// them.
     pub(crate) fn of_events(
         alloc: Global,
         counts: &[usize],

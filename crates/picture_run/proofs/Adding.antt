@@ -16,12 +16,14 @@ unfolding steps_lines
 no_steps begin = sym (append-nil begin)
 
 -- those of the first steps and of one more
-pub steps_more : (es : List JournalEntry) (k : ℕ) (e : JournalEntry) (begin old new : List (List ℕ)) → k < length es
+pub steps_more : (es : List JournalEntry) (k : ℕ) (e : JournalEntry) (begin old new : List (List ℕ))
+    → k < length es
     → e ≡ get_or es k e → old ≡ begin ++ steps_lines (take k es) → new ≡ old ++ step_lines e
     → new ≡ begin ++ steps_lines (take (k + 1) es)
 unfolding steps_lines
 steps_more es k e begin old new there at were is =
-    let first : take (k + 1) es ≡ take k es ++ e ∷ [] = take_more es k e there ∙ ap (λ x. take k es ++ x ∷ []) (sym at) in
+    let first : take (k + 1) es ≡ take k es ++ e ∷ [] = take_more es k e there
+    ∙ ap (λ x. take k es ++ x ∷ []) (sym at) in
     let more : steps_lines (take (k + 1) es) ≡ steps_lines (take k es) ++ step_lines e =
     ap (λ xs. steps_lines xs) first ∙ flat_map-append step_lines (take k es) (e ∷ [])
     ∙ ap (λ xs. steps_lines (take k es) ++ xs) (append-nil (step_lines e)) in
@@ -34,12 +36,14 @@ pub none_refused : (lines : List (List ℕ)) (refused : Option Event) → refuse
 none_refused lines refused none = sym (append-nil lines) ∙ ap (λ r. lines ++ refused_lines r) (sym none)
 
 -- an event of these
-pub event_at : (events : List Event) (n : ℕ) (event : Event) → n < length events → event ≡ get_or events n event
+pub event_at : (events : List Event) (n : ℕ) (event : Event) → n < length events
+    → event ≡ get_or events n event
     → slice_get events n ≡ Some event
 event_at events n event there at = slice_get-get_or events n event there ∙ ap Some (sym at)
 
 -- the line of the event that was refused
-pub refused_more : (old new : List Stroke) (s : Stroke) (event : Event) (refused : Option Event) → new ≡ old ++ s ∷ []
+pub refused_more : (old new : List Stroke) (s : Stroke) (event : Event) (refused : Option Event)
+    → new ≡ old ++ s ∷ []
     → s.title.items ≡ event_text event → refused ≡ Some event
     → titles_of new ≡ titles_of old ++ refused_lines refused
 refused_more old new s event refused is title some =

@@ -50,15 +50,18 @@ joined : (h b s t l x o a r d q w e : List ℕ)
 joined h b s t l x o a r d q w e = simp append_assoc refl
 
 -- a text whose small marks are these, with the rings among them, has the rings
-pub ringed : (notes : List (Vec ℕ)) (rings before after below boxes words : List Shape) (strokes departures lines : List Stroke)
+pub ringed : (notes : List (Vec ℕ)) (rings before after below boxes words : List Shape)
+    (strokes departures lines : List Stroke)
     (openings squares : List Square) (h e text : List ℕ) → map ring_words rings ≡ map Some (told notes)
-    → text ≡ (((((((((h ++ shapes_text below) ++ strokes_text strokes) ++ strokes_text departures) ++ strokes_text lines)
+    → text ≡ (((((((((h ++ shapes_text below) ++ strokes_text strokes) ++ strokes_text departures)
+    ++ strokes_text lines)
     ++ shapes_text boxes)
     ++ squares_text openings) ++ shapes_text (before ++ rings ++ after)) ++ squares_text squares)
     ++ shapes_text words) ++ e
     → HasRings notes text
 unfolding line_of
-ringed notes rings before after below boxes words strokes departures lines openings squares h e text told_are is =
+ringed notes rings before after below boxes words strokes departures lines openings squares h e
+    text told_are is =
     let b = shapes_text below in
     let s = strokes_text strokes in
     let t = strokes_text departures in
@@ -67,7 +70,8 @@ ringed notes rings before after below boxes words strokes departures lines openi
     let o = squares_text openings in
     let q = squares_text squares in
     let w = shapes_text words in
-    let parts : shapes_text (before ++ rings ++ after) ≡ shapes_text before ++ shapes_text rings ++ shapes_text after =
+    let parts : shapes_text (before ++ rings ++ after)
+    ≡ shapes_text before ++ shapes_text rings ++ shapes_text after =
     flat_map-append line_of (before ++ rings) after
     ∙ ap (λ xs. xs ++ shapes_text after) (flat_map-append line_of before rings) in
     record {

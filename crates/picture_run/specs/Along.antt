@@ -8,7 +8,8 @@ use Rattle.picture_shapes.specs.declared.shapes.Tip.TheVariants.{Cross, Ring}
 use Rattle.picture_shapes.specs.Grids.{line_at, row_at}
 use Rattle.picture_run.specs.declared.sheet.Draft.{Draft}
 
--- where the tip of an arrow to this line begins, which comes from the left or from the right: 9 pixels before the line
+-- where the tip of an arrow to this line begins, which comes from the left or from the right: 9 pixels before
+-- the line
 abbrev pub tip_of : ℕ → Bool → ℕ
 tip_of x right = if right then x - 9 else min (x + 9) (2 ^ 64 - 1)
 
@@ -27,7 +28,8 @@ IsDrawn d = Goes d.x d.y d.to_x d.to_y d.far
 abbrev pub RunsAlong : Grid → Way → Stroke → Type 0
 RunsAlong g w = Goes (line_at g w.from) (row_at g w.left) (line_at g w.to) (row_at g w.row) w.far
 
--- a stroke leaves where a message was sent that is drawn apart, and ends in a cross if that is never delivered, else in a ring
+-- a stroke leaves where a message was sent that is drawn apart, and ends in a cross if that is never
+-- delivered, else in a ring
 pub record Departs (g : Grid) (l : Leaving) (s : Stroke) : Type 0 where
   pub x : s.path.x ≡ line_at g l.place
   pub y : s.path.y ≡ row_at g l.row

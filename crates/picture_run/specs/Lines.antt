@@ -1,5 +1,5 @@
--- The strokes of a picture that are no deliveries: what was asked, what the application was told, messages where they were
--- sent, and the event that was refused.
+-- The strokes of a picture that are no deliveries: what was asked, what the application was told, messages
+-- where they were sent, and the event that was refused.
 use Rattle.std.specs.Prelude.{ℕ, Option, None, Some, List, [], ◌∷◌, ◌++◌, slice_get}
 use Rattle.std.specs.List.{flat_map}
 use Rattle.protocol.specs.declared.events.JournalEntry.{JournalEntry}

@@ -31,7 +31,8 @@ use Rattle.picture_run.specs.Sums.{summary_of}
 abbrev pub square_key : Square → (List ℕ × Bool) × (ℕ × ℕ)
 square_key s = ((s.name.items, s.forced), (s.x, s.y))
 
--- what a record has of that: its name, whether it was forced, and the corner 5 pixels left of its line and above its row
+-- what a record has of that: its name, whether it was forced, and the corner 5 pixels left of its line and
+-- above its row
 abbrev pub spot_key : Grid → Spot → (List ℕ × Bool) × (ℕ × ℕ)
 spot_key g p = ((record_name p.logged, p.logged.forced), (line_at g p.place - 5, row_at g p.row - 5))
 
@@ -47,20 +48,22 @@ opening_of s = record {
   logged = record { subject = Boot 1; kind = Opened; forced = true };
 }
 
--- The text is a picture of these steps of a tree, of a run of so many events. It has an arrow for each delivery, with
--- all of its message, from the line of its sender and the row of the step that sent it to the line of its receiver and
--- the row of the step that it made; of one that left long before, only where it ends is said. It has a mark for each
--- record, filled where it was forced, at the line of its process and the row of its step. Both are in the order of the
--- steps. Above the end of each arrow stand its message's number and words, within the room of a column. Each process of
--- the tree has a line of its own, and each step has rows of its own, below those of the step before it.
--- The other strokes are those of the messages that no step delivers, or only one more than 24 steps later, where they
--- were sent, with their words; of what each step was asked and told the application, in the order of the steps; and of
--- the event that was refused, if one was. Where the strokes of these last two kinds are is not said. The other marks are
--- those of each process's Opened.
--- All other shapes are no strokes and no marks of records, and nothing else is said of them.
--- Before the shapes stands just the head, with the numbers of events, processes, messages, messages that no step
--- delivers, and crashes. Which signs its legend explains is not said. After the shapes stands just the end of the file.
-pub record IsPicture (tree : List TreeProcess) (events : ℕ) (entries : List JournalEntry) (refused : Option Event)
+-- The text is a picture of these steps of a tree, of a run of so many events. It has an arrow for each
+-- delivery, with all of its message, from the line of its sender and the row of the step that sent it to the
+-- line of its receiver and the row of the step that it made; of one that left long before, only where it ends
+-- is said. It has a mark for each record, filled where it was forced, at the line of its process and the row
+-- of its step. Both are in the order of the steps. Above the end of each arrow stand its message's number and
+-- words, within the room of a column. Each process of the tree has a line of its own, and each step has rows
+-- of its own, below those of the step before it. The other strokes are those of the messages that no step
+-- delivers, or only one more than 24 steps later, where they were sent, with their words; of what each step
+-- was asked and told the application, in the order of the steps; and of the event that was refused, if one
+-- was. Where the strokes of these last two kinds are is not said. The other marks are those of each process's
+-- Opened. All other shapes are no strokes and no marks of records, and nothing else is said of them. Before
+-- the shapes stands just the head, with the numbers of events, processes, messages, messages that no step
+-- delivers, and crashes. Which signs its legend explains is not said. After the shapes stands just the end of
+-- the file.
+pub record IsPicture (tree : List TreeProcess) (events : ℕ) (entries : List JournalEntry)
+    (refused : Option Event)
     (text : List ℕ) : Type 0 where
   -- the lines of processes and the rows, and the room beside them
   pub frame : PictureFrame
@@ -90,7 +93,8 @@ pub record IsPicture (tree : List TreeProcess) (events : ℕ) (entries : List Jo
   pub records : List Shape
   pub apart_words : List Shape
   pub words : List Shape
-  pub arrows : titles_of strokes ≡ map (title_in (sent_in entries)) (deliveries (length (sent_in entries)) entries)
+  pub arrows : titles_of strokes ≡ map (title_in (sent_in entries))
+      (deliveries (length (sent_in entries)) entries)
   pub ways : RunAlong frame.grid (ways_in seats rows (senders entries) entries) strokes
   pub marks : map square_key squares ≡ map (spot_key frame.grid) (spots_in seats rows entries)
   pub said : map caption_of captions ≡ captions_along frame.grid frame.room.messages (sent_in entries)
@@ -102,7 +106,8 @@ pub record IsPicture (tree : List TreeProcess) (events : ℕ) (entries : List Jo
       ≡ map (λ (l : Leaving). title_in (sent_in entries) l.number) (leavings seats rows entries fates)
   pub depart : DepartAll frame.grid (leavings seats rows entries fates) departures
   pub named : map said_of apart_words
-      ≡ map (λ (l : Leaving). says_of frame.room.messages (sent_in entries) l.number) (leavings seats rows entries fates)
+      ≡ map (λ (l : Leaving). says_of frame.room.messages (sent_in entries) l.number)
+      (leavings seats rows entries fates)
   pub others : titles_of lines ≡ steps_lines entries ++ refused_lines refused
   pub opened : map square_key openings ≡ map (λ s. spot_key frame.grid (opening_of s)) seats
   pub layers : text ≡ (((((((((head_text frame (row_at frame.grid end + 30)

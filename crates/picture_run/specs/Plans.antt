@@ -8,9 +8,9 @@ use Rattle.picture_layout.specs.Rising.{RiseTo}
 use Rattle.picture_layout.specs.Ways.{SitFrom, senders, spot_of, spots_in, ways_in}
 use Rattle.picture_run.specs.declared.plan.Plan.{Plan}
 
--- the seats are side by side, the rows of the steps one below the other, and each arrow goes from the step that sent its
--- message to the step that it made, each mark is at its step, and just the messages that are drawn where they were sent have a
--- stub
+-- the seats are side by side, the rows of the steps one below the other, and each arrow goes from the step
+-- that sent its message to the step that it made, each mark is at its step, and just the messages that are
+-- drawn where they were sent have a stub
 pub record IsPlaced (entries : List JournalEntry) (p : Plan) : Type 0 where
   pub in_order : SitFrom 0 p.seats.items
   pub rise : RiseTo 1 p.rows.steps.items p.rows.end

@@ -19,7 +19,8 @@ abbrev pub ring_words : Shape → Option (List ℕ)
 ring_words (shape.Note n) = Some n.title.items
 ring_words other = None
 
--- a part of the text is a ring for each step of which something is told, with its words as title, in the order of the steps
+-- a part of the text is a ring for each step of which something is told, with its words as title, in the
+-- order of the steps
 pub record HasRings (notes : List (Vec ℕ)) (text : List ℕ) : Type 0 where
   pub front : List ℕ
   pub rings : List Shape

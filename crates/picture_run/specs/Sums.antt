@@ -19,7 +19,8 @@ is_restart h = false
 abbrev pub crashes_in : List JournalEntry → ℕ
 crashes_in entries = count_by (λ (e : JournalEntry). is_restart e.step.happening) entries
 
--- of a run of N events how many events, processes, messages, messages that no step delivers, and crashes it has
+-- of a run of N events how many events, processes, messages, messages that no step delivers, and crashes it
+-- has
 abbrev pub summary_of : ℕ → List Column → List JournalEntry → List Leaving → Summary
 summary_of events seats entries apart = record {
   events = events;

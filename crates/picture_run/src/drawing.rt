@@ -139,8 +139,8 @@ impl Drawing {
         Ok(())
     }
 
-    /// The colour of the message with this number, and what stands along its line after the number, which has N
-    /// characters; nothing, if there is no such message.
+    /// The colour of the message with this number, and what stands along its line after the number, which has
+    /// N characters; nothing, if there is no such message.
     fn tone_and_label(
         &self,
         messages: &[Envelope],
@@ -148,7 +148,8 @@ impl Drawing {
         characters: usize,
     ) -> Result<(Tone, Vec<u8>), AllocError>
         requires { characters ≡ length (number_text number) }
-        ensures { IfOk result (λ found. found.1.items ≡ label_in self.now.frame.room.messages messages.now number) }
+        ensures { IfOk result (λ found. found.1.items ≡ label_in self.now.frame.room.messages
+            messages.now number) }
     {
         let Some(envelope) = message_with(messages, number) else {
             return Ok((Tone::Dim, Vec::new(self.alloc)));
@@ -162,7 +163,8 @@ impl Drawing {
     fn draw_arrow(&mut self, messages: &[Envelope], arrow: &Arrow) -> Result<Stroke, AllocError>
         ensures title { IfOk result (λ stroke. stroke.title.items ≡ title_in messages.now arrow.now.number) }
         ensures along { IfOk result (RunsAlong self.old.frame.grid arrow.now.way) }
-        ensures words { OnOk result (map caption_of self.new.sheet.words.items ≡ map caption_of self.old.sheet.words.items
+        ensures words { OnOk result (map caption_of self.new.sheet.words.items
+            ≡ map caption_of self.old.sheet.words.items
             ++ Some (caption_along self.old.frame.grid self.old.frame.room.messages messages.now arrow.now.way arrow.now.number)
             ∷ []) }
         ensures frame { self.new.frame ≡ self.old.frame }
@@ -196,7 +198,8 @@ impl Drawing {
             ≡ map (λ (a : AnyArrow). title_in messages.now a.number) arrows.now) }
         ensures along { IfOk result (λ strokes. RunAlong self.old.frame.grid
             (map (λ (a : AnyArrow). a.way) arrows.now) strokes.items) }
-        ensures words { OnOk result (map caption_of self.new.sheet.words.items ≡ map caption_of self.old.sheet.words.items
+        ensures words { OnOk result (map caption_of self.new.sheet.words.items
+            ≡ map caption_of self.old.sheet.words.items
             ++ map (λ (a : AnyArrow). Some (caption_along self.old.frame.grid self.old.frame.room.messages messages.now a.way
             a.number)) arrows.now) }
         ensures frame { self.new.frame ≡ self.old.frame }
@@ -212,7 +215,8 @@ impl Drawing {
     fn draw_stub(&mut self, messages: &[Envelope], stub: &Stub) -> Result<Stroke, AllocError>
         ensures title { IfOk result (λ stroke. stroke.title.items ≡ title_in messages.now stub.now.number) }
         ensures departs { IfOk result (Departs self.old.frame.grid (leaving_in stub.now)) }
-        ensures words { OnOk result (map said_of self.new.sheet.words.items ≡ map said_of self.old.sheet.words.items
+        ensures words { OnOk result (map said_of self.new.sheet.words.items
+            ≡ map said_of self.old.sheet.words.items
             ++ says_of self.old.frame.room.messages messages.now stub.now.number ∷ []) }
         ensures frame { self.new.frame ≡ self.old.frame }
     {
@@ -246,8 +250,10 @@ impl Drawing {
     ) -> Result<Vec<Stroke>, AllocError>
         ensures titles { IfOk result (λ lines. titles_of lines.items
             ≡ map (λ (s : AnyStub). title_in messages.now s.number) stubs.now) }
-        ensures depart { IfOk result (λ lines. DepartAll self.old.frame.grid (map leaving_in stubs.now) lines.items) }
-        ensures words { OnOk result (map said_of self.new.sheet.words.items ≡ map said_of self.old.sheet.words.items
+        ensures depart { IfOk result (λ lines. DepartAll self.old.frame.grid
+            (map leaving_in stubs.now) lines.items) }
+        ensures words { OnOk result (map said_of self.new.sheet.words.items
+            ≡ map said_of self.old.sheet.words.items
             ++ map (λ (s : AnyStub). says_of self.old.frame.room.messages messages.now s.number) stubs.now) }
     {
         let mut lines = Vec::new(self.alloc);
@@ -259,7 +265,8 @@ impl Drawing {
 
     /// The mark of a record, which a crash takes or not; its words are laid.
     fn draw_mark(&mut self, mark: &RecordMark, lost: bool) -> Result<Square, AllocError>
-        ensures key { IfOk result (λ square. square_key square ≡ spot_key self.old.frame.grid (spot_of mark.now)) }
+        ensures key { IfOk result (λ square. square_key square
+            ≡ spot_key self.old.frame.grid (spot_of mark.now)) }
         ensures frame { self.new.frame ≡ self.old.frame }
     {
         let (x, y) = (self.frame.x_of(mark.place), self.frame.y_of(mark.row));
@@ -532,7 +539,8 @@ impl Drawing {
         entry: &JournalEntry,
         rows: StepRows,
     ) -> Result<(), AllocError>
-        ensures { OnOk result (titles_of lines.new.items ≡ titles_of lines.old.items ++ step_lines entry.now) }
+        ensures { OnOk result (titles_of lines.new.items ≡ titles_of lines.old.items
+            ++ step_lines entry.now) }
     {
         let place = place_of(&plan.seats, entry.step.process);
         self.draw_cause(lines, place, entry, rows.first)?;

@@ -1,7 +1,7 @@
 //! Floor: engines and program.
 //!
-//! The picture of a run, as one SVG file: a line downward for each process, an arrow for each delivery, a mark
-//! for each record.
+//! The picture of a run, as one SVG file: a line downward for each process, an arrow for each delivery, a
+//! mark for each record.
 #![tactic(auto)]
 
 mod drawing;

@@ -40,8 +40,8 @@ fn draw_rulers(drawing: &mut Drawing, scene: &Scene, plan: &Plan) -> Result<(), 
     Ok(())
 }
 
-/// Draws what each step was asked and told, the crashes and mismatches, what the run leaves, and the event that was refused: the
-/// lines of these, and how many small marks are below the rings.
+/// Draws what each step was asked and told, the crashes and mismatches, what the run leaves, and the event
+/// that was refused: the lines of these, and how many small marks are below the rings.
 fn draw_run(
     drawing: &mut Drawing,
     scene: &Scene,
@@ -257,7 +257,8 @@ fn drawing_of(
 /// The picture of a run, as one SVG file: time goes downward; each process is a line, each delivery an arrow
 /// and each record a mark. TooLong: it has 2^32 rows or more, or its tree 2^32 processes.
 pub fn picture(alloc: Global, scene: &Scene) -> Result<Vec<u8>, PictureError>
-    ensures text { IfOk result (λ text. IsPicture scene.now.tree.now (length scene.now.events.now) scene.now.entries.now
+    ensures text { IfOk result (λ text. IsPicture scene.now.tree.now (length scene.now.events.now)
+        scene.now.entries.now
         (refused_in scene.now.events.now scene.now.refusal) text.items) }
     ensures rings { IfOk result (λ text. HasRings scene.now.notes.now text.items) }
     ensures err { IfErr result (λ e. e ≡ PictureError.TooLong

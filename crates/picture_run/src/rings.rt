@@ -28,7 +28,8 @@ fn push_ring(
     words: &[u8],
     spot: (u64, u64),
 ) -> Result<(), AllocError>
-    ensures { OnOk result (map ring_words rings.new.items ≡ map ring_words rings.old.items ++ map Some (told_of words.now)) }
+    ensures { OnOk result (map ring_words rings.new.items
+        ≡ map ring_words rings.old.items ++ map Some (told_of words.now)) }
 {
     if words.len() == 0 {
         return Ok(());

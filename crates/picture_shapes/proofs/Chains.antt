@@ -48,7 +48,8 @@ seven r o m1 m2 m3 m4 m5 m6 n p1 p2 p3 p4 p5 p6 p7 h1 h2 h3 h4 h5 h6 h7 =
 
 -- eight words
 pub eight : {A E : Type 0} (r : Result A E) (o m1 m2 m3 m4 m5 m6 m7 n p1 p2 p3 p4 p5 p6 p7 p8 : List ℕ)
-    → m1 ≡ o ++ p1 → m2 ≡ m1 ++ p2 → m3 ≡ m2 ++ p3 → m4 ≡ m3 ++ p4 → m5 ≡ m4 ++ p5 → m6 ≡ m5 ++ p6 → m7 ≡ m6 ++ p7
+    → m1 ≡ o ++ p1 → m2 ≡ m1 ++ p2 → m3 ≡ m2 ++ p3 → m4 ≡ m3 ++ p4 → m5 ≡ m4 ++ p5 → m6 ≡ m5 ++ p6
+    → m7 ≡ m6 ++ p7
     → OnOk r (n ≡ m7 ++ p8) → OnOk r (n ≡ o ++ (p1 ++ p2 ++ p3 ++ p4 ++ p5 ++ p6 ++ p7 ++ p8))
 eight r o m1 m2 m3 m4 m5 m6 m7 n p1 p2 p3 p4 p5 p6 p7 p8 h1 h2 h3 h4 h5 h6 h7 h8 =
     seven r o m2 m3 m4 m5 m6 m7 n (p1 ++ p2) p3 p4 p5 p6 p7 p8 (more o m1 m2 p1 p2 h1 h2) h3 h4 h5 h6 h7 h8

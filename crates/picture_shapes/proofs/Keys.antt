@@ -12,7 +12,8 @@ abbrev pub first : Signs → List (Sign × Bor (List ℕ) × Bor (List ℕ)) →
 first s xs n = keys_among s (map key_of (take n xs))
 
 -- the first entries, and what is among them of one more
-next : (s : Signs) (xs : List (Sign × Bor (List ℕ) × Bor (List ℕ))) (n : ℕ) (d : Sign × Bor (List ℕ) × Bor (List ℕ))
+next : (s : Signs) (xs : List (Sign × Bor (List ℕ) × Bor (List ℕ))) (n : ℕ)
+    (d : Sign × Bor (List ℕ) × Bor (List ℕ))
     → n < length xs → first s xs (n + 1) ≡ first s xs n ++ keys_among s (key_of (get_or xs n d) ∷ [])
 next s xs n d there =
     ap (λ ys. keys_among s (map key_of ys)) (take_more xs n d there)
@@ -20,14 +21,17 @@ next s xs n d there =
     ∙ filter-append (λ (k : Key). has s k.sign) (map key_of (take n xs)) (key_of (get_or xs n d) ∷ [])
 
 -- the picture has its sign
-pub one_more : (s : Signs) (xs : List (Sign × Bor (List ℕ) × Bor (List ℕ))) (n : ℕ) (d : Sign × Bor (List ℕ) × Bor (List ℕ))
-    → n < length xs → has s (get_or xs n d).0 ≡ true → first s xs (n + 1) ≡ first s xs n ++ key_of (get_or xs n d) ∷ []
+pub one_more : (s : Signs) (xs : List (Sign × Bor (List ℕ) × Bor (List ℕ))) (n : ℕ)
+    (d : Sign × Bor (List ℕ) × Bor (List ℕ))
+    → n < length xs → has s (get_or xs n d).0 ≡ true → first s xs (n + 1)
+    ≡ first s xs n ++ key_of (get_or xs n d) ∷ []
 one_more s xs n d there is =
     next s xs n d there
     ∙ ap (λ b. first s xs n ++ (if b then key_of (get_or xs n d) ∷ [] else [])) is
 
 -- it does not
-pub no_more : (s : Signs) (xs : List (Sign × Bor (List ℕ) × Bor (List ℕ))) (n : ℕ) (d : Sign × Bor (List ℕ) × Bor (List ℕ))
+pub no_more : (s : Signs) (xs : List (Sign × Bor (List ℕ) × Bor (List ℕ))) (n : ℕ)
+    (d : Sign × Bor (List ℕ) × Bor (List ℕ))
     → n < length xs → has s (get_or xs n d).0 ≡ false → first s xs (n + 1) ≡ first s xs n
 no_more s xs n d there is =
     next s xs n d there
@@ -51,11 +55,13 @@ text_more f n (x ∷ ks) k =
     ap (λ t. key_text f n x.drawn x.meaning ++ t) (text_more f (n + 1) ks k)
     ∙ sym (append_assoc (key_text f n x.drawn x.meaning) (keys_text f (n + 1) ks)
     (key_text f ((n + 1) + length ks) k.drawn k.meaning))
-    ∙ ap (λ m. (key_text f n x.drawn x.meaning ++ keys_text f (n + 1) ks) ++ key_text f m k.drawn k.meaning) there
+    ∙ ap (λ m. (key_text f n x.drawn x.meaning ++ keys_text f (n + 1) ks) ++ key_text f m k.drawn k.meaning)
+    there
 
 -- a text with one more entry of a legend
 pub added : (f : PictureFrame) (begin old new : List ℕ) (ks more : List Key) (k : Key) (n : ℕ)
-    → old ≡ begin ++ keys_text f 0 ks → n ≡ length ks → new ≡ old ++ key_text f n k.drawn k.meaning → more ≡ ks ++ k ∷ []
+    → old ≡ begin ++ keys_text f 0 ks → n ≡ length ks → new ≡ old ++ key_text f n k.drawn k.meaning
+    → more ≡ ks ++ k ∷ []
     → new ≡ begin ++ keys_text f 0 more
 added f begin old new ks more k n were counted is with_it =
     let zero : length ks ≡ 0 + length ks = omega arith in

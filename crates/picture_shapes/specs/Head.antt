@@ -40,14 +40,18 @@ size_text width height =
 -- of how many events and processes it is
 unfoldable pub title_words : Summary → List ℕ
 title_words s =
-    word_text (codes "A run of ") s.events ++ word_text (codes " events on ") s.processes ++ codes " processes"
+    word_text (codes "A run of ") s.events ++ word_text (codes " events on ") s.processes
+    ++ codes " processes"
 
--- this as its title, and what is read aloud of it: how many messages there are, how many of them are never delivered, and how
--- many crashes
+-- this as its title, and what is read aloud of it: how many messages there are, how many of them are never
+-- delivered, and how many crashes
 unfoldable pub summary_text : Summary → List ℕ
 summary_text s =
     codes "<title id=\"title\">" ++ title_words s
-    ++ word_text (codes "</title>\n<desc id=\"desc\">Time runs downward. Each process is a line, each message an arrow. ") s.messages
+    ++ word_text
+    (codes
+    "</title>\n<desc id=\"desc\">Time runs downward. Each process is a line, each message an arrow. ")
+    s.messages
     ++ word_text (codes " messages, ") s.open ++ word_text (codes " of them never delivered; ") s.crashes
     ++ codes " crashes.</desc>\n"
 
@@ -119,9 +123,11 @@ keys_text f entry (k ∷ ks) = key_text f entry k.drawn k.meaning ++ keys_text f
 abbrev pub legend_text : PictureFrame → Signs → List ℕ
 legend_text f s = keys_text f 0 (keys_of s)
 
--- All that is before the shapes: the size, the title, the style, the ground and the legend. Its words and drawings are those
--- that are written here and in the constants `STYLE` and `LEGEND`, and nothing else is among it.
+-- All that is before the shapes: the size, the title, the style, the ground and the legend. Its words and
+-- drawings are those that are written here and in the constants `STYLE` and `LEGEND`, and nothing else is
+-- among it.
 unfoldable pub head_text : PictureFrame → ℕ → Summary → Signs → List ℕ
 head_text f height summary s =
-    size_text (width_of f) height ++ summary_text summary ++ STYLE.now ++ ground_text (width_of f) height summary
+    size_text (width_of f) height ++ summary_text summary ++ STYLE.now
+    ++ ground_text (width_of f) height summary
     ++ legend_text f s

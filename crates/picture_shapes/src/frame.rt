@@ -56,8 +56,8 @@ pub struct Grid {
     pub top: u32,
 }
 
-/// How many processes a picture has, for how many characters there is room, how many entries its legend has, and where
-/// its lines and rows are.
+/// How many processes a picture has, for how many characters there is room, how many entries its legend has,
+/// and where its lines and rows are.
 #[derive(Clone, Copy)]
 pub struct PictureFrame {
     pub processes: u32,

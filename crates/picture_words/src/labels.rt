@@ -122,7 +122,8 @@ pub fn number_label(alloc: Global, number: u64) -> Result<Vec<u8>, AllocError>
     Ok(out)
 }
 
-/// What stands along the arrow of a message after its number, which has N characters, with so much room for both.
+/// What stands along the arrow of a message after its number, which has N characters, with so much room for
+/// both.
 pub fn message_label(
     alloc: Global,
     number: usize,

@@ -541,7 +541,8 @@ module _ (v w : CoordinatorView) (same : SameView v w) where
         written = refl;
         told = refl;
         messages =
-            (λ i. (prepared_commit_by ver s (record v { promised = same.promised i }) PresumeCommit).messages);
+            (λ i. (prepared_commit_by ver s (record v { promised = same.promised i })
+            PresumeCommit).messages);
         accepts = refl;
         counts = refl;
         view = same_view unknown_view;

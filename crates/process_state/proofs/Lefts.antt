@@ -33,6 +33,7 @@ left_alike s old j k new reaction place failures left h =
       log = h.log ∙ (ap (λ q. sight_of q (left_by s.log j) s.log.failures) p
           ∙ (ap (λ ls. sight_of old.place ls s.log.failures) l
           ∙ ap (λ n. sight_of old.place (left_by old.log k) n) (sym failures)));
-      read = subst (ReadOff new) (ap (λ q. read_by q (left_by s.log j)) p ∙ ap (λ ls. read_by old.place ls) l) h.read;
+      read = subst (ReadOff new) (ap (λ q. read_by q (left_by s.log j)) p ∙ ap (λ ls. read_by old.place ls) l)
+          h.read;
       shown = h.shown ∙ (ap (λ q. shown_by q (left_by s.log j)) p ∙ ap (λ ls. shown_by old.place ls) l);
     }

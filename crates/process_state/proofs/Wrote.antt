@@ -10,7 +10,11 @@ pub wrote_form : (l : LogSight) (ws : List Written) (ls : List LogRecord) → (w
 wrote_form l ws ls = by_force (is_any_forced ws)
   where
     by_force : (b : Bool)
-        → (if b then record l { kept = record { forced = records_of l.kept ++ ls; unforced = [] }; behind = 0 }
-        else record l { kept = record { forced = l.kept.forced; unforced = l.kept.unforced ++ ls } }).form ≡ l.form
+        → (if b then record l {
+          kept = record { forced = records_of l.kept ++ ls; unforced = [] };
+          behind = 0;
+        }
+        else record l { kept = record { forced = l.kept.forced; unforced = l.kept.unforced ++ ls } }).form
+        ≡ l.form
     by_force true = refl
     by_force false = refl

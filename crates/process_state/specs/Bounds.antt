@@ -15,7 +15,8 @@ abbrev pub IsCounted : Message → Type 0
 IsCounted (Work c n op) = n < 2 ^ 64
 IsCounted _ = ⊤
 
--- each of these records can be in the log of such a process below this parent, and each of these works is counted
+-- each of these records can be in the log of such a process below this parent, and each of these works is
+-- counted
 pub record FitsBounds (kind : Kind) (parent : Option ProcessId) (written : List Written)
     (messages : List Envelope) : Type 0 where
   pub records : AllByRecursion (IsSound kind) (map (in_log parent) (entries_written written))

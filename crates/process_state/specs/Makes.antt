@@ -45,8 +45,8 @@ abbrev pub decided_by : Input → Case → Option Outcome → Option Outcome
 decided_by (ActInput (Decide c o)) d decided = if same_case c d then Some o else decided
 decided_by _ d decided = decided
 
--- What stays in each turn: where the process sits, its boot, the tickets that the input does not retire, and what
--- operators decided of the branches that they decided.
+-- What stays in each turn: where the process sits, its boot, the tickets that the input does not retire, and
+-- what operators decided of the branches that they decided.
 pub record Stays (old new : CoreState) (i : Input) : Type 0 where
   pub place : new.place ≡ old.place
   pub boot : new.boot ≡ old.boot
@@ -120,7 +120,8 @@ ProcessMoves old new i (Handles c row) = HandlesRow old new i c row
 ProcessMoves old new i (Says ls) = SameCore old new
 
 -- an input was made, with what a manager's data answered to it, and this is the reaction to show
-pub record ProcessMakes (old new : CoreState) (a : DataAnswer) (i : Input) (reaction : Reaction) : Type 0 where
+pub record ProcessMakes (old new : CoreState) (a : DataAnswer) (i : Input)
+    (reaction : Reaction) : Type 0 where
   pub found : Option Case
   pub finds : FindsChildCase old (asked_by i) found
   pub moves : ProcessMoves old new i (turn_of old a found i)
@@ -161,8 +162,8 @@ pub record IsBroken (old new : CoreState) (a : DataAnswer) (i : Input) : Type 0 
 abbrev pub IsWithinBounds : CoreState → Effect → Type 0
 IsWithinBounds s e = FitsBounds (kind_of_role s.place.role) (parent s) e.written e.messages
 
--- Why an input wants numbers that are used up: none are left for a transaction and a ticket more; or a manager has
--- met a limit of its own; or the turn of the input does not fit the bounds.
+-- Why an input wants numbers that are used up: none are left for a transaction and a ticket more; or a
+-- manager has met a limit of its own; or the turn of the input does not fit the bounds.
 pub data WantsNumbers (s : CoreState) (a : DataAnswer) (i : Input) : Type 0 where
   NoneLeft : (HasNumbers s → ⊥) → WantsNumbers s a i
   Limited : s.spent ≡ true → WantsNumbers s a i
@@ -174,8 +175,8 @@ pub record IsExhausted (old new : CoreState) (a : DataAnswer) (i : Input) : Type
   pub same : SameCore old new
   pub why : WantsNumbers old a i
 
--- why an input was not made, and what that leaves: Memory changes nothing, nor do numbers that are used up, nor a
--- refusal by the reaction table
+-- why an input was not made, and what that leaves: Memory changes nothing, nor do numbers that are used up,
+-- nor a refusal by the reaction table
 abbrev pub NotMade : CoreState → CoreState → DataAnswer → Input → StepError → Type 0
 NotMade old new a i Memory = SameCore old new
 NotMade old new a i Device = IsBroken old new a i

@@ -80,8 +80,8 @@ pub record ProcessRestarts (old : CoreState) (keep : ℕ) (new : CoreState) (rea
   pub shown : reaction ≡ reaction_of
       (reopening old.place.role old.place.me (read_of old (left_by old.log keep)))
 
--- a record that a restart appends can be in no log of this sort of process: no boot below 2^63 comes after the
--- last one, or an Abort names more than 255 tickets
+-- a record that a restart appends can be in no log of this sort of process: no boot below 2^63 comes after
+-- the last one, or an Abort names more than 255 tickets
 abbrev pub CannotReopen : CoreState → ℕ → Type 0
 CannotReopen s keep = AllByRecursion (IsSound (kind_of_role s.place.role)) (logged s (reopened s keep)) → ⊥
 

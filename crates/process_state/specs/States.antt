@@ -19,9 +19,9 @@ use Rattle.log_records.specs.Sights.{LogSight, records_of}
 
 -- Where it sits; its log; its boot; how many transactions it began and how many tickets it gave in this boot;
 -- the active ticket that was given to a parent's case; and how each case stands, which is Unknown if it is
--- not live; what an operator decided of a branch that he decided (of any other this says nothing); and whether a
--- manager has met a limit of its own. A coordinator has no branches and no such limit, and a manager no
--- coordinator's views.
+-- not live; what an operator decided of a branch that he decided (of any other this says nothing); and
+-- whether a manager has met a limit of its own. A coordinator has no branches and no such limit, and a
+-- manager no coordinator's views.
 pub record CoreState : Type 0 where
   pub place : Place
   pub log : LogSight

@@ -1,7 +1,7 @@
 -- What an input meets at a process: a row of the reaction table, a refusal, or nothing. One dispatch for the
--- root, a coordinator below it, and a manager.
--- It differs from tree_model's Reactions in two look-ups: whose case a child's ticket is of (Finds), and which
--- ticket answers JOIN and which numbers come next (ticket_for, given, begun); docs/PROOF.md.
+-- root, a coordinator below it, and a manager. It differs from tree_model's Reactions in two look-ups: whose
+-- case a child's ticket is of (Finds), and which ticket answers JOIN and which numbers come next (ticket_for,
+-- given, begun); docs/PROOF.md.
 use Rattle.std.specs.Prelude.{◌≡◌, ◌+◌, Bool, true, false, ◌&&◌, ◌||◌, if◌then◌else◌, Option, Some, None, is_none, List, [], ◌∷◌, ◌++◌, map}
 use Rattle.protocol.specs.declared.names.Case.{Case}
 use Rattle.protocol.specs.declared.names.ProcessId.{ProcessId}
@@ -203,8 +203,8 @@ abbrev pub vote_turn : CoreState → Vote → Ticket → Option Case → Turn
 vote_turn s w t None = Says []
 vote_turn s w t (Some c) = let v = s.view_of c in Takes c (on_vote (seat_in s c) t w v v.standing)
 
--- an acknowledgement with these findings, in the case that was found for the child: they come after those that
--- were found before
+-- an acknowledgement with these findings, in the case that was found for the child: they come after those
+-- that were found before
 abbrev pub ack_turn : CoreState → Outcome → List Finding → Ticket → Option Case → Turn
 ack_turn s o fs t None = Says []
 ack_turn s o fs t (Some c) =
@@ -313,15 +313,18 @@ decision_records c (Some Aborted) = HeurRollback (CaseBranch c) ∷ []
 -- the messages at a manager, with what its data answer; any other does nothing
 abbrev pub manager_turn : CoreState → ProcessId → DataAnswer → Message → Turn
 manager_turn s p a (Join d) = leaf_joined_turn s p d a.starts (s.ticket_for d)
-manager_turn s p a (Work d i op) = let v = s.branch_of d in Handles d (ManagerRows.on_work i a.does v v.standing)
+manager_turn s p a (Work d i op) =
+    let v = s.branch_of d in Handles d (ManagerRows.on_work i a.does v v.standing)
 manager_turn s p a (Prepare d k) =
     let v = s.branch_of d in Handles d (ManagerRows.on_prepare (leaf_in s p d) k a.holding v v.standing)
 manager_turn s p a (Commit d) =
     let v = s.branch_of d in
-    Handles d (ManagerRows.on_commit this_version (leaf_in s p d) (decision_records d (s.decided_of d)) v v.standing)
+    Handles d (ManagerRows.on_commit this_version (leaf_in s p d)
+    (decision_records d (s.decided_of d)) v v.standing)
 manager_turn s p a (Abort d) =
     let v = s.branch_of d in
-    Handles d (ManagerRows.on_abort this_version (leaf_in s p d) (decision_records d (s.decided_of d)) v v.standing)
+    Handles d (ManagerRows.on_abort this_version (leaf_in s p d)
+    (decision_records d (s.decided_of d)) v v.standing)
 manager_turn s p a _ = Says []
 
 -- Any process.

@@ -14,14 +14,14 @@ pub fn opened_is_read_off()
     ensures { OpenedIsReadOff }
 {}
 
-/// Which message of the net it was that came, by its number there, makes no difference to what a process makes
-/// of it: so a process need not know the number.
+/// Which message of the net it was that came, by its number there, makes no difference to what a process
+/// makes of it: so a process need not know the number.
 pub fn numbers_are_alike()
     ensures { NumbersAreAlike }
 {}
 
-/// What a restart makes rests on what the crash left alone: so a process that opens over the log of an earlier
-/// one restarts as that would.
+/// What a restart makes rests on what the crash left alone: so a process that opens over the log of an
+/// earlier one restarts as that would.
 pub fn left_logs_restart_alike()
     ensures { LeftLogsRestartAlike }
 {}

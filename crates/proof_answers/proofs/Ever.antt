@@ -36,7 +36,8 @@ use Rattle.proof_answers.proofs.Refusals.{Refused}
 use Rattle.proof_answers.proofs.Shut.{Shut, reopened_shut, reopening_shut, shut_last}
 
 process_laws : (tree : List TreeProcess) → IsTree tree → ProcessLaws tree
-process_laws tree t = coordinators_are_enough tree (coordinators_keep tree (root_laws tree t) (cascaded_laws tree t))
+process_laws tree t = coordinators_are_enough tree
+    (coordinators_keep tree (root_laws tree t) (cascaded_laws tree t))
 
 abbrev at : ProcessId → List TreeProcess → Role → Place
 at q tree r = record { me = q; role = r; tree = tree }
@@ -46,12 +47,16 @@ record Onward (tree : List TreeProcess) (w : World) : Type 0 where
   moves : List Made
   run : IsRun tree moves w
 
-onward : (tree : List TreeProcess) (es : List Made) (w : World) → IsRun tree es w → (fs : List Made) (later : World)
+onward : (tree : List TreeProcess) (es : List Made) (w : World) → IsRun tree es w
+    → (fs : List Made) (later : World)
     → Continues tree w fs later → Onward tree later
 onward tree es w run _ _ stays = record { moves = es; run = run }
 onward tree es w run _ _ (goes_on fs v m e v' before stands made) =
     let old = onward tree es w run fs v before in
-    record { moves = record { move = m; effect = e } ∷ old.moves; run = makes old.moves v m e v' old.run stands made }
+    record {
+      moves = record { move = m; effect = e } ∷ old.moves;
+      run = makes old.moves v m e v' old.run stands made;
+    }
 
 -- A commit stays.
 
@@ -69,7 +74,8 @@ module _ (tree : List TreeProcess) (x : Txn) where
       let P : ProcessId → Node → Type 0 = λ y k. has (is_commit (root_case x)) (v.at y).durable ≡ true
       → has (is_commit (root_case x)) k.durable ≡ true in
       subst (λ (y : World). P q (y.at q)) (sym now.world)
-      (put P p q now.node v.at (durable_still (place_of tree p) m (is_commit (root_case x)) (v.at p) e now.node s) (λ f. f))
+      (put P p q now.node v.at (durable_still (place_of tree p) m (is_commit (root_case x)) (v.at p) e
+      now.node s) (λ f. f))
 
   pub commit_stays : (w : World) (fs : List Made) (later : World) → Continues tree w fs later
       → is_commit_outcome w x ≡ true → is_commit_outcome later x ≡ true
@@ -148,9 +154,11 @@ module _ (tree : List TreeProcess) (x : Txn) where
         shut : Shut (coordinator_place x.root None tree) (v.at x.root) x → Now fs v
 
       first_restart : (m : Move) (e : Effect) (k : Node)
-          → StepOf (coordinator_place x.root None tree) (w.at x.root) m e k → is_restart m.step.happening ≡ true
+          → StepOf (coordinator_place x.root None tree) (w.at x.root) m e k
+          → is_restart m.step.happening ≡ true
           → Shut (coordinator_place x.root None tree) k x
-      first_restart m _ _ (reopened j hp) r = reopened_shut root tree (w.at root) x known none_kept none_ever j
+      first_restart m _ _ (reopened j hp) r = reopened_shut root tree (w.at root) x known
+          none_kept none_ever j
       first_restart m _ _ (failed_reopening j f fl hp) r =
           reopening_shut root tree (w.at root) x known none_kept none_ever j f.appended f.forced
       first_restart m _ _ (handled i g hp np s) r = absurd (let y = sym (ap is_restart hp) ∙ r in cc)
@@ -160,7 +168,8 @@ module _ (tree : List TreeProcess) (x : Txn) where
       first_restart m _ _ (trims_log hp up) r = absurd (let y = sym (ap is_restart hp) ∙ r in cc)
       first_restart m _ _ (failed_trimming f fl hp up) r = absurd (let y = sym (ap is_restart hp) ∙ r in cc)
 
-      module _ (fs : List Made) (v : World) (before : Continues tree w fs v) (m : Move) (e : Effect) (v' : World)
+      module _ (fs : List Made) (v : World) (before : Continues tree w fs v) (m : Move)
+          (e : Effect) (v' : World)
           (made : world_makes tree v m ≡ Some (e, v')) where
         abbrev last : Made
         last = record { move = m; effect = e }
@@ -171,7 +180,8 @@ module _ (tree : List TreeProcess) (x : Txn) where
             let on = onward tree es w run fs v before in
             shut_step on.moves v on.run m e v' made role old
 
-        restarted_now : m.step.process ≡ x.root → v.at x.root ≡ w.at x.root → is_restart m.step.happening ≡ true
+        restarted_now : m.step.process ≡ x.root → v.at x.root ≡ w.at x.root
+            → is_restart m.step.happening ≡ true
             → Shut (coordinator_place x.root None tree) (v'.at x.root) x
         restarted_now here same r =
             let now = makes_at tree v m e v' made in
@@ -219,11 +229,13 @@ module _ (tree : List TreeProcess) (x : Txn) where
                 ≡ restarts_by last (made_by x.root fs) (restarts_first (made_by x.root fs))
             taken f = rw f refl
 
-            left_out : same_process m.step.process x.root ≡ false → made_by x.root (last ∷ fs) ≡ made_by x.root fs
+            left_out : same_process m.step.process x.root ≡ false
+                → made_by x.root (last ∷ fs) ≡ made_by x.root fs
             left_out f = rw f refl
 
             -- what is said of the first move, is said of the moves before
-            earlier : (gs : List Made) → restarts_by last gs (restarts_first gs) ≡ true → restarts_first gs ≡ true
+            earlier : (gs : List Made) → restarts_by last gs (restarts_first gs) ≡ true
+                → restarts_first gs ≡ true
             earlier [] y = refl
             earlier (g ∷ gs) y = y
 
@@ -235,7 +247,8 @@ module _ (tree : List TreeProcess) (x : Txn) where
           → restarts_first (made_by x.root fs) ≡ true → Now fs later
       unfolding made_by
       now_so _ _ stays r = untouched refl refl
-      now_so _ _ (goes_on fs v m e v' before stands made) r = next fs v before m e v' made (now_so fs v before) r
+      now_so _ _ (goes_on fs v m e v' before stands made) r =
+          next fs v before m e v' made (now_so fs v before) r
 
       pub never_after_restart : (fs : List Made) (later : World) → Continues tree w fs later
           → restarts_first (made_by x.root fs) ≡ true → is_commit_outcome later x ≡ false
@@ -243,5 +256,6 @@ module _ (tree : List TreeProcess) (x : Txn) where
       never_after_restart fs later on r = by_now (now_so fs later on r)
         where
           by_now : Now fs later → has (is_commit (root_case x)) (later.at x.root).durable ≡ false
-          by_now (untouched same none) = ap (λ (n : Node). has (is_commit (root_case x)) n.durable) same ∙ none_ever
+          by_now (untouched same none) = ap (λ (n : Node). has (is_commit (root_case x)) n.durable) same
+              ∙ none_ever
           by_now (shut s) = s.dead.none_ever

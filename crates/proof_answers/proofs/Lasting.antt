@@ -90,7 +90,8 @@ module _ (tree : List TreeProcess) (t : IsTree tree) (logs : List ProcessLog) (e
     place : has_place (role_of tree (process_of c)) c.ticket ≡ true
     top_listed : is_listed tree c.txn.root ≡ true
     top : role_of tree c.txn.root ≡ AtRoot
-    shown : has_line_in (role_of tree (process_of c)) c (since_promise c (logs_of_world w (process_of c))) ≡ true
+    shown : has_line_in (role_of tree (process_of c)) c
+        (since_promise c (logs_of_world w (process_of c))) ≡ true
 
   line_of : (c : Case) → IsCaseLeft tree logs w c → Line c
   line_of c is_so =
@@ -118,8 +119,10 @@ module _ (tree : List TreeProcess) (t : IsTree tree) (logs : List ProcessLog) (e
       let lasts = all_last tree es w left.is_run x.root in
       let shown : has_line_in AtRoot (root_case x) (kept n) ≡ true =
       sym (line_same (role_of tree x.root) n (root_case x) lasts AtRoot)
-      ∙ subst (λ (r : Role). has_line_in r (root_case x) (since_promise (root_case x) (kept n)) ≡ true) l.top l.shown in
-      begun_at x l.top (recorded (lasts.nested.kept_was_written (is_record_of (root_case x)) (λ k. refl) (by_line shown)))
+      ∙ subst (λ (r : Role). has_line_in r (root_case x) (since_promise (root_case x) (kept n)) ≡ true)
+      l.top l.shown in
+      begun_at x l.top (recorded (lasts.nested.kept_was_written (is_record_of (root_case x)) (λ k. refl)
+      (by_line shown)))
     where
       by_line : has_line_in AtRoot (root_case x) (kept (w.at x.root)) ≡ true
           → has (is_record_of (root_case x)) (kept (w.at x.root)) ≡ true
@@ -140,7 +143,8 @@ module _ (tree : List TreeProcess) (t : IsTree tree) (logs : List ProcessLog) (e
   below_begun x u l =
       let i = issuer_by_ticket (role_of tree u.child) u l.place in
       let promised : Promised (child_case x u) (kept (w.at u.child)) =
-      line_promised (role_of tree u.child) (w.at u.child) (child_case x u) i (holds.nodes u.child l.listed).lasts l.shown in
+      line_promised (role_of tree u.child) (w.at u.child) (child_case x u) i
+      (holds.nodes u.child l.listed).lasts l.shown in
       let p = promised_pair tree t logs es w left (child_case x u) x u l.listed i promised.promised in
       by_pair p.of p.same p.joined promised.promised
     where
@@ -150,13 +154,15 @@ module _ (tree : List TreeProcess) (t : IsTree tree) (logs : List ProcessLog) (e
           begun_at x l.top (accepted a.0 a.1)
 
       by_pair : (b : Case) → b.txn ≡ x → sent (is_joined_message b u) w.net ≡ true
-          → has (is_promise (child_case x u)) (kept (w.at u.child)) ≡ true → among x (w.at x.root).begun ≡ true
+          → has (is_promise (child_case x u)) (kept (w.at u.child)) ≡ true
+          → among x (w.at x.root).begun ≡ true
       by_pair b same joined promised =
           let r : Reading = pair_reading tree w b u in
           let pair = joined_pair tree w holds b u joined in
           let k : Common r = common_of b.txn.presumption r pair.1 in
           let kept_so : r.prepared_kept ≡ true =
-          subst (λ (z : Txn). has (is_promise (child_case z u)) (kept (w.at u.child)) ≡ true) (sym same) promised in
+          subst (λ (z : Txn). has (is_promise (child_case z u)) (kept (w.at u.child)) ≡ true)
+          (sym same) promised in
           let part = k.asked_takes_part (k.promise_was_asked kept_so) in
           let s = standing_world tree w holds in
           by_part b.txn same (told tree w s t b.txn u
@@ -197,7 +203,8 @@ module _ (tree : List TreeProcess) (t : IsTree tree) (logs : List ProcessLog) (e
         says_abort later x (shut_stays tree x es w left.is_run top (record {
           known = begun_so c line;
           dead = (all_never tree es w left.is_run x.root top).dead (root_case x)
-              (by_abort ((all_last tree es w left.is_run x.root).nested.kept_was_written (is_abort (root_case x))
+              (by_abort ((all_last tree es w left.is_run x.root).nested.kept_was_written
+              (is_abort (root_case x))
               (λ k. refl) e));
         }) fs later on).dead.none_ever
 
@@ -206,7 +213,8 @@ module _ (tree : List TreeProcess) (t : IsTree tree) (logs : List ProcessLog) (e
     parts_abort e = by_ground (rests_on tree t logs es w left c is_left e)
       where
         by_ground : Ground tree t logs es w left c → Stays tree w c.txn Aborted
-        by_ground (refusal r) = λ fs later on. says_abort later x (refused_stays tree t es w left.is_run x r fs later on)
+        by_ground (refusal r) = λ fs later on. says_abort later x
+            (refused_stays tree t es w left.is_run x r fs later on)
         by_ground (root_aborts top a) = shut_by_abort top a
 
     complete_abort : outcome_of w c.txn ≡ Aborted → StaysAfterRestart tree w c.txn Aborted
@@ -214,7 +222,8 @@ module _ (tree : List TreeProcess) (t : IsTree tree) (logs : List ProcessLog) (e
     complete_abort e = λ fs later on r.
         let none = is_abort_said (is_commit_outcome w x) e in
         says_abort later x
-        (never_after_restart tree x es w left.is_run line.top (begun_so c line) (none_kept none) (none_ever none) fs later on r)
+        (never_after_restart tree x es w left.is_run line.top (begun_so c line) (none_kept none)
+        (none_ever none) fs later on r)
       where
         none_ever : is_commit_outcome w c.txn ≡ false
             → has (is_commit (root_case c.txn)) (w.at c.txn.root).durable ≡ false

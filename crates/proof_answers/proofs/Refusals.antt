@@ -1,4 +1,5 @@
--- An answer by parts of the logs that says rollback found an abort: a case on the way up has refused, or the root has an Abort.
+-- An answer by parts of the logs that says rollback found an abort: a case on the way up has refused, or the
+-- root has an Abort.
 use Rattle.std.proofs.Common.{◌≡◌, ◌∙◌, ◌&&◌, ◌||◌, ◌⊎◌, inl, inr, ℕ, zero, suc, Bool, true, false, not, Option, Some, None, option_map, List, [], fold, length, if◌then◌else◌, refl, sym, ap, subst, arith}
 use Rattle.protocol.specs.declared.names.Case.{Case}
 use Rattle.protocol.specs.declared.names.Outcome.{Outcome}
@@ -81,7 +82,8 @@ took_part : (r : Reading) → Common r → r.prepared_kept ≡ true → r.took_p
 took_part r k e = (k.asked_takes_part (k.promise_was_asked e)).0
 
 -- a parent's Abort, where the child is in doubt
-refuses_by_abort : (p : Presumption) (r : Reading) → InvariantOf p r → IsInDoubt r → r.abort_kept ≡ true → Refuses r
+refuses_by_abort : (p : Presumption) (r : Reading) → InvariantOf p r → IsInDoubt r → r.abort_kept ≡ true
+    → Refuses r
 refuses_by_abort PresumeAbort r h d e = (h.abort_is_refused e, asked r h.common d.prepared)
 refuses_by_abort PresumeCommit r h d e = elim (h.abort_is_refused e) [
   | inl refused ↦ (refused, asked r h.common d.prepared)
@@ -164,7 +166,8 @@ if_none q rs f = by_test (has q rs) refl
     by_test false e = e
 
 -- neither a Committed, nor a Commit, nor Told of a commit
-no_commit_learnt : (d : Case) (rs : List Record) → has (is_committed d) rs ≡ false → has (is_commit d) rs ≡ false
+no_commit_learnt : (d : Case) (rs : List Record) → has (is_committed d) rs ≡ false
+    → has (is_commit d) rs ≡ false
     → has (is_told_of d Committed) rs ≡ false → has (is_learnt_commit d) rs ≡ false
 no_commit_learnt d rs a b c = if_none (is_learnt_commit d) rs (λ e.
     elim (has_either (is_learnt_commit d) (is_committed d) (λ r. is_commit d r || is_told_of d Committed r) rs
@@ -291,7 +294,8 @@ module _ (tree : List TreeProcess) (t : IsTree tree) (logs : List ProcessLog) (e
 
   -- One step.
 
-  module _ (k : ℕ) (says : Says k) (c : Case) (u : Ticket) (joined : sent (is_joined_message c u) w.net ≡ true)
+  module _ (k : ℕ) (says : Says k) (c : Case) (u : Ticket)
+      (joined : sent (is_joined_message c u) w.net ≡ true)
       (doubt : IsInDoubt (pair_reading tree w c u)) where
     abbrev n : Node
     n = w.at (process_of c)
@@ -327,13 +331,16 @@ module _ (tree : List TreeProcess) (t : IsTree tree) (logs : List ProcessLog) (e
       where
         none_learnt : has (is_learnt_commit c) (kept (w.at (process_of c))) ≡ false
         none_learnt = if_none (is_learnt_commit c) (kept n) (λ e.
-            not_both (is_commit c) (has (is_commit c) (kept n)) (learnt_commit c (kept n) no_branch_record e) no_commit)
+            not_both (is_commit c) (has (is_commit c) (kept n))
+            (learnt_commit c (kept n) no_branch_record e) no_commit)
 
         none_aborted : has (is_learnt_abort c) (kept (w.at (process_of c))) ≡ false
-        none_aborted = none_so (is_learnt_abort c) (is_branch_record c) (kept n) (λ r e. grind arith) no_branch_record
+        none_aborted = none_so (is_learnt_abort c) (is_branch_record c) (kept n) (λ r e. grind arith)
+            no_branch_record
 
         none_forgotten : has (is_forgot c) (kept (w.at (process_of c))) ≡ false
-        none_forgotten = none_so (is_forgot c) (is_branch_record c) (kept n) (forgot_of_branch c) no_branch_record
+        none_forgotten = none_so (is_forgot c) (is_branch_record c) (kept n) (forgot_of_branch c)
+            no_branch_record
 
         at_child : (v : Ticket) → c.ticket ≡ Some v → c ≡ child_case c.txn v
         at_child v f = case_parts c c.txn (Some v) refl f
@@ -342,14 +349,16 @@ module _ (tree : List TreeProcess) (t : IsTree tree) (logs : List ProcessLog) (e
         Doubtful b = (has (is_promise b) (kept (w.at (process_of b))) ≡ true)
             × (has (is_learnt_commit b) (kept (w.at (process_of b))) ≡ false)
             × ((has (is_learnt_abort b) (kept (w.at (process_of b)))
-            || (has (is_abort b) (kept (w.at (process_of b))) && has (is_prepare b) (kept (w.at (process_of b))))) ≡ false)
+            || (has (is_abort b) (kept (w.at (process_of b)))
+            && has (is_prepare b) (kept (w.at (process_of b))))) ≡ false)
             × (has (is_forgot b) (kept (w.at (process_of b))) ≡ false)
 
         doubtful : Doubtful c
         doubtful = (
           has_other (is_prepare c) (is_promise c) (kept n) (prepare_promises c) promised,
           none_learnt,
-          neither_so (has (is_learnt_abort c) (kept n)) (has (is_abort c) (kept n)) (has (is_prepare c) (kept n))
+          neither_so (has (is_learnt_abort c) (kept n)) (has (is_abort c) (kept n))
+              (has (is_prepare c) (kept n))
               none_aborted no_abort,
           none_forgotten,
         )
@@ -370,7 +379,8 @@ module _ (tree : List TreeProcess) (t : IsTree tree) (logs : List ProcessLog) (e
         at_top : (j : ℕ) (b : Case) → b.ticket ≡ None → steps_within j tree (kept_lists tree logs) b ≡ []
         at_top zero b f = refl
         at_top (suc j) b f =
-            ap (λ o. steps_by (steps_within j tree keeps) (found_in keeps b.txn o) o (parent_of tree (process_of b))) f
+            ap (λ o. steps_by (steps_within j tree keeps) (found_in keeps b.txn o) o
+            (parent_of tree (process_of b))) f
 
         asks_above : (o : Option Ticket) → c.ticket ≡ o → (a : BranchAnswer) → (a.word ≡ word.Rollback → ⊥)
             → (fold (λ b s. step_answer Parts logs asker s) a
@@ -383,14 +393,16 @@ module _ (tree : List TreeProcess) (t : IsTree tree) (logs : List ProcessLog) (e
             let listed = subst (λ (q : ProcessId). is_listed tree q ≡ true) at pair.parent.listed in
             let i = issuer_of_parent (role_of tree v.child) v (subst (λ (q : ProcessId). IsParentRole
             (role_of tree q) (Some v)) at
-            (subst (λ (o : Option Ticket). IsParentRole (role_of tree (process_of c)) o) f pair.parent.role)) in
+            (subst (λ (o : Option Ticket). IsParentRole (role_of tree (process_of c)) o) f pair.parent.role))
+            in
             let d = subst Doubtful same doubtful in
             by_pair v c.txn (promised_pair c.txn v listed i d.0) d a none
             (ap (λ b. said a (more k b)) (sym same) ∙ e)
 
     -- what stands of the parent's case
 
-    same_test : (q : Tests) → IsTestOf c q → (b : Bool) → has q (since_promise c (kept (w.at (process_of c)))) ≡ b
+    same_test : (q : Tests) → IsTestOf c q → (b : Bool)
+        → has q (since_promise c (kept (w.at (process_of c)))) ≡ b
         → has q (kept (w.at (process_of c))) ≡ b
     same_test q of b e = sym (reads_same (role_of tree (process_of c)) n c lasts q of) ∙ e
 
@@ -403,7 +415,8 @@ module _ (tree : List TreeProcess) (t : IsTree tree) (logs : List ProcessLog) (e
     by_stands true abort prepare ended p q r s e = absurd (commit_is_none e)
     by_stands false true prepare ended p q r s e = by_abort (same_test (is_abort c) (of_abort c) true q)
     by_stands false false true ended p q r s e =
-        asks_above (same_test (is_prepare c) (of_prepare c) true r) (same_test (is_commit c) (of_commit c) false p)
+        asks_above (same_test (is_prepare c) (of_prepare c) true r)
+        (same_test (is_commit c) (of_commit c) false p)
         (same_test (is_abort c) (of_abort c) false q) c.ticket refl _ wait_is_none e
     by_stands false false false true p q r s e =
         let none = none_ended c.txn.presumption (pair_reading tree w c u) pair_holds doubt in
@@ -431,11 +444,13 @@ module _ (tree : List TreeProcess) (t : IsTree tree) (logs : List ProcessLog) (e
         → Above (found_by (option_map (λ d. (d, note_of (kept (w.at (process_of c))) d))
         (naming_case tree (process_of c) c.txn u (kept (w.at (process_of c))))))
     by_named here true e =
-        subst (λ (o : Option Case). Above (found_by (option_map (λ d. (d, note_of (kept (w.at (process_of c))) d)) o)))
+        subst (λ (o : Option Case). Above (found_by
+        (option_map (λ d. (d, note_of (kept (w.at (process_of c))) d)) o)))
         (sym (named_is tree w holds c u joined e))
         (by_stands _ _ _ _ refl refl refl refl)
     by_named here false e =
-        subst (λ (o : Option Case). Above (found_by (option_map (λ d. (d, note_of (kept (w.at (process_of c))) d)) o)))
+        subst (λ (o : Option Case). Above (found_by
+        (option_map (λ d. (d, note_of (kept (w.at (process_of c))) d)) o)))
         (sym (named_none tree w holds c u joined e))
         (not_kept_waits here)
 
@@ -470,7 +485,8 @@ module _ (tree : List TreeProcess) (t : IsTree tree) (logs : List ProcessLog) (e
 -- The case that is asked.
 
 -- a word of an answer that stands is that of what was found above
-promised_is : (logs : List ProcessLog) (c : Case) (k : Kinds) (a : BranchAnswer) → (answer_above logs c k a).word ≡ word.Rollback
+promised_is : (logs : List ProcessLog) (c : Case) (k : Kinds) (a : BranchAnswer)
+    → (answer_above logs c k a).word ≡ word.Rollback
     → a.word ≡ word.Rollback
 promised_is logs c k a = by_test (is_unpromised logs c k a)
   where
@@ -481,7 +497,8 @@ promised_is logs c k a = by_test (is_unpromised logs c k a)
     by_test false e = e
 
 -- by what the case's own log says: an abort, or nothing and what was found above
-own_says : {A : Type 0} (heur_commit heur_rollback commit abort : Bool) (above : BranchAnswer) → (abort ≡ true → A)
+own_says : {A : Type 0} (heur_commit heur_rollback commit abort : Bool) (above : BranchAnswer)
+    → (abort ≡ true → A)
     → (commit ≡ false → abort ≡ false → above.word ≡ word.Rollback → A)
     → (answer_by (own_by heur_commit heur_rollback (decided_by commit abort)) above).word ≡ word.Rollback → A
 own_says true hr a b above f g e = absurd (heuristic_commit_is_none e)
@@ -535,9 +552,11 @@ module _ (tree : List TreeProcess) (t : IsTree tree) (logs : List ProcessLog) (e
   above_of d = above_answer Parts logs d (chain_of tree (kept_lists tree logs) d)
 
   -- by these kinds of its own records
-  answer_with : (d : Case) (k : Kinds) → (note_in (notes_of (kept_lists tree logs (process_of d))) d).kinds ≡ k
+  answer_with : (d : Case) (k : Kinds) → (note_in (notes_of (kept_lists tree logs (process_of d))) d).kinds
+      ≡ k
       → (answer_of Parts tree logs (kept_lists tree logs) d).word ≡ word.Rollback
-      → (answer_by (own_answer k) (answer_above logs d k (above_answer Parts logs d (chain_of tree (kept_lists tree logs) d)))).word
+      → (answer_by (own_answer k) (answer_above logs d k
+      (above_answer Parts logs d (chain_of tree (kept_lists tree logs) d)))).word
       ≡ word.Rollback
   unfolding answer_of
   answer_with d k same e =
@@ -557,7 +576,8 @@ module _ (tree : List TreeProcess) (t : IsTree tree) (logs : List ProcessLog) (e
       own = w.at u.child
 
       pair_common : Common (pair_reading tree w b u)
-      pair_common = common_of b.txn.presumption (pair_reading tree w b u) (joined_pair tree w all_hold b u joined).1
+      pair_common = common_of b.txn.presumption (pair_reading tree w b u)
+          (joined_pair tree w all_hold b u joined).1
 
       own_lasts : Lasts (role_of tree u.child) (logs_of (w.at u.child))
       own_lasts = (all_hold.nodes u.child listed).lasts
@@ -567,7 +587,8 @@ module _ (tree : List TreeProcess) (t : IsTree tree) (logs : List ProcessLog) (e
 
       in_doubt : has (is_learnt_commit (child_case b.txn u)) (kept (w.at u.child)) ≡ false
           → has (is_learnt_abort (child_case b.txn u)) (kept (w.at u.child)) ≡ false
-          → has (is_abort (child_case b.txn u)) (kept (w.at u.child)) ≡ false → IsInDoubt (pair_reading tree w b u)
+          → has (is_abort (child_case b.txn u)) (kept (w.at u.child)) ≡ false
+          → IsInDoubt (pair_reading tree w b u)
       in_doubt e f g = record {
         prepared = line_is.promised;
         no_commit = e;
@@ -593,13 +614,16 @@ module _ (tree : List TreeProcess) (t : IsTree tree) (logs : List ProcessLog) (e
           (abort_with_promise (role_of tree u.child) own d issuer own_lasts e line_is.promised)))
 
       from_above : IsInDoubt (pair_reading tree w b u)
-          → (above_answer Parts logs (child_case b.txn u) (chain_of tree (kept_lists tree logs) (child_case b.txn u))).word
+          → (above_answer Parts logs (child_case b.txn u)
+          (chain_of tree (kept_lists tree logs) (child_case b.txn u))).word
           ≡ word.Rollback → Refused tree w b.txn
       unfolding chain_of
-      from_above doubt e = climb tree t logs es w is_left d (length tree) b u joined doubt (root_answer Parts d) wait_is_none e
+      from_above doubt e = climb tree t logs es w is_left d (length tree) b u joined doubt
+          (root_answer Parts d) wait_is_none e
 
       kept_test : (q : Tests) → IsTestOf (child_case b.txn u) q → (x : Bool)
-          → has q (since_promise (child_case b.txn u) (kept (w.at u.child))) ≡ x → has q (kept (w.at u.child)) ≡ x
+          → has q (since_promise (child_case b.txn u) (kept (w.at u.child))) ≡ x
+          → has q (kept (w.at u.child)) ≡ x
       kept_test q of x e = sym (reads_same (role_of tree u.child) own d own_lasts q of) ∙ e
 
       abbrev since : List Record
@@ -641,7 +665,8 @@ module _ (tree : List TreeProcess) (t : IsTree tree) (logs : List ProcessLog) (e
           → is_abort_learnt (child_case b.txn u) r ≡ true
       abort_is_learnt r e = grind arith
 
-      log_missing : has_log logs u.child ≡ false → own_decision (child_case b.txn u) (kept (w.at u.child)) ≡ None
+      log_missing : has_log logs u.child ≡ false → own_decision (child_case b.txn u) (kept (w.at u.child))
+          ≡ None
           → (answer_of Parts tree logs (kept_lists tree logs) (child_case b.txn u)).word ≡ word.Rollback
           → Refused tree w b.txn
       log_missing gone doubt e =
@@ -666,13 +691,15 @@ module _ (tree : List TreeProcess) (t : IsTree tree) (logs : List ProcessLog) (e
     no_branch_at (Below p) e l = absurd (cc)
     no_branch_at (AtLeaf p) e l = absurd (cc)
 
-    none_above : (above_answer Parts logs (root_case x) (chain_of tree (kept_lists tree logs) (root_case x))).word
+    none_above : (above_answer Parts logs (root_case x)
+        (chain_of tree (kept_lists tree logs) (root_case x))).word
         ≡ word.Rollback → ⊥
     unfolding chain_of
     none_above e = by_size (length tree) e
       where
         by_size : (j : ℕ)
-            → (above_answer Parts logs (root_case x) (steps_within j tree (kept_lists tree logs) (root_case x))).word
+            → (above_answer Parts logs (root_case x)
+            (steps_within j tree (kept_lists tree logs) (root_case x))).word
             ≡ word.Rollback → ⊥
         by_size zero f = wait_is_none f
         by_size (suc j) f = wait_is_none f
@@ -683,12 +710,15 @@ module _ (tree : List TreeProcess) (t : IsTree tree) (logs : List ProcessLog) (e
 
     learnt_by_root : has (is_abort_learnt (root_case x)) (kept (w.at x.root)) ≡ true
         → has (is_abort (root_case x)) (kept (w.at x.root)) ≡ true
-    learnt_by_root e = learnt_abort r (kept (w.at x.root)) (no_branch_at (role_of tree x.root) top top_lasts) e
+    learnt_by_root e = learnt_abort r (kept (w.at x.root))
+        (no_branch_at (role_of tree x.root) top top_lasts) e
 
-    rolled_back_is_learnt : (y : Record) → is_rolled_back (root_case x) y ≡ true → is_abort_learnt (root_case x) y ≡ true
+    rolled_back_is_learnt : (y : Record) → is_rolled_back (root_case x) y ≡ true
+        → is_abort_learnt (root_case x) y ≡ true
     rolled_back_is_learnt y e = grind arith
 
-    told_is_learnt : (y : Record) → is_told_of (root_case x) Aborted y ≡ true → is_abort_learnt (root_case x) y ≡ true
+    told_is_learnt : (y : Record) → is_told_of (root_case x) Aborted y ≡ true
+        → is_abort_learnt (root_case x) y ≡ true
     told_is_learnt y e = grind arith
 
     root_here : has_log logs x.root ≡ true
@@ -701,7 +731,8 @@ module _ (tree : List TreeProcess) (t : IsTree tree) (logs : List ProcessLog) (e
           | inl g ↦ learnt_by_root (has_other (is_rolled_back r) (is_abort_learnt r) (kept (w.at x.root))
               rolled_back_is_learnt (top_test (is_rolled_back r) (of_rolled_back r) g))
           | inr g ↦ elim g [
-            | inl h ↦ learnt_by_root (has_other (is_told_of r Aborted) (is_abort_learnt r) (kept (w.at x.root))
+            | inl h ↦ learnt_by_root (has_other (is_told_of r Aborted) (is_abort_learnt r)
+                (kept (w.at x.root))
                 told_is_learnt (top_test (is_told_of r Aborted) (of_told r Aborted) h))
             | inr h ↦ top_test (is_abort r) (of_abort r) h
           ]
@@ -712,7 +743,8 @@ module _ (tree : List TreeProcess) (t : IsTree tree) (logs : List ProcessLog) (e
     root_missing : has_log logs x.root ≡ false
         → (answer_of Parts tree logs (kept_lists tree logs) (root_case x)).word ≡ word.Rollback → ⊥
     root_missing gone e =
-        none_above (promised_is logs r no_kinds (above_of r) (answer_with r no_kinds (kinds_missing r gone) e))
+        none_above (promised_is logs r no_kinds (above_of r)
+        (answer_with r no_kinds (kinds_missing r gone) e))
 
   -- Each case.
 
@@ -723,7 +755,8 @@ module _ (tree : List TreeProcess) (t : IsTree tree) (logs : List ProcessLog) (e
         → has (is_abort (root_case c.txn)) (kept (w.at c.txn.root)) ≡ true → Ground c
 
   abbrev Asked : Case → Type 0
-  Asked c = IsCaseLeft tree logs w c → (answer_of Parts tree logs (kept_lists tree logs) c).word ≡ word.Rollback → Ground c
+  Asked c = IsCaseLeft tree logs w c → (answer_of Parts tree logs (kept_lists tree logs) c).word
+      ≡ word.Rollback → Ground c
 
   below_root : (x : Txn) (u : Ticket) → Asked (child_case x u)
   below_root x u is_so e =
@@ -738,22 +771,27 @@ module _ (tree : List TreeProcess) (t : IsTree tree) (logs : List ProcessLog) (e
     where
       with_pair : Pair tree t logs es w is_left (child_case x u) x u → is_listed tree u.child ≡ true
           → IsIssuer (role_of tree u.child)
-          → has_line_in (role_of tree u.child) (child_case x u) (since_promise (child_case x u) (kept (w.at u.child))) ≡ true
+          → has_line_in (role_of tree u.child) (child_case x u)
+          (since_promise (child_case x u) (kept (w.at u.child))) ≡ true
           → (b : Bool) → has_log logs u.child ≡ b
           → (has_log logs u.child ≡ false → own_decision (child_case x u) (kept (w.at u.child)) ≡ None)
-          → (answer_of Parts tree logs (kept_lists tree logs) (child_case x u)).word ≡ word.Rollback → Refused tree w x
+          → (answer_of Parts tree logs (kept_lists tree logs) (child_case x u)).word ≡ word.Rollback
+          → Refused tree w x
       with_pair p listed i line b here doubt e =
           subst (λ (y : Txn).
-          has_line_in (role_of tree u.child) (child_case y u) (since_promise (child_case y u) (kept (w.at u.child))) ≡ true
+          has_line_in (role_of tree u.child) (child_case y u)
+          (since_promise (child_case y u) (kept (w.at u.child))) ≡ true
           → (has_log logs u.child ≡ false → own_decision (child_case y u) (kept (w.at u.child)) ≡ None)
-          → (answer_of Parts tree logs (kept_lists tree logs) (child_case y u)).word ≡ word.Rollback → Refused tree w y)
+          → (answer_of Parts tree logs (kept_lists tree logs) (child_case y u)).word ≡ word.Rollback
+          → Refused tree w y)
           p.same
           (λ line' doubt' e'. by_log p.of p.joined line' doubt' e' b here) line doubt e
         where
           by_log : (a : Case) → sent (is_joined_message a u) w.net ≡ true
               → has_line_in (role_of tree u.child) (child_case a.txn u)
               (since_promise (child_case a.txn u) (kept (w.at u.child))) ≡ true
-              → (has_log logs u.child ≡ false → own_decision (child_case a.txn u) (kept (w.at u.child)) ≡ None)
+              → (has_log logs u.child ≡ false → own_decision (child_case a.txn u)
+              (kept (w.at u.child)) ≡ None)
               → (answer_of Parts tree logs (kept_lists tree logs) (child_case a.txn u)).word ≡ word.Rollback
               → (b : Bool) → has_log logs u.child ≡ b → Refused tree w a.txn
           by_log a joined line doubt e true here = log_here a u joined listed i line here e
@@ -767,8 +805,10 @@ module _ (tree : List TreeProcess) (t : IsTree tree) (logs : List ProcessLog) (e
       let top = root_by_ticket (role_of tree x.root) place in
       by_log top f.0 (has_log logs x.root) refl e
     where
-      by_log : role_of tree x.root ≡ AtRoot → is_listed tree x.root ≡ true → (b : Bool) → has_log logs x.root ≡ b
-          → (answer_of Parts tree logs (kept_lists tree logs) (root_case x)).word ≡ word.Rollback → Ground (root_case x)
+      by_log : role_of tree x.root ≡ AtRoot → is_listed tree x.root ≡ true → (b : Bool)
+          → has_log logs x.root ≡ b
+          → (answer_of Parts tree logs (kept_lists tree logs) (root_case x)).word ≡ word.Rollback
+          → Ground (root_case x)
       by_log top listed true here e = root_aborts top (root_here x listed top here e)
       by_log top listed false gone e = absurd (root_missing x listed top gone e)
 

@@ -1,4 +1,5 @@
--- A transaction that its root has begun, and whose case is closed there without a Commit, never commits: through each step.
+-- A transaction that its root has begun, and whose case is closed there without a Commit, never commits:
+-- through each step.
 use Rattle.std.proofs.Common.{◌≡◌, ◌∙◌, inl, inr, ℕ, zero, suc, Bool, true, false, Option, Some, None, List, [], ◌++◌, take, refl, sym, ap, subst}
 use Rattle.std.proofs.lemmas.List.{append-nil}
 use Rattle.protocol.specs.declared.events.Input.{Input}
@@ -75,7 +76,8 @@ module _ (me : ProcessId) (tree : List TreeProcess) (n : Node) (x : Txn) where
           was_kept : has (is_commit c) (left j) ≡ true → has (is_commit c) (kept n) ≡ true
           was_kept e = elim (in_either (is_commit c) n.forced (take j n.unforced) e) [
             | inl front ↦ in_first (is_commit c) n.forced n.unforced front
-            | inr rest ↦ in_second (is_commit c) n.forced n.unforced (in_front (is_commit c) j n.unforced rest)
+            | inr rest ↦ in_second (is_commit c) n.forced n.unforced
+                (in_front (is_commit c) j n.unforced rest)
           ]
 
           by_test : (b : Bool) → has (is_commit c) (left j) ≡ b → has (is_commit c) (left j) ≡ false
@@ -147,9 +149,11 @@ module _ (me : ProcessId) (tree : List TreeProcess) (n : Node) (x : Txn) where
           turn : CoordinatorTurn (coordinator_place me None tree) None n h e
           turn = turn_here me None tree n h e r
 
-          asked_if_collecting : (coordinator_view (coordinator_place me None tree) n (root_case x)).standing ≡ Collecting
+          asked_if_collecting : (coordinator_view (coordinator_place me None tree) n (root_case x)).standing
+              ≡ Collecting
               → (memory_of (coordinator_place me None tree) n (root_case x)).phase ≡ Asked
-          asked_if_collecting s = (kept_so.together t.up c).collecting_is_asked (stands me None tree n h c Collecting s)
+          asked_if_collecting s = (kept_so.together t.up c).collecting_is_asked
+              (stands me None tree n h c Collecting s)
 
           none_new : commits_now (root_case x) e ≡ false
           none_new = by_test (commits_now c e) refl
@@ -176,7 +180,8 @@ module _ (me : ProcessId) (tree : List TreeProcess) (n : Node) (x : Txn) where
                   (ap (λ (y : Case). next_txn me (boot_of (kept n)) (memory_of place n y) p) g)
                   (subst (InHistory n) (sym g) in_history)
 
-              by_move : {k : Memory} → MovesMemory None me (boot_of (kept n)) c m h.input k → IsLive k.phase → ⊥
+              by_move : {k : Memory} → MovesMemory None me (boot_of (kept n)) c m h.input k → IsLive k.phase
+                  → ⊥
               by_move (keeps f p l) live = old.dead.closed t.up (subst IsLive p live)
               by_move (asks a o p l) live = shut Open o tt
               by_move (closes a o p l) live = subst IsLive p live
@@ -254,7 +259,8 @@ module _ (me : ProcessId) (tree : List TreeProcess) (n : Node) (x : Txn) where
         };
       }
 
-      trim_failed : (a : ℕ) → Shut (coordinator_place me None tree) (trim_fails (coordinator_place me None tree) n a) x
+      trim_failed : (a : ℕ) → Shut (coordinator_place me None tree)
+          (trim_fails (coordinator_place me None tree) n a) x
       trim_failed zero = falls
       trim_failed (suc a) = record { known = old.known; dead = trimmed_dead _ refl refl (λ up. absurd (cc)) }
 
@@ -274,6 +280,7 @@ module _ (me : ProcessId) (tree : List TreeProcess) (n : Node) (x : Txn) where
       shut_last m _ _ (trims_log hp up) = record {
         known = old.known;
         dead = trimmed_dead (trims place n) refl refl
-            (λ u live. old.dead.closed up (subst (λ (y : Memory). IsLive y.phase) (trims_memory place n c) live));
+            (λ u live. old.dead.closed up (subst (λ (y : Memory). IsLive y.phase)
+            (trims_memory place n c) live));
       }
       shut_last m _ _ (failed_trimming f fl hp up) = trim_failed f.appended

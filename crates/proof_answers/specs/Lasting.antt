@@ -45,14 +45,15 @@ abbrev pub StaysAfterRestart : List TreeProcess → World → Txn → Outcome �
 StaysAfterRestart tree w x o = (es : List Made) (later : World) → Continues tree w es later
     → restarts_first (made_by x.root es) ≡ true → outcome_of later x ≡ o
 
--- A commit stays, and so does an abort that the logs say; an abort that is found since the logs are complete rests on what is
--- not in them: it stays, as no process ran when they were read.
+-- A commit stays, and so does an abort that the logs say; an abort that is found since the logs are complete
+-- rests on what is not in them: it stays, as no process ran when they were read.
 abbrev pub StaysBy : Trust → Outcome → List TreeProcess → World → Txn → Type 0
 StaysBy Complete Aborted tree w x = StaysAfterRestart tree w x Aborted
 StaysBy Complete Committed tree w x = Stays tree w x Committed
 StaysBy Parts o tree w x = Stays tree w x o
 
--- whichever run left the logs, an answer that says commit or rollback is how the case's transaction ends, then and ever after
+-- whichever run left the logs, an answer that says commit or rollback is how the case's transaction ends,
+-- then and ever after
 abbrev pub AnswersLast : Type 0
 AnswersLast = (tree : List TreeProcess) (logs : List ProcessLog) (es : List Made) (w : World) → IsTree tree
     → AreLogsKept tree logs es w → (c : Case) → IsCaseLeft tree logs w c → (t : Trust) (o : Outcome)

@@ -31,7 +31,8 @@ some_node : (o : Option CoreState) → is_some o ≡ true → (c : CoreState) ×
 some_node None h = absurd (cc)
 some_node (Some c) h = (c, refl)
 
-module _ (journal : List Made → List JournalEntry) (s : WorldState) (es : List Made) (w : World) (t : IsTree s.tree)
+module _ (journal : List Made → List JournalEntry) (s : WorldState) (es : List Made) (w : World)
+    (t : IsTree s.tree)
     (f : FollowsBy journal es w s) (works : AllWork s) (logs : List ProcessLog) (are : AreReadSo s logs) where
   -- what a process reads of its records is what the model's process keeps
   own_kept : (q : ProcessId) → is_listed s.tree q ≡ true → (c : CoreState) → s.node_at q ≡ Some c
@@ -39,7 +40,8 @@ module _ (journal : List Made → List JournalEntry) (s : WorldState) (es : List
   own_kept q listed c there =
       let at = f.follows.nodes q c there in
       let own : KeepsOwn c.place (w.at q) =
-      subst (λ (p : Place). KeepsOwn p (w.at q)) (sym at.place) (keeps_own s.tree es w t f.follows.is_run q listed) in
+      subst (λ (p : Place). KeepsOwn p (w.at q)) (sym at.place)
+      (keeps_own s.tree es w t f.follows.is_run q listed) in
       ap (λ (p : Place). own_records p (records_of c.log.kept)) (sym at.place)
       ∙ (ap (own_records c.place)
       ((λ i. at.stands.forced i ++ at.stands.unforced i)
@@ -52,10 +54,12 @@ module _ (journal : List Made → List JournalEntry) (s : WorldState) (es : List
       let found = listed_entry s.tree q listed in
       let e = found.0 in
       let here : e.id ≡ q = named_so s.tree q e found.1 in
-      let so = are e (subst (λ (p : ProcessId). find (λ x. same_process x.id p) s.tree ≡ Some e) (sym here) found.1) in
+      let so = are e (subst (λ (p : ProcessId). find (λ x. same_process x.id p) s.tree ≡ Some e)
+      (sym here) found.1) in
       let place = place_of s.tree q in
       ap (λ o. own_records place (whole_records (read_as q (entry_kind o) (bytes_of logs q)))) found.1
-      ∙ (ap (λ (p : ProcessId). own_records place (whole_records (read_as p e.kind (bytes_of logs p)))) (sym here)
+      ∙ (ap (λ (p : ProcessId). own_records place (whole_records (read_as p e.kind (bytes_of logs p))))
+      (sym here)
       ∙ (ap (λ (r : LogReading). own_records place (whole_records r)) so.read
       ∙ own_kept q listed so.process (ap s.node_at (sym here) ∙ so.there)))
 
@@ -68,7 +72,8 @@ module _ (journal : List Made → List JournalEntry) (s : WorldState) (es : List
   unfolding first_damage Each
   none_of [] found = refl
   none_of (e ∷ fs) found =
-      ap (λ (r : LogReading). damage_or e.id r (first_damage fs logs)) (are e found.0).read ∙ none_of fs found.1
+      ap (λ (r : LogReading). damage_or e.id r (first_damage fs logs)) (are e found.0).read
+      ∙ none_of fs found.1
 
   behind : AreKeptBehind s.tree es w (kept_lists s.tree logs)
   behind = record { is_run = f.follows.is_run; all_up = all_up; kept_there = kept_there }

@@ -38,9 +38,10 @@ pub record AreAuditedTruly (tree : List TreeProcess) (w : World) (logs : List Pr
   pub undamaged : first_damage tree logs ≡ None
   pub lines : AreTrue w (lines_of tree (kept_lists tree logs))
 
--- Where the state of a tree stands for a run, whichever of its steps the journal shows, and no process is failed now, the
--- audit of logs that read as what the processes keep is true of that run.
+-- Where the state of a tree stands for a run, whichever of its steps the journal shows, and no process is
+-- failed now, the audit of logs that read as what the processes keep is true of that run.
 abbrev pub StatesAreAuditedTruly : Type 0
-StatesAreAuditedTruly = (journal : List Made → List JournalEntry) (s : WorldState) (es : List Made) (w : World)
+StatesAreAuditedTruly = (journal : List Made → List JournalEntry) (s : WorldState)
+    (es : List Made) (w : World)
     → IsTree s.tree → FollowsBy journal es w s → AllWork s → (logs : List ProcessLog) → AreReadSo s logs
     → AreAuditedTruly s.tree w logs

@@ -26,7 +26,8 @@ use Rattle.cluster_tree.specs.Closing.{IsClosed, log_by, logs_in}
 use Rattle.proof_closed_logs.specs.Audits.{AreReadAs, ClosedClustersAreAuditedTruly, IsReadAs}
 
 -- in no step that the events led to a device failed
-led_on : (old new : WorldState) (events : List Event) → IsWhole old → EventsLeadOn old events new → IsWhole new
+led_on : (old new : WorldState) (events : List Event) → IsWhole old → EventsLeadOn old events new
+    → IsWhole new
 led_on old new [] h same = subst WholeSteps (sym same.entries) h
 led_on old new (e ∷ events) h made =
     let before : IsWhole made.0 = subst WholeSteps (sym made.2.entries) h in
@@ -42,14 +43,17 @@ read_at : (texts : List ProcessLog) (s : WorldState) (q : ProcessId) (es : List 
 read_at texts s q [] e are found = absurd (cc)
 read_at texts s q (x ∷ es) e are found = by_test (same_process x.id q) (read_at texts s q es e are.1) found
   where
-    by_test : (b : Bool) → (find (λ y. same_process y.id q) es ≡ Some e → IsReadAs e (bytes_of texts e.id) (log_by (s.node_at e.id)))
+    by_test : (b : Bool) → (find (λ y. same_process y.id q) es ≡ Some e
+        → IsReadAs e (bytes_of texts e.id) (log_by (s.node_at e.id)))
         → cond b (Some x) (find (λ y. same_process y.id q) es) ≡ Some e
         → IsReadAs e (bytes_of texts e.id) (log_by (s.node_at e.id))
     by_test true rest is =
-        subst (λ (y : TreeProcess). IsReadAs y (bytes_of texts y.id) (log_by (s.node_at y.id))) (some_entry x e is) are.0
+        subst (λ (y : TreeProcess). IsReadAs y (bytes_of texts y.id) (log_by (s.node_at y.id)))
+        (some_entry x e is) are.0
     by_test false rest is = rest is
 
-module _ (tree : List TreeProcess) (t : IsTree tree) (journal : List (ℕ × JournalEntry)) (logs : List (List LogRecord))
+module _ (tree : List TreeProcess) (t : IsTree tree) (journal : List (ℕ × JournalEntry))
+    (logs : List (List LogRecord))
     (c : IsClosed tree journal logs) (texts : List ProcessLog) (are : AreReadAs texts tree logs) where
   abbrev s : WorldState
   s = c.state
@@ -77,7 +81,8 @@ module _ (tree : List TreeProcess) (t : IsTree tree) (journal : List (ℕ × Jou
   }
 
   none : NoneFailed es
-  none = moves_whole es (subst WholeSteps (sym f.shown) (led_on c.start s c.events (opened tree c.start c.opens) c.leads))
+  none = moves_whole es (subst WholeSteps (sym f.shown)
+      (led_on c.start s c.events (opened tree c.start c.opens) c.leads))
 
   works : AllWork s
   works q k there = (f.nodes q k there).stands.failed ∙ all_up s.tree es w f.is_run none q
@@ -87,7 +92,8 @@ module _ (tree : List TreeProcess) (t : IsTree tree) (journal : List (ℕ × Jou
       let listed = listed_if s.tree e.id e found in
       let node = some_node (s.node_at e.id) (f.listed e.id ∙ listed) in
       let all : AreReadAs texts s.tree (logs_in s s.tree) =
-      subst (λ x. AreReadAs texts x (logs_in s x)) (sym c.tree_is) (subst (AreReadAs texts tree) c.logs_are are) in
+      subst (λ x. AreReadAs texts x (logs_in s x)) (sym c.tree_is)
+      (subst (AreReadAs texts tree) c.logs_are are) in
       let it = read_at texts s e.id s.tree e all found in
       record {
         process = node.0;

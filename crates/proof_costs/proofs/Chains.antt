@@ -1,5 +1,5 @@
--- What a run adds to its journal is, process by process, inputs that the process handles one after another, if it neither
--- restarts nor trims nor fails.
+-- What a run adds to its journal is, process by process, inputs that the process handles one after another,
+-- if it neither restarts nor trims nor fails.
 use Rattle.std.proofs.Common.{◌≡◌, ◌∙◌, inl, inr, Bool, true, false, Option, Some, None, List, [], ◌∷◌, ◌++◌, refl, sym, ap, subst, if◌then◌else◌}
 use Rattle.std.specs.Prelude.{filter, is_none}
 use Rattle.std.specs.List.{list_all}
@@ -31,17 +31,21 @@ module _ (place : Place) (F : Node → Type 0) where
   -- moves of a process, the oldest first, lead from one node to another, and the fact holds before each
   pub data Chain : Node → List JournalEntry → Node → Type 0 where
     ends : (n : Node) → Chain n [] n
-    goes : (n k n' : Node) (m : Move) (e : Effect) (es : List JournalEntry) → F n → StepOf place n m e k → Chain k es n'
+    goes : (n k n' : Node) (m : Move) (e : Effect) (es : List JournalEntry) → F n → StepOf place n m e k
+        → Chain k es n'
         → Chain n (entry_of (record { move = m; effect = e }) ∷ es) n'
 
   -- one more
-  chain_last : (n k k' : Node) (es : List JournalEntry) (m : Move) (e : Effect) → Chain n es k → F k → StepOf place k m e k'
+  chain_last : (n k k' : Node) (es : List JournalEntry) (m : Move) (e : Effect) → Chain n es k → F k
+      → StepOf place k m e k'
       → Chain n (es ++ entry_of (record { move = m; effect = e }) ∷ []) k'
   chain_last _ _ k' _ m e (ends n) f s = goes n k' k' m e [] f s (ends k')
   chain_last _ _ k' _ m e (goes n k n' m2 e2 es g s2 c) f s =
-      goes n k k' m2 e2 (es ++ entry_of (record { move = m; effect = e }) ∷ []) g s2 (chain_last k n' k' es m e c f s)
+      goes n k k' m2 e2 (es ++ entry_of (record { move = m; effect = e }) ∷ []) g s2
+      (chain_last k n' k' es m e c f s)
 
-  -- inputs that a process handles, the oldest first, lead from one node to another, and the fact holds before each
+  -- inputs that a process handles, the oldest first, lead from one node to another, and the fact holds before
+  -- each
   pub data Plain : Node → List JournalEntry → Node → Type 0 where
     done : (n : Node) → Plain n [] n
     handles : (n n' : Node) (h : Heard) (e : Effect) (entry : JournalEntry) (es : List JournalEntry) → F n
@@ -80,11 +84,13 @@ module _ (place : Place) (F : Node → Type 0) where
     plain_step n _ n' m _ es f (failed_trimming x fl hp up) a b c = no_input m.step.happening hp a
 
     -- undisturbed moves are inputs that it handles
-    pub plain_of : (n : Node) (es : List JournalEntry) (n' : Node) → Chain n es n' → list_all is_plain es ≡ true
+    pub plain_of : (n : Node) (es : List JournalEntry) (n' : Node) → Chain n es n'
+        → list_all is_plain es ≡ true
         → Plain n es n'
     plain_of _ _ _ (ends n) a = done n
     plain_of _ _ _ (goes n k n' m e es f s c) a =
-        let now = and_parts (is_plain (entry_of (record { move = m; effect = e }))) (list_all is_plain es) a in
+        let now = and_parts (is_plain (entry_of (record { move = m; effect = e }))) (list_all is_plain es) a
+        in
         let both = and_parts (is_input m.step.happening) (is_none m.step.fault) now.0 in
         plain_step n k n' m e es f s both.0 both.1 (plain_of k es n' c now.1)
 
@@ -106,7 +112,10 @@ module _ (tree : List TreeProcess) (p : ProcessId) (F : Node → Type 0)
     onward es w run _ _ stays = record { moves = es; run = run }
     onward es w run _ _ (goes_on fs v m e v' before stands made) =
         let o = onward es w run fs v before in
-        record { moves = record { move = m; effect = e } ∷ o.moves; run = makes o.moves v m e v' o.run stands made }
+        record {
+          moves = record { move = m; effect = e } ∷ o.moves;
+          run = makes o.moves v m e v' o.run stands made;
+        }
 
     entries_then : (fs : List Made) (e : Made)
         → entries_of p (journal_of (e ∷ fs))
@@ -126,23 +135,28 @@ module _ (tree : List TreeProcess) (p : ProcessId) (F : Node → Type 0)
         let f = holds (onward es w run fs v before).moves v (onward es w run fs v before).run in
         let old = chain_of es w run fs v before in
         let entry = entry_of (record { move = m; effect = e }) in
-        let P : World → Type 0 = λ x. C (w.at p) (entries_of p (journal_of (record { move = m; effect = e } ∷ fs))) (x.at p) in
+        let P : World → Type 0 = λ x. C (w.at p)
+        (entries_of p (journal_of (record { move = m; effect = e } ∷ fs))) (x.at p) in
         let Q : List JournalEntry → Type 0 = λ l. C (w.at p) l (put_at q now.node v.at p) in
         subst P (sym now.world)
         (subst Q (sym (entries_then fs (record { move = m; effect = e })))
         (elim (same_process_tells q p) [
           | inl t ↦
               let R : ProcessId → Type 0 = λ x. StepOf (place_of tree x) (v.at x) m e now.node in
-              rw t.0 (chain_last (place_of tree p) F (w.at p) (v.at p) now.node (entries_of p (journal_of fs)) m e old f
+              rw t.0 (chain_last (place_of tree p) F (w.at p) (v.at p) now.node
+              (entries_of p (journal_of fs)) m e old f
               (subst R t.1 (step_of (place_of tree q) (v.at q) m e now.node now.made)))
-          | inr g ↦ rw g.0 (subst (λ l. C (w.at p) l (v.at p)) (sym (append-nil (entries_of p (journal_of fs)))) old)
+          | inr g ↦ rw g.0 (subst (λ l. C (w.at p) l (v.at p))
+              (sym (append-nil (entries_of p (journal_of fs)))) old)
         ]))
 
 -- Which of them are of a case.
 
 module _ (place : Place) (F : Node → Type 0) (q : Case → Bool) {V : Type 0} (see : Node → V)
-    (leaves : (n : Node) (h : Heard) (e : Effect) (entry : JournalEntry) → F n → entry.step.happening ≡ Handles h.input
-    → entry.reaction ≡ reaction_of e → reacts place n h ≡ Does e → is_of q entry ≡ false → see (after n h e) ≡ see n)
+    (leaves : (n : Node) (h : Heard) (e : Effect) (entry : JournalEntry) → F n
+    → entry.step.happening ≡ Handles h.input
+    → entry.reaction ≡ reaction_of e → reacts place n h ≡ Does e → is_of q entry ≡ false
+    → see (after n h e) ≡ see n)
   where
     abbrev P : Node → List JournalEntry → Node → Type 0
     P n es k = Plain place F n es k
@@ -151,7 +165,8 @@ module _ (place : Place) (F : Node → Type 0) (q : Case → Bool) {V : Type 0} 
     mine es = filter (is_of q) es
 
     -- the first of them that is of the case: what is seen of it stays up to there
-    pub record Next (n : Node) (es : List JournalEntry) (n' : Node) (c : Cause) (cs : List Cause) : Type 0 where
+    pub record Next (n : Node) (es : List JournalEntry) (n' : Node) (c : Cause)
+        (cs : List Cause) : Type 0 where
       pub at : Node
       pub seen : see at ≡ see n
       pub fact : F at
@@ -173,7 +188,8 @@ module _ (place : Place) (F : Node → Type 0) (q : Case → Bool) {V : Type 0} 
     rest_causes : (a b : Cause) (as' bs : List Cause) → a ∷ as' ≡ b ∷ bs → as' ≡ bs
     rest_causes a b as' bs e = cc
 
-    pub next_of : (n : Node) (es : List JournalEntry) (n' : Node) → Plain place F n es n' → (c : Cause) (cs : List Cause)
+    pub next_of : (n : Node) (es : List JournalEntry) (n' : Node) → Plain place F n es n'
+        → (c : Cause) (cs : List Cause)
         → causes (filter (is_of q) es) ≡ c ∷ cs → Next n es n' c cs
     next_of _ _ _ (done n) c cs e = absurd (cc)
     next_of _ _ _ (handles n n' h e entry es f hp sh r p) c cs same =

@@ -24,19 +24,23 @@ use Rattle.proof_costs.specs.Costs.{CommittedUpdateCostsBy, hears_ack, manager_c
 -- Nothing is found that was not.
 
 -- of two rows the one that a test picks leaves nothing found
-pub either : (b : Bool) (r q : Row) → r.view.found ≡ [] → q.view.found ≡ [] → (if b then r else q).view.found ≡ []
+pub either : (b : Bool) (r q : Row) → r.view.found ≡ [] → q.view.found ≡ []
+    → (if b then r else q).view.found ≡ []
 either true r q this that = this
 either false r q this that = that
 
-awaited : (st : Standing) (us : List Ticket) (v : CoordinatorView) → v.found ≡ [] → (awaits st us v).found ≡ []
+awaited : (st : Standing) (us : List Ticket) (v : CoordinatorView) → v.found ≡ []
+    → (awaits st us v).found ≡ []
 awaited st us v none = by_test (none_of us)
   where
     by_test : (b : Bool)
-        → (if b then unknown_view else record v { standing = st; named = v.named ++ us; owed = us }).found ≡ []
+        → (if b then unknown_view else record v { standing = st; named = v.named ++ us; owed = us }).found
+        ≡ []
     by_test true = refl
     by_test false = none
 
-pub asked : (s : Seat) (v : CoordinatorView) (p : Presumption) → v.found ≡ [] → (active_commit_with s v p).view.found ≡ []
+pub asked : (s : Seat) (v : CoordinatorView) (p : Presumption) → v.found ≡ []
+    → (active_commit_with s v p).view.found ≡ []
 asked s v PresumeAbort none = none
 asked s v PresumeCommit none = none
 
@@ -116,7 +120,8 @@ heard s w t at_root none =
     ∙ ap (walks w) (acked s t w.view w.view.standing at_root)
     ∙ ap (λ fs. walks w (on_ack First s t Committed fs w.view w.view.standing)) (sym none)
 
-pub found_then : (s : Seat) (w : Walked) (t : Ticket) → w.view.found ≡ [] → (Counts.hears_ack s w t).view.found ≡ []
+pub found_then : (s : Seat) (w : Walked) (t : Ticket) → w.view.found ≡ []
+    → (Counts.hears_ack s w t).view.found ≡ []
 found_then s w t none =
     ap (λ fs. (on_ack First s t Committed fs w.view w.view.standing).view.found) none
     ∙ found_none s t w.view w.view.standing none
@@ -138,7 +143,8 @@ alike : (l : Leaf) (n : ℕ) (ws : List Write) (told : Option Outcome)
     manager_cost Second l n ws v ≡ Counts.manager_cost l n ws v
 alike l n ws told = rw (same_number n) refl
 
-managed : (ver : Version) (l : Leaf) (n : ℕ) (ws : List Write) (v : ManagerView) → v.standing ≡ Active → v.done ≡ n
+managed : (ver : Version) (l : Leaf) (n : ℕ) (ws : List Write) (v : ManagerView) → v.standing ≡ Active
+    → v.done ≡ n
     → v.spoiled ≡ false → manager_cost ver l n ws v ≡ Counts.manager_cost l n ws v
 managed First l n ws v active done sound = refl
 managed Second l n ws v active done sound =
@@ -164,5 +170,6 @@ costs_by Second s =
           (all_heard s (asks s v) votes (either (none_of v.accepted) (active_commit_alone s) _ refl
           (asked s v s.own.txn.presumption nothing)))
           ∙ costs.root at_root v active none takes votes acks is is';
-      manager = λ l n ws v active done sound. managed Second l n ws v active done sound ∙ costs.manager l n ws v active done sound;
+      manager = λ l n ws v active done sound. managed Second l n ws v active done sound
+          ∙ costs.manager l n ws v active done sound;
     }

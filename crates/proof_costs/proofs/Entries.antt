@@ -23,7 +23,8 @@ none_before : (n : ℕ) → 0 + n ≡ n
 none_before n = omega arith
 
 pub after_nothing : (c : Cost) → together no_cost c ≡ c
-after_nothing c = cost_is (together no_cost c) c (none_before c.records) (none_before c.forced) (none_before c.messages)
+after_nothing c = cost_is (together no_cost c) c (none_before c.records) (none_before c.forced)
+    (none_before c.messages)
 
 forced_from : (n : ℕ) (ws : List Written)
     → fold (λ k l. k + (if l.forced then 1 else 0)) n (map logged_of ws)

@@ -21,7 +21,8 @@ module _ (place : Place) (n : Node) (h : Heard) (e : Effect) (r : reacts place n
       → hears place.role h.version place n h.data_answer m ≡ e
   unfolding reacts
   hears_so k m i = by_up n.failed
-      (subst (λ (x : Input). (if act_is_listed place.tree x then handles place n h x else Refused NoSuch) ≡ Does e) i r)
+      (subst (λ (x : Input). (if act_is_listed place.tree x then handles place n h x else Refused NoSuch)
+      ≡ Does e) i r)
     where
       by_up : (b : Bool)
           → (if b then Refused Failed else Does (hears place.role h.version place n h.data_answer m)) ≡ Does e
@@ -33,7 +34,8 @@ module _ (place : Place) (n : Node) (h : Heard) (e : Effect) (r : reacts place n
   pub acts_so : (a : Act) → h.input ≡ ActInput a → acts place.role place n a ≡ Does e
   unfolding reacts
   acts_so a i = by_listed (names_listed place.tree a) n.failed
-      (subst (λ (x : Input). (if act_is_listed place.tree x then handles place n h x else Refused NoSuch) ≡ Does e) i r)
+      (subst (λ (x : Input). (if act_is_listed place.tree x then handles place n h x else Refused NoSuch)
+      ≡ Does e) i r)
     where
       by_listed : (b f : Bool)
           → (if b then (if f then Refused Failed else acts place.role place n a) else Refused NoSuch) ≡ Does e

@@ -51,7 +51,8 @@ module _ (l : Leaf) (ver : Version) (rs : List Record) where
   obeyed : (p : Presumption) (r : Record)
       → together (record { records = 1; forced = 1; messages = 1 })
       (cost_of (record { entry = r; is_forced = is_acknowledged p Committed } ∷ [])
-      (if is_acknowledged p Committed then post l.me l.parent (Ack l.own Committed []) ∷ [] else [])) ≡ manager_price p
+      (if is_acknowledged p Committed then post l.me l.parent (Ack l.own Committed []) ∷ [] else []))
+      ≡ manager_price p
   obeyed PresumeAbort r = refl
   obeyed PresumeCommit r = refl
 
@@ -64,7 +65,8 @@ module _ (l : Leaf) (ver : Version) (rs : List Record) where
   by_holding ReadsOnly = λ e. unheard (is_acknowledged l.own.txn.presumption Committed) _ e
   by_holding (Holds ws) = λ e. (obeyed l.own.txn.presumption (ManagerRows.ends_record l Committed), refl)
 
-  by_done : (i : ℕ) (holding : Holding) (v : ManagerView) → let r = ManagerRows.on_prepare l i holding v Active in
+  by_done : (i : ℕ) (holding : Holding) (v : ManagerView)
+      → let r = ManagerRows.on_prepare l i holding v Active in
       Paid r r.view
   by_done i holding v = by_test ((v.done == i) && not v.spoiled)
     where
@@ -88,10 +90,15 @@ module _ (me p : ProcessId) (tree : List TreeProcess) (d : Case) where
 
   heard_as : (h : Heard) (k : ℕ) (m : Message) → h.input ≡ MessageInput k m
       → h ≡ hears_message h.version k m h.data_answer
-  heard_as h k m i = ap (λ (x : Input). record { input = x; data_answer = h.data_answer; version = h.version }) i
+  heard_as h k m i = ap (λ (x : Input). record {
+    input = x;
+    data_answer = h.data_answer;
+    version = h.version;
+  }) i
 
   -- an entry of another case leaves this one
-  leaves : (n : Node) (h : Heard) (e : Effect) (entry : JournalEntry) → Any n → entry.step.happening ≡ Handles h.input
+  leaves : (n : Node) (h : Heard) (e : Effect) (entry : JournalEntry) → Any n
+      → entry.step.happening ≡ Handles h.input
       → entry.reaction ≡ reaction_of e → reacts place n h ≡ Does e → is_of (of_case d) entry ≡ false
       → see (after n h e) ≡ see n
   leaves n h e entry any hp sh r f = by_input h.input refl
@@ -113,7 +120,8 @@ module _ (me p : ProcessId) (tree : List TreeProcess) (d : Case) where
           (subst (λ (x : Effect). see (after n (hears_message h.version k m h.data_answer) x) ≡ see n) same
           (other_message me p tree n d h.version k m h.data_answer
           (subst (λ (x : Input). happening_is_of (of_case d) (Handles x) ≡ false) i unnamed)
-          (subst (λ (x : Effect). list_any (λ l. message_is_of (of_case d) l.message) x.messages ≡ false) (sym same) unsent)))
+          (subst (λ (x : Effect). list_any (λ l. message_is_of (of_case d) l.message) x.messages ≡ false)
+          (sym same) unsent)))
       by_input (ActInput a) i =
           subst (λ (x : Heard). see (after n x e) ≡ see n)
           (sym (ap (λ (x : Input). record { input = x; data_answer = h.data_answer; version = h.version }) i))
@@ -128,10 +136,12 @@ module _ (me p : ProcessId) (tree : List TreeProcess) (d : Case) where
       (leaf_effect row ≡ e) × (see (after n h e) ≡ row.view)
   prepares n h e r k i same =
       let so = hears_so place n h e r k (Prepare d i) same in
-      let row = ManagerRows.on_prepare (leaf_of place p d) i h.data_answer.holding (see n) (see n).standing in (
+      let row = ManagerRows.on_prepare (leaf_of place p d) i h.data_answer.holding (see n) (see n).standing
+      in (
         so,
         subst (λ (x : Heard). see (after n x e) ≡ row.view) (sym (heard_as h k (Prepare d i) same))
-            (subst (λ (x : Effect). see (after n (hears_message h.version k (Prepare d i) h.data_answer) x) ≡ row.view) so
+            (subst (λ (x : Effect). see (after n (hears_message h.version k (Prepare d i) h.data_answer) x)
+            ≡ row.view) so
             ((manager_views h.version me p tree n d).prepare k i h.data_answer).moved),
       )
 
@@ -144,7 +154,8 @@ module _ (me p : ProcessId) (tree : List TreeProcess) (d : Case) where
       let row = ManagerRows.on_commit h.version (leaf_of place p d) (kept n) (see n) (see n).standing in (
         so,
         subst (λ (x : Heard). see (after n x e) ≡ row.view) (sym (heard_as h k (Commit d) same))
-            (subst (λ (x : Effect). see (after n (hears_message h.version k (Commit d) h.data_answer) x) ≡ row.view) so
+            (subst (λ (x : Effect). see (after n (hears_message h.version k (Commit d) h.data_answer) x)
+            ≡ row.view) so
             ((manager_views h.version me p tree n d).commit k h.data_answer (kept n)).moved),
       )
 
@@ -173,7 +184,8 @@ module _ (me p : ProcessId) (tree : List TreeProcess) (d : Case) where
   abbrev own : Leaf
   own = leaf_of place p d
 
-  two_paid : (ver : Version) (rs : List Record) (es : List JournalEntry) (a b : JournalEntry) (r : LeafRow) (v : ManagerView)
+  two_paid : (ver : Version) (rs : List Record) (es : List JournalEntry) (a b : JournalEntry) (r : LeafRow)
+      (v : ManagerView)
       → es ≡ a ∷ b ∷ [] → a.reaction ≡ reaction_of (leaf_effect r)
       → b.reaction ≡ reaction_of (leaf_effect (ManagerRows.on_commit ver own rs v v.standing))
       → Paid own ver rs r v → list_any (shows_yes d) es ≡ true
@@ -185,26 +197,31 @@ module _ (me p : ProcessId) (tree : List TreeProcess) (d : Case) where
       (ap entries_cost both ∙ (two_pay a b r q e f ∙ k.0), k.1)
 
   -- what they cost
-  pub paid : (n : Node) (es : List JournalEntry) (n' : Node) → Plain place Any n es n' → (i : ℕ) → (see n).standing ≡ Active
+  pub paid : (n : Node) (es : List JournalEntry) (n' : Node) → Plain place Any n es n' → (i : ℕ)
+      → (see n).standing ≡ Active
       → causes (mine es) ≡ Brings (Prepare d i) ∷ Brings (Commit d) ∷ []
       → list_any (shows_yes d) (mine es) ≡ true
       → (entries_cost (mine es) ≡ manager_price d.txn.presumption) × (see n' ≡ unknown_branch)
   paid n es n' plain i active are votes =
-      let a = next_of place Any (of_case d) see leaves n es n' plain (Brings (Prepare d i)) (Brings (Commit d) ∷ []) are in
+      let a = next_of place Any (of_case d) see leaves n es n' plain (Brings (Prepare d i))
+      (Brings (Commit d) ∷ []) are in
       let ab = brought a.heard.input (Prepare d i) (ap cause_of (sym a.handles_it) ∙ a.by_cause) in
       let ar = prepares a.at a.heard a.effect a.reacts_so ab.0 i ab.1 in
       let b = next_of place Any (of_case d) see leaves (after a.at a.heard a.effect) a.rest n' a.goes_on_plain
       (Brings (Commit d)) [] a.then_causes in
       let bb = brought b.heard.input (Commit d) (ap cause_of (sym b.handles_it) ∙ b.by_cause) in
       let br = commits b.at b.heard b.effect b.reacts_so bb.0 bb.1 in
-      let z = none_next place Any (of_case d) see leaves (after b.at b.heard b.effect) b.rest n' b.goes_on_plain
+      let z = none_next place Any (of_case d) see leaves (after b.at b.heard b.effect) b.rest
+      n' b.goes_on_plain
       b.then_causes in
       let hold = a.heard.data_answer.holding in
       let ver = b.heard.version in
       let rs = kept b.at in
       let first = ManagerRows.on_prepare own i hold (see a.at) (see a.at).standing in
       let begun : Paid own ver rs first first.view =
-      subst (λ (s : Standing). let r = ManagerRows.on_prepare own i hold (see a.at) s in Paid own ver rs r r.view)
+      subst
+      (λ (s : Standing).
+      let r = ManagerRows.on_prepare own i hold (see a.at) s in Paid own ver rs r r.view)
       (sym (ap (λ (v : ManagerView). v.standing) a.seen ∙ active)) (by_done own ver rs i hold (see a.at)) in
       let k = two_paid ver rs (mine es) a.entry b.entry first (see b.at)
       (a.is_next ∙ ap (λ xs. a.entry ∷ xs) (b.is_next ∙ ap (λ xs. b.entry ∷ xs) z.0))
@@ -214,7 +231,8 @@ module _ (me p : ProcessId) (tree : List TreeProcess) (d : Case) where
 
 -- In a run.
 
-pub manager_pays : (tree : List TreeProcess) (es : List Made) (w : World) → IsRun tree es w → (later : List Made)
+pub manager_pays : (tree : List TreeProcess) (es : List Made) (w : World) → IsRun tree es w
+    → (later : List Made)
     (w' : World) → Continues tree w later w' → (p parent : ProcessId) (d : Case) (n : ℕ)
     → ManagerCommits tree w (journal_of later) p parent d n → ManagerPays tree w' (journal_of later) p d
 manager_pays tree es w run later w' on p parent d n c =
@@ -224,9 +242,11 @@ manager_pays tree es w run later w' on p parent d n c =
     let chain = subst (λ (r : Role). Chain (at r) F (w.at p) l (w'.at p)) c.manager
     (chain_of tree p F (λ es w run. tt) es w run later w' on) in
     let plain = plain_of (at (AtLeaf parent)) F (λ n i. refl) (w.at p) l (w'.at p) chain c.undisturbed in
-    let active = subst (λ (r : Role). (manager_view (at r) (w.at p) d).standing ≡ Active) c.manager c.is_active in
+    let active = subst (λ (r : Role). (manager_view (at r) (w.at p) d).standing ≡ Active)
+    c.manager c.is_active in
     let k = paid p parent tree d (w.at p) l (w'.at p) plain n active c.are c.votes_yes in
     record {
       cost = k.0;
-      is_forgotten = subst (λ (r : Role). manager_view (at r) (w'.at p) d ≡ unknown_branch) (sym c.manager) k.1;
+      is_forgotten = subst (λ (r : Role). manager_view (at r) (w'.at p) d ≡ unknown_branch)
+          (sym c.manager) k.1;
     }

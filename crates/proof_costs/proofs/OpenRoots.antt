@@ -57,7 +57,8 @@ unvoted_all me boot c m (h ∷ hs) u =
     unvoted_all me boot c (root_remembers me boot c m h.input) hs
     (unvoted_then me boot c m h.input (root_remembers me boot c m h.input) (moves None me boot c m h.input) u)
 
-unvoted : (me : ProcessId) (tree : List TreeProcess) (n : Node) (c : Case) → Unvoted (memory_of (root_place me tree) n c)
+unvoted : (me : ProcessId) (tree : List TreeProcess) (n : Node) (c : Case)
+    → Unvoted (memory_of (root_place me tree) n c)
 unfolding memory_of
 unvoted me tree n c = unvoted_all me (boot_of (kept n)) c fresh_memory n.heard (λ e. refl)
 
@@ -73,12 +74,14 @@ none_yet me tree n x active =
     let m = memory_of (root_place me tree) n c in
     let rs = kept n in
     let s = stands_as First me tree n x Active active in
-    let f = active_facts (has (is_end c) rs) (has (is_commit c) rs) (has (is_abort c) rs) (has (is_prepare c) rs)
+    let f = active_facts (has (is_end c) rs) (has (is_commit c) rs) (has (is_abort c) rs)
+    (has (is_prepare c) rs)
     (has (is_collecting c) rs) (none_of (owing_by c rs)) (phase_standing x.presumption m.phase) s in
     let opened : m.phase ≡ Open = phase_active x.presumption m.phase f.heard in
     let unacked : m.acks ≡ [] = subst (λ (p : Phase). QuietAt p m.acks) opened (memory_quiet me tree n c) in
     let unfound : m.found ≡ [] = nothing_noted m.acks m.found (root_noted_all me tree n c) unacked in
-    subst (λ (v : CoordinatorView). (v.votes ≡ []) × (v.found ≡ [])) (sym (seen_as First me tree n x Active s)) (
+    subst (λ (v : CoordinatorView). (v.votes ≡ []) × (v.found ≡ []))
+    (sym (seen_as First me tree n x Active s)) (
       unvoted me tree n c opened,
       ap (λ fs. found_of fs Aborted (owing_by c rs)) unfound ∙ found_nowhere Aborted (owing_by c rs),
     )

@@ -37,8 +37,10 @@ module _ (me p : ProcessId) (tree : List TreeProcess) (n : Node) (d : Case) wher
 
   joins_other : (ver : Version) (k : ℕ) (a : DataAnswer) (c : Case) (o : Option Ticket) (b : Bool)
       → active_ticket (memory_of place n c).active c ≡ o → a.starts ≡ b
-      → list_any (λ l. message_is_of (of_case d) l.message) (leaf_joins place p n c (memory_of place n c) b o).messages ≡ false
-      → manager_view place (after n (hears_message ver k (Join c) a) (leaf_joins place p n c (memory_of place n c) b o)) d
+      → list_any (λ l. message_is_of (of_case d) l.message)
+      (leaf_joins place p n c (memory_of place n c) b o).messages ≡ false
+      → manager_view place (after n (hears_message ver k (Join c) a)
+      (leaf_joins place p n c (memory_of place n c) b o)) d
       ≡ manager_view place n d
   joins_other ver k a c (Some t) b e s u = ((manager_views ver me p tree n c).join k a).given_again t e d
   joins_other ver k a c None false e s u =
@@ -52,8 +54,10 @@ module _ (me p : ProcessId) (tree : List TreeProcess) (n : Node) (d : Case) wher
       (leaf_joins place p n c (memory_of place n c) x None)) d ≡ manager_view place n d) s
       (((manager_views ver me p tree n c).join k a).others e s d (turned _ d fresh.1))
 
-  pub other_message : (ver : Version) (k : ℕ) (m : Message) (a : DataAnswer) → message_is_of (of_case d) m ≡ false
-      → list_any (λ l. message_is_of (of_case d) l.message) (hears (AtLeaf p) ver place n a m).messages ≡ false
+  pub other_message : (ver : Version) (k : ℕ) (m : Message) (a : DataAnswer)
+      → message_is_of (of_case d) m ≡ false
+      → list_any (λ l. message_is_of (of_case d) l.message)
+      (hears (AtLeaf p) ver place n a m).messages ≡ false
       → manager_view place (after n (hears_message ver k m a) (hears (AtLeaf p) ver place n a m)) d
       ≡ manager_view place n d
   unfolding manager_view
@@ -63,12 +67,15 @@ module _ (me p : ProcessId) (tree : List TreeProcess) (n : Node) (d : Case) wher
   other_message ver k (Prepare c i) a f u = ((manager_views ver me p tree n c).prepare k i a).others d f
   other_message ver k (Commit c) a f u = ((manager_views ver me p tree n c).commit k a (kept n)).others d f
   other_message ver k (Abort c) a f u = ((manager_views ver me p tree n c).abort k a (kept n)).others d f
-  other_message ver k (Joined c t) a f u = quiet-after place n (hears_message ver k (Joined c t) a) no_effect d refl
+  other_message ver k (Joined c t) a f u = quiet-after place n (hears_message ver k (Joined c t) a)
+      no_effect d refl
   other_message ver k (Yes c) a f u = quiet-after place n (hears_message ver k (Yes c) a) no_effect d refl
   other_message ver k (No c) a f u = quiet-after place n (hears_message ver k (No c) a) no_effect d refl
   other_message ver k (Read c) a f u = quiet-after place n (hears_message ver k (Read c) a) no_effect d refl
-  other_message ver k (Ack c o fs) a f u = quiet-after place n (hears_message ver k (Ack c o fs) a) no_effect d refl
-  other_message ver k (Inquire c) a f u = quiet-after place n (hears_message ver k (Inquire c) a) no_effect d refl
+  other_message ver k (Ack c o fs) a f u = quiet-after place n (hears_message ver k (Ack c o fs) a)
+      no_effect d refl
+  other_message ver k (Inquire c) a f u = quiet-after place n (hears_message ver k (Inquire c) a)
+      no_effect d refl
 
   -- An act of another case.
 
@@ -87,7 +94,8 @@ module _ (me p : ProcessId) (tree : List TreeProcess) (n : Node) (d : Case) wher
   does_same : (g e : Effect) → Does g ≡ Does e → g ≡ e
   does_same g e q = cc
 
-  asks : (c : Case) (e : Effect) (v : ManagerView) (s : Standing) → leaf_ask_by (leaf_of place p c) v s ≡ Does e
+  asks : (c : Case) (e : Effect) (v : ManagerView) (s : Standing)
+      → leaf_ask_by (leaf_of place p c) v s ≡ Does e
       → leaf_effect (untold_ask (leaf_of place p c) v) ≡ e
   asks c e v Prepared r = does_same (leaf_effect (untold_ask (leaf_of place p c) v)) e r
   asks c e v Heuristic r = by_told v.told r
@@ -131,7 +139,8 @@ module _ (me p : ProcessId) (tree : List TreeProcess) (n : Node) (d : Case) wher
   other_act ver (AbortAct x) a e f r = never UnknownTxn e r
   other_act ver (Ask c) a e f r =
       let v = manager_view place n c in
-      subst (Stays ver a (Ask c)) (asks c e v v.standing r) (((manager_views ver me p tree n c).ask a).others d f)
+      subst (Stays ver a (Ask c)) (asks c e v v.standing r)
+      (((manager_views ver me p tree n c).ask a).others d f)
   other_act ver (Decide c o) a e f r =
       subst (Stays ver a (Decide c o)) (decided c o e (manager_view place n c).standing r)
       (((manager_views ver me p tree n c).decide o a).others d f)

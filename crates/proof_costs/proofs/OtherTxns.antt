@@ -36,7 +36,8 @@ use Rattle.proof_costs.proofs.Entries.{either_none}
 
 -- Rows: what a row of a case writes, no other case reads.
 
-cleared_of : (c : Case) (row : Row) (b : Bool) → row.written ≡ record { entry = ClearedRecord c; is_forced = b } ∷ []
+cleared_of : (c : Case) (row : Row) (b : Bool) → row.written
+    ≡ record { entry = ClearedRecord c; is_forced = b } ∷ []
     → IsRowOfCase c row
 cleared_of c row b h = record { boot = λ b. rw h refl; others = λ d rs m o. rw h (simp pushed refl) }
 
@@ -129,7 +130,8 @@ module _ (me : ProcessId) (tree : List TreeProcess) (n : Node) (x : Txn) where
     abbrev Stays : Effect → Type 0
     Stays e = coordinator_view place (after n h e) c ≡ coordinator_view place n c
 
-    kept_view : (e : Effect) → (Begins h.input → ⊥) → ((b : ℕ) → fold boot_after b (entries_written e.written) ≡ b)
+    kept_view : (e : Effect) → (Begins h.input → ⊥)
+        → ((b : ℕ) → fold boot_after b (entries_written e.written) ≡ b)
         → (let qs = kept n ++ entries_written e.written in
         view_at (coordinator_standing qs c m) qs c m ≡ view_at (coordinator_standing rs c m) rs c m)
         → Stays e
@@ -196,7 +198,8 @@ module _ (me : ProcessId) (tree : List TreeProcess) (n : Node) (x : Txn) where
     none_leaves (not_taken l i untaken) = quiet_view no_effect (no_message i.0 l i.1) refl
 
     begun_leaves : (p : Presumption) → h.input ≡ ActInput (Begin p)
-        → begun_is_of (of_txn x) (Some (next_begun place n p)) ≡ false → Stays (begin_effect (next_begun place n p))
+        → begun_is_of (of_txn x) (Some (next_begun place n p)) ≡ false
+        → Stays (begin_effect (next_begun place n p))
     begun_leaves p i b =
         subst (λ (g : Heard). coordinator_view place (after n g (begin_effect (next_begun place n p))) c
         ≡ coordinator_view place n c)
@@ -206,7 +209,8 @@ module _ (me : ProcessId) (tree : List TreeProcess) (n : Node) (x : Txn) where
     no_parent : {A : Type 0} (p : ProcessId) → None ≡ Some p → A
     no_parent p e = absurd (cc)
 
-    turn_leaves : (e : Effect) → CoordinatorTurn place None n h e → begun_is_of (of_txn x) e.begun ≡ false → Stays e
+    turn_leaves : (e : Effect) → CoordinatorTurn place None n h e → begun_is_of (of_txn x) e.begun ≡ false
+        → Stays e
     turn_leaves e (does_nothing i) b = none_leaves i
     turn_leaves e (of_case d row t) b = case_leaves d row t
     turn_leaves e (begins p top i) b = begun_leaves p i b
@@ -214,5 +218,6 @@ module _ (me : ProcessId) (tree : List TreeProcess) (n : Node) (x : Txn) where
     turn_leaves e (gives_fresh p d below i a) b = no_parent p below
     turn_leaves e (presumes y t i none) b = quiet_view e (no_message i.0 _ i.1) refl
 
-    pub other_leaves : (e : Effect) → reacts place n h ≡ Does e → begun_is_of (of_txn x) e.begun ≡ false → Stays e
+    pub other_leaves : (e : Effect) → reacts place n h ≡ Does e → begun_is_of (of_txn x) e.begun ≡ false
+        → Stays e
     other_leaves e r b = turn_leaves e (turn_here me None tree n h e r) b

@@ -75,9 +75,11 @@ module _ (me : ProcessId) (tree : List TreeProcess) (x : Txn) where
 
   heard_as : (h : Heard) (i : Input) → h.input ≡ i
       → h ≡ record { input = i; data_answer = h.data_answer; version = h.version }
-  heard_as h i e = ap (λ (z : Input). record { input = z; data_answer = h.data_answer; version = h.version }) e
+  heard_as h i e = ap (λ (z : Input). record { input = z; data_answer = h.data_answer; version = h.version })
+      e
 
-  leaves : (n : Node) (h : Heard) (e : Effect) (entry : JournalEntry) → Fact n → entry.step.happening ≡ Handles h.input
+  leaves : (n : Node) (h : Heard) (e : Effect) (entry : JournalEntry) → Fact n
+      → entry.step.happening ≡ Handles h.input
       → entry.reaction ≡ reaction_of e → reacts place n h ≡ Does e → is_of (of_txn x) entry ≡ false
       → see (after n h e) ≡ see n
   leaves n h e entry fact hp sh r f =
@@ -98,11 +100,16 @@ module _ (me : ProcessId) (tree : List TreeProcess) (x : Txn) where
   moved_so n h e i row same so moved = record {
     effect_is = so;
     view_is = subst (λ (z : Heard). see (after n z e) ≡ row.view) (sym (heard_as h i same))
-        (subst (λ (z : Effect). see (after n (record { input = i; data_answer = h.data_answer; version = h.version }) z)
+        (subst (λ (z : Effect). see (after n (record {
+          input = i;
+          data_answer = h.data_answer;
+          version = h.version;
+        }) z)
         ≡ row.view) so moved);
   }
 
-  commit_step : (n : Node) (h : Heard) (e : Effect) → reacts place n h ≡ Does e → h.input ≡ ActInput (CommitAct x)
+  commit_step : (n : Node) (h : Heard) (e : Effect) → reacts place n h ≡ Does e
+      → h.input ≡ ActInput (CommitAct x)
       → (see n).standing ≡ Active → IsRow n h e (active_commit seat (see n))
   commit_step n h e r i active =
       moved_so n h e (ActInput (CommitAct x)) (active_commit seat (see n)) i
@@ -129,7 +136,8 @@ module _ (me : ProcessId) (tree : List TreeProcess) (x : Txn) where
   word_step : (w : Word) (n : Node) (h : Heard) (e : Effect) → Fact n → reacts place n h ≡ Does e → (k : ℕ)
       → h.input ≡ MessageInput k (word_message w) → (see n).found ≡ [] → IsRow n h e (word_row seat w (see n))
   word_step (Votes t) n h e fact r k i none =
-      moved_so n h e (MessageInput k (Yes (child_case x t))) (on_vote seat t VoteYes (see n) (see n).standing) i
+      moved_so n h e (MessageInput k (Yes (child_case x t)))
+      (on_vote seat t VoteYes (see n) (see n).standing) i
       (sym (vote_does me tree n x t) ∙ hears_so place n h e r k (Yes (child_case x t)) i)
       (((root_views h.version me tree n x).vote k h.data_answer t VoteYes
       (fact (turn_of place n h e r).up (root_case x))).moved)
@@ -138,7 +146,8 @@ module _ (me : ProcessId) (tree : List TreeProcess) (x : Txn) where
       subst (IsRow n h e) alike
       (moved_so n h e (MessageInput k (Ack (child_case x t) CommittedOutcome []))
       (on_ack h.version seat t CommittedOutcome ((see n).found ++ []) (see n) (see n).standing) i
-      (sym (ack_does me tree n x t h.version) ∙ hears_so place n h e r k (Ack (child_case x t) CommittedOutcome []) i)
+      (sym (ack_does me tree n x t h.version) ∙ hears_so place n h e r k
+      (Ack (child_case x t) CommittedOutcome []) i)
       (((root_views h.version me tree n x).acknowledgement k h.data_answer t CommittedOutcome []
       (fact (turn_of place n h e r).up (root_case x))).moved))
 
@@ -157,7 +166,8 @@ module _ (me : ProcessId) (tree : List TreeProcess) (x : Txn) where
   -- what the children's entries cost
   rest_pays : (ws : List Word) (n : Node) (es : List JournalEntry) (n' : Node) → Plain place Fact n es n'
       → causes (mine es) ≡ map (λ w. Brings (word_message w)) ws → (c : Cost) → (see n).found ≡ []
-      → fold (says seat) (record { cost = c; view = see n }) ws ≡ record { cost = pays c (mine es); view = see n' }
+      → fold (says seat) (record { cost = c; view = see n }) ws
+      ≡ record { cost = pays c (mine es); view = see n' }
   rest_pays [] n es n' plain are c none =
       let z = none_next place Fact (of_txn x) see leaves n es n' plain are in
       (λ j. record { cost = pays c (sym z.0 j); view = sym z.1 j })
@@ -202,7 +212,8 @@ module _ (me : ProcessId) (tree : List TreeProcess) (x : Txn) where
       ∙ (entry_pays a.entry a.effect a.shows_it
       ∙ ap (λ (z : Effect). cost_of z.written z.messages) (sym step.effect_is)) in
       let later = rest_pays ws (after a.at a.heard a.effect) a.rest n' a.goes_on_plain a.then_causes
-      (together no_cost (entry_cost a.entry)) (ap (λ (v : CoordinatorView). v.found) step.view_is ∙ row_finds) in
+      (together no_cost (entry_cost a.entry)) (ap (λ (v : CoordinatorView). v.found) step.view_is ∙ row_finds)
+      in
       ap (λ (z : Walked). fold (says seat) z ws)
       (ap (asks seat) (sym a.seen) ∙ (λ j. record { cost = sym paid j; view = sym step.view_is j }))
       ∙ (later ∙ ap (λ es. record { cost = pays no_cost es; view = see n' }) (sym a.is_next))
@@ -210,7 +221,8 @@ module _ (me : ProcessId) (tree : List TreeProcess) (x : Txn) where
   -- Votes, and acknowledgements after them.
 
   voted_first : (votes : List Ticket) (ws : List Word) (w : Walked)
-      → fold (says seat) w (map (λ t. Votes t) votes ++ ws) ≡ fold (says seat) (fold (hears_yes seat) w votes) ws
+      → fold (says seat) w (map (λ t. Votes t) votes ++ ws)
+      ≡ fold (says seat) (fold (hears_yes seat) w votes) ws
   voted_first [] ws w = refl
   voted_first (t ∷ votes) ws w = voted_first votes ws (hears_yes seat w t)
 
@@ -225,18 +237,22 @@ module _ (me : ProcessId) (tree : List TreeProcess) (x : Txn) where
       ++ map (λ t. Brings (Ack (child_case x t) CommittedOutcome [])) acks
   brought_votes (t ∷ votes) acks = ap (λ l. Brings (Yes (child_case x t)) ∷ l) (brought_votes votes acks)
   brought_votes [] [] = refl
-  brought_votes [] (t ∷ acks) = ap (λ l. Brings (Ack (child_case x t) CommittedOutcome []) ∷ l) (brought_votes [] acks)
+  brought_votes [] (t ∷ acks) = ap (λ l. Brings (Ack (child_case x t) CommittedOutcome []) ∷ l)
+      (brought_votes [] acks)
 
-  pub paid : (n : Node) (es : List JournalEntry) (n' : Node) → Plain place Fact n es n' → (votes acks : List Ticket)
+  pub paid : (n : Node) (es : List JournalEntry) (n' : Node) → Plain place Fact n es n'
+      → (votes acks : List Ticket)
       → (see n).standing ≡ Active → none_of (see n).accepted ≡ false
       → IsOrderOf votes (see n).accepted → IsOrderOf acks (see n).accepted
       → causes (mine es) ≡ update_causes x votes (acknowledging x.presumption acks)
-      → (entries_cost (mine es) ≡ root_price x.presumption (length (see n).accepted)) × (see n' ≡ unknown_view)
+      → (entries_cost (mine es) ≡ root_price x.presumption (length (see n).accepted))
+      × (see n' ≡ unknown_view)
   paid n es n' plain votes acks active takes is is' are =
       let none = none_yet me tree n x active in
       let as' = acknowledging x.presumption acks in
       let ws = map (λ t. Votes t) votes ++ map (λ t. Acknowledges t) as' in
-      let walk = all_pay n es n' plain ws (are ∙ ap (λ l. Acts (CommitAct x) ∷ l) (sym (brought_votes votes as'))) active
+      let walk = all_pay n es n' plain ws (are ∙ ap (λ l. Acts (CommitAct x) ∷ l)
+      (sym (brought_votes votes as'))) active
       none.1 in
       let rows : fold (says seat) (asks seat (see n)) ws ≡ root_walk First seat (see n) votes acks =
       voted_first votes (map (λ t. Acknowledges t) as') (asks seat (see n))

@@ -1,4 +1,5 @@
--- What a vote and an acknowledgement do at a root, also if the ticket belongs to no case: what their rows say.
+-- What a vote and an acknowledgement do at a root, also if the ticket belongs to no case: what their rows
+-- say.
 use Rattle.std.proofs.Common.{◌≡◌, Bool, true, false, Some, None, List, [], ◌∷◌, ◌++◌, refl, sym, ap, if◌then◌else◌}
 use Rattle.std.specs.Prelude.{filter}
 use Rattle.protocol.specs.declared.names.Case.{Case}
@@ -33,13 +34,15 @@ in_neither : (ts us : List Ticket) (t : Ticket) → in_list (ts ++ us) t ≡ fal
 unfolding in_list
 in_neither [] us t h = (refl, h)
 in_neither (u ∷ ts) us t h =
-    let rest = in_neither ts us t (other_false (same_ticket u t) _ h) in (rw (either_false (same_ticket u t) _ h, rest.0) refl, rest.1)
+    let rest = in_neither ts us t (other_false (same_ticket u t) _ h)
+    in (rw (either_false (same_ticket u t) _ h, rest.0) refl, rest.1)
 
 both_not : (ts us : List Ticket) (t : Ticket) → in_list ts t ≡ false → in_list us t ≡ false
     → in_list (ts ++ us) t ≡ false
 unfolding in_list
 both_not [] us t h k = k
-both_not (u ∷ ts) us t h k = rw (either_false (same_ticket u t) _ h) (both_not ts us t (other_false (same_ticket u t) _ h) k)
+both_not (u ∷ ts) us t h k = rw (either_false (same_ticket u t) _ h)
+    (both_not ts us t (other_false (same_ticket u t) _ h) k)
 
 owing_one : (c : Case) (t : Ticket) (r : Record) → in_list (named_in c r) t ≡ false
     → in_list (owing_in c r) t ≡ false
@@ -55,7 +58,8 @@ owes_not c t (r ∷ rs) h =
     let parts = in_neither (named_in c r) (named_by c rs) t h in
     both_not (owing_in c r) (owing_by c rs) t (owing_one c t r parts.0) (owes_not c t rs parts.1)
 
-filter_not : (q : Ticket → Bool) (ts : List Ticket) (t : Ticket) → in_list ts t ≡ false → in_list (filter q ts) t ≡ false
+filter_not : (q : Ticket → Bool) (ts : List Ticket) (t : Ticket) → in_list ts t ≡ false
+    → in_list (filter q ts) t ≡ false
 unfolding in_list
 filter_not q [] t h = refl
 filter_not q (u ∷ ts) t h = by_test (q u) (filter_not q ts t (other_false (same_ticket u t) _ h))
@@ -65,7 +69,8 @@ filter_not q (u ∷ ts) t h = by_test (q u) (filter_not q ts t (other_false (sam
     by_test true rest = rw (either_false (same_ticket u t) _ h) rest
     by_test false rest = rest
 
-still_not : (acks : List (Ticket × Outcome)) (o : Outcome) (ts : List Ticket) (t : Ticket) → in_list ts t ≡ false
+still_not : (acks : List (Ticket × Outcome)) (o : Outcome) (ts : List Ticket) (t : Ticket)
+    → in_list ts t ≡ false
     → in_list (still_owed acks o ts) t ≡ false
 unfolding still_owed
 still_not acks o ts t h = filter_not _ ts t h
@@ -111,10 +116,12 @@ module _ (me : ProcessId) (tree : List TreeProcess) (n : Node) (x : Txn) (t : Ti
       by_test true f = refl
       by_test false f = ap (row_effect c) (sym (vote_unheard (coordinator_standing rs c m) f))
 
-  ack_unheard : (ver : Version) (s : Standing) (fs : List Finding) → belongs m rs c t ≡ false → let v = view_at s rs c m in
+  ack_unheard : (ver : Version) (s : Standing) (fs : List Finding) → belongs m rs c t ≡ false
+      → let v = view_at s rs c m in
       on_ack ver seat t CommittedOutcome fs v v.standing ≡ quiet v
   ack_unheard ver Committing fs f =
-      rw (still_not m.acks CommittedOutcome (owing_by c rs) t (owes_not c t rs (other_false (in_list m.accepted t) (in_list (named_by c rs) t) f))) refl
+      rw (still_not m.acks CommittedOutcome (owing_by c rs) t
+      (owes_not c t rs (other_false (in_list m.accepted t) (in_list (named_by c rs) t) f))) refl
   ack_unheard ver Collecting fs f = refl
   ack_unheard ver Unknown fs f = refl
   ack_unheard ver Active fs f = refl

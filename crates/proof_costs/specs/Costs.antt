@@ -28,8 +28,8 @@ manager_cost ver l n ws v =
     let outcome = ManagerRows.on_commit ver l [] promise.view promise.view.standing in
     together (leaf_cost promise) (leaf_cost outcome)
 
--- A committed update of a flat tree, of which nothing was found that contradicts it, costs the root and each manager by
--- this version what it costs by the first one; and at the end neither knows of the case.
+-- A committed update of a flat tree, of which nothing was found that contradicts it, costs the root and each
+-- manager by this version what it costs by the first one; and at the end neither knows of the case.
 pub record CommittedUpdateCostsBy (ver : Version) (s : Seat) : Type 0 where
   pub root : s.parent ≡ None → (v : CoordinatorView) → v.standing ≡ Active → v.votes ≡ [] → v.found ≡ []
       → none_of v.accepted ≡ false

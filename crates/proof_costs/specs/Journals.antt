@@ -1,5 +1,5 @@
--- What a committed update costs in the journal of a run: the entries of one transaction at its root, and those of one case
--- at a manager, with any others between them.
+-- What a committed update costs in the journal of a run: the entries of one transaction at its root, and
+-- those of one case at a manager, with any others between them.
 use Rattle.std.specs.Prelude.{◌≡◌, ◌||◌, ◌&&◌, ℕ, Bool, true, false, Option, Some, None, is_none, List, [], ◌∷◌, ◌++◌, count_by, filter, fold, length, map}
 use Rattle.std.specs.List.{list_all, list_any}
 use Rattle.protocol.specs.declared.names.Case.{Case}
@@ -90,8 +90,8 @@ record_is_of q (OfCase c) = q c
 record_is_of q (Boot n) = false
 record_is_of q Other = false
 
--- an entry is of a case that passes the test: what it handles names the case, or it shows that the case began, a record of
--- it, or a message of it
+-- an entry is of a case that passes the test: what it handles names the case, or it shows that the case
+-- began, a record of it, or a message of it
 unfoldable pub is_of : (Case → Bool) → JournalEntry → Bool
 is_of q e =
     (happening_is_of q e.step.happening || begun_is_of q e.reaction.begun)
@@ -152,11 +152,12 @@ update_causes x votes acks =
     ∷ (map (λ t. Brings (Yes (child_case x t))) votes
     ++ map (λ t. Brings (Ack (child_case x t) Committed [])) acks)
 
--- The journal's entries after a world have a committed update of a transaction at its root. In the world the transaction is
--- Active there, and has accepted tickets. After it the root neither restarts nor trims its log nor fails. The entries of the
--- transaction are its commit act, YES of each accepted ticket, in one order, and then, under Presumed Abort, an
--- acknowledgement of each that finds nothing, in another.
-pub record RootCommits (tree : List TreeProcess) (w : World) (entries : List JournalEntry) (p : ProcessId) (x : Txn)
+-- The journal's entries after a world have a committed update of a transaction at its root. In the world the
+-- transaction is Active there, and has accepted tickets. After it the root neither restarts nor trims its log
+-- nor fails. The entries of the transaction are its commit act, YES of each accepted ticket, in one order,
+-- and then, under Presumed Abort, an acknowledgement of each that finds nothing, in another.
+pub record RootCommits (tree : List TreeProcess) (w : World) (entries : List JournalEntry)
+    (p : ProcessId) (x : Txn)
     (votes acks : List Ticket) : Type 0 where
   pub root : role_of tree p ≡ AtRoot
   pub is_active : (seen_at_root tree w p x).standing ≡ Active
@@ -167,8 +168,10 @@ pub record RootCommits (tree : List TreeProcess) (w : World) (entries : List Jou
   pub are : causes (entries_of_case (of_txn x) p entries)
       ≡ update_causes x votes (acknowledging x.presumption acks)
 
--- these entries cost the root what R* says of N children, and in the world after them it knows of no such transaction
-pub record RootPays (tree : List TreeProcess) (w w' : World) (entries : List JournalEntry) (p : ProcessId) (x : Txn)
+-- these entries cost the root what R* says of N children, and in the world after them it knows of no such
+-- transaction
+pub record RootPays (tree : List TreeProcess) (w w' : World) (entries : List JournalEntry)
+    (p : ProcessId) (x : Txn)
     : Type 0 where
   pub cost : entries_cost (entries_of_case (of_txn x) p entries)
       ≡ root_price x.presumption (length (seen_at_root tree w p x).accepted)
@@ -184,10 +187,11 @@ seen_at_manager tree w p d = manager_view (place_of tree p) (w.at p) d
 abbrev pub shows_yes : Case → JournalEntry → Bool
 shows_yes d e = list_any (λ l. is_yes_message d l.message) e.reaction.messages
 
--- The journal's entries after a world have a committed update of a case at a manager. In the world the case is Active
--- there. After it the manager neither restarts nor trims its log nor fails. The entries of the case are PREPARE and COMMIT,
--- and it answers YES; so its works were done, and it wrote.
-pub record ManagerCommits (tree : List TreeProcess) (w : World) (entries : List JournalEntry) (p parent : ProcessId) (d : Case)
+-- The journal's entries after a world have a committed update of a case at a manager. In the world the case
+-- is Active there. After it the manager neither restarts nor trims its log nor fails. The entries of the case
+-- are PREPARE and COMMIT, and it answers YES; so its works were done, and it wrote.
+pub record ManagerCommits (tree : List TreeProcess) (w : World) (entries : List JournalEntry)
+    (p parent : ProcessId) (d : Case)
     (n : ℕ) : Type 0 where
   pub manager : role_of tree p ≡ AtLeaf parent
   pub is_active : (seen_at_manager tree w p d).standing ≡ Active
@@ -196,7 +200,8 @@ pub record ManagerCommits (tree : List TreeProcess) (w : World) (entries : List 
   pub votes_yes : list_any (shows_yes d) (entries_of_case (of_case d) p entries) ≡ true
 
 -- these entries cost the manager what R* says, and in the world after them it knows of no such case
-pub record ManagerPays (tree : List TreeProcess) (w' : World) (entries : List JournalEntry) (p : ProcessId) (d : Case)
+pub record ManagerPays (tree : List TreeProcess) (w' : World) (entries : List JournalEntry)
+    (p : ProcessId) (d : Case)
     : Type 0 where
   pub cost : entries_cost (entries_of_case (of_case d) p entries) ≡ manager_price d.txn.presumption
   pub is_forgotten : seen_at_manager tree w' p d ≡ unknown_branch

@@ -134,7 +134,8 @@ found_sent net q (suc k) m f =
 -- A process alone.
 
 -- what it was before it had made anything
-pub record OpenedAlone (tree : List TreeProcess) (q : ProcessId) (t : CoreState) (e : ManagerData) : Type 0 where
+pub record OpenedAlone (tree : List TreeProcess) (q : ProcessId) (t : CoreState)
+    (e : ManagerData) : Type 0 where
   pub core : CoreState
   pub held : ManagerData
   pub node : NodeOpened tree q core
@@ -142,7 +143,8 @@ pub record OpenedAlone (tree : List TreeProcess) (q : ProcessId) (t : CoreState)
   pub stays : SameCore core t
   pub holds : DataRests held e
 
-opened_alone : (tree : List TreeProcess) (q : ProcessId) (xs : List JournalEntry) (s : CoreState) (d : ManagerData)
+opened_alone : (tree : List TreeProcess) (q : ProcessId) (xs : List JournalEntry) (s : CoreState)
+    (d : ManagerData)
     → RunsAlone tree q xs s d → xs ≡ [] → OpenedAlone tree q s d
 opened_alone tree q _ s d (opens_alone _ _ node empty) none = record {
   core = s;
@@ -165,7 +167,8 @@ opened_alone tree q _ t e (stays_alone xs s _ d _ run stays holds) none =
 opened_alone tree q _ t e (steps_alone xs x _ _ _ _ run step) none = absurd (nil_snoc xs x none)
 
 -- what it was before its last step, and after it
-pub record LastAlone (tree : List TreeProcess) (q : ProcessId) (xs : List JournalEntry) (x : JournalEntry) (u : CoreState)
+pub record LastAlone (tree : List TreeProcess) (q : ProcessId) (xs : List JournalEntry)
+    (x : JournalEntry) (u : CoreState)
     (f : ManagerData) : Type 0 where
   pub core : CoreState
   pub left : CoreState
@@ -176,7 +179,8 @@ pub record LastAlone (tree : List TreeProcess) (q : ProcessId) (xs : List Journa
   pub stays : SameCore left u
   pub holds : DataRests kept f
 
-last_alone : (tree : List TreeProcess) (q : ProcessId) (ys xs : List JournalEntry) (x : JournalEntry) (t : CoreState)
+last_alone : (tree : List TreeProcess) (q : ProcessId) (ys xs : List JournalEntry)
+    (x : JournalEntry) (t : CoreState)
     (e : ManagerData) → RunsAlone tree q ys t e → ys ≡ xs ++ x ∷ [] → LastAlone tree q xs x t e
 last_alone tree q _ xs x t e (opens_alone _ _ node empty) same = absurd (nil_snoc xs x (sym same))
 last_alone tree q _ xs x t e (stays_alone ys s _ d _ run stays holds) same =
@@ -211,7 +215,8 @@ node_if : (b : Bool) (s t : CoreState) → SameCore s t
 node_if true s t same = same
 node_if false s t same = tt
 
-data_if : (b : Bool) (d e : ManagerData) → DataRests d e → DataRests (if b then d else no_data) (if b then e else no_data)
+data_if : (b : Bool) (d e : ManagerData) → DataRests d e
+    → DataRests (if b then d else no_data) (if b then e else no_data)
 data_if true d e rests = rests
 data_if false d e rests = same_data no_data
 
@@ -245,7 +250,8 @@ module _ (tree : List TreeProcess) (core : ProcessId → CoreState) (held : Proc
   node_by : (q : ProcessId) (b : Bool) (is : is_listed tree q ≡ b) → (s : CoreState)
       → (if b then Some (core_by q b is) else None) ≡ Some s → NodeOpened tree q s
   unfolding core_by
-  node_by q true is s there = subst (NodeOpened tree q) (some_core (core_by q true is) s there) (opened q is).node
+  node_by q true is s there = subst (NodeOpened tree q) (some_core (core_by q true is) s there)
+      (opened q is).node
     where
       some_core : (a b : CoreState) → Some a ≡ Some b → a ≡ b
       some_core a b h = cc
@@ -337,7 +343,8 @@ module _ (tree : List TreeProcess) (xs : List JournalEntry) (x : JournalEntry) (
   had : mid.data_at here ≡ d
   had = again.holdings here given.listed ∙ here_one here d held
 
-  moves : (marked : List Bool) (h : Happening) (r : Reaction) → MovesNode mid (with_node t e marked h r) here s t
+  moves : (marked : List Bool) (h : Happening) (r : Reaction)
+      → MovesNode mid (with_node t e marked h r) here s t
   moves marked h r = record {
     tree = refl;
     stood = stood;
@@ -346,7 +353,8 @@ module _ (tree : List TreeProcess) (xs : List JournalEntry) (x : JournalEntry) (
     others_data = λ p away. there_one here p e mid.data_at away;
   }
 
-  enters : (marked : List Bool) (h : Happening) (r : Reaction) → Enters mid (with_node t e marked h r) here h r marked
+  enters : (marked : List Bool) (h : Happening) (r : Reaction)
+      → Enters mid (with_node t e marked h r) here h r marked
   enters marked h r = record { net = refl; delivered = refl; entries = refl }
 
   handled : (marked : List Bool) (h : Happening) (r : Reaction) (i : Input)
@@ -408,7 +416,8 @@ module _ (tree : List TreeProcess) (xs : List JournalEntry) (x : JournalEntry) (
     events = again.events ++ f ∷ [];
     opens = again.opens;
     ask = asks_more xs again.events x f again.ask asks;
-    leads = leads_more again.start mid (with_node t e marked h r) (with_node (core here) (held here) marked h r)
+    leads = leads_more again.start mid (with_node t e marked h r)
+        (with_node (core here) (held here) marked h r)
         again.events f again.leads applies (still marked h r);
     tree_is = again.tree_is;
     net = ap (λ (y : JournalEntry). mid.net ++ y.reaction.messages) is
@@ -440,7 +449,8 @@ module _ (tree : List TreeProcess) (xs : List JournalEntry) (x : JournalEntry) (
       let mine' : process_of_act (root_of mid.tree) a ≡ here =
       ap (λ l. process_of_act (root_of l) a) again.tree_is ∙ mine in
       grows mid.delivered (Handles (ActInput a)) x.reaction (event.Act a) is
-      (subst (λ q. TreeSteps mid (with_node t e mid.delivered (Handles (ActInput a)) x.reaction) q (ActInput a) mid.delivered)
+      (subst (λ q. TreeSteps mid (with_node t e mid.delivered (Handles (ActInput a)) x.reaction) q
+      (ActInput a) mid.delivered)
       (sym mine') (steps_by mid.delivered (ActInput a) x.reaction made))
       (shown_as (Handles (ActInput a)) x.reaction unfailed is refl)
   more_input (MessageInput k m) unfailed is mine made =
@@ -519,7 +529,8 @@ alone_is_together tree _ core held (one_more xs x given is) alone =
     → RunsAlone tree r (entries_of r xs) (at_one q last.core core r) (at_one q last.held held r) =
     λ r listed. elim (same_process_tells q r) [
       | inl t ↦ rw t.0 (subst (λ p. RunsAlone tree p (entries_of p xs) last.core last.held) t.1 last.run)
-      | inr z ↦ rw z.0 (subst (λ l. RunsAlone tree r l (core r) (held r)) (none_more r xs x z.0) (alone r listed))
+      | inr z ↦ rw z.0 (subst (λ l. RunsAlone tree r l (core r) (held r)) (none_more r xs x z.0)
+          (alone r listed))
     ] in
     more_together tree xs x core held last.core last.left last.held last.kept
     (alone_is_together tree xs (at_one q last.core core) (at_one q last.held held) given before)

@@ -43,14 +43,16 @@ snoc_same (a ∷ xs) (b ∷ ys) x y h =
 
 -- The messages.
 
-pub net_more : (xs : List JournalEntry) (x : JournalEntry) → net_of (xs ++ x ∷ []) ≡ net_of xs ++ x.reaction.messages
+pub net_more : (xs : List JournalEntry) (x : JournalEntry)
+    → net_of (xs ++ x ∷ []) ≡ net_of xs ++ x.reaction.messages
 net_more [] x = append-nil x.reaction.messages
 net_more (y ∷ ys) x =
     ap (λ l. y.reaction.messages ++ l) (net_more ys x)
     ∙ sym (append_assoc y.reaction.messages (net_of ys) x.reaction.messages)
 
 -- a message that was found was sent
-pub found_stands : (net : List Envelope) (q : ProcessId) (h : Happening) → FindsMessage net q h → MayHappen net q h
+pub found_stands : (net : List Envelope) (q : ProcessId) (h : Happening) → FindsMessage net q h
+    → MayHappen net q h
 found_stands net q (Handles (ActInput a)) f = tt
 found_stands net q (Handles (MessageInput k m)) f =
     record { sender = f.sender; place = 0 + (k - 1); stands = f.stands }
@@ -62,14 +64,16 @@ found_stands net q Trim f = tt
 pub self : (q : ProcessId) → same_process q q ≡ true
 self q = elim (same_process_tells q q) [ inl t ↦ t.0 | inr z ↦ absurd (z.1 refl) ]
 
-pub own_more : (q : ProcessId) (xs : List JournalEntry) (x : JournalEntry) → same_process x.step.process q ≡ true
+pub own_more : (q : ProcessId) (xs : List JournalEntry) (x : JournalEntry)
+    → same_process x.step.process q ≡ true
     → entries_of q (xs ++ x ∷ []) ≡ entries_of q xs ++ x ∷ []
 unfolding entries_of
 own_more q xs x here =
     filter-append (λ e. same_process (process_of_entry e) q) xs (x ∷ [])
     ∙ ap (λ (b : Bool). entries_of q xs ++ (if b then x ∷ [] else [])) here
 
-pub none_more : (q : ProcessId) (xs : List JournalEntry) (x : JournalEntry) → same_process x.step.process q ≡ false
+pub none_more : (q : ProcessId) (xs : List JournalEntry) (x : JournalEntry)
+    → same_process x.step.process q ≡ false
     → entries_of q (xs ++ x ∷ []) ≡ entries_of q xs
 unfolding entries_of
 none_more q xs x away =
@@ -118,7 +122,8 @@ record LastMove (place : Place) (n' : Node) (ys : List JournalEntry) (x : Journa
   pub fronts : journal_of before ≡ ys
   pub is : entry_of (record { move = move; effect = effect }) ≡ x
 
-last_move : (place : Place) (ms : List Made) (n' : Node) (ys : List JournalEntry) (x : JournalEntry) → IsNodeRun place ms n'
+last_move : (place : Place) (ms : List Made) (n' : Node) (ys : List JournalEntry) (x : JournalEntry)
+    → IsNodeRun place ms n'
     → AllBy this_version ms → journal_of ms ≡ ys ++ x ∷ [] → LastMove place n' ys x
 last_move place _ _ ys x begins by h = absurd (nil_snoc ys x (sym h ∙ journal_none))
 last_move place _ _ ys x (steps ms n m e n' run mine does) by h =
@@ -146,7 +151,8 @@ world_more : (tree : List TreeProcess) (w : World) (m : Move) (e : Effect) (n : 
 unfolding world_makes
 world_more tree w m e n listed done = rw listed (ap (λ s. world_stepped w m.step.process s) done)
 
-run_more : (tree : List TreeProcess) (xs : List JournalEntry) (before left : ProcessId → Node) (m : Move) (e : Effect)
+run_more : (tree : List TreeProcess) (xs : List JournalEntry) (before left : ProcessId → Node)
+    (m : Move) (e : Effect)
     → IsOneRun tree xs before → m.version ≡ this_version
     → node_makes (place_of tree m.step.process) (before m.step.process) m ≡ Makes e (left m.step.process)
     → ((r : ProcessId) → same_process m.step.process r ≡ false → before r ≡ left r)
@@ -159,7 +165,8 @@ run_more tree xs before left m e run by does others is =
     let w' : World = record { at = put_at q (left q) w.at; net = w.net ++ e.messages } in
     let done : node_makes (place_of tree q) (w.at q) m ≡ Makes e (left q) =
     ap (λ n. node_makes (place_of tree q) n m) (run.nodes q) ∙ does in
-    let stands : MayHappen w.net q m.step.happening = subst (λ l. MayHappen l q m.step.happening) (sym run.net)
+    let stands : MayHappen w.net q m.step.happening =
+    subst (λ l. MayHappen l q m.step.happening) (sym run.net)
     (found_stands (net_of xs) q m.step.happening is.finds) in
     record {
       moves = made ∷ run.moves;
@@ -240,7 +247,8 @@ cuts_grow tree xs old q x n' cut one is =
               (steps one.moves one.node one.move one.effect n' one.made one.mine one.makes))
           | inr z ↦ rw z.0 (cut.made r)
         ];
-        by_this = λ r. elim (same_process_tells q r) [ inl t ↦ rw t.0 one.by_this | inr z ↦ rw z.0 (cut.by_this r) ];
+        by_this = λ r. elim (same_process_tells q r)
+            [ inl t ↦ rw t.0 one.by_this | inr z ↦ rw z.0 (cut.by_this r) ];
         shown = λ r. elim (same_process_tells q r) [
           | inl t ↦ rw t.0 (journal_step m one.moves ∙ (ap (λ l. l ++ entry_of m ∷ []) one.shown
               ∙ (ap (λ y. entries_of q xs ++ y ∷ []) one.is

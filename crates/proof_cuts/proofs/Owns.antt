@@ -194,7 +194,8 @@ one_stands tree xs left q s is_tree cut own =
 -- The end.
 
 -- the node of a process, by its own run if there is one
-record Picked (tree : List TreeProcess) (xs : List JournalEntry) (q : ProcessId) (o : Option CoreState) : Type 0 where
+record Picked (tree : List TreeProcess) (xs : List JournalEntry) (q : ProcessId)
+    (o : Option CoreState) : Type 0 where
   pub node : Node
   pub moves : List Made
   pub made : IsNodeRun (place_of tree q) moves node

@@ -51,7 +51,8 @@ finds_longer net more q (Handles (MessageInput k m)) s = record {
 finds_longer net more q (Restart k) s = tt
 finds_longer net more q Trim s = tt
 
-given_longer : (tree : List TreeProcess) (net more : List Envelope) (x : JournalEntry) → IsGivenEntry tree net x
+given_longer : (tree : List TreeProcess) (net more : List Envelope) (x : JournalEntry)
+    → IsGivenEntry tree net x
     → IsGivenEntry tree (net ++ more) x
 given_longer tree net more x is = record {
   listed = is.listed;
@@ -105,7 +106,8 @@ stands_over tree xs left q s cut own =
 
 -- Between two steps.
 
-module _ (tree : List TreeProcess) (net : List Envelope) (q : ProcessId) (own : List JournalEntry) (old new : CoreState)
+module _ (tree : List TreeProcess) (net : List Envelope) (q : ProcessId) (own : List JournalEntry)
+    (old new : CoreState)
     (over : OwnRunOver tree net q own old) where
   abbrev pub move_by : Happening → DataAnswer → Move
   move_by h a =
@@ -144,11 +146,13 @@ module _ (tree : List TreeProcess) (net : List Envelope) (q : ProcessId) (own : 
           stands = subst (λ n. StandsFor n new) (sym here) moves.stands;
         };
         more = over.more ++ moves.effect.messages;
-        sent = ap (λ l. l ++ moves.effect.messages) over.sent ∙ append_assoc net over.more moves.effect.messages;
+        sent = ap (λ l. l ++ moves.effect.messages) over.sent
+            ∙ append_assoc net over.more moves.effect.messages;
       }
 
   -- by what happens
-  go_by : (d e : ManagerData) (keep : ℕ) (h : Happening) (r : Reaction) → IsTree tree → is_listed tree q ≡ true
+  go_by : (d e : ManagerData) (keep : ℕ) (h : Happening) (r : Reaction) → IsTree tree
+      → is_listed tree q ≡ true
       → FindsMessage net q h → MakesAlone old new d e keep h r
       → OwnRunOver tree net q (own ++ step_entry q h r ∷ []) new
   go_by d e keep (Handles i) r is_tree listed finds made =
@@ -156,7 +160,8 @@ module _ (tree : List TreeProcess) (net : List Envelope) (q : ProcessId) (own : 
       goes_on (Handles i) made.answer r
       (place_stays old new i (turn_of old made.answer made.makes.found i) made.makes.moves ∙ run.place)
       finds
-      (inputs_move tree run.moves run.world run.is_run q old new made.answer i run.place run.stands listed r made.makes)
+      (inputs_move tree run.moves run.world run.is_run q old new made.answer i run.place run.stands
+      listed r made.makes)
   go_by d e keep (Restart k) r is_tree listed finds made =
       let run = over.run in
       subst (λ n. OwnRunOver tree net q (own ++ step_entry q (Restart n) r ∷ []) new) (sym made.kept)
@@ -192,7 +197,8 @@ module _ (tree : List TreeProcess) (net : List Envelope) (q : ProcessId) (own : 
       }) one
 
 -- if nothing is otherwise it stands as before
-over_rests : (tree : List TreeProcess) (net : List Envelope) (q : ProcessId) (own : List JournalEntry) (s t : CoreState)
+over_rests : (tree : List TreeProcess) (net : List Envelope) (q : ProcessId) (own : List JournalEntry)
+    (s t : CoreState)
     → OwnRunOver tree net q own s → SameCore s t → OwnRunOver tree net q own t
 over_rests tree net q own s t over same = record {
   run = record {
@@ -209,11 +215,13 @@ over_rests tree net q own s t over same = record {
 }
 
 -- the front of a list, and its last
-record Ends (tree : List TreeProcess) (net : List Envelope) (q : ProcessId) (zs : List JournalEntry) (z : JournalEntry) : Type 0 where
+record Ends (tree : List TreeProcess) (net : List Envelope) (q : ProcessId) (zs : List JournalEntry)
+    (z : JournalEntry) : Type 0 where
   front : AllGiven tree net q zs
   last : IsGivenEntry tree net z
 
-ends_of : (tree : List TreeProcess) (net : List Envelope) (q : ProcessId) (zs : List JournalEntry) (z : JournalEntry)
+ends_of : (tree : List TreeProcess) (net : List Envelope) (q : ProcessId) (zs : List JournalEntry)
+    (z : JournalEntry)
     → AllGiven tree net q (zs ++ z ∷ []) → Ends tree net q zs z
 ends_of tree net q [] z all = record { front = tt; last = all.1 }
 ends_of tree net q (y ∷ zs) z all =
@@ -233,8 +241,10 @@ turns_go_on tree net q own s d _ _ _ is_tree listed over (goes_alone zs z t u e 
     (go_one tree net q (own ++ zs) t u mid e f z is_tree listed ends.last.finds step)
 
 -- with what it made before, it made them by itself
-pub runs_on : (tree : List TreeProcess) (q : ProcessId) (own : List JournalEntry) (s : CoreState) (d : ManagerData)
-    (zs : List JournalEntry) (t : CoreState) (e : ManagerData) → RunsAlone tree q own s d → GoesAlone tree q s d zs t e
+pub runs_on : (tree : List TreeProcess) (q : ProcessId) (own : List JournalEntry) (s : CoreState)
+    (d : ManagerData)
+    (zs : List JournalEntry) (t : CoreState) (e : ManagerData) → RunsAlone tree q own s d
+    → GoesAlone tree q s d zs t e
     → RunsAlone tree q (own ++ zs) t e
 runs_on tree q own s d _ _ _ ran begins_alone = subst (λ l. RunsAlone tree q l s d) (sym (append-nil own)) ran
 runs_on tree q own s d _ _ _ ran (rests_alone zs t u e f goes same rests) =

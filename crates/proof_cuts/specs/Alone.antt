@@ -1,4 +1,5 @@
--- What each process made by itself, with its data: a tree on one thread that makes the events of all makes the same.
+-- What each process made by itself, with its data: a tree on one thread that makes the events of all makes
+-- the same.
 use Rattle.std.specs.Prelude.{◌≡◌, ⊤, ℕ, true, false, None, Some, List, [], ◌∷◌, ◌++◌}
 use Rattle.protocol.specs.declared.names.ProcessId.{ProcessId}
 use Rattle.protocol.specs.declared.messages.Message.{Message}
@@ -52,8 +53,8 @@ pub record TrimsAlone (s t : CoreState) (d e : ManagerData) (remain : ℕ) : Typ
   pub trims : ProcessTrims s t remain
   pub holdings : TrimsData s.place.role d e
 
--- What a process makes of what happens, from this state and these data to those, and what it shows; a restart keeps
--- N bytes after the forced front.
+-- What a process makes of what happens, from this state and these data to those, and what it shows; a restart
+-- keeps N bytes after the forced front.
 abbrev pub MakesAlone : CoreState → CoreState → ManagerData → ManagerData → ℕ → Happening → Reaction → Type 0
 MakesAlone s t d e keep (Handles i) r = HandlesInput s t d e i r
 MakesAlone s t d e keep (Restart k) r = RestartsAlone s t e keep k r
@@ -70,13 +71,16 @@ pub record StepAlone (tree : List TreeProcess) (q : ProcessId) (s t : CoreState)
 
 -- Steps one after another.
 
--- The process opened over an empty log, without data, and made the steps of these entries, one after another; where it
--- was refused meanwhile nothing is otherwise.
-pub data RunsAlone (tree : List TreeProcess) (q : ProcessId) : List JournalEntry → CoreState → ManagerData → Type 0 where
-  opens_alone : (s : CoreState) (d : ManagerData) → NodeOpened tree q s → DataRests no_data d → RunsAlone tree q [] s d
+-- The process opened over an empty log, without data, and made the steps of these entries, one after another;
+-- where it was refused meanwhile nothing is otherwise.
+pub data RunsAlone (tree : List TreeProcess) (q : ProcessId) : List JournalEntry → CoreState → ManagerData
+    → Type 0 where
+  opens_alone : (s : CoreState) (d : ManagerData) → NodeOpened tree q s → DataRests no_data d
+      → RunsAlone tree q [] s d
   stays_alone : (xs : List JournalEntry) (s t : CoreState) (d e : ManagerData) → RunsAlone tree q xs s d
       → SameCore s t → DataRests d e → RunsAlone tree q xs t e
-  steps_alone : (xs : List JournalEntry) (x : JournalEntry) (s t : CoreState) (d e : ManagerData) → RunsAlone tree q xs s d
+  steps_alone : (xs : List JournalEntry) (x : JournalEntry) (s t : CoreState) (d e : ManagerData)
+      → RunsAlone tree q xs s d
       → StepAlone tree q s t d e x → RunsAlone tree q (xs ++ x ∷ []) t e
 
 -- All processes.
@@ -88,15 +92,16 @@ AskForAll [] (e ∷ es) = ⊥
 AskForAll (x ∷ xs) [] = ⊥
 AskForAll (x ∷ xs) (e ∷ es) = AsksFor e x.step.happening × AskForAll xs es
 
--- The events were made, one after another. Before each of them and after the last nothing is otherwise, as it is where
--- an event is refused.
+-- The events were made, one after another. Before each of them and after the last nothing is otherwise, as it
+-- is where an event is refused.
 abbrev pub EventsLeadOn : WorldState → List Event → WorldState → Type 0
 EventsLeadOn old [] new = SameTree old new
 EventsLeadOn old (e ∷ es) new =
-    (before : WorldState) × (behind : WorldState) × SameTree old before × Applies before e behind × EventsLeadOn behind es new
+    (before : WorldState) × (behind : WorldState) × SameTree old before × Applies before e behind
+    × EventsLeadOn behind es new
 
--- A tree on one thread opened, and made the events of these entries, which are its journal; each process is left so, with
--- these data.
+-- A tree on one thread opened, and made the events of these entries, which are its journal; each process is
+-- left so, with these data.
 pub record MadeTogether (tree : List TreeProcess) (xs : List JournalEntry) (core : ProcessId → CoreState)
     (held : ProcessId → ManagerData) : Type 0 where
   pub start : WorldState
@@ -112,8 +117,8 @@ pub record MadeTogether (tree : List TreeProcess) (xs : List JournalEntry) (core
   pub nodes : (q : ProcessId) → is_listed tree q ≡ true → end.node_at q ≡ Some (core q)
   pub holdings : (q : ProcessId) → is_listed tree q ≡ true → end.data_at q ≡ held q
 
--- Where each entry of a journal may come where it does, and each process of the tree made its own by itself, a tree on
--- one thread that makes the events of all of them leaves each process so.
+-- Where each entry of a journal may come where it does, and each process of the tree made its own by itself,
+-- a tree on one thread that makes the events of all of them leaves each process so.
 abbrev pub AloneIsTogether : Type 0
 AloneIsTogether = (tree : List TreeProcess) (xs : List JournalEntry) (core : ProcessId → CoreState)
     (held : ProcessId → ManagerData) → AreGiven tree xs

@@ -24,7 +24,8 @@ use Rattle.proof_runs.specs.worlds.Follows.{IsModelled}
 use Rattle.tree_state.specs.Cuts.{AreGiven, IsCut, MakesOne, net_of}
 
 -- In some run the process has just these entries, and what it keeps stands for what that run leaves of it.
-pub record OwnRun (tree : List TreeProcess) (q : ProcessId) (own : List JournalEntry) (s : CoreState) : Type 0 where
+pub record OwnRun (tree : List TreeProcess) (q : ProcessId) (own : List JournalEntry)
+    (s : CoreState) : Type 0 where
   pub moves : List Made
   pub world : World
   pub is_run : IsRun tree moves world
@@ -55,13 +56,16 @@ InputsAreMade = (tree : List TreeProcess) (q : ProcessId) (own : List JournalEnt
 
 -- its restart, alone
 abbrev pub RestartsAreMade : Type 0
-RestartsAreMade = (tree : List TreeProcess) (q : ProcessId) (own : List JournalEntry) (old new : CoreState) (keep : ℕ)
+RestartsAreMade = (tree : List TreeProcess) (q : ProcessId) (own : List JournalEntry)
+    (old new : CoreState) (keep : ℕ)
     (reaction : Reaction) → IsTree tree → is_listed tree q ≡ true → OwnRun tree q own old
-    → ProcessRestarts old keep new reaction → OwnMakes tree q own new (step_entry q (restart_of old keep) reaction)
+    → ProcessRestarts old keep new reaction → OwnMakes tree q own new
+    (step_entry q (restart_of old keep) reaction)
 
 -- its trim, alone
 abbrev pub TrimsAreMade : Type 0
-TrimsAreMade = (tree : List TreeProcess) (q : ProcessId) (own : List JournalEntry) (old new : CoreState) (remain : ℕ)
+TrimsAreMade = (tree : List TreeProcess) (q : ProcessId) (own : List JournalEntry)
+    (old new : CoreState) (remain : ℕ)
     → IsTree tree → is_listed tree q ≡ true → OwnRun tree q own old
     → old.log.failed ≡ false → KeepsSoundLog old → ProcessTrims old new remain
     → OwnMakes tree q own new (step_entry q Trim (trim_reaction remain))
@@ -73,7 +77,8 @@ SameStays = (tree : List TreeProcess) (q : ProcessId) (own : List JournalEntry) 
 
 -- Once it is entered, the process's entries in the journal are its own again.
 abbrev pub EntersOwn : Type 0
-EntersOwn = (tree : List TreeProcess) (xs : List JournalEntry) (x : JournalEntry) (q : ProcessId) (s : CoreState)
+EntersOwn = (tree : List TreeProcess) (xs : List JournalEntry) (x : JournalEntry)
+    (q : ProcessId) (s : CoreState)
     (left : ProcessId → Node) (node : Node) → IsCut tree (xs ++ x ∷ []) left → left q ≡ node
     → s.place ≡ place_of tree q → StandsFor node s
     → OwnRun tree q (entries_of q (xs ++ x ∷ [])) s
@@ -96,7 +101,8 @@ CutsHold = (tree : List TreeProcess) (xs : List JournalEntry) (left : ProcessId 
 
 -- Of some run the journal is this one, and it leaves the process as what that keeps stands for; the
 -- headline holds of it, and mismatches are reported in it.
-pub record StandsInRun (tree : List TreeProcess) (xs : List JournalEntry) (q : ProcessId) (s : CoreState) : Type 0 where
+pub record StandsInRun (tree : List TreeProcess) (xs : List JournalEntry) (q : ProcessId)
+    (s : CoreState) : Type 0 where
   pub moves : List Made
   pub world : World
   pub is_run : IsRun tree moves world
@@ -121,6 +127,7 @@ pub record IsAtEnd (s : WorldState) (left : ProcessId → Node) : Type 0 where
   pub own : (q : ProcessId) (c : CoreState) → s.node_at q ≡ Some c
       → OwnRun s.tree q (entries_of q s.entries) c
 
--- the state stands for one run, whose journal it has, of which the headline holds, and in which mismatches are reported
+-- the state stands for one run, whose journal it has, of which the headline holds, and in which mismatches
+-- are reported
 abbrev pub EndsModelled : Type 0
 EndsModelled = (s : WorldState) (left : ProcessId → Node) → IsTree s.tree → IsAtEnd s left → IsModelled s

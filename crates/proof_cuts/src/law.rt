@@ -67,14 +67,14 @@ pub fn ends_modelled()
     ensures { EndsModelled }
 {}
 
-/// What each process made by itself is what a tree on one thread makes that makes the events of all: each process is
-/// left so, with its data.
+/// What each process made by itself is what a tree on one thread makes that makes the events of all: each
+/// process is left so, with its data.
 pub fn alone_is_together()
     ensures { AloneIsTogether }
 {}
 
-/// Where a journal is cut so, and a process's own entries are the journal's of it, it stands so in a run in which the
-/// journal's messages were sent.
+/// Where a journal is cut so, and a process's own entries are the journal's of it, it stands so in a run in
+/// which the journal's messages were sent.
 pub fn stands_over()
     ensures { StandsOver }
 {}

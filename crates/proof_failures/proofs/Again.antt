@@ -16,7 +16,8 @@ use Rattle.proof_failures.specs.Traces.{with_trace}
 use Rattle.proof_failures.proofs.Entered.{moves_with}
 
 -- these entries were entered, and with them the trace is that of what was so made
-pub record Again (made : WorldState → WorldState → Type 0) (s t : WorldState) (trace : List JournalEntry) : Type 0 where
+pub record Again (made : WorldState → WorldState → Type 0) (s t : WorldState)
+    (trace : List JournalEntry) : Type 0 where
   pub entered : List JournalEntry
   pub grown : t.entries ≡ s.entries ++ entered
   pub again : made (with_trace s trace) (with_trace t (trace ++ entered))
@@ -46,7 +47,8 @@ steps_again s t trace q i marked h =
 delivers_again : (s t : WorldState) (trace : List JournalEntry) (k : ℕ) → Delivers s t k
     → Again (λ a b. Delivers a b k) s t trace
 delivers_again s t trace k h =
-    let one = steps_again s t trace h.envelope.to (MessageInput k h.envelope.message) (marks s.delivered k) h.steps in
+    let one = steps_again s t trace h.envelope.to (MessageInput k h.envelope.message)
+    (marks s.delivered k) h.steps in
     record {
       entered = one.entered;
       grown = one.grown;
@@ -111,7 +113,8 @@ settle_again n s t trace (Some k) next made =
     let two = next mid (trace ++ one.entered) made.2 in
     record {
       entered = one.entered ++ two.entered;
-      grown = two.grown ∙ ap (λ xs. xs ++ two.entered) one.grown ∙ append_assoc s.entries one.entered two.entered;
+      grown = two.grown ∙ ap (λ xs. xs ++ two.entered) one.grown
+          ∙ append_assoc s.entries one.entered two.entered;
       again = (
         with_trace mid (trace ++ one.entered),
         one.again,
@@ -120,10 +123,12 @@ settle_again n s t trace (Some k) next made =
       );
     }
 
-pub settles_again : (n : ℕ) (s t : WorldState) (trace : List JournalEntry) → Settles n s t → Again (Settles n) s t trace
+pub settles_again : (n : ℕ) (s t : WorldState) (trace : List JournalEntry) → Settles n s t
+    → Again (Settles n) s t trace
 settles_again zero s t trace same = nothing_again s t trace same
 settles_again (suc n) s t trace made =
-    let a = settle_again n s t trace (least_open 1 s.delivered) (λ mid xs m. settles_again n mid t xs m) made in
+    let a = settle_again n s t trace (least_open 1 s.delivered) (λ mid xs m. settles_again n mid t xs m) made
+    in
     record { entered = a.entered; grown = a.grown; again = a.again }
 
 pub applies_again : (s t : WorldState) (trace : List JournalEntry) (event : Event) → Applies s event t

@@ -31,7 +31,8 @@ same_effect a b m n h = cc
 unsent : (d e : Effect) (m n : Node) → Makes d m ≡ Makes e n → d.messages ≡ [] → e.messages ≡ []
 unsent d e m n same none = ap (λ (x : Effect). x.messages) (sym (same_effect d e m n same)) ∙ none
 
-module _ (place : Place) (n : Node) (q : ProcessId) (f : Fault) (a : DataAnswer) (e : Effect) (left : Node) where
+module _ (place : Place) (n : Node) (q : ProcessId) (f : Fault) (a : DataAnswer) (e : Effect)
+    (left : Node) where
   input_unsent : (i : Input) (b : Bool) (r : Reacts)
       → (if b then passes_over n (Some f) else input_makes n (heard_now a i) (Some f) r) ≡ Makes e left
       → e.messages ≡ []
@@ -44,10 +45,13 @@ module _ (place : Place) (n : Node) (q : ProcessId) (f : Fault) (a : DataAnswer)
   trim_unsent true h = absurd (cc)
   trim_unsent false h = unsent (fault_effect (trim_effect place n) 0) e _ left h refl
 
-  nothing_sent : (h : Happening) → node_makes place n (move_with q h (Some f) a) ≡ Makes e left → e.messages ≡ []
+  nothing_sent : (h : Happening) → node_makes place n (move_with q h (Some f) a) ≡ Makes e left
+      → e.messages ≡ []
   unfolding node_makes
-  nothing_sent (Handles i) made = input_unsent i (is_passed_over place n i) (reacts place n (heard_now a i)) made
-  nothing_sent (Restarting k) made = unsent (fault_effect (restart_effect place n k) f.appended) e _ left made refl
+  nothing_sent (Handles i) made = input_unsent i (is_passed_over place n i)
+      (reacts place n (heard_now a i)) made
+  nothing_sent (Restarting k) made = unsent (fault_effect (restart_effect place n k) f.appended) e
+      _ left made refl
   nothing_sent Trimming made = trim_unsent n.failed made
 
 -- where a process moves, it moves whatever the traces are

@@ -1,4 +1,5 @@
--- Where a device fails in an input, the run goes on by a fault in it, and the numbers of its entry are the model's.
+-- Where a device fails in an input, the run goes on by a fault in it, and the numbers of its entry are the
+-- model's.
 use Rattle.std.proofs.Common.{◌≡◌, ◌≢◌, ◌∙◌, ap, sym, subst, refl, ◌+◌, ℕ, Bool, true, false, Option, Some, List, [], ◌∷◌, ◌++◌, if◌then◌else◌}
 use Rattle.std.specs.Prelude.{length}
 use Rattle.protocol.specs.declared.names.ProcessId.{ProcessId}
@@ -35,12 +36,14 @@ use Rattle.proof_failures.proofs.Fronts.{length_append, length_map}
 use Rattle.proof_failures.proofs.Left.{counted, counted_left, counts}
 
 -- an input that is not passed over is handled
-handled : (place : Place) (n : Node) (q : ProcessId) (i : Input) (fault : Option Fault) (a : DataAnswer) (r : Reacts)
+handled : (place : Place) (n : Node) (q : ProcessId) (i : Input) (fault : Option Fault)
+    (a : DataAnswer) (r : Reacts)
     → is_passed_over place n i ≡ false → reacts place n (heard_now a i) ≡ r
     → node_makes place n (input_move q i fault a) ≡ input_makes n (heard_now a i) fault r
 unfolding node_makes
 handled place n q i fault a r late does =
-    ap (λ b. if b then passes_over n fault else input_makes n (heard_now a i) fault (reacts place n (heard_now a i)))
+    ap (λ b. if b then passes_over n fault else input_makes n (heard_now a i) fault
+    (reacts place n (heard_now a i)))
     late
     ∙ ap (input_makes n (heard_now a i) fault) does
 
@@ -105,16 +108,19 @@ module _ (es : List Made) (w : World) (s t : WorldState) (q : ProcessId) (trace 
       so.stands.forced so.stands.unforced in
       subst (λ y. TraceGoesOn es w s trace t (y ∷ []))
       (sym (h.entry ∙ ap (fault_entry q (Handles i)) is))
-      (fault_on es w s t q trace f (Handles i) a before behind happens h.fails.moves h.fails.net h.fails.entries
+      (fault_on es w s t q trace f (Handles i) a before behind happens h.fails.moves
+      h.fails.net h.fails.entries
       h.fails.broken.breaks.2.place fault (fault_effect so.effect fault.appended)
       (fails_in n (heard_now a i) so.effect fault.appended fault.forced)
       (subst (λ (p : Place). node_makes p n (move_with q (Handles i) (Some fault) a)
       ≡ Makes (fault_effect so.effect fault.appended)
       (fails_in n (heard_now a i) so.effect fault.appended fault.forced)) here.place
       (handled place n q i (Some fault) a (Does so.effect) late so.does))
-      (subst (λ m. StandsFor m behind) (sym (left_in n (heard_now a i) so.effect so.appended so.forced)) so.stands))
+      (subst (λ m. StandsFor m behind) (sym (left_in n (heard_now a i) so.effect so.appended so.forced))
+      so.stands))
     where
-      all_of : length before.log.kept.forced + length before.log.kept.unforced ≡ length n.forced + length n.unforced
+      all_of : length before.log.kept.forced + length before.log.kept.unforced
+          ≡ length n.forced + length n.unforced
       all_of = (λ j. (ap length here.stands.forced ∙ length_map (in_log (parent before)) n.forced) j
           + (ap length here.stands.unforced ∙ length_map (in_log (parent before)) n.unforced) j)
 

@@ -53,7 +53,8 @@ module _ (n : Node) (rs : List Record) (appended forced : ℕ) where
       let b : length behind ≡ length n.unforced + counted.appended = length_append n.unforced left in
       let t : length (records_of new.log.kept) ≡ length new.log.kept.forced + length new.log.kept.unforced =
       length_append new.log.kept.forced new.log.kept.unforced in
-      let stands : length (records_of new.log.kept) - stood ≡ counted.appended = omega (arith, f, r, p, b, t, all) in
+      let stands : length (records_of new.log.kept) - stood ≡ counted.appended =
+      omega (arith, f, r, p, b, t, all) in
       let more : length new.log.kept.forced - length old.log.kept.forced ≡ counted.forced =
       omega (arith, f, before) in
       (λ j. record { appended = stands j; forced = more j })

@@ -1,5 +1,5 @@
--- Where a device fails in a restart or a trim, the run goes on by a fault in it, and the numbers of its entry are the
--- model's.
+-- Where a device fails in a restart or a trim, the run goes on by a fault in it, and the numbers of its entry
+-- are the model's.
 use Rattle.std.proofs.Common.{◌≡◌, ◌∙◌, ◌+◌, ap, sym, subst, refl, ℕ, zero, suc, true, false, Option, Some, List, [], ◌∷◌, ◌++◌, map, take}
 use Rattle.std.specs.Prelude.{length}
 use Rattle.protocol.specs.declared.names.ProcessId.{ProcessId}
@@ -41,7 +41,8 @@ same_node : (a b : Effect) (m n : Node) → Makes a m ≡ Makes b n → m ≡ n
 same_node a b m n h = cc
 
 -- what a fault in a restart leaves of the model's process
-restart_left : (place : Place) (n : Node) (old new : CoreState) (k : ℕ) (b : BreaksAs n old new (Restarting k))
+restart_left : (place : Place) (n : Node) (old new : CoreState) (k : ℕ)
+    (b : BreaksAs n old new (Restarting k))
     → old.place ≡ place
     → b.left ≡ restart_fails old.place n k b.fault.appended b.fault.forced
 unfolding node_makes
@@ -102,7 +103,8 @@ module _ (es : List Made) (w : World) (s t : WorldState) (q : ProcessId) (trace 
 
     pub restart_on : TraceGoesOn es w s trace t (x ∷ [])
     restart_on =
-        let b = restart_faults_so n old new h.fails.keep stands (own old h.fails.moves.stood) h.fails.broken in
+        let b = restart_faults_so n old new h.fails.keep stands (own old h.fails.moves.stood) h.fails.broken
+        in
         let left : StandsFor (restart_fails old.place n k b.fault.appended b.fault.forced) new =
         subst (λ m. StandsFor m new) (restart_left old.place n old new k b refl) b.stands in
         let fault : Fault = counted c rs b.fault.appended b.fault.forced in
@@ -115,7 +117,8 @@ module _ (es : List Made) (w : World) (s t : WorldState) (q : ProcessId) (trace 
         ∙ (λ j. forced_of j + all_kept j)) left.forced left.unforced in
         subst (λ y. TraceGoesOn es w s trace t (y ∷ []))
         (sym (h.entry ∙ ap (fault_entry q (Restarting k)) is))
-        (fault_on es w s t q trace f (Restarting k) no_answer old new tt h.fails.moves h.fails.net h.fails.entries
+        (fault_on es w s t q trace f (Restarting k) no_answer old new tt h.fails.moves
+        h.fails.net h.fails.entries
         h.fails.broken.1 fault (fault_effect (restart_effect old.place n k) fault.appended)
         (restart_fails old.place n k fault.appended fault.forced)
         (subst (λ (p : Place). node_makes p n (move_with q (Restarting k) (Some fault) no_answer)
@@ -164,7 +167,8 @@ module _ (es : List Made) (w : World) (s t : WorldState) (q : ProcessId) (trace 
         → TraceGoesOn es w s trace t (x ∷ [])
     left_on k left is =
         subst (λ y. TraceGoesOn es w s trace t (y ∷ [])) (sym is)
-        (fault_on es w s t q trace f Trimming no_answer before behind tt h.fails.moves h.fails.net h.fails.entries
+        (fault_on es w s t q trace f Trimming no_answer before behind tt h.fails.moves
+        h.fails.net h.fails.entries
         h.fails.broken.place (trim_fault k) (fault_effect (trim_effect place n) 0) (trim_fails place n k)
         (subst (λ (p : Place). node_makes p n (quiet_move p.me Trimming (Some (trim_fault k)))
         ≡ Makes (fault_effect (trim_effect place n) 0) (trim_fails place n k)) sits.place

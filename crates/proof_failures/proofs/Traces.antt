@@ -57,7 +57,8 @@ then_goes es w s mid t trace more first next =
     let two = next (one.later ++ es) one.world (trace ++ made) one.follows in
     let since = two.trace_goes.entered in
     let last : GoesOn (one.later ++ es) one.world (with_trace t ((trace ++ (made ++ since)) ++ more)) =
-    subst (λ xs. GoesOn (one.later ++ es) one.world (with_trace t (xs ++ more))) (append_assoc trace made since)
+    subst (λ xs. GoesOn (one.later ++ es) one.world (with_trace t (xs ++ more)))
+    (append_assoc trace made since)
     two.trace_goes.goes_on in
     record {
       trace_goes = record {
@@ -84,13 +85,15 @@ waits es w s t trace same f =
     record {
       entered = [];
       grown = same ∙ sym (append-nil s.entries);
-      goes_on = subst (λ xs. GoesOn es w (with_trace t xs)) (sym (append-nil (trace ++ []) ∙ append-nil trace))
+      goes_on = subst (λ xs. GoesOn es w (with_trace t xs))
+          (sym (append-nil (trace ++ []) ∙ append-nil trace))
           (record { later = []; world = w; leads = stays; follows = f });
     }
 
 -- what was made of the state with its trace
 made_goes : (es : List Made) (w : World) (s t : WorldState) (trace entered : List JournalEntry)
-    → t.entries ≡ s.entries ++ entered → GoesOn es w (with_trace t (trace ++ entered)) → TraceGoesOn es w s trace t []
+    → t.entries ≡ s.entries ++ entered → GoesOn es w (with_trace t (trace ++ entered))
+    → TraceGoesOn es w s trace t []
 made_goes es w s t trace entered grown g =
     record {
       entered = entered;
@@ -100,20 +103,23 @@ made_goes es w s t trace entered grown g =
 
 -- Events that were made.
 
-applied_goes : (s t : WorldState) (event : Event) (es : List Made) (w : World) (trace : List JournalEntry) → IsTree s.tree
+applied_goes : (s t : WorldState) (event : Event) (es : List Made) (w : World) (trace : List JournalEntry)
+    → IsTree s.tree
     → Follows es w (with_trace s trace) → Applies s event t → Goes es w s trace t []
 applied_goes s t event es w trace is_tree f made =
     let a = applies_again s t trace event made in
     let S = with_trace s trace in
     let T = with_trace t (trace ++ a.entered) in
-    let g = applied_on journal_of whole_shows as_the_model s.tree is_tree S T event es w refl (by_whole es w S f)
+    let g = applied_on journal_of whole_shows as_the_model s.tree is_tree S T event es w refl
+    (by_whole es w S f)
     a.again in
     record {
       trace_goes = made_goes es w s t trace a.entered a.grown (whole_goes_on es w T g.goes_on_so);
       tree_stays = g.tree_stays;
     }
 
-settled_goes : (n : ℕ) (s t : WorldState) (es : List Made) (w : World) (trace : List JournalEntry) → IsTree s.tree
+settled_goes : (n : ℕ) (s t : WorldState) (es : List Made) (w : World) (trace : List JournalEntry)
+    → IsTree s.tree
     → Follows es w (with_trace s trace) → Settles n s t → Goes es w s trace t []
 settled_goes n s t es w trace is_tree f made =
     let a = settles_again n s t trace made in
@@ -145,7 +151,8 @@ same_goes s t es w trace f same =
       tree_stays = same.tree;
     }
 
-unacted : (s t : WorldState) (q : ProcessId) (a : Act) (e : StepError) → e ≢ step_error.Device → NotActed s t q a e
+unacted : (s t : WorldState) (q : ProcessId) (a : Act) (e : StepError) → e ≢ step_error.Device
+    → NotActed s t q a e
     → SameTree s t
 unacted s t q a step_error.Memory works h = h
 unacted s t q a step_error.Device works h = absurd (works refl)
@@ -158,7 +165,8 @@ unacted s t q a step_error.Failed works h = h.0
 unacted s t q a step_error.NoSuch works h = h.0
 unacted s t q a step_error.Exhausted works h = h.0
 
-undelivered : (s t : WorldState) (k : ℕ) (e : StepError) → e ≢ step_error.Device → NotDelivered s t k e → SameTree s t
+undelivered : (s t : WorldState) (k : ℕ) (e : StepError) → e ≢ step_error.Device → NotDelivered s t k e
+    → SameTree s t
 undelivered s t k step_error.Memory works h = h
 undelivered s t k step_error.Device works h = absurd (works refl)
 undelivered s t k step_error.UnknownTxn works h = h.0
@@ -196,12 +204,14 @@ untrimmed s t q step_error.Failed works h = h.0
 untrimmed s t q step_error.NoSuch works h = h.0
 untrimmed s t q step_error.Exhausted works h = absurd h
 
-none_delivered : (s t : WorldState) (e : StepError) (o : Option ℕ) → e ≢ step_error.Device → NoneDelivered s t e o
+none_delivered : (s t : WorldState) (e : StepError) (o : Option ℕ) → e ≢ step_error.Device
+    → NoneDelivered s t e o
     → SameTree s t
 none_delivered s t e None works h = h.1
 none_delivered s t e (Some k) works h = undelivered s t k e works h
 
-stopped_goes : (s t : WorldState) (event : Event) (e : StepError) (es : List Made) (w : World) (trace : List JournalEntry)
+stopped_goes : (s t : WorldState) (event : Event) (e : StepError) (es : List Made) (w : World)
+    (trace : List JournalEntry)
     → IsTree s.tree → e ≢ step_error.Device → Follows es w (with_trace s trace) → Stops s event e t
     → Goes es w s trace t []
 stopped_goes s t (ActOf a) e es w trace is_tree works f h =
@@ -219,8 +229,10 @@ stopped_goes s t (Trim q) e es w trace is_tree works f h =
 
 -- Events in which a device failed.
 
-message_goes : (s t : WorldState) (k : ℕ) (o : Option Envelope) (x : JournalEntry) (es : List Made) (w : World)
-    (trace : List JournalEntry) → Follows es w (with_trace s trace) → sent_as s.net k ≡ o → MessageFails s t k o x
+message_goes : (s t : WorldState) (k : ℕ) (o : Option Envelope) (x : JournalEntry)
+    (es : List Made) (w : World)
+    (trace : List JournalEntry) → Follows es w (with_trace s trace) → sent_as s.net k ≡ o
+    → MessageFails s t k o x
     → Goes es w s trace t (x ∷ [])
 message_goes s t k None x es w trace f sent h = absurd h
 message_goes s t k (Some l) x es w trace f sent h =
@@ -230,7 +242,8 @@ message_goes s t k (Some l) x es w trace f sent h =
       tree_stays = h.fails.moves.tree;
     }
 
-failed_goes : (s t : WorldState) (event : Event) (x : JournalEntry) (es : List Made) (w : World) (trace : List JournalEntry)
+failed_goes : (s t : WorldState) (event : Event) (x : JournalEntry) (es : List Made) (w : World)
+    (trace : List JournalEntry)
     → IsTree s.tree → Follows es w (with_trace s trace) → FailsAt s event t x → Goes es w s trace t (x ∷ [])
 failed_goes s t (ActOf a) x es w trace is_tree f h =
     record {
@@ -240,8 +253,10 @@ failed_goes s t (ActOf a) x es w trace is_tree f h =
 failed_goes s t (Deliver k) x es w trace is_tree f h =
     message_goes s t k (sent_as s.net k) x es w trace f refl h
 failed_goes s t Settle x es w trace is_tree f h =
-    then_goes es w s h.before t trace (x ∷ []) (settled_goes h.count s h.before es w trace is_tree f h.settles)
-    (λ es' w' xs g. message_goes h.before t h.number (sent_as h.before.net h.number) x es' w' xs g refl h.fails)
+    then_goes es w s h.before t trace (x ∷ [])
+    (settled_goes h.count s h.before es w trace is_tree f h.settles)
+    (λ es' w' xs g. message_goes h.before t h.number (sent_as h.before.net h.number) x es' w'
+    xs g refl h.fails)
 failed_goes s t (Restart q bytes) x es w trace is_tree f h =
     record { trace_goes = restart_on es w s t q trace f is_tree x bytes h; tree_stays = h.fails.moves.tree }
 failed_goes s t (Trim q) x es w trace is_tree f h =
@@ -264,7 +279,8 @@ led_goes s t (e ∷ events) es w trace is_tree f made =
 
 -- The laws.
 
-pub opened : (tree : List TreeProcess) (s : WorldState) → IsOpenedTree s tree → Follows [] opened_world (with_trace s [])
+pub opened : (tree : List TreeProcess) (s : WorldState) → IsOpenedTree s tree
+    → Follows [] opened_world (with_trace s [])
 unfolding journal_of
 opened tree s is =
     let f = opened_follows tree s is in
@@ -279,21 +295,27 @@ opened tree s is =
       listed = f.listed;
     }
 
-pub applied : (s t : WorldState) (event : Event) (es : List Made) (w : World) (trace : List JournalEntry) → IsTree s.tree
+pub applied : (s t : WorldState) (event : Event) (es : List Made) (w : World) (trace : List JournalEntry)
+    → IsTree s.tree
     → Follows es w (with_trace s trace) → Applies s event t → TraceGoesOn es w s trace t []
 applied s t event es w trace is_tree f made = (applied_goes s t event es w trace is_tree f made).trace_goes
 
-pub stopped : (s t : WorldState) (event : Event) (e : StepError) (es : List Made) (w : World) (trace : List JournalEntry)
+pub stopped : (s t : WorldState) (event : Event) (e : StepError) (es : List Made) (w : World)
+    (trace : List JournalEntry)
     → IsTree s.tree → e ≢ step_error.Device → Follows es w (with_trace s trace) → Stops s event e t
     → TraceGoesOn es w s trace t []
-stopped s t event e es w trace is_tree works f h = (stopped_goes s t event e es w trace is_tree works f h).trace_goes
+stopped s t event e es w trace is_tree works f h =
+    (stopped_goes s t event e es w trace is_tree works f h).trace_goes
 
-pub failed : (s t : WorldState) (event : Event) (x : JournalEntry) (es : List Made) (w : World) (trace : List JournalEntry)
-    → IsTree s.tree → Follows es w (with_trace s trace) → FailsAt s event t x → TraceGoesOn es w s trace t (x ∷ [])
+pub failed : (s t : WorldState) (event : Event) (x : JournalEntry) (es : List Made) (w : World)
+    (trace : List JournalEntry)
+    → IsTree s.tree → Follows es w (with_trace s trace) → FailsAt s event t x
+    → TraceGoesOn es w s trace t (x ∷ [])
 failed s t event x es w trace is_tree f h = (failed_goes s t event x es w trace is_tree f h).trace_goes
 
 pub led : (s t : WorldState) (events : List Event) (es : List Made) (w : World) (trace : List JournalEntry)
-    → IsTree s.tree → Follows es w (with_trace s trace) → EventsLead s events t → TraceGoesOn es w s trace t []
+    → IsTree s.tree → Follows es w (with_trace s trace) → EventsLead s events t
+    → TraceGoesOn es w s trace t []
 led s t events es w trace is_tree f made = (led_goes s t events es w trace is_tree f made).trace_goes
 
 pub led_until : (s t : WorldState) (events : List Event) (n : ℕ) (e : StepError) (es : List Made) (w : World)
@@ -302,11 +324,14 @@ pub led_until : (s t : WorldState) (events : List Event) (n : ℕ) (e : StepErro
 led_until s t events n e es w trace is_tree works f h =
     let first = led_goes s h.before (take n events) es w trace is_tree f h.leads in
     (then_goes es w s h.before t trace [] first
-    (λ es' w' xs g. stopped_goes h.before t h.event e es' w' xs (subst IsTree (sym first.tree_stays) is_tree) works g
+    (λ es' w' xs g. stopped_goes h.before t h.event e es' w' xs
+    (subst IsTree (sym first.tree_stays) is_tree) works g
     h.stops)).trace_goes
 
-pub led_failed : (s t : WorldState) (events : List Event) (n : ℕ) (x : JournalEntry) (es : List Made) (w : World)
-    (trace : List JournalEntry) → IsTree s.tree → Follows es w (with_trace s trace) → FailsAfter s events n t x
+pub led_failed : (s t : WorldState) (events : List Event) (n : ℕ) (x : JournalEntry)
+    (es : List Made) (w : World)
+    (trace : List JournalEntry) → IsTree s.tree → Follows es w (with_trace s trace)
+    → FailsAfter s events n t x
     → TraceGoesOn es w s trace t (x ∷ [])
 led_failed s t events n x es w trace is_tree f h =
     let first = led_goes s h.before (take n events) es w trace is_tree f h.leads in
@@ -319,7 +344,8 @@ under : (s t : WorldState) (k : ℕ) (o : Option Envelope) (x : JournalEntry) �
 under s t k None x h = absurd h
 under s t k (Some l) x h = h.fails
 
-pub refused : (s t : WorldState) (event : Event) (x : JournalEntry) → FailsAt s event t x → Stops s event step_error.Device t
+pub refused : (s t : WorldState) (event : Event) (x : JournalEntry) → FailsAt s event t x
+    → Stops s event step_error.Device t
 refused s t (ActOf a) x h = h.fails
 refused s t (Deliver k) x h = under s t k (sent_as s.net k) x h
 refused s t Settle x h =

@@ -14,8 +14,8 @@ use Rattle.tree_state.specs.Runs.{EventsLead}
 use Rattle.tree_state.specs.Worlds.{DeviceFails, RestartFails, Settles, TrimFails, WorldState, least_open}
 use Rattle.tree_state.specs.Faults.{TrimLeaves, WritesBelow, fault_entry, input_fault, restart_fault, trim_fault}
 
--- the device of the process failed under an input, at a coordinator below the root under a record, and this is the
--- entry of it
+-- the device of the process failed under an input, at a coordinator below the root under a record, and this
+-- is the entry of it
 pub record InputFails (old new : WorldState) (q : ProcessId) (input : Input) (x : JournalEntry) : Type 0 where
   pub fails : DeviceFails old new q input
   pub writes : WritesBelow fails.before.place.role fails.broken.breaks.0.written
@@ -37,7 +37,8 @@ pub record SettleFails (limit : ℕ) (old new : WorldState) (x : JournalEntry) :
   pub fails : MessageFails before new number (sent_as before.net number) x
 
 -- the device of the process failed in its restart, and this is the entry of it
-pub record RestartBreaksOff (old new : WorldState) (q : ProcessId) (bytes : Option ℕ) (x : JournalEntry) : Type 0 where
+pub record RestartBreaksOff (old new : WorldState) (q : ProcessId) (bytes : Option ℕ)
+    (x : JournalEntry) : Type 0 where
   pub fails : RestartFails old new q bytes
   pub entry : x ≡ fault_entry q (restart_of fails.before fails.keep)
       (restart_fault fails.before fails.keep fails.behind)
@@ -58,7 +59,8 @@ FailsAt old (Restart q bytes) new x = RestartBreaksOff old new q bytes x
 FailsAt old (Trim q) new x = TrimBreaksOff old new q x
 
 -- N events were made, and the next ended where a device failed
-pub record FailsAfter (old : WorldState) (events : List Event) (n : ℕ) (new : WorldState) (x : JournalEntry) : Type 0 where
+pub record FailsAfter (old : WorldState) (events : List Event) (n : ℕ) (new : WorldState)
+    (x : JournalEntry) : Type 0 where
   pub event : Event
   pub next : slice_get events n ≡ Some event
   pub before : WorldState

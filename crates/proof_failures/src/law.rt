@@ -12,10 +12,10 @@ ghost use Rattle.proof_failures.specs.Traces.{
   TracesStop,
 };
 
-/// A trace with each step that was made, and with each in which a device failed as a fault with its event, how many of
-/// the step's records stand and how many records more are forced, is a run of the model, whole: it begins so, and each
-/// event leads from a state that stands for such a run to one that stands for a longer one, whether it was made or
-/// refused. The headline holds of that run.
+/// A trace with each step that was made, and with each in which a device failed as a fault with its event,
+/// how many of the step's records stand and how many records more are forced, is a run of the model, whole:
+/// it begins so, and each event leads from a state that stands for such a run to one that stands for a longer
+/// one, whether it was made or refused. The headline holds of that run.
 pub fn traces_are_runs()
     ensures opened { OpenedHaveNoTrace }
     ensures applied { TracesGoOn }

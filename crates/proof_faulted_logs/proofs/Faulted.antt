@@ -42,7 +42,8 @@ some_entry : (a b : TreeProcess) → Some a ≡ Some b → a ≡ b
 some_entry a b e = cc
 
 -- what each entry of a list has, the one has that is found
-of_found : (P : TreeProcess → Type 0) (q : ProcessId) (es : List TreeProcess) (e : TreeProcess) → AllByRecursion P es
+of_found : (P : TreeProcess → Type 0) (q : ProcessId) (es : List TreeProcess) (e : TreeProcess)
+    → AllByRecursion P es
     → find (λ x. same_process x.id q) es ≡ Some e → P e
 of_found P q [] e all found = absurd (cc)
 of_found P q (x ∷ es) e all found = by_test (same_process x.id q) (of_found P q es e all.1) found
@@ -68,14 +69,16 @@ module _ (s : WorldState) (es : List Made) (w : World) (t : IsTree s.tree) (f : 
         ∙ sym (map-append (in_log (parent_of c.place.role)) (w.at q).forced (w.at q).unforced)
         ∙ ap (λ (r : Role). map (in_log (parent_of r)) (kept (w.at q))) role_is
 
-    of_coordinator : IsCoordinator (role_of s.tree q) → AllByRecursion (IsSound Coordinator) (records_of c.log.kept)
+    of_coordinator : IsCoordinator (role_of s.tree q)
+        → AllByRecursion (IsSound Coordinator) (records_of c.log.kept)
         → is_some (seen_of (records_of c.log.kept)) ≡ true
     of_coordinator i sound =
         ap (λ ls. is_some (seen_of ls)) records_are
         ∙ ordered_so s.tree es w t f.follows.is_run q listed i
         (subst (AllByRecursion (IsSound Coordinator)) records_are sound)
 
-    by_role : (r : Role) → role_of s.tree q ≡ r → AllByRecursion (IsSound (kind_of_role r)) (records_of c.log.kept)
+    by_role : (r : Role) → role_of s.tree q ≡ r → AllByRecursion (IsSound (kind_of_role r))
+        (records_of c.log.kept)
         → FollowAt r (records_of c.log.kept) → is_some (seen_of (records_of c.log.kept)) ≡ true
     by_role AtRoot is sound follow = of_coordinator (subst IsCoordinator (sym is) tt) sound
     by_role (Below p) is sound follow = of_coordinator (subst IsCoordinator (sym is) tt) sound
@@ -107,7 +110,8 @@ module _ (s : WorldState) (es : List Made) (w : World) (t : IsTree s.tree) (f : 
         process = node.0;
         there = node.1;
         torn = 0;
-        read = read_so e.id listed node.0 node.1 stands e.kind (entry_log s.tree t e.id e found) (bytes_of logs e.id) spells;
+        read = read_so e.id listed node.0 node.1 stands e.kind (entry_log s.tree t e.id e found)
+            (bytes_of logs e.id) spells;
       }
 
 pub faulted_truly : FaultedRunsAreAuditedTruly

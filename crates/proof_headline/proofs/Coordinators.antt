@@ -23,7 +23,8 @@ use Rattle.proof_headline.proofs.Managers.{headline_from_coordinators}
 use Rattle.proof_headline.proofs.Quiet.{elsewhere}
 use Rattle.proof_headline.proofs.Senders.{step_from}
 
-issues_by : (place : Place) (net : List Envelope) (n : Node) → TicketNumbers place net n → GivesCases place net n
+issues_by : (place : Place) (net : List Envelope) (n : Node) → TicketNumbers place net n
+    → GivesCases place net n
     → Issues place net n
 issues_by place net n numbers gives = record {
   given_once = numbers.given_once;

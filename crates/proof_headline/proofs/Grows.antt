@@ -68,7 +68,8 @@ pub ticket_is : (c d : Ticket) → same_ticket c d ≡ true → c ≡ d
 ticket_is c d e = elim (same_ticket_tells c d) [ inl t ↦ t.1 | inr g ↦ absurd (let k = g.0 in cc) ]
 
 -- it gave each ticket that it tells of
-pub joined_here : (tree : List TreeProcess) (q : ProcessId) (ls : List Envelope) → AllSentBy q ls → AllGo tree ls
+pub joined_here : (tree : List TreeProcess) (q : ProcessId) (ls : List Envelope) → AllSentBy q ls
+    → AllGo tree ls
     → (d : Case) (t : Ticket) → sent (is_joined_message d t) ls ≡ true → t.child ≡ q
 joined_here tree q ls f g d t e =
     let s = some_message tree q (is_joined_message d t) ls f g e in
@@ -110,7 +111,8 @@ yes_here tree q ls f g d e =
     by_message l (Ack c o fs) here goes e = absurd (cc)
     by_message l (Inquire c) here goes e = absurd (cc)
 
-pub read_here : (tree : List TreeProcess) (q : ProcessId) (ls : List Envelope) → AllSentBy q ls → AllGo tree ls
+pub read_here : (tree : List TreeProcess) (q : ProcessId) (ls : List Envelope) → AllSentBy q ls
+    → AllGo tree ls
     → (d : Case) → sent (is_read_message d) ls ≡ true → process_of d ≡ q
 read_here tree q ls f g d e =
     let s = some_message tree q (is_read_message d) ls f g e in

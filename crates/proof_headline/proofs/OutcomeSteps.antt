@@ -144,17 +144,20 @@ module _ (tree : List TreeProcess) (is_tree : IsTree tree) (w : World) (h : Worl
     where
       by_ticket : (o : Option Ticket) (c : Case) → c.ticket ≡ o → IsPair tree c t
           → InvariantOf c.txn.presumption (behind_parts c t)
-          → FollowsReading (InvariantOf c.txn.presumption) (behind_parts c t) (pair_reading tree later_world c t)
+          → FollowsReading (InvariantOf c.txn.presumption) (behind_parts c t)
+          (pair_reading tree later_world c t)
       by_ticket None c f pair =
           subst (λ (d : Case). InvariantOf d.txn.presumption (behind_parts d t)
-          → FollowsReading (InvariantOf d.txn.presumption) (behind_parts d t) (pair_reading tree later_world d t))
+          → FollowsReading (InvariantOf d.txn.presumption) (behind_parts d t)
+          (pair_reading tree later_world d t))
           (sym (case_parts c c.txn None refl f))
           (λ inv. stays c.txn.presumption (behind_parts (root_case c.txn) t) inv)
       by_ticket (Some u) c f pair =
           let d = child_case c.txn u in
           let x = c.txn in
           subst (λ (d : Case). IsPair tree d t → InvariantOf d.txn.presumption (behind_parts d t)
-          → FollowsReading (InvariantOf d.txn.presumption) (behind_parts d t) (pair_reading tree later_world d t))
+          → FollowsReading (InvariantOf d.txn.presumption) (behind_parts d t)
+          (pair_reading tree later_world d t))
           (sym (case_parts c c.txn (Some u) refl f))
           (λ pair inv. outcome_stage x.presumption (is_leaf (role_of tree t.child)) (is_commit_outcome w x)
           (is_commit_outcome later_world x) (takes_part tree later_world d)
@@ -163,7 +166,8 @@ module _ (tree : List TreeProcess) (is_tree : IsTree tree) (w : World) (h : Worl
           inv (s.commits_still x) (participant_consents x u t pair)) pair
 
   pub pair_follows : (c : Case) (t : Ticket) → IsPair tree c t → IsFree (w.net ++ ls) c t
-      → FollowsReading (InvariantOf c.txn.presumption) (pair_reading tree w c t) (pair_reading tree later_world c t)
+      → FollowsReading (InvariantOf c.txn.presumption) (pair_reading tree w c t)
+      (pair_reading tree later_world c t)
   pair_follows c t pair free =
       onward c.txn.presumption (pair_reading tree w c t) (behind_parts c t)
       (pair_reading tree later_world c t)

@@ -136,7 +136,8 @@ module _ (tree : List TreeProcess) (is_tree : IsTree tree) (w : World) (h : Stan
       (has (is_commit d) n.life) (has (is_abort d) n.forced) (up_half c u) (parent_half place n d t) k v0 v
       e (gives w.net c u e) refl (takes c u pair e)))
 
-pub below : (tree : List TreeProcess) (w : World) → IsTree tree → WorldHolds tree w → (c : Case) (u t : Ticket)
+pub below : (tree : List TreeProcess) (w : World) → IsTree tree → WorldHolds tree w
+    → (c : Case) (u t : Ticket)
     → IsPair tree c u → sent (is_joined_message c u) w.net ≡ true → IsPair tree (child_case c.txn u) t
     → IsBelow (pair_reading tree w c u) (pair_reading tree w (child_case c.txn u) t)
 below tree w is_tree h c u t = below_with tree is_tree w (standing_world tree w h)

@@ -50,7 +50,8 @@ opened_accepts_none n same c t e =
     absurd (let x = subst (λ (k : Node). has_accepted k c t ≡ true) same e in cc)
 
 -- who accepts a ticket is at this process, and JOINED gave it the ticket
-pub accepts : (tree : List TreeProcess) (w : World) → Standing tree w → (q : ProcessId) (c : Case) (t : Ticket)
+pub accepts : (tree : List TreeProcess) (w : World) → Standing tree w
+    → (q : ProcessId) (c : Case) (t : Ticket)
     → has_accepted (w.at q) c t ≡ true → (process_of c ≡ q) × (sent (is_joined_message c t) w.net ≡ true)
 accepts tree w h q c t e = by_listed (is_listed tree q) refl
   where
@@ -122,7 +123,8 @@ parent_at (AtLeaf r) q p h = h
 parent_at AtRoot q p h = absurd (h)
 
 -- At the root the case takes part, however short the climb.
-root_part : (tree : List TreeProcess) (w : World) (k : ℕ) (x : Txn) → part_within k tree w (root_case x) ≡ true
+root_part : (tree : List TreeProcess) (w : World) (k : ℕ) (x : Txn)
+    → part_within k tree w (root_case x) ≡ true
 root_part tree w zero x = refl
 root_part tree w (suc k) x = refl
 

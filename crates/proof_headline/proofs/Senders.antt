@@ -56,7 +56,8 @@ turn_from (AtLeaf p) place n h e i t = absurd (i)
 
 -- A restart.
 
-both_from : (me : ProcessId) (xs ys : List Envelope) → AllSentBy me xs → AllSentBy me ys → AllSentBy me (xs ++ ys)
+both_from : (me : ProcessId) (xs ys : List Envelope) → AllSentBy me xs → AllSentBy me ys
+    → AllSentBy me (xs ++ ys)
 both_from me [] ys a b = b
 both_from me (x ∷ xs) ys a b = (a.0, both_from me xs ys a.1 b)
 

@@ -24,7 +24,8 @@ keeps_committing PresumeCommit = CascadedCommit.commits_above
 pub stays : (p : Presumption) (r : Reading) → InvariantOf p r → FollowsReading (InvariantOf p) r r
 stays p r h = record { invariant = h; later = later-now r }
 
-pub onward : (p : Presumption) (r s t : Reading) → FollowsReading (InvariantOf p) r s → FollowsReading (InvariantOf p) s t
+pub onward : (p : Presumption) (r s t : Reading) → FollowsReading (InvariantOf p) r s
+    → FollowsReading (InvariantOf p) s t
     → FollowsReading (InvariantOf p) r t
 onward p r s t f g = record { invariant = g.invariant; later = later-later r s t f.later g.later }
 
@@ -52,7 +53,8 @@ pub outcome_stage : (p : Presumption) (leaf old new part : Bool) (up : ParentHal
     → InvariantOf p (reading_from false leaf old part up down v) → (old ≡ true → new ≡ true)
     → (new ≡ true → part ≡ true → ((reading_from false leaf old part up down v).refused ≡ false)
     × Consents (reading_from false leaf old part up down v))
-    → FollowsReading (InvariantOf p) (reading_from false leaf old part up down v) (reading_from false leaf new part
+    → FollowsReading (InvariantOf p) (reading_from false leaf old part up down v)
+    (reading_from false leaf new part
     up down v)
 outcome_stage p leaf true true part up down v h grows may = stays p
     (reading_from false leaf true part up down v) h

@@ -8,8 +8,8 @@ use Rattle.proof_processes.specs.ProcessSteps.{ChildStep, Elsewhere, ParentStep}
 use Rattle.proof_processes.specs.WorldHolds.{AboutGiven, AllGo, NodeHolds, WorldHolds}
 use Rattle.proof_steps.specs.cascades.Messages.{AllSentBy}
 
--- What one step of a process keeps: the process's own part of the world's invariant, where its messages go and
--- of which cases they are, and the invariant of each pair of which it has a half.
+-- What one step of a process keeps: the process's own part of the world's invariant, where its messages go
+-- and of which cases they are, and the invariant of each pair of which it has a half.
 pub record StepKeeps (place : Place) (net ls : List Envelope) (n n' : Node) : Type 0 where
   pub holds : NodeHolds place (net ++ ls) n'
   pub sent_here : AllSentBy place.me ls

@@ -22,8 +22,8 @@ use Rattle.judge_rules.specs.Flags.{has}
 use Rattle.proof_judged_deeds.proofs.Links.{is_one, is_two}
 use Rattle.proof_judged_deeds.proofs.Mirrors.{is_begun, is_quiet, stand_as}
 
--- no row of the tables applies to a call: by the branch's state, the thread's own state, whether the thread is active in
--- any branch, whether the branch is suspended for migration nowhere, and whether it is held
+-- no row of the tables applies to a call: by the branch's state, the thread's own state, whether the thread
+-- is active in any branch, whether the branch is suspended for migration nowhere, and whether it is held
 abbrev pub out_by : BranchState → AssocState → Call → Bool → Bool → Bool → Bool
 out_by s own c busy unmoved held =
     not (has_rows (branch_rows s c))
@@ -36,9 +36,11 @@ no_start_by None joins resumes two migrated = resumes
 no_start_by (Some k) joins resumes two migrated =
     waits k || (joins && (two || stands_spoiled k)) || (resumes && not (two || migrated))
 
-pub join_agrees : (s : BranchState) (own : AssocState) (busy unmoved : Bool) (d : JudgedDecision) → is_begun s ≡ true
+pub join_agrees : (s : BranchState) (own : AssocState) (busy unmoved : Bool) (d : JudgedDecision)
+    → is_begun s ≡ true
     → (is_one own ≡ true → busy ≡ true) → (is_quiet s ≡ true → own ≡ T0) → (own ≡ M → ⊥)
-    → out_by s own call.StartJoin busy unmoved false ≡ (busy || no_start_by (stand_as s d) true false (is_two own) (not unmoved))
+    → out_by s own call.StartJoin busy unmoved false
+    ≡ (busy || no_start_by (stand_as s d) true false (is_two own) (not unmoved))
 join_agrees S0 own busy unmoved d k a q m = absurd (false≢true k)
 join_agrees S1 T0 true unmoved d k a q m = refl
 join_agrees S1 T0 false unmoved d k a q m = refl
@@ -72,9 +74,11 @@ join_agrees S5 T1 busy unmoved d k a q m = absurd (let e : T1 ≡ T0 = q refl in
 join_agrees S5 T2 busy unmoved d k a q m = absurd (let e : T2 ≡ T0 = q refl in cc)
 join_agrees S5 M busy unmoved d k a q m = absurd (m refl)
 
-pub resume_agrees : (s : BranchState) (own : AssocState) (busy unmoved : Bool) (d : JudgedDecision) → is_begun s ≡ true
+pub resume_agrees : (s : BranchState) (own : AssocState) (busy unmoved : Bool) (d : JudgedDecision)
+    → is_begun s ≡ true
     → (is_one own ≡ true → busy ≡ true) → (is_quiet s ≡ true → own ≡ T0) → (own ≡ M → ⊥)
-    → out_by s own call.StartResume busy unmoved false ≡ (busy || no_start_by (stand_as s d) false true (is_two own) (not unmoved))
+    → out_by s own call.StartResume busy unmoved false
+    ≡ (busy || no_start_by (stand_as s d) false true (is_two own) (not unmoved))
 resume_agrees S0 own busy unmoved d k a q m = absurd (false≢true k)
 resume_agrees S1 T0 true true d k a q m = refl
 resume_agrees S1 T0 true false d k a q m = refl
@@ -268,9 +272,11 @@ abbrev pub off_by : BranchVerb → Bool → Option Stand → Bool
 off_by v one None = false
 off_by v one (Some k) = not (row_by v one k)
 
-pub prepare_agrees : (s : BranchState) (own : AssocState) (busy unmoved held : Bool) (d : JudgedDecision) → is_begun s ≡ true
+pub prepare_agrees : (s : BranchState) (own : AssocState) (busy unmoved held : Bool) (d : JudgedDecision)
+    → is_begun s ≡ true
     → (s ≡ S1 → held ≡ true) → (is_quiet s ≡ true → held ≡ false)
-    → out_by s own call.Prepare busy unmoved held ≡ ((held && not (is_forget verb.Prepare)) || off_by verb.Prepare false (stand_as s d))
+    → out_by s own call.Prepare busy unmoved held
+    ≡ ((held && not (is_forget verb.Prepare)) || off_by verb.Prepare false (stand_as s d))
 prepare_agrees S0 own busy unmoved held d k a q = absurd (false≢true k)
 prepare_agrees S1 own busy unmoved true d k a q = refl
 prepare_agrees S1 own busy unmoved false d k a q = absurd (false≢true (a refl))
@@ -283,9 +289,11 @@ prepare_agrees S4 own busy unmoved false d k a q = refl
 prepare_agrees S5 own busy unmoved true d k a q = absurd (false≢true (sym (q refl)))
 prepare_agrees S5 own busy unmoved false d k a q = refl
 
-pub commit_agrees : (s : BranchState) (own : AssocState) (busy unmoved held : Bool) (d : JudgedDecision) → is_begun s ≡ true
+pub commit_agrees : (s : BranchState) (own : AssocState) (busy unmoved held : Bool) (d : JudgedDecision)
+    → is_begun s ≡ true
     → (s ≡ S1 → held ≡ true) → (is_quiet s ≡ true → held ≡ false)
-    → out_by s own call.Commit busy unmoved held ≡ ((held && not (is_forget verb.Commit)) || off_by verb.Commit false (stand_as s d))
+    → out_by s own call.Commit busy unmoved held
+    ≡ ((held && not (is_forget verb.Commit)) || off_by verb.Commit false (stand_as s d))
 commit_agrees S0 own busy unmoved held d k a q = absurd (false≢true k)
 commit_agrees S1 own busy unmoved true d k a q = refl
 commit_agrees S1 own busy unmoved false d k a q = absurd (false≢true (a refl))
@@ -298,9 +306,11 @@ commit_agrees S4 own busy unmoved false d k a q = refl
 commit_agrees S5 own busy unmoved true d k a q = absurd (false≢true (sym (q refl)))
 commit_agrees S5 own busy unmoved false d k a q = refl
 
-pub one_phase_agrees : (s : BranchState) (own : AssocState) (busy unmoved held : Bool) (d : JudgedDecision) → is_begun s ≡ true
+pub one_phase_agrees : (s : BranchState) (own : AssocState) (busy unmoved held : Bool) (d : JudgedDecision)
+    → is_begun s ≡ true
     → (s ≡ S1 → held ≡ true) → (is_quiet s ≡ true → held ≡ false)
-    → out_by s own call.CommitOnePhase busy unmoved held ≡ ((held && not (is_forget verb.Commit)) || off_by verb.Commit true (stand_as s d))
+    → out_by s own call.CommitOnePhase busy unmoved held
+    ≡ ((held && not (is_forget verb.Commit)) || off_by verb.Commit true (stand_as s d))
 one_phase_agrees S0 own busy unmoved held d k a q = absurd (false≢true k)
 one_phase_agrees S1 own busy unmoved true d k a q = refl
 one_phase_agrees S1 own busy unmoved false d k a q = absurd (false≢true (a refl))
@@ -313,9 +323,11 @@ one_phase_agrees S4 own busy unmoved false d k a q = refl
 one_phase_agrees S5 own busy unmoved true d k a q = absurd (false≢true (sym (q refl)))
 one_phase_agrees S5 own busy unmoved false d k a q = refl
 
-pub rollback_agrees : (s : BranchState) (own : AssocState) (busy unmoved held : Bool) (d : JudgedDecision) → is_begun s ≡ true
+pub rollback_agrees : (s : BranchState) (own : AssocState) (busy unmoved held : Bool) (d : JudgedDecision)
+    → is_begun s ≡ true
     → (s ≡ S1 → held ≡ true) → (is_quiet s ≡ true → held ≡ false)
-    → out_by s own call.Rollback busy unmoved held ≡ ((held && not (is_forget verb.Rollback)) || off_by verb.Rollback false (stand_as s d))
+    → out_by s own call.Rollback busy unmoved held
+    ≡ ((held && not (is_forget verb.Rollback)) || off_by verb.Rollback false (stand_as s d))
 rollback_agrees S0 own busy unmoved held d k a q = absurd (false≢true k)
 rollback_agrees S1 own busy unmoved true d k a q = refl
 rollback_agrees S1 own busy unmoved false d k a q = absurd (false≢true (a refl))
@@ -328,9 +340,11 @@ rollback_agrees S4 own busy unmoved false d k a q = refl
 rollback_agrees S5 own busy unmoved true d k a q = absurd (false≢true (sym (q refl)))
 rollback_agrees S5 own busy unmoved false d k a q = refl
 
-pub forget_agrees : (s : BranchState) (own : AssocState) (busy unmoved held : Bool) (d : JudgedDecision) → is_begun s ≡ true
+pub forget_agrees : (s : BranchState) (own : AssocState) (busy unmoved held : Bool) (d : JudgedDecision)
+    → is_begun s ≡ true
     → (s ≡ S1 → held ≡ true) → (is_quiet s ≡ true → held ≡ false)
-    → out_by s own call.Forget busy unmoved held ≡ ((held && not (is_forget verb.Forget)) || off_by verb.Forget false (stand_as s d))
+    → out_by s own call.Forget busy unmoved held
+    ≡ ((held && not (is_forget verb.Forget)) || off_by verb.Forget false (stand_as s d))
 forget_agrees S0 own busy unmoved held d k a q = absurd (false≢true k)
 forget_agrees S1 own busy unmoved true d k a q = refl
 forget_agrees S1 own busy unmoved false d k a q = absurd (false≢true (a refl))

@@ -63,7 +63,8 @@ pub bad_same : (x : Xid) → is_bad_name lacks_forced (sort_of x) ≡ same x nul
 bad_same x = bad_by (same x null_xid) (are_none x.bqual)
 
 -- a branch is known
-pub known_same : (n : NameNumbers) (m : States) (d : Xid → JudgedDecision) (s : Sight) (x : Xid) → Mirrors n m d s
+pub known_same : (n : NameNumbers) (m : States) (d : Xid → JudgedDecision) (s : Sight) (x : Xid)
+    → Mirrors n m d s
     → is_some (branch_at (n.xid x) s) ≡ is_begun (state_in m.branches.branches x)
 known_same n m d s x mirrors = find_any (is_named (n.xid x)) s.branches ∙ mirrors.branches.known x
 
@@ -71,30 +72,40 @@ zero_by : (k : ℕ) → nat_lt 0 k ≡ not (k == 0)
 zero_by k = grind (arith, nat_tests)
 
 -- it is suspended for migration
-pub migrated_same : (n : NameNumbers) (m : States) (d : Xid → JudgedDecision) (s : Sight) (x : Xid) → Mirrors n m d s
+pub migrated_same : (n : NameNumbers) (m : States) (d : Xid → JudgedDecision) (s : Sight) (x : Xid)
+    → Mirrors n m d s
     → is_migrated (n.xid x) s ≡ not (moved_of m.associations x == 0)
 migrated_same n m d s x mirrors =
-    some_times (n.xid x) s.migrated ∙ ap (λ k. nat_lt 0 k) (mirrors.tied.moved x) ∙ zero_by (moved_of m.associations x)
+    some_times (n.xid x) s.migrated ∙ ap (λ k. nat_lt 0 k) (mirrors.tied.moved x)
+    ∙ zero_by (moved_of m.associations x)
 
 no_start_is : (o : Option JudgedBranch) (f : ℕ) (two migrated : Bool)
-    → has_no_start o f two migrated ≡ no_start_by (option_map (λ b. b.stand) o) (has f join) (has f resume) two migrated
+    → has_no_start o f two migrated ≡ no_start_by (option_map (λ b. b.stand) o) (has f join)
+    (has f resume) two migrated
 no_start_is None f two migrated = refl
 no_start_is (Some b) f two migrated = refl
 
 -- no row lets a start join or resume
-pub no_start_same : (n : NameNumbers) (m : States) (d : Xid → JudgedDecision) (s : Sight) (t : ℕ) (x : Xid) (f : ℕ) (j r : Bool)
+pub no_start_same : (n : NameNumbers) (m : States) (d : Xid → JudgedDecision) (s : Sight) (t : ℕ) (x : Xid)
+    (f : ℕ) (j r : Bool)
     → Mirrors n m d s → has f join ≡ j → has f resume ≡ r
     → has_no_start (branch_at (n.xid x) s) f (has_suspended t (n.xid x) s) (is_migrated (n.xid x) s)
-    ≡ no_start_by (stand_as (state_in m.branches.branches x) (d x)) j r (is_two (own_state m.associations t x))
+    ≡ no_start_by (stand_as (state_in m.branches.branches x) (d x)) j r
+    (is_two (own_state m.associations t x))
     (not (moved_of m.associations x == 0))
 no_start_same n m d s t x f j r mirrors fj fr =
     no_start_is (branch_at (n.xid x) s) f (has_suspended t (n.xid x) s) (is_migrated (n.xid x) s)
-    ∙ ap (λ k. no_start_by k (has f join) (has f resume) (has_suspended t (n.xid x) s) (is_migrated (n.xid x) s))
+    ∙ ap (λ k. no_start_by k (has f join) (has f resume) (has_suspended t (n.xid x) s)
+    (is_migrated (n.xid x) s))
     (stands_at n (state_in m.branches.branches) d s.branches x mirrors.branches)
-    ∙ ap (λ b. no_start_by (stand_as (state_in m.branches.branches x) (d x)) b (has f resume) (has_suspended t (n.xid x) s) (is_migrated (n.xid x) s)) fj
-    ∙ ap (λ b. no_start_by (stand_as (state_in m.branches.branches x) (d x)) j b (has_suspended t (n.xid x) s) (is_migrated (n.xid x) s)) fr
-    ∙ ap (λ b. no_start_by (stand_as (state_in m.branches.branches x) (d x)) j r b (is_migrated (n.xid x) s)) (mirrors.tied.two t x)
-    ∙ ap (λ b. no_start_by (stand_as (state_in m.branches.branches x) (d x)) j r (is_two (own_state m.associations t x)) b)
+    ∙ ap (λ b. no_start_by (stand_as (state_in m.branches.branches x) (d x)) b (has f resume)
+    (has_suspended t (n.xid x) s) (is_migrated (n.xid x) s)) fj
+    ∙ ap (λ b. no_start_by (stand_as (state_in m.branches.branches x) (d x)) j b (has_suspended t (n.xid x) s)
+    (is_migrated (n.xid x) s)) fr
+    ∙ ap (λ b. no_start_by (stand_as (state_in m.branches.branches x) (d x)) j r b (is_migrated (n.xid x) s))
+    (mirrors.tied.two t x)
+    ∙ ap (λ b. no_start_by (stand_as (state_in m.branches.branches x) (d x)) j r
+    (is_two (own_state m.associations t x)) b)
     (migrated_same n m d s x mirrors)
 
 own_by : (b c : Bool) → (if b then T1 else if c then T2 else T0) ≡ M → ⊥

@@ -60,7 +60,8 @@ stand_same S3 c k h = refl
 stand_same S4 c k h = refl
 stand_same S5 c k h = ap (λ z. Some (stand.Heuristic z)) (h refl)
 
-known_branches : (n : NameNumbers) (st : Xid → BranchState) (d f : Xid → JudgedDecision) (bs : List JudgedBranch)
+known_branches : (n : NameNumbers) (st : Xid → BranchState) (d f : Xid → JudgedDecision)
+    (bs : List JudgedBranch)
     → ((y : Xid) → st y ≡ S5 → f y ≡ d y) → AreBranches n st d bs → AreBranches n st f bs
 known_branches n st d f bs same are = record {
   each = all_weaker (IsBranch n st d) (IsBranch n st f) (λ b is. record {
@@ -71,7 +72,8 @@ known_branches n st d f bs same are = record {
   known = are.known;
 }
 
-pub known_mirrors : (n : NameNumbers) (m : States) (d f : Xid → JudgedDecision) (s : Sight) → StillKnown m d f → Mirrors n m d s
+pub known_mirrors : (n : NameNumbers) (m : States) (d f : Xid → JudgedDecision) (s : Sight) → StillKnown m d f
+    → Mirrors n m d s
     → Mirrors n m f s
 known_mirrors n m d f s same mirrors = record {
   opened = mirrors.opened;
@@ -83,15 +85,18 @@ known_mirrors n m d f s same mirrors = record {
   scans = mirrors.scans;
 }
 
-module _ (n : NameNumbers) (old new : States) (d f : Xid → JudgedDecision) (l l' : Xid → Bool) (s : Sight) (e : HistoryEvent)
-    (mirrors : Mirrors n old d s) (lost : AreLost n l s.lost) (once : AreThreadsListedOnce new.associations.holders) where
+module _ (n : NameNumbers) (old new : States) (d f : Xid → JudgedDecision) (l l' : Xid → Bool) (s : Sight)
+    (e : HistoryEvent)
+    (mirrors : Mirrors n old d s) (lost : AreLost n l s.lost)
+    (once : AreThreadsListedOnce new.associations.holders) where
   abbrev Result_of : Type 0
   Result_of = Moves n s e.call e.answer old new f l'
 
   abbrev Carried : Sight → JudgedCall → JudgedAnswer → Type 0
   Carried u c a = Carries n s u (state_in old.branches.branches) (state_in new.branches.branches) c a
 
-  told : (c : JudgedCall) (a : JudgedAnswer) (u : Sight) → Is e c a → Contains (next lacks_forced s c a) u → Mirrors n new f u
+  told : (c : JudgedCall) (a : JudgedAnswer) (u : Sight) → Is e c a → Contains (next lacks_forced s c a) u
+      → Mirrors n new f u
       → AreLost n l' u.lost → Carried u c a → Result_of
   told c a u is row m left books = record {
     sight = u;
@@ -112,17 +117,20 @@ module _ (n : NameNumbers) (old new : States) (d f : Xid → JudgedDecision) (l 
       → (goes : Goes n v s t x flags c new d) → AreLost n l' goes.sight.lost → Result_of
   branch v t x flags c is same goes left =
       told (call.Function (function.Branch v (on n t x flags))) (answer.Code c) goes.sight is
-      (in_next s (call.Function (function.Branch v (on n t x flags))) (answer.Code c) goes.sight mirrors.waits goes.row)
+      (in_next s (call.Function (function.Branch v (on n t x flags))) (answer.Code c) goes.sight
+      mirrors.waits goes.row)
       (known_mirrors n new d f goes.sight same goes.mirrors) left goes.books
 
   -- nothing changed but room, and the judge stays where it is
-  stays : (c : JudgedCall) (a : JudgedAnswer) → Is e c a → SameStates old new → StillKnown new d f → NoMore l l'
+  stays : (c : JudgedCall) (a : JudgedAnswer) → Is e c a → SameStates old new → StillKnown new d f
+      → NoMore l l'
       → Contains (next lacks_forced s c a) s → Carried s c a → Result_of
   stays c a is same known less row books = told c a s is row
       (known_mirrors n new d f s known (same_mirrors n old new d s same mirrors)) (kept s less refl) books
 
   -- a call that finishes a branch
-  ended : (v : BranchVerb) (w : Verb) (t : ℕ) (x : Xid) (flags : Flags) (c : Code) → ends_branch v w → Loses old new x l l'
+  ended : (v : BranchVerb) (w : Verb) (t : ℕ) (x : Xid) (flags : Flags) (c : Code) → ends_branch v w
+      → Loses old new x l l'
       → (goes : Goes n v s t x flags c new d) → AreLost n l' goes.sight.lost
   ended verb.Prepare w t x flags c ends loses goes =
       lost_ends n old new d s x l l' mirrors lost loses goes.sight goes.lost
@@ -154,22 +162,29 @@ module _ (n : NameNumbers) (old new : States) (d f : Xid → JudgedDecision) (l 
   written_lost None t k v = refl
   written_lost (Some x) t k v = refl
 
-  finished : (v : BranchVerb) (w : Verb) (ws : List Write) (k : Known) (t : ℕ) (x : Xid) (flags : Flags) (c : Code)
-      → ends_branch v w → d x ≡ decision_of k.outcome → AnswersCall (rows_for old x ws k) old new w t x flags.0 c
+  finished : (v : BranchVerb) (w : Verb) (ws : List Write) (k : Known) (t : ℕ) (x : Xid)
+      (flags : Flags) (c : Code)
+      → ends_branch v w → d x ≡ decision_of k.outcome → AnswersCall (rows_for old x ws k) old new w t x
+      flags.0 c
       → Goes n v s t x flags c new d
-  finished verb.Prepare w ws k t x flags c ends is h = prepare_steps n old new d s t x flags c mirrors once ws k
+  finished verb.Prepare w ws k t x flags c ends is h =
+      prepare_steps n old new d s t x flags c mirrors once ws k
       (subst (λ (q : Verb). AnswersCall (rows_for old x ws k) old new q t x flags.0 c) ends h)
-  finished verb.Commit w ws k t x flags c ends is h = commit_steps n old new d s t x flags c mirrors once ws k is
+  finished verb.Commit w ws k t x flags c ends is h =
+      commit_steps n old new d s t x flags c mirrors once ws k is
       (subst (λ (q : Verb). AnswersCall (rows_for old x ws k) old new q t x flags.0 c) ends h)
-  finished verb.Rollback w ws k t x flags c ends is h = rollback_steps n old new d s t x flags c mirrors once ws k is
+  finished verb.Rollback w ws k t x flags c ends is h =
+      rollback_steps n old new d s t x flags c mirrors once ws k is
       (subst (λ (q : Verb). AnswersCall (rows_for old x ws k) old new q t x flags.0 c) ends h)
   finished verb.Forget w ws k t x flags c ends is h = forget_steps n old new d s t x flags c mirrors once ws k
       (subst (λ (q : Verb). AnswersCall (rows_for old x ws k) old new q t x flags.0 c) ends h)
   finished verb.Start w ws k t x flags c ends is h = absurd ends
   finished verb.End w ws k t x flags c ends is h = absurd ends
 
-  recovered : (t count : ℕ) (flags : Flags) (r : Result (List Xid) Code) (a : JudgedAnswer) → Recovers old new t count flags.0 r
-      → IsScan n r a → StillKnown new d f → NoMore l l' → Is e (call.Function (function.Recover t count flags)) a
+  recovered : (t count : ℕ) (flags : Flags) (r : Result (List Xid) Code) (a : JudgedAnswer)
+      → Recovers old new t count flags.0 r
+      → IsScan n r a → StillKnown new d f → NoMore l l'
+      → Is e (call.Function (function.Recover t count flags)) a
       → Result_of
   recovered t count flags (Err c) a h says same less is =
       let g = code_goes n old new d s t count flags.0 mirrors c h in
@@ -216,22 +231,28 @@ module _ (n : NameNumbers) (old new : States) (d f : Xid → JudgedDecision) (l 
       (in_next s (call.Function (function.Close flags)) (answer.Code c) g.0 mirrors.waits g.1)
       (known_mirrors n new d f g.0 same g.2)
       (kept g.0 less (ap (λ (h : Ledger). h.lost) g.3)) g.3
-  deed_moves (Recovered t count flags r a h says same less is) = recovered t count flags r a h says same less is
+  deed_moves (Recovered t count flags r a h says same less is) =
+      recovered t count flags r a h says same less is
   deed_moves (Decided x o q takes is others less event) =
       let g = decide_goes n old new d f s x o mirrors q takes is others in
       told (call.Decide (n.xid x) (is_commit o)) answer.Done g.0 event
-      (in_next s (call.Decide (n.xid x) (is_commit o)) answer.Done g.0 mirrors.waits g.1) g.2 (kept g.0 less g.3) g.4
-  deed_moves (Undecided x o same known less is) = stays (call.Decide (n.xid x) (is_commit o)) answer.Refused is same known less
+      (in_next s (call.Decide (n.xid x) (is_commit o)) answer.Done g.0 mirrors.waits g.1) g.2
+      (kept g.0 less g.3) g.4
+  deed_moves (Undecided x o same known less is) = stays (call.Decide (n.xid x) (is_commit o)) answer.Refused
+      is same known less
       (in_next s (call.Decide (n.xid x) (is_commit o)) answer.Refused s mirrors.waits (first_in s [])) refl
   deed_moves (Wrote t k v same known less is) =
       let u = write_row (active_of t s) t (n.word k) (value_number n v) s in
       told (call.Put t (n.word k) (value_number n v)) answer.Done u is
       (in_next s (call.Put t (n.word k) (value_number n v)) answer.Done u mirrors.waits (first_in u []))
-      (known_mirrors n new d f u known (like_mirrors n new d u s (written_tables (active_of t s) t (n.word k) (value_number n v) s)
-      (same_mirrors n old new d s same mirrors))) (kept u less (written_lost (active_of t s) t (n.word k) (value_number n v))) refl
+      (known_mirrors n new d f u known (like_mirrors n new d u s
+      (written_tables (active_of t s) t (n.word k) (value_number n v) s)
+      (same_mirrors n old new d s same mirrors)))
+      (kept u less (written_lost (active_of t s) t (n.word k) (value_number n v))) refl
   deed_moves (Unwritten t k v same known less is) =
       stays (call.Put t (n.word k) (value_number n v)) answer.Refused is same known less
-      (in_next s (call.Put t (n.word k) (value_number n v)) answer.Refused s mirrors.waits (first_in s [])) refl
+      (in_next s (call.Put t (n.word k) (value_number n v)) answer.Refused s mirrors.waits (first_in s []))
+      refl
   deed_moves (Unread t k same known less is) = stays (call.Get t (n.word k)) answer.Refused is same known less
       (in_next s (call.Get t (n.word k)) answer.Refused s mirrors.waits (first_in s [])) refl
   deed_moves (Trimmed same known less is) = stays call.Trim answer.Told is same known less
@@ -247,7 +268,8 @@ none_listed : (es : List (ℕ × Option Xid)) → length es ≡ 0 → AreThreads
 none_listed [] h = tt
 none_listed (e ∷ es) h = absurd (omega arith)
 
-pub new_mirrors : (n : NameNumbers) (m : States) (d : Xid → JudgedDecision) → AreNewStates m → Mirrors n m d first_sight
+pub new_mirrors : (n : NameNumbers) (m : States) (d : Xid → JudgedDecision) → AreNewStates m
+    → Mirrors n m d first_sight
 new_mirrors n m d new =
     let free : IsFree m.associations = (
       λ t x. empty_states m.associations new.associations new.seats t x,
@@ -279,13 +301,15 @@ new_mirrors n m d new =
       shut = λ e. free;
       scans = record {
         open_so = λ t. sym (ap (λ (z : ScanList). has_scan z t) new.scans);
-        each = λ t rest e. absurd (let f : None ≡ Some rest = sym (ap (λ (z : ScanList). scan_of z t) new.scans) ∙ e in cc);
+        each = λ t rest e. absurd (let f : None ≡ Some rest =
+            sym (ap (λ (z : ScanList). scan_of z t) new.scans) ∙ e in cc);
       };
     }
 
 -- Whole histories.
 
-leads_on : (n : NameNumbers) (m : States) (d : Xid → JudgedDecision) (l : Xid → Bool) (s : Sight) (es : List HistoryEvent) → Mirrors n m d s
+leads_on : (n : NameNumbers) (m : States) (d : Xid → JudgedDecision) (l : Xid → Bool) (s : Sight)
+    (es : List HistoryEvent) → Mirrors n m d s
     → AreLost n l s.lost → DeedsLead n m d l es → (u : Sight) × JudgeLeads lacks_forced s es u
 leads_on n m d l s [] mirrors lost h = (s, refl)
 leads_on n m d l s (e ∷ es) mirrors lost h =
@@ -293,7 +317,8 @@ leads_on n m d l s (e ∷ es) mirrors lost h =
     let rest = leads_on n h.0 h.1 h.2 step.sight es step.mirrors step.lost h.5 in
     (rest.0, (step.sight, step.row, rest.1))
 
-pub deeds_legal : (n : NameNumbers) (m : States) (d : Xid → JudgedDecision) (es : List HistoryEvent) → AreNewStates m → DeedsLead n m d none_lost es
+pub deeds_legal : (n : NameNumbers) (m : States) (d : Xid → JudgedDecision) (es : List HistoryEvent)
+    → AreNewStates m → DeedsLead n m d none_lost es
     → IsLegal lacks_forced es
 deeds_legal n m d es new h = leads_on n m d none_lost first_sight es (new_mirrors n m d new)
     (record { each = tt; here = λ x e. absurd (false≢true e) }) h

@@ -50,10 +50,12 @@ all_cut P x (e ∷ es) all = by (all_cut P x es all.1) (same x e.0) where
   by more true = all.1
   by more false = (all.0, more)
 
-named_cut : (x : Xid) (es : List (Xid × BranchState)) → AreNamedOnce es → AreNamedOnce (remove_entry (same x) es)
+named_cut : (x : Xid) (es : List (Xid × BranchState)) → AreNamedOnce es
+    → AreNamedOnce (remove_entry (same x) es)
 named_cut x [] h = tt
 named_cut x (e ∷ es) h = by (named_cut x es h.1) (same x e.0) where
-  by : AreNamedOnce (remove_entry (same x) es) → (b : Bool) → AreNamedOnce (cond b es (e ∷ remove_entry (same x) es))
+  by : AreNamedOnce (remove_entry (same x) es) → (b : Bool)
+      → AreNamedOnce (cond b es (e ∷ remove_entry (same x) es))
   by more true = h.1
   by more false = (all_cut (λ z. same z e.0 ≡ false) x es h.0, more)
 
@@ -68,7 +70,8 @@ named_placed es x S5 h = named_put x S5 es h
 
 -- The branches in doubt.
 
-found_each : (es : List (Xid × BranchState)) → AreNamedOnce es → AllByRecursion (λ f. lookup (same f.0) es ≡ Some f.1) es
+found_each : (es : List (Xid × BranchState)) → AreNamedOnce es
+    → AllByRecursion (λ f. lookup (same f.0) es ≡ Some f.1) es
 found_each [] h = tt
 found_each (e ∷ es) h = (
   cond-true (same e.0 e.0) (Some e.1) (lookup (same e.0) es) (same_refl e.0),
@@ -81,16 +84,19 @@ found_each (e ∷ es) h = (
 -- each of them is in doubt
 pub doubt_states : (bs : List (Xid × BranchState)) → AreNamedOnce bs
     → AllByRecursion (λ x. is_in_doubt (state_in bs x) ≡ true) (in_doubt bs)
-doubt_states bs h = all_map (λ e. is_in_doubt (state_in bs e.0) ≡ true) (λ x. is_in_doubt (state_in bs x) ≡ true) (λ e. e.0)
+doubt_states bs h = all_map (λ e. is_in_doubt (state_in bs e.0) ≡ true)
+    (λ x. is_in_doubt (state_in bs x) ≡ true) (λ e. e.0)
     (λ e q. q) (filter (λ e. is_in_doubt e.1) bs)
-    (all_where (λ f. lookup (same f.0) bs ≡ Some f.1) (λ e. is_in_doubt (state_in bs e.0) ≡ true) (λ e. is_in_doubt e.1)
+    (all_where (λ f. lookup (same f.0) bs ≡ Some f.1) (λ e. is_in_doubt (state_in bs e.0) ≡ true)
+    (λ e. is_in_doubt e.1)
     (λ e q is. ap (λ o. is_in_doubt (unwrap_or o S0)) is ∙ q) bs (found_each bs h))
 
 -- the numbers of those in doubt among some
 abbrev pub doubt_numbers : NameNumbers → List (Xid × BranchState) → List ℕ
 doubt_numbers n es = map n.xid (map (λ e. e.0) (filter (λ e. is_in_doubt e.1) es))
 
-has_here : (n : NameNumbers) (y : Xid) (e : Xid × BranchState) (es : List (Xid × BranchState)) (b : Bool) → b ≡ true
+has_here : (n : NameNumbers) (y : Xid) (e : Xid × BranchState) (es : List (Xid × BranchState)) (b : Bool)
+    → b ≡ true
     → e.0 ≡ y → has (map n.xid (map (λ f. f.0) (cond b (e ∷ es) es))) (n.xid y) ≡ true
 has_here n y e es true h is = or_left (n.xid e.0 == n.xid y) (has (map n.xid (map (λ f. f.0) es)) (n.xid y))
     (eq-eqb (n.xid e.0) (n.xid y) (ap n.xid is))
@@ -113,7 +119,8 @@ doubt_has n (e ∷ es) y h = by (λ k. doubt_has n es y k) (same y e.0) refl whe
       (subst (λ (b : Bool). is_in_doubt (unwrap_or (cond b (Some e.1) (lookup (same y) es)) S0) ≡ true) q h)
       (sym (same_is y e.0 q))
   by rest false q = has_later n y e (filter (λ f. is_in_doubt f.1) es) (is_in_doubt e.1)
-      (rest (subst (λ (b : Bool). is_in_doubt (unwrap_or (cond b (Some e.1) (lookup (same y) es)) S0) ≡ true) q h))
+      (rest (subst (λ (b : Bool). is_in_doubt (unwrap_or (cond b (Some e.1) (lookup (same y) es)) S0) ≡ true)
+      q h))
 
 apart_numbers : (n : NameNumbers) (x y : Xid) → same x y ≡ false → (n.xid x == n.xid y) ≡ false
 apart_numbers n x y h = ne_eqb (n.xid x) (n.xid y) (λ e. false≢true (sym h
@@ -122,17 +129,20 @@ apart_numbers n x y h = ne_eqb (n.xid x) (n.xid y) (λ e. false≢true (sym h
 none_has_by : (n : NameNumbers) (x : Xid) (f : Xid × BranchState) (es : List (Xid × BranchState)) (b : Bool)
     → (n.xid f.0 == n.xid x) ≡ false → has (map n.xid (map (λ g. g.0) es)) (n.xid x) ≡ false
     → has (map n.xid (map (λ g. g.0) (cond b (f ∷ es) es))) (n.xid x) ≡ false
-none_has_by n x f es true h k = or_from (n.xid f.0 == n.xid x) (has (map n.xid (map (λ g. g.0) es)) (n.xid x)) h k
+none_has_by n x f es true h k = or_from (n.xid f.0 == n.xid x)
+    (has (map n.xid (map (λ g. g.0) es)) (n.xid x)) h k
 none_has_by n x f es false h k = k
 
-none_has : (n : NameNumbers) (x : Xid) (es : List (Xid × BranchState)) → AllByRecursion (λ f. same f.0 x ≡ false) es
+none_has : (n : NameNumbers) (x : Xid) (es : List (Xid × BranchState))
+    → AllByRecursion (λ f. same f.0 x ≡ false) es
     → has (doubt_numbers n es) (n.xid x) ≡ false
 none_has n x [] all = refl
 none_has n x (f ∷ es) all = none_has_by n x f (filter (λ g. is_in_doubt g.1) es) (is_in_doubt f.1)
     (apart_numbers n f.0 x all.0) (none_has n x es all.1)
 
 distinct_by : (n : NameNumbers) (e : Xid × BranchState) (es : List (Xid × BranchState)) (b : Bool)
-    → has (map n.xid (map (λ g. g.0) es)) (n.xid e.0) ≡ false → are_distinct (map n.xid (map (λ g. g.0) es)) ≡ true
+    → has (map n.xid (map (λ g. g.0) es)) (n.xid e.0) ≡ false
+    → are_distinct (map n.xid (map (λ g. g.0) es)) ≡ true
     → are_distinct (map n.xid (map (λ g. g.0) (cond b (e ∷ es) es))) ≡ true
 distinct_by n e es true h k = and_from (not (has (map n.xid (map (λ g. g.0) es)) (n.xid e.0)))
     (are_distinct (map n.xid (map (λ g. g.0) es)))
@@ -140,7 +150,9 @@ distinct_by n e es true h k = and_from (not (has (map n.xid (map (λ g. g.0) es)
 distinct_by n e es false h k = k
 
 -- none of them twice
-pub doubt_apart : (n : NameNumbers) (es : List (Xid × BranchState)) → AreNamedOnce es → are_distinct (doubt_numbers n es) ≡ true
+pub doubt_apart : (n : NameNumbers) (es : List (Xid × BranchState)) → AreNamedOnce es
+    → are_distinct (doubt_numbers n es) ≡ true
 doubt_apart n [] h = refl
-doubt_apart n (e ∷ es) h = distinct_by n e (filter (λ g. is_in_doubt g.1) es) (is_in_doubt e.1) (none_has n e.0 es h.0)
+doubt_apart n (e ∷ es) h = distinct_by n e (filter (λ g. is_in_doubt g.1) es) (is_in_doubt e.1)
+    (none_has n e.0 es h.0)
     (doubt_apart n es h.1)

@@ -54,12 +54,14 @@ spoiled_is : (o : Option JudgedBranch) → is_spoiled_at o ≡ spoiled_by (optio
 spoiled_is None = refl
 spoiled_is (Some b) = refl
 
-pub spoiled_same : (n : NameNumbers) (m : States) (d : Xid → JudgedDecision) (s : Sight) (x : Xid) → Mirrors n m d s
+pub spoiled_same : (n : NameNumbers) (m : States) (d : Xid → JudgedDecision) (s : Sight) (x : Xid)
+    → Mirrors n m d s
     → is_spoiled_at (branch_at (n.xid x) s) ≡ spoiled_by (stand_as (state_in m.branches.branches x) (d x))
 spoiled_same n m d s x mirrors = spoiled_is (branch_at (n.xid x) s)
     ∙ ap spoiled_by (stands_at n (state_in m.branches.branches) d s.branches x mirrors.branches)
 
-pub by_six : (P : Type 0) (s : BranchState) → (s ≡ S0 → P) → (s ≡ S1 → P) → (s ≡ S2 → P) → (s ≡ S3 → P) → (s ≡ S4 → P)
+pub by_six : (P : Type 0) (s : BranchState) → (s ≡ S0 → P) → (s ≡ S1 → P) → (s ≡ S2 → P) → (s ≡ S3 → P)
+    → (s ≡ S4 → P)
     → (s ≡ S5 → P) → P
 by_six P S0 a b c d e f = a refl
 by_six P S1 a b c d e f = b refl
@@ -90,22 +92,27 @@ left_begun false false = refl
 none_by : (b c : Bool) → b ≡ false → c ≡ false → (if b then T1 else if c then T2 else T0) ≡ T0
 none_by b c p q = rw (p, q) refl
 
-pub out_of : (a : AssocList) (t : ℕ) (x : Xid) → is_active a t x ≡ false → has_seat a t x ≡ false → own_state a t x ≡ T0
+pub out_of : (a : AssocList) (t : ℕ) (x : Xid) → is_active a t x ≡ false → has_seat a t x ≡ false
+    → own_state a t x ≡ T0
 out_of a t x p q = none_by (is_active a t x) (has_seat a t x) p q
 
 two_by : (b c : Bool) → b ≡ false → c ≡ true → (if b then T1 else if c then T2 else T0) ≡ T2
 two_by b c p q = rw (p, q) refl
 
-pub seated_in : (a : AssocList) (t : ℕ) (x : Xid) → is_active a t x ≡ false → has_seat a t x ≡ true → own_state a t x ≡ T2
+pub seated_in : (a : AssocList) (t : ℕ) (x : Xid) → is_active a t x ≡ false → has_seat a t x ≡ true
+    → own_state a t x ≡ T2
 seated_in a t x p q = two_by (is_active a t x) (has_seat a t x) p q
 
 -- a test that fails leaves the second
 second_is : (b : Bool) (u v : Sight) → b ≡ false → (if b then u else v) ≡ v
 second_is b u v h = rw h refl
 
-module _ (n : NameNumbers) (old new : States) (d : Xid → JudgedDecision) (s : Sight) (t : ℕ) (x : Xid) (flags : Flags) (answer : Code)
-    (mirrors : Mirrors n old d s) (once : AreThreadsListedOnce new.associations.holders) (right : AreRight wrong_at_end flags.0)
-    (stays : has flags.0 suspend ≡ false) (opened : is_closed old.init ≡ false) (named : same x null_xid ≡ false) where
+module _ (n : NameNumbers) (old new : States) (d : Xid → JudgedDecision) (s : Sight) (t : ℕ) (x : Xid)
+    (flags : Flags) (answer : Code)
+    (mirrors : Mirrors n old d s) (once : AreThreadsListedOnce new.associations.holders)
+    (right : AreRight wrong_at_end flags.0)
+    (stays : has flags.0 suspend ≡ false) (opened : is_closed old.init ≡ false)
+    (named : same x null_xid ≡ false) where
   abbrev Result_of : Type 0
   Result_of = Goes n verb.End s t x flags answer new d
 
@@ -115,16 +122,19 @@ module _ (n : NameNumbers) (old new : States) (d : Xid → JudgedDecision) (s : 
       ∙ ap (λ b. is_one (own_state old.associations t x) || b) (mirrors.tied.two t x)
 
   -- a branch that is not known
-  strange : is_begun (state_in old.branches.branches x) ≡ false → RefusesCall old new answer code.NotA → Result_of
+  strange : is_begun (state_in old.branches.branches x) ≡ false → RefusesCall old new answer code.NotA
+      → Result_of
   strange e h = goes_refused n verb.End s t x flags answer code.NotA old new d mirrors
       (NotA (not_from_false (is_some (branch_at (n.xid x) s)) (known_same n old d s x mirrors ∙ e))) h
 
   -- a thread that has no association with the branch
   outside : own_state old.associations t x ≡ T0 → (answer ≡ code.Proto) × SameStates old new → Result_of
   outside e h = goes_refused n verb.End s t x flags answer code.Proto old new d mirrors
-      (Proto (or_right (not s.opened && not false) (has_no_end (is_some (branch_at (n.xid x) s)) (has_active t (n.xid x) s)
+      (Proto (or_right (not s.opened && not false)
+      (has_no_end (is_some (branch_at (n.xid x) s)) (has_active t (n.xid x) s)
       (has_suspended t (n.xid x) s) (has flags.0 suspend))
-      (or_two (not (is_some (branch_at (n.xid x) s))) (not (has_active t (n.xid x) s || has_suspended t (n.xid x) s))
+      (or_two (not (is_some (branch_at (n.xid x) s)))
+      (not (has_active t (n.xid x) s || has_suspended t (n.xid x) s))
       (has_suspended t (n.xid x) s && has flags.0 suspend)
       (ap not (links_same ∙ ap (λ o. is_one o || is_two o) e))))) h
 
@@ -133,11 +143,14 @@ module _ (n : NameNumbers) (old new : States) (d : Xid → JudgedDecision) (s : 
       → (is_one (own_state old.associations t x) || is_two (own_state old.associations t x)) ≡ true
       → IsClean (end_defects lacks_forced s (on n t x flags))
   clean known has_one = record {
-    inval = or_from (wrong_at_end flags.0) (is_bad_name lacks_forced (sort_of x)) right.right (bad_same x ∙ named);
+    inval = or_from (wrong_at_end flags.0) (is_bad_name lacks_forced (sort_of x)) right.right
+        (bad_same x ∙ named);
     asynchronous = right.sync;
-    proto = or_from (not s.opened && not false) (has_no_end (is_some (branch_at (n.xid x) s)) (has_active t (n.xid x) s)
+    proto = or_from (not s.opened && not false)
+        (has_no_end (is_some (branch_at (n.xid x) s)) (has_active t (n.xid x) s)
         (has_suspended t (n.xid x) s) (has flags.0 suspend)) (closed_same n old d s mirrors ∙ opened)
-        (or_none (not (is_some (branch_at (n.xid x) s))) (not (has_active t (n.xid x) s || has_suspended t (n.xid x) s))
+        (or_none (not (is_some (branch_at (n.xid x) s)))
+        (not (has_active t (n.xid x) s || has_suspended t (n.xid x) s))
         (has_suspended t (n.xid x) s && has flags.0 suspend)
         (not_from_true (is_some (branch_at (n.xid x) s)) (known_same n old d s x mirrors ∙ known))
         (not_from_true (has_active t (n.xid x) s || has_suspended t (n.xid x) s) (links_same ∙ has_one))
@@ -161,14 +174,16 @@ module _ (n : NameNumbers) (old new : States) (d : Xid → JudgedDecision) (s : 
       (subst (λ (f : AssocState). Count n x s.migrated s.migrated (counts f) 0) (sym e)
       (same_count n x s.migrated mirrors.tied.moved_named))
 
-  never_moved : (from : AssocState) → (from ≡ T1) ⊎ (from ≡ T2) → from ≡ M → own_state old.associations t x ≡ T0
+  never_moved : (from : AssocState) → (from ≡ T1) ⊎ (from ≡ T2) → from ≡ M
+      → own_state old.associations t x ≡ T0
   never_moved from (inl p) q = absurd (let e2 : T1 ≡ M = sym p ∙ q in cc)
   never_moved from (inr p) q = absurd (let e2 : T2 ≡ M = sym p ∙ q in cc)
 
   orderly : (c : Call) (from : AssocState) (a : Code) (lost : Bool) → (from ≡ T1) ⊎ (from ≡ T2)
       → Walks old new t x c (from, a, T0) (left_state new x lost) answer
       → IsOrderly new.branches.branches new.associations
-  orderly c from a lost kind w = orderly_worked n old.branches new.branches old.associations new.associations t x from T0
+  orderly c from a lost kind w = orderly_worked n old.branches new.branches old.associations
+      new.associations t x from T0
       (left_state new x lost) mirrors.orderly once w.association (λ p _. never_moved from kind p) w.branch
       (left_quiet lost (holds_active new.associations x))
       (λ e. entered new.associations x once (left_busy lost (holds_active new.associations x) e))
@@ -179,13 +194,16 @@ module _ (n : NameNumbers) (old new : States) (d : Xid → JudgedDecision) (s : 
       → stand_as (state_in old.branches.branches x) (d x) ≡ Some stand.Active
       → is_begun (state_in old.branches.branches x) ≡ true
       → Walks old new t x c (from, code.Ok, T0) (left_state new x false) answer → Result_of
-  done c from kind has_one active known w = goes_passed n verb.End s t x flags answer code.Ok new d (unlinked t (n.xid x) s)
+  done c from kind has_one active known w = goes_passed n verb.End s t x flags answer code.Ok new d
+      (unlinked t (n.xid x) s)
       refl refl w.answers (clean known has_one)
-      (in_else (is_spoiled_at (branch_at (n.xid x) s)) (end_spoiled (on n t x flags) (unlinked t (n.xid x) s) reply.Ok)
+      (in_else (is_spoiled_at (branch_at (n.xid x) s))
+      (end_spoiled (on n t x flags) (unlinked t (n.xid x) s) reply.Ok)
       (end_passes lacks_forced (on n t x flags) (unlinked t (n.xid x) s) reply.Ok) (unlinked t (n.xid x) s)
       (spoiled_same n old d s x mirrors ∙ ap spoiled_by active)
       (subst (λ (u : Sight). Contains (u ∷ []) (unlinked t (n.xid x) s))
-      (sym (second_is (has flags.0 suspend) (if has flags.0 migrate then migrating (n.xid x) (unlinked t (n.xid x) s)
+      (sym (second_is (has flags.0 suspend) (if has flags.0 migrate
+      then migrating (n.xid x) (unlinked t (n.xid x) s)
       else linked t (n.xid x) true (unlinked t (n.xid x) s)) (unlinked t (n.xid x) s) stays))
       (first_in (unlinked t (n.xid x) s) [])))
       (record {
@@ -199,7 +217,8 @@ module _ (n : NameNumbers) (old new : States) (d : Xid → JudgedDecision) (s : 
             (left_begun false (holds_active new.associations x) ∙ sym known) mirrors.branches;
         orderly = orderly c from code.Ok false kind w;
         shut = still_open old new opened w.init;
-        scans = scans_stay n old.branches.scans new.branches.scans s.scans s.listed w.branch.scans mirrors.scans;
+        scans = scans_stay n old.branches.scans new.branches.scans s.scans s.listed
+            w.branch.scans mirrors.scans;
       })
 
   -- an end in a branch that can only be rolled back
@@ -207,10 +226,13 @@ module _ (n : NameNumbers) (old new : States) (d : Xid → JudgedDecision) (s : 
       → (is_one (own_state old.associations t x) || is_two (own_state old.associations t x)) ≡ true
       → state_in old.branches.branches x ≡ S4
       → Walks old new t x c (from, code.RbRollback, T0) (left_state new x true) answer → Result_of
-  lost c from kind has_one four w = goes_passed n verb.End s t x flags answer code.RbRollback new d (unlinked t (n.xid x) s)
+  lost c from kind has_one four w = goes_passed n verb.End s t x flags answer code.RbRollback new d
+      (unlinked t (n.xid x) s)
       refl refl w.answers (clean (ap is_begun four) has_one)
-      (in_then (is_spoiled_at (branch_at (n.xid x) s)) (end_spoiled (on n t x flags) (unlinked t (n.xid x) s) reply.RolledBack)
-      (end_passes lacks_forced (on n t x flags) (unlinked t (n.xid x) s) reply.RolledBack) (unlinked t (n.xid x) s)
+      (in_then (is_spoiled_at (branch_at (n.xid x) s))
+      (end_spoiled (on n t x flags) (unlinked t (n.xid x) s) reply.RolledBack)
+      (end_passes lacks_forced (on n t x flags) (unlinked t (n.xid x) s) reply.RolledBack)
+      (unlinked t (n.xid x) s)
       (spoiled_same n old d s x mirrors ∙ ap (λ st. spoiled_by (stand_as st (d x))) four)
       (first_in (unlinked t (n.xid x) s) []))
       (record {
@@ -223,7 +245,8 @@ module _ (n : NameNumbers) (old new : States) (d : Xid → JudgedDecision) (s : 
             (sym (ap (λ st. stand_as st (d x)) four)) (sym (ap is_begun four)) mirrors.branches;
         orderly = orderly c from code.RbRollback true kind w;
         shut = still_open old new opened w.init;
-        scans = scans_stay n old.branches.scans new.branches.scans s.scans s.listed w.branch.scans mirrors.scans;
+        scans = scans_stay n old.branches.scans new.branches.scans s.scans s.listed
+            w.branch.scans mirrors.scans;
       })
 
   -- work that failed in a branch at work
@@ -234,11 +257,13 @@ module _ (n : NameNumbers) (old new : States) (d : Xid → JudgedDecision) (s : 
       → Walks old new t x c (from, code.RbRollback, T0) (left_state new x true) answer → Result_of
   failed c from kind has_one active known w = goes_passed n verb.End s t x flags answer code.RbRollback new d
       (marked (n.xid x) (unlinked t (n.xid x) s)) refl refl w.answers (clean known has_one)
-      (in_else (is_spoiled_at (branch_at (n.xid x) s)) (end_spoiled (on n t x flags) (unlinked t (n.xid x) s) reply.RolledBack)
+      (in_else (is_spoiled_at (branch_at (n.xid x) s))
+      (end_spoiled (on n t x flags) (unlinked t (n.xid x) s) reply.RolledBack)
       (end_passes lacks_forced (on n t x flags) (unlinked t (n.xid x) s) reply.RolledBack)
       (marked (n.xid x) (unlinked t (n.xid x) s))
       (spoiled_same n old d s x mirrors ∙ ap spoiled_by active)
-      (in_if (has flags.0 fail || not false) (marked (n.xid x) (unlinked t (n.xid x) s)) (or_right (has flags.0 fail) true refl)))
+      (in_if (has flags.0 fail || not false) (marked (n.xid x) (unlinked t (n.xid x) s))
+      (or_right (has flags.0 fail) true refl)))
       (record {
         opened = mirrors.opened ∙ ap (λ i. not (is_closed i)) (sym w.init);
         waits = mirrors.waits;
@@ -249,7 +274,8 @@ module _ (n : NameNumbers) (old new : States) (d : Xid → JudgedDecision) (s : 
             refl known refl mirrors.branches;
         orderly = orderly c from code.RbRollback true kind w;
         shut = still_open old new opened w.init;
-        scans = scans_stay n old.branches.scans new.branches.scans s.scans s.listed w.branch.scans mirrors.scans;
+        scans = scans_stay n old.branches.scans new.branches.scans s.scans s.listed
+            w.branch.scans mirrors.scans;
       })
 
   -- an end, where the plan's row ends an association
@@ -273,7 +299,9 @@ module _ (n : NameNumbers) (old new : States) (d : Xid → JudgedDecision) (s : 
       (λ p. goes T1 (inl refl) (ap (λ o. is_one o || is_two o) (active_one old.associations t x p))
       (subst (λ (k : Code). Made c to (T1, k, T0)) (sym says)
       (at_true (Made c to) Left act (row T1 e T0) (if seat then row T2 e T0 else Err code.Proto) p h)))
-      (λ p. let g = at_false (Made c to) Left act (row T1 e T0) (if seat then row T2 e T0 else Err code.Proto) p h in
+      (λ p.
+      let g = at_false (Made c to) Left act (row T1 e T0) (if seat then row T2 e T0 else Err code.Proto) p h
+      in
       by_test Result_of seat
       (λ q. goes T2 (inr refl) (ap (λ o. is_one o || is_two o) (seated_in old.associations t x p q))
       (subst (λ (k : Code). Made c to (T2, k, T0)) (sym says)
@@ -283,7 +311,8 @@ module _ (n : NameNumbers) (old new : States) (d : Xid → JudgedDecision) (s : 
 
   abbrev By : Bool → BranchState → Type 0
   By succeeds st = ByState st (RefusesCall old new answer code.NotA)
-      (λ is_lost. ReactsByRows old new t x (end_call succeeds) (end_plan old.associations t x is_lost succeeds)
+      (λ is_lost. ReactsByRows old new t x (end_call succeeds)
+      (end_plan old.associations t x is_lost succeeds)
       (left_state new x (is_lost || not succeeds)) answer) (RefusesCall old new answer code.Proto)
 
   at_work : (succeeds : Bool) → stand_as (state_in old.branches.branches x) (d x) ≡ Some stand.Active
@@ -309,8 +338,10 @@ module _ (n : NameNumbers) (old new : States) (d : Xid → JudgedDecision) (s : 
   pub end_goes : (succeeds : Bool) → EndsWork old new t x succeeds answer → Result_of
   end_goes succeeds h = by_six Result_of (state_in old.branches.branches x)
       (λ e. strange (ap is_begun e) (subst (λ (st : BranchState). By succeeds st) e h))
-      (λ e. at_work succeeds (ap (λ st. stand_as st (d x)) e) (ap is_begun e) (subst (λ (st : BranchState). By succeeds st) e h))
-      (λ e. at_work succeeds (ap (λ st. stand_as st (d x)) e) (ap is_begun e) (subst (λ (st : BranchState). By succeeds st) e h))
+      (λ e. at_work succeeds (ap (λ st. stand_as st (d x)) e) (ap is_begun e)
+      (subst (λ (st : BranchState). By succeeds st) e h))
+      (λ e. at_work succeeds (ap (λ st. stand_as st (d x)) e) (ap is_begun e)
+      (subst (λ (st : BranchState). By succeeds st) e h))
       (λ e. outside (quiet (ap is_quiet e)) (subst (λ (st : BranchState). By succeeds st) e h))
       (λ e. when_lost succeeds e (subst (λ (st : BranchState). By succeeds st) e h))
       (λ e. outside (quiet (ap is_quiet e)) (subst (λ (st : BranchState). By succeeds st) e h))

@@ -58,7 +58,8 @@ no_two : (s : AssocState) → s ≡ T0 → s ≡ T2 → ⊥
 no_two s p q = absurd (let e : T0 ≡ T2 = sym p ∙ q in cc)
 
 -- no thread holds a branch that is not at work
-pub quiet_free : (n : NameNumbers) (m : States) (d : Xid → JudgedDecision) (s : Sight) (x : Xid) → Mirrors n m d s
+pub quiet_free : (n : NameNumbers) (m : States) (d : Xid → JudgedDecision) (s : Sight) (x : Xid)
+    → Mirrors n m d s
     → is_quiet (state_in m.branches.branches x) ≡ true → is_held m.associations x ≡ false
 quiet_free n m d s x mirrors calm = or_none (has_active m.associations x) (has_suspended m.associations x)
     (nat_lt 0 (moved_of m.associations x))
@@ -74,10 +75,12 @@ quiet_free n m d s x mirrors calm = or_none (has_active m.associations x) (has_s
     (ap (λ k. nat_lt 0 k) (mirrors.orderly.unmoved x calm))
 
 -- some thread holds one that is active
-pub busy_held : (n : NameNumbers) (m : States) (d : Xid → JudgedDecision) (s : Sight) (x : Xid) → Mirrors n m d s
+pub busy_held : (n : NameNumbers) (m : States) (d : Xid → JudgedDecision) (s : Sight) (x : Xid)
+    → Mirrors n m d s
     → state_in m.branches.branches x ≡ S1 → is_held m.associations x ≡ true
 busy_held n m d s x mirrors e = let w = mirrors.orderly.busy x e in
-    or_one (has_active m.associations x) (has_suspended m.associations x) (nat_lt 0 (moved_of m.associations x))
+    or_one (has_active m.associations x) (has_suspended m.associations x)
+    (nat_lt 0 (moved_of m.associations x))
     (holds_one m.associations w.0 x w.1)
 
 own_cases : (s : AssocState) → (s ≡ M → ⊥) → (s ≡ T1 → ⊥) → (s ≡ T2 → ⊥) → s ≡ T0
@@ -89,8 +92,10 @@ own_cases M m a b = absurd (m refl)
 -- of a branch that is not held no thread has an association
 pub unheld : (a : AssocList) (x : Xid) → is_held a x ≡ false → (u : ℕ) → own_state a u x ≡ T0
 unheld a x h u = own_cases (own_state a u x) (own_never a u x)
-    (λ e. false≢true (sym h ∙ or_one (has_active a x) (has_suspended a x) (nat_lt 0 (moved_of a x)) (holds_one a u x e)))
-    (λ e. false≢true (sym h ∙ or_two (has_active a x) (has_suspended a x) (nat_lt 0 (moved_of a x)) (holds_two a u x e)))
+    (λ e. false≢true (sym h ∙ or_one (has_active a x) (has_suspended a x) (nat_lt 0 (moved_of a x))
+    (holds_one a u x e)))
+    (λ e. false≢true (sym h ∙ or_two (has_active a x) (has_suspended a x) (nat_lt 0 (moved_of a x))
+    (holds_two a u x e)))
 
 third : (a b c : Bool) → (a || b || c) ≡ false → c ≡ false
 third true b c h = absurd cc
@@ -99,7 +104,8 @@ third false false c h = h
 
 pub unmoved_free : (a : AssocList) (x : Xid) → is_held a x ≡ false → moved_of a x ≡ 0
 unmoved_free a x h =
-    let le = ltb-false 0 (moved_of a x) (third (has_active a x) (has_suspended a x) (nat_lt 0 (moved_of a x)) h) in
+    let le = ltb-false 0 (moved_of a x) (third (has_active a x) (has_suspended a x)
+    (nat_lt 0 (moved_of a x)) h) in
     omega arith
 
 -- How a branch stands.
@@ -129,8 +135,24 @@ remembered_tables x s = by (is_prepared_at x s) where
     lost = others x s.lost ++ was_prepared x s.branches;
     lost_works = works_without x s.lost_works ++ works_of x s.works;
   } else s) s
-  by true = record { opened = refl; waits = refl; links = refl; migrated = refl; branches = refl; scans = refl; listed = refl }
-  by false = record { opened = refl; waits = refl; links = refl; migrated = refl; branches = refl; scans = refl; listed = refl }
+  by true = record {
+    opened = refl;
+    waits = refl;
+    links = refl;
+    migrated = refl;
+    branches = refl;
+    scans = refl;
+    listed = refl;
+  }
+  by false = record {
+    opened = refl;
+    waits = refl;
+    links = refl;
+    migrated = refl;
+    branches = refl;
+    scans = refl;
+    listed = refl;
+  }
 
 all_three : (a b c : Bool) → a ≡ true → b ≡ true → c ≡ true → (a && b && c) ≡ true
 all_three a b c p q r = rw (p, q, r) refl
@@ -141,12 +163,16 @@ not_second false b c h = refl
 
 pub none_in : (rows : List (Code × BranchState)) (r : Code × BranchState) → rows ≡ [] → Contains rows r → ⊥
 none_in rows r e c =
-    let d : Contains [] r = subst (λ (rs : List (Code × BranchState)). Contains rs r) e c in omega (arith, d.1)
+    let d : Contains [] r = subst (λ (rs : List (Code × BranchState)). Contains rs r) e c
+    in omega (arith, d.1)
 
-module _ (n : NameNumbers) (old new : States) (d : Xid → JudgedDecision) (s : Sight) (v : BranchVerb) (t : ℕ) (x : Xid) (flags : Flags)
+module _ (n : NameNumbers) (old new : States) (d : Xid → JudgedDecision) (s : Sight) (v : BranchVerb) (t : ℕ)
+    (x : Xid) (flags : Flags)
     (answer : Code) (mirrors : Mirrors n old d s) (one : Bool) (phase : has flags.0 one_phase ≡ one)
-    (right : AreRight (are_wrong v) flags.0) (opened : is_closed old.init ≡ false) (named : same x null_xid ≡ false)
-    (finishes : branch_defects lacks_forced v s (on n t x flags) ≡ finish_defects lacks_forced v s (on n t x flags)) where
+    (right : AreRight (are_wrong v) flags.0) (opened : is_closed old.init ≡ false)
+    (named : same x null_xid ≡ false)
+    (finishes : branch_defects lacks_forced v s (on n t x flags)
+    ≡ finish_defects lacks_forced v s (on n t x flags)) where
   abbrev Result_of : Type 0
   Result_of = Goes n v s t x flags answer new d
 
@@ -165,9 +191,11 @@ module _ (n : NameNumbers) (old new : States) (d : Xid → JudgedDecision) (s : 
   off_same : is_off_row v flags.0 (branch_at (n.xid x) s)
       ≡ off_by v one (stand_as (state_in old.branches.branches x) (d x))
   off_same = off_is v flags.0 one (branch_at (n.xid x) s) phase
-      ∙ ap (λ k. off_by v one k) (stands_at n (state_in old.branches.branches) d s.branches x mirrors.branches)
+      ∙ ap (λ k. off_by v one k) (stands_at n (state_in old.branches.branches) d s.branches x
+      mirrors.branches)
 
-  pub strange : is_known old.branches.branches x ≡ false → (answer ≡ code.NotA) × SameStates old new → Result_of
+  pub strange : is_known old.branches.branches x ≡ false → (answer ≡ code.NotA) × SameStates old new
+      → Result_of
   strange e h = refuses code.NotA (NotA (or_left (not (is_some (branch_at (n.xid x) s)))
       (is_forget v && is_off_row v flags.0 (branch_at (n.xid x) s))
       (not_from_false (is_some (branch_at (n.xid x) s)) (known_is ∙ e)))) h
@@ -175,11 +203,13 @@ module _ (n : NameNumbers) (old new : States) (d : Xid → JudgedDecision) (s : 
   abbrev middle : Bool
   middle = is_some (branch_at (n.xid x) s) && is_associated (n.xid x) s && not (is_forget v)
 
-  pub held_proto : is_known old.branches.branches x ≡ true → is_held old.associations x ≡ true → is_forget v ≡ false
+  pub held_proto : is_known old.branches.branches x ≡ true → is_held old.associations x ≡ true
+      → is_forget v ≡ false
       → (answer ≡ code.Proto) × SameStates old new → Result_of
   held_proto e p f h = refuses code.Proto (Proto (or_two (not s.opened && not false) middle
       (is_off_row v flags.0 (branch_at (n.xid x) s))
-      (all_three (is_some (branch_at (n.xid x) s)) (is_associated (n.xid x) s) (not (is_forget v)) (known_is ∙ e)
+      (all_three (is_some (branch_at (n.xid x) s)) (is_associated (n.xid x) s)
+      (not (is_forget v)) (known_is ∙ e)
       (held_is ∙ p) (not_from_false (is_forget v) f)))) h
 
   pub off_proto : off_by v one (stand_as (state_in old.branches.branches x) (d x)) ≡ true
@@ -191,29 +221,36 @@ module _ (n : NameNumbers) (old new : States) (d : Xid → JudgedDecision) (s : 
       → off_by v one (stand_as (state_in old.branches.branches x) (d x)) ≡ false
       → IsClean (finish_defects lacks_forced v s (on n t x flags))
   clean e p o = record {
-    inval = or_from (are_wrong v flags.0) (is_bad_name lacks_forced (sort_of x)) right.right (bad_same x ∙ named);
+    inval = or_from (are_wrong v flags.0) (is_bad_name lacks_forced (sort_of x)) right.right
+        (bad_same x ∙ named);
     asynchronous = right.sync;
     proto = or_none (not s.opened && not false) middle (is_off_row v flags.0 (branch_at (n.xid x) s))
         (closed_same n old d s mirrors ∙ opened)
-        (not_second (is_some (branch_at (n.xid x) s)) (is_associated (n.xid x) s) (not (is_forget v)) (held_is ∙ p))
+        (not_second (is_some (branch_at (n.xid x) s)) (is_associated (n.xid x) s)
+        (not (is_forget v)) (held_is ∙ p))
         (off_same ∙ o);
     dup_id = refl;
-    not_a = or_from (not (is_some (branch_at (n.xid x) s))) (is_forget v && is_off_row v flags.0 (branch_at (n.xid x) s))
+    not_a = or_from (not (is_some (branch_at (n.xid x) s)))
+        (is_forget v && is_off_row v flags.0 (branch_at (n.xid x) s))
         (not_from_true (is_some (branch_at (n.xid x) s)) (known_is ∙ e))
         (and_right (is_forget v) (is_off_row v flags.0 (branch_at (n.xid x) s)) (off_same ∙ o));
   }
 
   pub passes : (c : Code) (u : Sight) → Remembers v n s u x new
-      → ledger u ≡ ledger (effect (reply_of c) v (n.xid x) s) → is_known old.branches.branches x ≡ true → is_held old.associations x ≡ false
+      → ledger u ≡ ledger (effect (reply_of c) v (n.xid x) s) → is_known old.branches.branches x ≡ true
+      → is_held old.associations x ≡ false
       → off_by v one (stand_as (state_in old.branches.branches x) (d x)) ≡ false → answer ≡ c
-      → Contains (branch_passes lacks_forced v s (on n t x flags) (reply_of c)) u → Mirrors n new d u → Result_of
+      → Contains (branch_passes lacks_forced v s (on n t x flags) (reply_of c)) u → Mirrors n new d u
+      → Result_of
   passes c u lost books e p o is row m = goes_passed n v s t x flags answer c new d u lost books is
       (subst (λ (r : Refusals). IsClean r) (sym finishes) (clean e p o)) row m
 
 -- What becomes of the tables.
 
-module _ (n : NameNumbers) (old new : States) (d : Xid → JudgedDecision) (s u : Sight) (x : Xid) (to : BranchState)
-    (mirrors : Mirrors n old d s) (takes : TakesTableRow old new x to) (free : is_held old.associations x ≡ false)
+module _ (n : NameNumbers) (old new : States) (d : Xid → JudgedDecision) (s u : Sight) (x : Xid)
+    (to : BranchState)
+    (mirrors : Mirrors n old d s) (takes : TakesTableRow old new x to)
+    (free : is_held old.associations x ≡ false)
     (calm : is_quiet to ≡ true) (scanned : AreScans n old.branches.scans u.scans u.listed) where
   orderly : IsOrderly new.branches.branches new.associations
   orderly = subst (λ (a : AssocList). IsOrderly new.branches.branches a) (sym takes.associations)
@@ -228,7 +265,8 @@ module _ (n : NameNumbers) (old new : States) (d : Xid → JudgedDecision) (s u 
   comes : Comes (state_in old.branches.branches) (state_in new.branches.branches) d d x to
   comes = record { own = takes.branch.own; others = takes.branch.others; decided = λ y differs. refl }
 
-  pub stood_mirrors : (k : Stand) → u.opened ≡ s.opened → u.hung ≡ s.hung → u.links ≡ s.links → u.migrated ≡ s.migrated
+  pub stood_mirrors : (k : Stand) → u.opened ≡ s.opened → u.hung ≡ s.hung → u.links ≡ s.links
+      → u.migrated ≡ s.migrated
       → u.branches ≡ standing (n.xid x) k s.branches → stand_as to (d x) ≡ Some k
       → is_begun (state_in old.branches.branches x) ≡ true → is_begun to ≡ true → Mirrors n new d u
   stood_mirrors k o w l m b stands was begun = record {
@@ -236,7 +274,8 @@ module _ (n : NameNumbers) (old new : States) (d : Xid → JudgedDecision) (s u 
     waits = w ∙ mirrors.waits;
     tied = tied l m;
     branches = subst (λ (bs : List JudgedBranch). AreBranches n (state_in new.branches.branches) d bs) (sym b)
-        (stood_branches n (state_in old.branches.branches) (state_in new.branches.branches) d d x to k s.branches comes
+        (stood_branches n (state_in old.branches.branches) (state_in new.branches.branches) d d x to k
+        s.branches comes
         stands was begun mirrors.branches);
     orderly = orderly;
     shut = λ e. subst IsFree (sym takes.associations) (mirrors.shut (sym takes.init ∙ e));
@@ -250,7 +289,8 @@ module _ (n : NameNumbers) (old new : States) (d : Xid → JudgedDecision) (s u 
     waits = w ∙ mirrors.waits;
     tied = tied l m;
     branches = subst (λ (bs : List JudgedBranch). AreBranches n (state_in new.branches.branches) d bs) (sym b)
-        (gone_branches n (state_in old.branches.branches) (state_in new.branches.branches) d d x to s.branches comes ended
+        (gone_branches n (state_in old.branches.branches) (state_in new.branches.branches) d d x to
+        s.branches comes ended
         mirrors.branches);
     orderly = orderly;
     shut = λ e. subst IsFree (sym takes.associations) (mirrors.shut (sym takes.init ∙ e));
@@ -259,16 +299,21 @@ module _ (n : NameNumbers) (old new : States) (d : Xid → JudgedDecision) (s u 
 
 -- The calls.
 
-gone_scans : (n : NameNumbers) (x : ℕ) (scans : ScanList) (s r : Sight) → HasTables r s → AreScans n scans s.scans s.listed
+gone_scans : (n : NameNumbers) (x : ℕ) (scans : ScanList) (s r : Sight) → HasTables r s
+    → AreScans n scans s.scans s.listed
     → AreScans n scans r.scans (not_due x r.listed)
 gone_scans n x scans s r same are = scans_less n x scans r.scans r.listed
     (subst (λ (ts : List ℕ). AreScans n scans ts r.listed) (sym same.scans)
     (subst (λ (ls : List Listed). AreScans n scans s.scans ls) (sym same.listed) are))
 
-pub ended_mirrors : (n : NameNumbers) (old new : States) (d : Xid → JudgedDecision) (s r : Sight) (x : Xid) → Mirrors n old d s
-    → TakesTableRow old new x S0 → is_held old.associations x ≡ false → HasTables r s → Mirrors n new d (gone (n.xid x) r)
-ended_mirrors n old new d s r x mirrors takes free same = gone_mirrors n old new d s (gone (n.xid x) r) x S0 mirrors takes free
-    refl (gone_scans n (n.xid x) old.branches.scans s r same mirrors.scans) same.opened same.waits same.links same.migrated (ap (λ bs. others (n.xid x) bs) same.branches) refl
+pub ended_mirrors : (n : NameNumbers) (old new : States) (d : Xid → JudgedDecision) (s r : Sight) (x : Xid)
+    → Mirrors n old d s
+    → TakesTableRow old new x S0 → is_held old.associations x ≡ false → HasTables r s
+    → Mirrors n new d (gone (n.xid x) r)
+ended_mirrors n old new d s r x mirrors takes free same =
+    gone_mirrors n old new d s (gone (n.xid x) r) x S0 mirrors takes free
+    refl (gone_scans n (n.xid x) old.branches.scans s r same mirrors.scans) same.opened same.waits same.links
+    same.migrated (ap (λ bs. others (n.xid x) bs) same.branches) refl
 
 published_tables : (x : ℕ) (sure : Bool) (u s : Sight) → HasTables u s → HasTables (published x sure u) s
 published_tables x sure u s h = record {
@@ -281,16 +326,27 @@ published_tables x sure u s h = record {
   listed = h.listed;
 }
 
-pub committed_mirrors : (n : NameNumbers) (old new : States) (d : Xid → JudgedDecision) (s : Sight) (x : Xid) → Mirrors n old d s
-    → TakesTableRow old new x S0 → is_held old.associations x ≡ false → Mirrors n new d (committed (n.xid x) s)
+pub committed_mirrors : (n : NameNumbers) (old new : States) (d : Xid → JudgedDecision) (s : Sight) (x : Xid)
+    → Mirrors n old d s
+    → TakesTableRow old new x S0 → is_held old.associations x ≡ false
+    → Mirrors n new d (committed (n.xid x) s)
 committed_mirrors n old new d s x mirrors takes free =
     ended_mirrors n old new d s (published (n.xid x) true (remembered (n.xid x) s)) x mirrors takes free
     (published_tables (n.xid x) true (remembered (n.xid x) s) s (remembered_tables (n.xid x) s))
 
-pub rolled_mirrors : (n : NameNumbers) (old new : States) (d : Xid → JudgedDecision) (s : Sight) (x : Xid) → Mirrors n old d s
+pub rolled_mirrors : (n : NameNumbers) (old new : States) (d : Xid → JudgedDecision) (s : Sight) (x : Xid)
+    → Mirrors n old d s
     → TakesTableRow old new x S0 → is_held old.associations x ≡ false → Mirrors n new d (rolled (n.xid x) s)
 rolled_mirrors n old new d s x mirrors takes free =
     ended_mirrors n old new d s (remembered (n.xid x) s) x mirrors takes free (remembered_tables (n.xid x) s)
 
 pub same_tables : (s : Sight) → HasTables s s
-same_tables s = record { opened = refl; waits = refl; links = refl; migrated = refl; branches = refl; scans = refl; listed = refl }
+same_tables s = record {
+  opened = refl;
+  waits = refl;
+  links = refl;
+  migrated = refl;
+  branches = refl;
+  scans = refl;
+  listed = refl;
+}

@@ -23,7 +23,8 @@ pub record IsMultiple (f : ℕ) : Type 0 where
 
 low_none : (f m : ℕ) → m % 2 ^ 20 ≡ 0 → bit_and f m ≡ f → f % 2 ^ 20 ≡ 0
 low_none f m z h =
-    ap (λ n. n % 2 ^ 20) (sym h) ∙ and_mod f m 20 ∙ ap (λ n. bit_and (f % 2 ^ 20) n) z ∙ and_zero_r (f % 2 ^ 20)
+    ap (λ n. n % 2 ^ 20) (sym h) ∙ and_mod f m 20 ∙ ap (λ n. bit_and (f % 2 ^ 20) n) z
+    ∙ and_zero_r (f % 2 ^ 20)
 
 multiple : (f m : ℕ) → m % 2 ^ 20 ≡ 0 → m < 2 ^ 32 → only f m ≡ true → IsMultiple f
 multiple f m z small h =
@@ -46,7 +47,8 @@ pub among_from : (wrong : ℕ → Bool) (fs : List ℕ) (f : ℕ) → IsMultiple
 among_from wrong fs f m agree right =
     let both : (wrong (at m.by) || among (at m.by) fs) ≡ true =
     agree_below_at (λ g. wrong (at g) || among (at g) fs) (λ g. true) 4096 m.by agree m.small in
-    let here : (wrong f || among f fs) ≡ true = subst (λ (n : ℕ). (wrong n || among n fs) ≡ true) (sym m.is) both in
+    let here : (wrong f || among f fs) ≡ true = subst (λ (n : ℕ). (wrong n || among n fs) ≡ true)
+    (sym m.is) both in
     elim (or_cases (wrong f) (among f fs) here) [
       | inl w ↦ absurd (false≢true (sym right ∙ w))
       | inr a ↦ a
@@ -79,7 +81,8 @@ err_is : (o : Option Call) (r : Result Call Code) (e : Code) → call_or o r ≡
 err_is None r e h = (refl, h)
 err_is (Some k) r e h = absurd cc
 
-never_ok : (b : Bool) (o : Option Call) (c : Call) → (if b then Err code.Inval else refused_async o) ≡ Ok c → ⊥
+never_ok : (b : Bool) (o : Option Call) (c : Call) → (if b then Err code.Inval else refused_async o) ≡ Ok c
+    → ⊥
 never_ok true o c h = absurd cc
 never_ok false None c h = absurd cc
 never_ok false (Some k) c h = absurd cc
@@ -99,7 +102,8 @@ pub record AreRight (wrong : ℕ → Bool) (f : ℕ) : Type 0 where
 
 abbrev pub starts : List ℕ
 starts = 0 ∷ no_wait ∷ join ∷ (join + no_wait) ∷ resume ∷ (resume + no_wait)
-    ∷ async ∷ (async + no_wait) ∷ (async + join) ∷ (async + (join + no_wait)) ∷ (async + resume) ∷ (async + (resume + no_wait)) ∷ []
+    ∷ async ∷ (async + no_wait) ∷ (async + join) ∷ (async + (join + no_wait)) ∷ (async + resume)
+    ∷ (async + (resume + no_wait)) ∷ []
 
 starts_agree : agree_below (λ g. wrong_at_start (at g) || among (at g) starts) (λ g. true) 4096 ≡ true
 starts_agree = refl
@@ -108,13 +112,16 @@ starts_right : (f : ℕ) → wrong_at_start f ≡ false → among f starts ≡ t
 starts_right f h =
     let parts = or_parts (not (only f (join + resume + no_wait + async))) (has f join && has f resume) h in
     among_from wrong_at_start starts f
-    (multiple f (join + resume + no_wait + async) refl (omega arith) (not-false (only f (join + resume + no_wait + async)) parts.0))
+    (multiple f (join + resume + no_wait + async) refl (omega arith)
+    (not-false (only f (join + resume + no_wait + async)) parts.0))
     starts_agree h
 
-start_inv : (P : ℕ → Type 0) (f : ℕ) (c : Call) → start_of f ≡ Some c → P 0 → P no_wait → P join → P (join + no_wait)
+start_inv : (P : ℕ → Type 0) (f : ℕ) (c : Call) → start_of f ≡ Some c → P 0 → P no_wait → P join
+    → P (join + no_wait)
     → P resume → P (resume + no_wait) → P f
 start_inv P f c h a b d e g i =
-    elim (if_some (f == 0 || f == no_wait) call.Start c (if f == join || f == join + no_wait then Some call.StartJoin
+    elim (if_some (f == 0 || f == no_wait) call.Start c
+    (if f == join || f == join + no_wait then Some call.StartJoin
     else if f == resume || f == resume + no_wait then Some call.StartResume else None) h) [
       | inl p ↦ pick P f 0 no_wait p a b
       | inr r ↦ (elim (if_some (f == join || f == join + no_wait) call.StartJoin c
@@ -139,18 +146,21 @@ ReadsStart f = (c : Call) → start_of f ≡ Some c → AreRight wrong_at_start 
 
 marked : (c k : Call) (f : ℕ) → Some k ≡ Some c → AreRight wrong_at_start f × StartMarks k f
     → AreRight wrong_at_start f × StartMarks c f
-marked c k f h m = let is : k ≡ c = cc in subst (λ (d : Call). AreRight wrong_at_start f × StartMarks d f) is m
+marked c k f h m =
+    let is : k ≡ c = cc in subst (λ (d : Call). AreRight wrong_at_start f × StartMarks d f) is m
 
 pub start_reads : (f : ℕ) (c : Call) → legal verb.Start f ≡ Ok c → AreRight wrong_at_start f × StartMarks c f
 start_reads f c h =
-    let is = ok_is (start_of f) (refused verb.Start f) c (never_ok (nat_lt f async) (start_of (f - async)) c) h in
+    let is = ok_is (start_of f) (refused verb.Start f) c
+    (never_ok (nat_lt f async) (start_of (f - async)) c) h in
     start_inv ReadsStart f c is
     (λ d e. marked d call.Start 0 e (record { right = refl; sync = refl }, (refl, refl)))
     (λ d e. marked d call.Start no_wait e (record { right = refl; sync = refl }, (refl, refl)))
     (λ d e. marked d call.StartJoin join e (record { right = refl; sync = refl }, (refl, refl)))
     (λ d e. marked d call.StartJoin (join + no_wait) e (record { right = refl; sync = refl }, (refl, refl)))
     (λ d e. marked d call.StartResume resume e (record { right = refl; sync = refl }, (refl, refl)))
-    (λ d e. marked d call.StartResume (resume + no_wait) e (record { right = refl; sync = refl }, (refl, refl)))
+    (λ d e. marked d call.StartResume (resume + no_wait) e
+    (record { right = refl; sync = refl }, (refl, refl)))
     c is
 
 abbrev NotInval : Verb → ℕ → Type 0
@@ -219,7 +229,8 @@ err_by false (Some k) e h = inr cc
 -- Calls that take no flag.
 
 abbrev pub plain_legal : Call → ℕ → Result Call Code
-plain_legal k f = call_or (plain_of k f) (if nat_lt f async then Err code.Inval else refused_async (plain_of k (f - async)))
+plain_legal k f = call_or (plain_of k f)
+    (if nat_lt f async then Err code.Inval else refused_async (plain_of k (f - async)))
 
 plain_inv : (P : ℕ → Type 0) (k c : Call) (f : ℕ) → plain_of k f ≡ Some c → P 0 → P f
 plain_inv P k c f h p = elim (if_some (f == 0) k c None h) [
@@ -235,22 +246,28 @@ plain_call k c f h = by (f == 0) h where
 
 pub plain_reads : (k c : Call) (f : ℕ) → plain_legal k f ≡ Ok c → AreRight wrong_elsewhere f × (c ≡ k)
 plain_reads k c f h =
-    let is = ok_is (plain_of k f) (if nat_lt f async then Err code.Inval else refused_async (plain_of k (f - async))) c
-    (never_ok (nat_lt f async) (plain_of k (f - async)) c) h in
-    (plain_inv (λ g. AreRight wrong_elsewhere g) k c f is (record { right = refl; sync = refl }), plain_call k c f is)
+    let is = ok_is (plain_of k f) (if nat_lt f async then Err code.Inval
+    else refused_async (plain_of k (f - async))) c
+    (never_ok (nat_lt f async) (plain_of k (f - async)) c) h in (
+      plain_inv (λ g. AreRight wrong_elsewhere g) k c f is (record { right = refl; sync = refl }),
+      plain_call k c f is,
+    )
 
 pub plain_errs : (k : Call) (f : ℕ) (e : Code) → plain_legal k f ≡ Err e → (e ≡ code.Inval) ⊎ (e ≡ code.Async)
 plain_errs k f e h = err_by (nat_lt f async) (plain_of k (f - async)) e
-    (err_is (plain_of k f) (if nat_lt f async then Err code.Inval else refused_async (plain_of k (f - async))) e h).1
+    (err_is (plain_of k f) (if nat_lt f async then Err code.Inval else refused_async (plain_of k (f - async)))
+    e h).1
 
 pub plain_async : (k : Call) (f : ℕ) → plain_legal k f ≡ Err code.Async → has f async ≡ true
 plain_async k f h =
-    let r = err_is (plain_of k f) (if nat_lt f async then Err code.Inval else refused_async (plain_of k (f - async))) code.Async h in
+    let r = err_is (plain_of k f) (if nat_lt f async then Err code.Inval
+    else refused_async (plain_of k (f - async))) code.Async h in
     let a = async_is (nat_lt f async) (plain_of k (f - async)) r.1 in
     subst (λ (g : ℕ). has g async ≡ true) (sym (with_async f a.0))
     (plain_inv HasAsync k a.1.0 (f - async) a.1.1 refl)
 
-elsewhere_agree : agree_below (λ g. wrong_elsewhere (at g) || among (at g) (0 ∷ async ∷ [])) (λ g. true) 4096 ≡ true
+elsewhere_agree : agree_below (λ g. wrong_elsewhere (at g) || among (at g) (0 ∷ async ∷ []))
+    (λ g. true) 4096 ≡ true
 elsewhere_agree = refl
 
 elsewhere_right : (f : ℕ) → wrong_elsewhere f ≡ false → among f (0 ∷ async ∷ []) ≡ true
@@ -275,7 +292,8 @@ commits_agree = refl
 
 commits_right : (f : ℕ) → wrong_at_commit f ≡ false → among f commits ≡ true
 commits_right f h = among_from wrong_at_commit commits f
-    (multiple f (one_phase + no_wait + async) refl (omega arith) (not-false (only f (one_phase + no_wait + async)) h))
+    (multiple f (one_phase + no_wait + async) refl (omega arith)
+    (not-false (only f (one_phase + no_wait + async)) h))
     commits_agree h
 
 commit_inv : (P : ℕ → Type 0) (f : ℕ) (c : Call) → commit_of f ≡ Some c → P 0 → P no_wait → P one_phase
@@ -298,20 +316,25 @@ CommitMarks _ f = ⊥
 
 commit_marked : (c k : Call) (f : ℕ) → Some k ≡ Some c → AreRight wrong_at_commit f × CommitMarks k f
     → AreRight wrong_at_commit f × CommitMarks c f
-commit_marked c k f h m = let is : k ≡ c = cc in subst (λ (d : Call). AreRight wrong_at_commit f × CommitMarks d f) is m
+commit_marked c k f h m =
+    let is : k ≡ c = cc in subst (λ (d : Call). AreRight wrong_at_commit f × CommitMarks d f) is m
 
-pub commit_reads : (f : ℕ) (c : Call) → legal verb.Commit f ≡ Ok c → AreRight wrong_at_commit f × CommitMarks c f
+pub commit_reads : (f : ℕ) (c : Call) → legal verb.Commit f ≡ Ok c → AreRight wrong_at_commit f
+    × CommitMarks c f
 commit_reads f c h =
-    let is = ok_is (commit_of f) (refused verb.Commit f) c (never_ok (nat_lt f async) (commit_of (f - async)) c) h in
+    let is = ok_is (commit_of f) (refused verb.Commit f) c
+    (never_ok (nat_lt f async) (commit_of (f - async)) c) h in
     commit_inv (λ g. (k : Call) → commit_of g ≡ Some k → AreRight wrong_at_commit g × CommitMarks k g) f c is
     (λ k e. commit_marked k call.Commit 0 e (record { right = refl; sync = refl }, refl))
     (λ k e. commit_marked k call.Commit no_wait e (record { right = refl; sync = refl }, refl))
     (λ k e. commit_marked k call.CommitOnePhase one_phase e (record { right = refl; sync = refl }, refl))
-    (λ k e. commit_marked k call.CommitOnePhase (one_phase + no_wait) e (record { right = refl; sync = refl }, refl))
+    (λ k e. commit_marked k call.CommitOnePhase (one_phase + no_wait) e
+    (record { right = refl; sync = refl }, refl))
     c is
 
 pub commit_errs : (f : ℕ) (e : Code) → legal verb.Commit f ≡ Err e → (e ≡ code.Inval) ⊎ (e ≡ code.Async)
-commit_errs f e h = err_by (nat_lt f async) (commit_of (f - async)) e (err_is (commit_of f) (refused verb.Commit f) e h).1
+commit_errs f e h = err_by (nat_lt f async) (commit_of (f - async)) e
+    (err_is (commit_of f) (refused verb.Commit f) e h).1
 
 pub commit_async : (f : ℕ) → legal verb.Commit f ≡ Err code.Async → has f async ≡ true
 commit_async f h =
@@ -339,7 +362,8 @@ commit_wrong f h = by (wrong_at_commit f) refl where
 -- Ends.
 
 abbrev ends : List ℕ
-ends = suspend ∷ (suspend + migrate) ∷ success ∷ fail ∷ (async + suspend) ∷ (async + (suspend + migrate)) ∷ (async + success)
+ends = suspend ∷ (suspend + migrate) ∷ success ∷ fail ∷ (async + suspend) ∷ (async + (suspend + migrate))
+    ∷ (async + success)
     ∷ (async + fail) ∷ []
 
 ends_agree : agree_below (λ g. wrong_at_end (at g) || among (at g) ends) (λ g. true) 4096 ≡ true
@@ -357,22 +381,25 @@ ends_right f h = among_from wrong_at_end ends f
     (not (is_one_of (has f suspend) (has f success) (has f fail))) (has f migrate && not (has f suspend)) h)))
     ends_agree h
 
-end_inv : (P : ℕ → Type 0) (f : ℕ) (c : Call) → end_of f ≡ Some c → P suspend → P (suspend + migrate) → P success → P fail
+end_inv : (P : ℕ → Type 0) (f : ℕ) (c : Call) → end_of f ≡ Some c → P suspend → P (suspend + migrate)
+    → P success → P fail
     → P f
 end_inv P f c h a b d e =
     elim (if_some (f == suspend) call.EndSuspend c (if f == suspend + migrate then Some call.EndMigrate
     else if f == success then Some call.EndSuccess else if f == fail then Some call.EndFail else None) h) [
       | inl p ↦ subst P (sym (eqb-true f suspend p)) a
-      | inr r ↦ (elim (if_some (f == suspend + migrate) call.EndMigrate c (if f == success then Some call.EndSuccess
+      | inr r ↦ (elim (if_some (f == suspend + migrate) call.EndMigrate c
+          (if f == success then Some call.EndSuccess
           else if f == fail then Some call.EndFail else None) r) [
             | inl p ↦ subst P (sym (eqb-true f (suspend + migrate) p)) b
-            | inr q ↦ (elim (if_some (f == success) call.EndSuccess c (if f == fail then Some call.EndFail else None) q) [
-              | inl p ↦ subst P (sym (eqb-true f success p)) d
-              | inr z ↦ (elim (if_some (f == fail) call.EndFail c None z) [
-                | inl p ↦ subst P (sym (eqb-true f fail p)) e
-                | inr n ↦ absurd cc
-              ])
-            ])
+            | inr q ↦ (elim (if_some (f == success) call.EndSuccess c
+                (if f == fail then Some call.EndFail else None) q) [
+                  | inl p ↦ subst P (sym (eqb-true f success p)) d
+                  | inr z ↦ (elim (if_some (f == fail) call.EndFail c None z) [
+                    | inl p ↦ subst P (sym (eqb-true f fail p)) e
+                    | inr n ↦ absurd cc
+                  ])
+                ])
           ])
     ]
 
@@ -386,14 +413,16 @@ EndMarks _ f = ⊥
 
 end_marked : (c k : Call) (f : ℕ) → Some k ≡ Some c → AreRight wrong_at_end f × EndMarks k f
     → AreRight wrong_at_end f × EndMarks c f
-end_marked c k f h m = let is : k ≡ c = cc in subst (λ (d : Call). AreRight wrong_at_end f × EndMarks d f) is m
+end_marked c k f h m =
+    let is : k ≡ c = cc in subst (λ (d : Call). AreRight wrong_at_end f × EndMarks d f) is m
 
 pub end_reads : (f : ℕ) (c : Call) → legal verb.End f ≡ Ok c → AreRight wrong_at_end f × EndMarks c f
 end_reads f c h =
     let is = ok_is (end_of f) (refused verb.End f) c (never_ok (nat_lt f async) (end_of (f - async)) c) h in
     end_inv (λ g. (k : Call) → end_of g ≡ Some k → AreRight wrong_at_end g × EndMarks k g) f c is
     (λ k e. end_marked k call.EndSuspend suspend e (record { right = refl; sync = refl }, (refl, refl)))
-    (λ k e. end_marked k call.EndMigrate (suspend + migrate) e (record { right = refl; sync = refl }, (refl, refl)))
+    (λ k e. end_marked k call.EndMigrate (suspend + migrate) e
+    (record { right = refl; sync = refl }, (refl, refl)))
     (λ k e. end_marked k call.EndSuccess success e (record { right = refl; sync = refl }, (refl, refl)))
     (λ k e. end_marked k call.EndFail fail e (record { right = refl; sync = refl }, (refl, refl)))
     c is
@@ -425,7 +454,8 @@ end_wrong f h = by (wrong_at_end f) refl where
       (ends_right f e) h)
 
 pub start_errs : (f : ℕ) (e : Code) → legal verb.Start f ≡ Err e → (e ≡ code.Inval) ⊎ (e ≡ code.Async)
-start_errs f e h = err_by (nat_lt f async) (start_of (f - async)) e (err_is (start_of f) (refused verb.Start f) e h).1
+start_errs f e h = err_by (nat_lt f async) (start_of (f - async)) e
+    (err_is (start_of f) (refused verb.Start f) e h).1
 
 -- Recovers.
 
@@ -444,9 +474,11 @@ recover_inv : (P : ℕ → Type 0) (f : ℕ) (c : Call) → recover_of f ≡ Som
     → P (start_scan + end_scan) → P f
 recover_inv P f c h a b d e =
     elim (if_some (f == 0) call.Recover c (if f == start_scan then Some call.RecoverStart
-    else if f == end_scan then Some call.RecoverEnd else if f == start_scan + end_scan then Some call.RecoverWhole else None) h) [
+    else if f == end_scan then Some call.RecoverEnd else if f == start_scan + end_scan
+    then Some call.RecoverWhole else None) h) [
       | inl p ↦ subst P (sym (eqb-true f 0 p)) a
-      | inr r ↦ (elim (if_some (f == start_scan) call.RecoverStart c (if f == end_scan then Some call.RecoverEnd
+      | inr r ↦ (elim (if_some (f == start_scan) call.RecoverStart c
+          (if f == end_scan then Some call.RecoverEnd
           else if f == start_scan + end_scan then Some call.RecoverWhole else None) r) [
             | inl p ↦ subst P (sym (eqb-true f start_scan p)) b
             | inr q ↦ (elim (if_some (f == end_scan) call.RecoverEnd c (if f == start_scan + end_scan
@@ -477,13 +509,16 @@ recover_reads f c h =
     let is = ok_is (recover_of f) (Err code.Inval) c (recover_never c) h in
     recover_inv (λ g. (k : Call) → recover_of g ≡ Some k → ReadsScan g k) f c is
     (λ k e. scan_marked k call.Recover 0 e (record { right = refl; starts = refl; ends = refl }))
-    (λ k e. scan_marked k call.RecoverStart start_scan e (record { right = refl; starts = refl; ends = refl }))
+    (λ k e. scan_marked k call.RecoverStart start_scan e
+    (record { right = refl; starts = refl; ends = refl }))
     (λ k e. scan_marked k call.RecoverEnd end_scan e (record { right = refl; starts = refl; ends = refl }))
-    (λ k e. scan_marked k call.RecoverWhole (start_scan + end_scan) e (record { right = refl; starts = refl; ends = refl }))
+    (λ k e. scan_marked k call.RecoverWhole (start_scan + end_scan) e
+    (record { right = refl; starts = refl; ends = refl }))
     c is
 
 -- flags that are refused are wrong
-pub recover_errs : (f : ℕ) (e : Code) → legal verb.Recover f ≡ Err e → (e ≡ code.Inval) × (wrong_at_recover f ≡ true)
+pub recover_errs : (f : ℕ) (e : Code) → legal verb.Recover f ≡ Err e → (e ≡ code.Inval)
+    × (wrong_at_recover f ≡ true)
 recover_errs f e h = (inval, by (wrong_at_recover f) refl) where
   inval : e ≡ code.Inval
   inval = let r : Err code.Inval ≡ Err e = (err_is (recover_of f) (Err code.Inval) e h).1 in cc

@@ -26,7 +26,8 @@ apart_front : (xs ys : List ℕ) → are_distinct (xs ++ ys) ≡ true → are_di
 apart_front [] ys h = refl
 apart_front (x ∷ xs) ys h =
     let p = and_parts (not (has (xs ++ ys) x)) (are_distinct (xs ++ ys)) h in
-    let none = or_parts (has xs x) (has ys x) (sym (list_any-append (λ y. y == x) xs ys) ∙ not-true (has (xs ++ ys) x) p.0) in
+    let none = or_parts (has xs x) (has ys x)
+    (sym (list_any-append (λ y. y == x) xs ys) ∙ not-true (has (xs ++ ys) x) p.0) in
     and_from (not (has xs x)) (are_distinct xs) (not_from_false (has xs x) none.0) (apart_front xs ys p.1)
 
 apart_back : (xs ys : List ℕ) → are_distinct (xs ++ ys) ≡ true → are_distinct ys ≡ true
@@ -48,7 +49,8 @@ apart_both : (xs ys : List ℕ) → are_distinct (xs ++ ys) ≡ true → AllByRe
 apart_both [] ys h = none_all ys
 apart_both (x ∷ xs) ys h =
     let p = and_parts (not (has (xs ++ ys) x)) (are_distinct (xs ++ ys)) h in
-    let none = or_parts (has xs x) (has ys x) (sym (list_any-append (λ y. y == x) xs ys) ∙ not-true (has (xs ++ ys) x) p.0) in
+    let none = or_parts (has xs x) (has ys x)
+    (sym (list_any-append (λ y. y == x) xs ys) ∙ not-true (has (xs ++ ys) x) p.0) in
     all_join (λ y. (x == y) ≡ false) (λ y. has xs y ≡ false) (λ y. has (x ∷ xs) y ≡ false)
     (λ y a b. or_from (x == y) (has xs y) a b) ys (none_each x ys none.1) (apart_both xs ys p.1)
 
@@ -62,7 +64,8 @@ all_unmapped : {A B : Type 0} (P : B → Type 0) (f : A → B) (xs : List A) →
 all_unmapped P f [] all = tt
 all_unmapped P f (x ∷ xs) all = (all.0, all_unmapped P f xs all.1)
 
-pub list_all_from : {X : Type 0} (p : X → Bool) (xs : List X) → AllByRecursion (λ x. p x ≡ true) xs → list_all p xs ≡ true
+pub list_all_from : {X : Type 0} (p : X → Bool) (xs : List X) → AllByRecursion (λ x. p x ≡ true) xs
+    → list_all p xs ≡ true
 list_all_from p [] all = refl
 list_all_from p (x ∷ xs) all = and_from (p x) (list_all p xs) all.0 (list_all_from p xs all.1)
 
@@ -83,33 +86,37 @@ given_by false b c = refl
 
 line_stays : (t x : ℕ) (ks : List ℕ) (l : Listed) → has ks x ≡ false → is_line t x l ≡ true
     → is_line t x (if l.thread == t && has ks l.branch then with_given l else l) ≡ true
-line_stays t x ks l none h = subst (λ (b : Bool). is_line t x (if b then with_given l else l) ≡ true) (sym off) h where
-  middle : (a b c : Bool) → (a && b && c) ≡ true → b ≡ true
-  middle true true c q = refl
-  middle true false c q = absurd cc
-  middle false b c q = absurd cc
+line_stays t x ks l none h = subst (λ (b : Bool). is_line t x (if b then with_given l else l) ≡ true)
+    (sym off) h where
+      middle : (a b c : Bool) → (a && b && c) ≡ true → b ≡ true
+      middle true true c q = refl
+      middle true false c q = absurd cc
+      middle false b c q = absurd cc
 
-  and_none : (a b : Bool) → b ≡ false → (a && b) ≡ false
-  and_none true b q = q
-  and_none false b q = refl
+      and_none : (a b : Bool) → b ≡ false → (a && b) ≡ false
+      and_none true b q = q
+      and_none false b q = refl
 
-  off : (l.thread == t && has ks l.branch) ≡ false
-  off = and_none (l.thread == t) (has ks l.branch)
-      (ap (λ k. has ks k) (eqb-true l.branch x (middle (l.thread == t) (l.branch == x) (not l.given) h)) ∙ none)
+      off : (l.thread == t && has ks l.branch) ≡ false
+      off = and_none (l.thread == t) (has ks l.branch)
+          (ap (λ k. has ks k) (eqb-true l.branch x (middle (l.thread == t) (l.branch == x) (not l.given) h))
+          ∙ none)
 
 -- a line that the scan owes is given, or is left
 paid_stays : (t : ℕ) (ks js : List ℕ) (l : Listed) (a b : Bool) → (l.thread == t) ≡ a → has ks l.branch ≡ b
     → is_paid t (ks ++ js) l ≡ true
     → is_paid t js (if a && b then with_given l else l) ≡ true
 paid_stays t ks js l true true p q h = given_by (l.thread == t) l.due (has js l.branch)
-paid_stays t ks js l true false p q h = elim (or_cases (not (l.thread == t && l.due && not l.given)) (has (ks ++ js) l.branch) h) [
-  | inl free ↦ or_left (not (l.thread == t && l.due && not l.given)) (has js l.branch) free
-  | inr there ↦ or_right (not (l.thread == t && l.due && not l.given)) (has js l.branch)
-      (later (has ks l.branch) (has js l.branch) q (sym (list_any-append (λ y. y == l.branch) ks js) ∙ there))
-] where
-  later : (c d : Bool) → c ≡ false → (c || d) ≡ true → d ≡ true
-  later true d e f = absurd cc
-  later false d e f = f
+paid_stays t ks js l true false p q h =
+    elim (or_cases (not (l.thread == t && l.due && not l.given)) (has (ks ++ js) l.branch) h) [
+      | inl free ↦ or_left (not (l.thread == t && l.due && not l.given)) (has js l.branch) free
+      | inr there ↦ or_right (not (l.thread == t && l.due && not l.given)) (has js l.branch)
+          (later (has ks l.branch) (has js l.branch) q
+          (sym (list_any-append (λ y. y == l.branch) ks js) ∙ there))
+    ] where
+      later : (c d : Bool) → c ≡ false → (c || d) ≡ true → d ≡ true
+      later true d e f = absurd cc
+      later false d e f = f
 paid_stays t ks js l false b p q h = or_left (not (l.thread == t && l.due && not l.given)) (has js l.branch)
     (ap (λ c. not (c && l.due && not l.given)) p)
 
@@ -160,16 +167,18 @@ gives n t count rest ls scan =
     none_left [] h = refl
     none_left (x ∷ xs) h = absurd (omega arith)
 
-    nothing : (ks js : List ℕ) → js ≡ [] → (l : Listed) → is_paid t (ks ++ js) l ≡ true → is_paid t ks l ≡ true
-    nothing ks js e l h = elim (or_cases (not (l.thread == t && l.due && not l.given)) (has (ks ++ js) l.branch) h) [
-      | inl free ↦ or_left (not (l.thread == t && l.due && not l.given)) (has ks l.branch) free
-      | inr there ↦ or_right (not (l.thread == t && l.due && not l.given)) (has ks l.branch)
-          (first (has ks l.branch) (has js l.branch) (ap (λ (zs : List ℕ). has zs l.branch) e)
-          (sym (list_any-append (λ y. y == l.branch) ks js) ∙ there))
-    ] where
-      first : (c d : Bool) → d ≡ false → (c || d) ≡ true → c ≡ true
-      first true d q r = refl
-      first false d q r = absurd (false≢true (sym q ∙ r))
+    nothing : (ks js : List ℕ) → js ≡ [] → (l : Listed) → is_paid t (ks ++ js) l ≡ true
+        → is_paid t ks l ≡ true
+    nothing ks js e l h = elim (or_cases (not (l.thread == t && l.due && not l.given))
+        (has (ks ++ js) l.branch) h) [
+          | inl free ↦ or_left (not (l.thread == t && l.due && not l.given)) (has ks l.branch) free
+          | inr there ↦ or_right (not (l.thread == t && l.due && not l.given)) (has ks l.branch)
+              (first (has ks l.branch) (has js l.branch) (ap (λ (zs : List ℕ). has zs l.branch) e)
+              (sym (list_any-append (λ y. y == l.branch) ks js) ∙ there))
+        ] where
+          first : (c d : Bool) → d ≡ false → (c || d) ≡ true → c ≡ true
+          first true d q r = refl
+          first false d q r = absurd (false≢true (sym q ∙ r))
 
     short : (b : Bool) → nat_le count (length (map n.xid (take count rest))) ≡ b
         → list_all (is_paid t (map n.xid (take count rest) ++ map n.xid (drop count rest))) ls ≡ true
@@ -184,4 +193,5 @@ gives n t count rest ls scan =
         let none : drop count rest ≡ [] = none_left (drop count rest) (omega arith) in
         all_implied (is_paid t (map n.xid (take count rest) ++ map n.xid (drop count rest)))
         (is_paid t (map n.xid (take count rest)))
-        (λ l h. nothing (map n.xid (take count rest)) (map n.xid (drop count rest)) (ap (map n.xid) none) l h) ls owes
+        (λ l h. nothing (map n.xid (take count rest)) (map n.xid (drop count rest)) (ap (map n.xid) none) l h)
+        ls owes

@@ -55,7 +55,8 @@ lost_join false migrated = refl
 
 joined_in : (t x : ℕ) (p j : Bool) (u s v : Sight) → p ≡ false → j ≡ true
     → Contains (linked t x false (if p then u else if j then s else v) ∷ []) (linked t x false s)
-joined_in t x p j u s v h k = subst (λ (b : Bool). Contains (linked t x false (if b then u else if j then s else v) ∷ [])
+joined_in t x p j u s v h k = subst (λ (b : Bool).
+    Contains (linked t x false (if b then u else if j then s else v) ∷ [])
     (linked t x false s)) (sym h)
     (subst (λ (b : Bool). Contains (linked t x false (if b then s else v) ∷ []) (linked t x false s)) (sym k)
     (first_in (linked t x false s) []))
@@ -71,89 +72,112 @@ first_is two a b h = rw h refl
 pub other_is : (two : Bool) (a b : Sight) → two ≡ false → (if two then a else b) ≡ b
 other_is two a b h = rw h refl
 
-module _ (n : NameNumbers) (old new : States) (d : Xid → JudgedDecision) (s : Sight) (t : ℕ) (x : Xid) (flags : Flags) (answer : Code)
-    (mirrors : Mirrors n old d s) (once : AreThreadsListedOnce new.associations.holders) (right : AreRight wrong_at_start flags.0)
+module _ (n : NameNumbers) (old new : States) (d : Xid → JudgedDecision) (s : Sight) (t : ℕ) (x : Xid)
+    (flags : Flags) (answer : Code)
+    (mirrors : Mirrors n old d s) (once : AreThreadsListedOnce new.associations.holders)
+    (right : AreRight wrong_at_start flags.0)
     (opened : is_closed old.init ≡ false) (named : same x null_xid ≡ false) (plain : is_plain flags.0 ≡ false)
     (joins resumes : Bool) (fj : has flags.0 join ≡ joins) (fr : has flags.0 resume ≡ resumes) where
   abbrev Result_of : Type 0
   Result_of = Goes n verb.Start s t x flags answer new d
 
   abbrev no_start : Bool
-  no_start = has_no_start (branch_at (n.xid x) s) flags.0 (has_suspended t (n.xid x) s) (is_migrated (n.xid x) s)
+  no_start = has_no_start (branch_at (n.xid x) s) flags.0 (has_suspended t (n.xid x) s)
+      (is_migrated (n.xid x) s)
 
   -- no row, as the judge sees it
   abbrev pub No_start : Bool → Type 0
   No_start b = no_start_by (stand_as (state_in old.branches.branches x) (d x)) joins resumes
       (is_two (own_state old.associations t x)) (not (moved_of old.associations x == 0)) ≡ b
 
-  refuses : (c : Code) → IsDefect (start_defects lacks_forced s (on n t x flags)) (reply_of c) → (answer ≡ c) × SameStates old new
+  refuses : (c : Code) → IsDefect (start_defects lacks_forced s (on n t x flags)) (reply_of c) → (answer ≡ c)
+      × SameStates old new
       → Result_of
   refuses c defect h = goes_refused n verb.Start s t x flags answer c old new d mirrors defect h
 
   pub limited : (answer ≡ code.RmErr) × SameStates old new → Result_of
   limited h = goes_failed n verb.Start s t x flags answer old new d mirrors h
 
-  pub strange : is_begun (state_in old.branches.branches x) ≡ false → (answer ≡ code.NotA) × SameStates old new → Result_of
-  strange e h = refuses code.NotA (NotA (and_from (not (is_plain flags.0)) (not (is_some (branch_at (n.xid x) s)))
+  pub strange : is_begun (state_in old.branches.branches x) ≡ false → (answer ≡ code.NotA)
+      × SameStates old new → Result_of
+  strange e h = refuses code.NotA (NotA (and_from (not (is_plain flags.0))
+      (not (is_some (branch_at (n.xid x) s)))
       (not_from_false (is_plain flags.0) plain)
       (not_from_false (is_some (branch_at (n.xid x) s)) (known_same n old d s x mirrors ∙ e)))) h
 
-  pub busy_proto : is_some (active_of old.associations t) ≡ true → (answer ≡ code.Proto) × SameStates old new → Result_of
-  busy_proto e h = refuses code.Proto (Proto (or_two (not s.opened && not false) (is_active t s) (last_part n s t x flags.0)
+  pub busy_proto : is_some (active_of old.associations t) ≡ true → (answer ≡ code.Proto) × SameStates old new
+      → Result_of
+  busy_proto e h = refuses code.Proto (Proto
+      (or_two (not s.opened && not false) (is_active t s) (last_part n s t x flags.0)
       (busy_same n old d s t mirrors ∙ e))) h
 
   pub no_row : No_start true → (answer ≡ code.Proto) × SameStates old new → Result_of
-  no_row e h = refuses code.Proto (Proto (or_three (not s.opened && not false) (is_active t s) (last_part n s t x flags.0)
+  no_row e h = refuses code.Proto (Proto (or_three (not s.opened && not false) (is_active t s)
+      (last_part n s t x flags.0)
       (and_from (not (is_plain flags.0)) no_start (not_from_false (is_plain flags.0) plain)
       (no_start_same n old d s t x flags.0 joins resumes mirrors fj fr ∙ e)))) h
 
-  pub clean : is_begun (state_in old.branches.branches x) ≡ true → is_some (active_of old.associations t) ≡ false
+  pub clean : is_begun (state_in old.branches.branches x) ≡ true
+      → is_some (active_of old.associations t) ≡ false
       → No_start false → IsClean (start_defects lacks_forced s (on n t x flags))
   clean known idle free = record {
-    inval = or_from (wrong_at_start flags.0) (is_bad_name lacks_forced (sort_of x)) right.right (bad_same x ∙ named);
+    inval = or_from (wrong_at_start flags.0) (is_bad_name lacks_forced (sort_of x)) right.right
+        (bad_same x ∙ named);
     asynchronous = right.sync;
     proto = or_none (not s.opened && not false) (is_active t s) (last_part n s t x flags.0)
         (closed_same n old d s mirrors ∙ opened) (busy_same n old d s t mirrors ∙ idle)
-        (and_right (not (is_plain flags.0)) no_start (no_start_same n old d s t x flags.0 joins resumes mirrors fj fr ∙ free));
+        (and_right (not (is_plain flags.0)) no_start
+        (no_start_same n old d s t x flags.0 joins resumes mirrors fj fr ∙ free));
     dup_id = and_left (is_plain flags.0) (is_some (branch_at (n.xid x) s)) plain;
     not_a = and_right (not (is_plain flags.0)) (not (is_some (branch_at (n.xid x) s)))
         (not_from_true (is_some (branch_at (n.xid x) s)) (known_same n old d s x mirrors ∙ known));
   }
 
   -- a thread comes to be active in a branch at work
-  pub entered_mirrors : (c : Call) (from : AssocState) (u : Sight) → Walks old new t x c (from, code.Ok, T1) S1 answer
+  pub entered_mirrors : (c : Call) (from : AssocState) (u : Sight)
+      → Walks old new t x c (from, code.Ok, T1) S1 answer
       → stand_as (state_in old.branches.branches x) (d x) ≡ Some stand.Active
       → is_begun (state_in old.branches.branches x) ≡ true
-      → u.opened ≡ s.opened → u.hung ≡ s.hung → u.branches ≡ s.branches → AreScans n old.branches.scans u.scans u.listed
+      → u.opened ≡ s.opened → u.hung ≡ s.hung → u.branches ≡ s.branches
+      → AreScans n old.branches.scans u.scans u.listed
       → Tied n new.associations u.links u.migrated → Mirrors n new d u
   entered_mirrors c from u w active known o q b scans tied = record {
     opened = o ∙ mirrors.opened ∙ ap (λ i. not (is_closed i)) (sym w.init);
     waits = q ∙ mirrors.waits;
     tied = tied;
-    branches = kept_branches n (state_in old.branches.branches) (state_in new.branches.branches) d d x S1 u.branches
-        (record { own = w.branch.own; others = w.branch.others; decided = λ y differs. refl }) (sym active) (sym known)
-        (subst (λ (bs : List JudgedBranch). AreBranches n (state_in old.branches.branches) d bs) (sym b) mirrors.branches);
-    orderly = orderly_worked n old.branches new.branches old.associations new.associations t x from T1 S1 mirrors.orderly once
+    branches = kept_branches n (state_in old.branches.branches) (state_in new.branches.branches) d
+        d x S1 u.branches
+        (record { own = w.branch.own; others = w.branch.others; decided = λ y differs. refl })
+        (sym active) (sym known)
+        (subst (λ (bs : List JudgedBranch). AreBranches n (state_in old.branches.branches) d bs) (sym b)
+        mirrors.branches);
+    orderly = orderly_worked n old.branches new.branches old.associations new.associations t x from T1 S1
+        mirrors.orderly once
         w.association (λ p q. absurd cc) w.branch refl (λ _. (t, w.association.turns.own));
     shut = still_open old new opened w.init;
     scans = scans_stay n old.branches.scans new.branches.scans u.scans u.listed w.branch.scans scans;
   }
 
   -- or finds one that can only be rolled back
-  pub lost_mirrors : (c : Call) (from : AssocState) (u : Sight) → (from ≡ M → own_state old.associations t x ≡ T0)
+  pub lost_mirrors : (c : Call) (from : AssocState) (u : Sight)
+      → (from ≡ M → own_state old.associations t x ≡ T0)
       → Walks old new t x c (from, code.RbRollback, T0) S4 answer
       → state_in old.branches.branches x ≡ S4
-      → u.opened ≡ s.opened → u.hung ≡ s.hung → u.branches ≡ s.branches → AreScans n old.branches.scans u.scans u.listed
+      → u.opened ≡ s.opened → u.hung ≡ s.hung → u.branches ≡ s.branches
+      → AreScans n old.branches.scans u.scans u.listed
       → Tied n new.associations u.links u.migrated → Mirrors n new d u
   lost_mirrors c from u none w four o q b scans tied = record {
     opened = o ∙ mirrors.opened ∙ ap (λ i. not (is_closed i)) (sym w.init);
     waits = q ∙ mirrors.waits;
     tied = tied;
-    branches = kept_branches n (state_in old.branches.branches) (state_in new.branches.branches) d d x S4 u.branches
+    branches = kept_branches n (state_in old.branches.branches) (state_in new.branches.branches) d
+        d x S4 u.branches
         (record { own = w.branch.own; others = w.branch.others; decided = λ y differs. refl })
         (sym (ap (λ st. stand_as st (d x)) four)) (sym (ap is_begun four))
-        (subst (λ (bs : List JudgedBranch). AreBranches n (state_in old.branches.branches) d bs) (sym b) mirrors.branches);
-    orderly = orderly_worked n old.branches new.branches old.associations new.associations t x from T0 S4 mirrors.orderly once
+        (subst (λ (bs : List JudgedBranch). AreBranches n (state_in old.branches.branches) d bs) (sym b)
+        mirrors.branches);
+    orderly = orderly_worked n old.branches new.branches old.associations new.associations t x from T0 S4
+        mirrors.orderly once
         w.association (λ p _. none p) w.branch refl (λ e. absurd cc);
     shut = still_open old new opened w.init;
     scans = scans_stay n old.branches.scans new.branches.scans u.scans u.listed w.branch.scans scans;
@@ -169,8 +193,10 @@ module _ (n : NameNumbers) (old new : States) (d : Xid → JudgedDecision) (s : 
 
 -- Joins.
 
-module _ (n : NameNumbers) (old new : States) (d : Xid → JudgedDecision) (s : Sight) (t : ℕ) (x : Xid) (flags : Flags) (answer : Code)
-    (mirrors : Mirrors n old d s) (once : AreThreadsListedOnce new.associations.holders) (right : AreRight wrong_at_start flags.0)
+module _ (n : NameNumbers) (old new : States) (d : Xid → JudgedDecision) (s : Sight) (t : ℕ) (x : Xid)
+    (flags : Flags) (answer : Code)
+    (mirrors : Mirrors n old d s) (once : AreThreadsListedOnce new.associations.holders)
+    (right : AreRight wrong_at_start flags.0)
     (opened : is_closed old.init ≡ false) (named : same x null_xid ≡ false) (plain : is_plain flags.0 ≡ false)
     (fj : has flags.0 join ≡ true) (fr : has flags.0 resume ≡ false) where
   abbrev Joins : Type 0
@@ -182,12 +208,16 @@ module _ (n : NameNumbers) (old new : States) (d : Xid → JudgedDecision) (s : 
   abbrev Left : Code → Type 0
   Left c = (answer ≡ c) × SameStates old new
 
-  join_none : No_start n old new d s t x flags answer mirrors once right opened named plain true false fj fr true → Left code.Proto → Joins
-  join_none e h = no_row n old new d s t x flags answer mirrors once right opened named plain true false fj fr e h
+  join_none : No_start n old new d s t x flags answer mirrors once right opened named plain true false fj fr
+      true → Left code.Proto → Joins
+  join_none e h = no_row n old new d s t x flags answer mirrors once right opened named plain
+      true false fj fr e h
 
   by_stand : (k : Option Stand) (b : Bool) → stand_as (state_in old.branches.branches x) (d x) ≡ k
-      → no_start_by k true false (is_two (own_state old.associations t x)) (not (moved_of old.associations x == 0)) ≡ b
-      → no_start_by (stand_as (state_in old.branches.branches x) (d x)) true false (is_two (own_state old.associations t x))
+      → no_start_by k true false (is_two (own_state old.associations t x))
+      (not (moved_of old.associations x == 0)) ≡ b
+      → no_start_by (stand_as (state_in old.branches.branches x) (d x)) true false
+      (is_two (own_state old.associations t x))
       (not (moved_of old.associations x == 0)) ≡ b
   by_stand k b q h = ap (λ o. no_start_by o true false (is_two (own_state old.associations t x))
       (not (moved_of old.associations x == 0))) q ∙ h
@@ -197,10 +227,13 @@ module _ (n : NameNumbers) (old new : States) (d : Xid → JudgedDecision) (s : 
       → is_some (active_of old.associations t) ≡ false → has_seat old.associations t x ≡ false
       → Made (T0, code.Ok, T1) → Joins
   enters active known idle seat w =
-      let own = none_of n old new d s t x flags answer mirrors once right opened named plain true false fj fr idle seat in
-      goes_passed n verb.Start s t x flags answer code.Ok new d (linked t (n.xid x) false s) refl refl w.answers
+      let own = none_of n old new d s t x flags answer mirrors once right opened named plain true false
+      fj fr idle seat in
+      goes_passed n verb.Start s t x flags answer code.Ok new d (linked t (n.xid x) false s)
+      refl refl w.answers
       (clean n old new d s t x flags answer mirrors once right opened named plain true false fj fr known idle
-      (by_stand (Some stand.Active) false active (ap (λ o. no_start_by (Some stand.Active) true false (is_two o)
+      (by_stand (Some stand.Active) false active
+      (ap (λ o. no_start_by (Some stand.Active) true false (is_two o)
       (not (moved_of old.associations x == 0))) own)))
       (in_else (has flags.0 resume && is_spoiled_at (branch_at (n.xid x) s))
       (spoiled_passes s (on n t x flags) (entered s (on n t x flags)) reply.Ok)
@@ -212,7 +245,8 @@ module _ (n : NameNumbers) (old new : States) (d : Xid → JudgedDecision) (s : 
       (entered_mirrors n old new d s t x flags answer mirrors once right opened named plain true false fj fr
       call.StartJoin T0 (linked t (n.xid x) false s) w active known refl refl refl mirrors.scans
       (turned n old.associations new.associations t x T0 T1 s.links
-      (s.links ++ record { thread = t; branch = n.xid x; suspended = false } ∷ []) s.migrated s.migrated mirrors.tied
+      (s.links ++ record { thread = t; branch = n.xid x; suspended = false } ∷ []) s.migrated
+      s.migrated mirrors.tied
       w.association.turns
       (linked_one n t x s.links mirrors.tied.named (mirrors.tied.two t x ∙ ap is_two own))
       (same_count n x s.migrated mirrors.tied.moved_named)))
@@ -228,14 +262,17 @@ module _ (n : NameNumbers) (old new : States) (d : Xid → JudgedDecision) (s : 
       by_test Joins (busy || seat)
       (λ b. let g = at_true Made Left (busy || seat) (Err code.Proto) rest b h in
       by_test Joins busy
-      (λ p. busy_proto n old new d s t x flags answer mirrors once right opened named plain true false fj fr p g)
+      (λ p. busy_proto n old new d s t x flags answer mirrors once right opened named plain true
+      false fj fr p g)
       (λ p. join_none (by_stand (Some stand.Active) true active
-      (ap (λ o. no_start_by (Some stand.Active) true false (is_two o) (not (moved_of old.associations x == 0)))
+      (ap (λ o. no_start_by (Some stand.Active) true false (is_two o)
+      (not (moved_of old.associations x == 0)))
       (seated old.associations t x p (seat_of busy seat p b)))) g))
       (λ b. let g = at_false Made Left (busy || seat) (Err code.Proto) rest b h in
       let parts = or_parts busy seat b in
       by_test Joins room
-      (λ r. enters active known parts.0 parts.1 (at_true Made Left room (row T0 code.Ok T1) (Err code.RmErr) r g))
+      (λ r. enters active known parts.0 parts.1
+      (at_true Made Left room (row T0 code.Ok T1) (Err code.RmErr) r g))
       (λ r. limited n old new d s t x flags answer mirrors once right opened named plain true false fj fr
       (at_false Made Left room (row T0 code.Ok T1) (Err code.RmErr) r g)))
     where
@@ -248,10 +285,13 @@ module _ (n : NameNumbers) (old new : States) (d : Xid → JudgedDecision) (s : 
 
   pub join_goes : (wanted : Wanted) → DoesCall wanted old new call.StartJoin t x answer → Joins
   join_goes wanted h = by_six Joins (state_in old.branches.branches x)
-      (λ e. strange n old new d s t x flags answer mirrors once right opened named plain true false fj fr (ap is_begun e)
+      (λ e. strange n old new d s t x flags answer mirrors once right opened named plain true false fj
+      fr (ap is_begun e)
       (subst (λ (st : BranchState). By st) e h))
-      (λ e. at_work (ap (λ st. stand_as st (d x)) e) (ap is_begun e) (subst (λ (st : BranchState). By st) e h))
-      (λ e. at_work (ap (λ st. stand_as st (d x)) e) (ap is_begun e) (subst (λ (st : BranchState). By st) e h))
+      (λ e. at_work (ap (λ st. stand_as st (d x)) e) (ap is_begun e)
+      (subst (λ (st : BranchState). By st) e h))
+      (λ e. at_work (ap (λ st. stand_as st (d x)) e) (ap is_begun e)
+      (subst (λ (st : BranchState). By st) e h))
       (λ e. join_none (by_stand (Some stand.Prepared) true (ap (λ st. stand_as st (d x)) e) refl)
       (subst (λ (st : BranchState). By st) e h))
       (λ e. join_none (by_stand (Some stand.RollbackOnly) true (ap (λ st. stand_as st (d x)) e)

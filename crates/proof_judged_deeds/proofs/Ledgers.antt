@@ -58,7 +58,8 @@ effect reply.RdOnly v x s = read_only v x s
 effect _ v x s = s
 
 -- a refusal by a defect makes nothing of them
-pub defect_keeps : (d : Refusals) (a : Reply) (v : BranchVerb) (x : ℕ) (s : Sight) → IsDefect d a → effect a v x s ≡ s
+pub defect_keeps : (d : Refusals) (a : Reply) (v : BranchVerb) (x : ℕ) (s : Sight) → IsDefect d a
+    → effect a v x s ≡ s
 defect_keeps d a v x s (Inval h) = refl
 defect_keeps d a v x s (Async h) = refl
 defect_keeps d a v x s (Proto h) = refl
@@ -84,7 +85,8 @@ pub record IsBack (n : NameNumbers) (s : Sight) (to : Xid → BranchState) (b : 
 -- what a restart leaves of data, where some branches are back in S3
 pub record IsReturned (n : NameNumbers) (s u : Sight) (from to : Xid → BranchState) : Type 0 where
   pub back : List JudgedBranch
-  pub works : u.works ≡ fold (λ (js : List Work) (b : JudgedBranch). js ++ works_of b.name s.lost_works) (restarted s).works back
+  pub works : u.works ≡ fold (λ (js : List Work) (b : JudgedBranch). js ++ works_of b.name s.lost_works)
+      (restarted s).works back
   pub values : u.values ≡ fold (λ (vs : List JudgedWrite) (b : JudgedBranch). doubted b.name vs) s.values back
   pub lost_works : u.lost_works ≡ []
   pub each : AllByRecursion (IsBack n s to) back
@@ -92,6 +94,7 @@ pub record IsReturned (n : NameNumbers) (s u : Sight) (from to : Xid → BranchS
   pub kept : (x : Xid) → list_any (λ b. is_in_doubt b && b.name == n.xid x) s.branches ≡ is_doubt (from x)
 
 -- what any call, with its answer, makes of data
-abbrev pub Carries : NameNumbers → Sight → Sight → (Xid → BranchState) → (Xid → BranchState) → JudgedCall → JudgedAnswer → Type 0
+abbrev pub Carries : NameNumbers → Sight → Sight → (Xid → BranchState) → (Xid → BranchState) → JudgedCall
+    → JudgedAnswer → Type 0
 Carries n s u from to (call.Restart cut) a = IsReturned n s u from to
 Carries n s u from to c a = ledger u ≡ ledger (outcome_of c a s)

@@ -130,7 +130,8 @@ stays t x u y apart l c h =
 
 one_gone : (t x : ℕ) (ls : List Link) → one_at t x (links_without t x ls) ≡ false
 one_gone t x ls = any_gone (λ l. l.thread == t && l.branch == x && not l.suspended)
-    (λ l. not (l.thread == t && l.branch == x)) (λ l h. goes (l.thread == t) (l.branch == x) (not l.suspended) h) ls
+    (λ l. not (l.thread == t && l.branch == x))
+    (λ l h. goes (l.thread == t) (l.branch == x) (not l.suspended) h) ls
 
 two_gone : (t x : ℕ) (ls : List Link) → two_at t x (links_without t x ls) ≡ false
 two_gone t x ls = any_gone (λ l. l.thread == t && l.branch == x && l.suspended)
@@ -160,23 +161,28 @@ pub record Count (n : NameNumbers) (x : Xid) (ms ms' : List ℕ) (from to : ℕ)
   pub others : (y : ℕ) → (n.xid x ≡ y → ⊥) → times y ms' ≡ times y ms
   pub named : AllByRecursion (IsNamed n) ms'
 
-seat_self : (t : ℕ) (x : Xid) → same_seat (record { thread = t; xid = x }) (record { thread = t; xid = x }) ≡ true
+seat_self : (t : ℕ) (x : Xid) → same_seat (record { thread = t; xid = x })
+    (record { thread = t; xid = x }) ≡ true
 seat_self t x = and_from (nat_eq t t) (same x x) (eq-eqb t t refl) (same_refl x)
 
 seats_apart : (n : NameNumbers) (t u : ℕ) (x y : Xid)
-    → same_seat (record { thread = u; xid = y }) (record { thread = t; xid = x }) ≡ false → Apart t (n.xid x) u (n.xid y)
+    → same_seat (record { thread = u; xid = y }) (record { thread = t; xid = x }) ≡ false
+    → Apart t (n.xid x) u (n.xid y)
 seats_apart n t u x y h p q =
     let is : x ≡ y = n.xids_apart x y q in
     let h2 : same_seat (record { thread = u; xid = y }) (record { thread = u; xid = y }) ≡ false =
-    subst (λ (z : Xid). same_seat (record { thread = u; xid = y }) (record { thread = u; xid = z }) ≡ false) is
-    (subst (λ (v : ℕ). same_seat (record { thread = u; xid = y }) (record { thread = v; xid = x }) ≡ false) p h) in
+    subst (λ (z : Xid). same_seat (record { thread = u; xid = y }) (record { thread = u; xid = z }) ≡ false)
+    is
+    (subst (λ (v : ℕ). same_seat (record { thread = u; xid = y }) (record { thread = v; xid = x }) ≡ false) p
+    h) in
     false≢true (sym h2 ∙ seat_self u y)
 
 not_same : (n : NameNumbers) (x y : Xid) → same x y ≡ false → n.xid x ≡ n.xid y → ⊥
 not_same n x y h q =
     false≢true (sym h ∙ subst (λ (z : Xid). same x z ≡ true) (n.xids_apart x y q) (same_refl x))
 
-pub turned : (n : NameNumbers) (old new : AssocList) (t : ℕ) (x : Xid) (from to : AssocState) (ls ls' : List Link) (ms ms' : List ℕ)
+pub turned : (n : NameNumbers) (old new : AssocList) (t : ℕ) (x : Xid) (from to : AssocState)
+    (ls ls' : List Link) (ms ms' : List ℕ)
     → Tied n old ls ms → Turns old new t x from to → Become n t x ls ls' (own_part to)
     → Count n x ms ms' (counts from) (counts to) → Tied n new ls' ms'
 turned n old new t x from to ls ls' ms ms' tied turns become count = record {
@@ -190,19 +196,23 @@ turned n old new t x from to ls ls' ms ms' tied turns become count = record {
   one_by u y = by (same_seat (record { thread = u; xid = y }) (record { thread = t; xid = x })) refl where
     by : (b : Bool) → same_seat (record { thread = u; xid = y }) (record { thread = t; xid = x }) ≡ b
         → one_at u (n.xid y) ls' ≡ is_one (own_state new u y)
-    by true e = subst (λ (s : Suspended). one_at s.thread (n.xid s.xid) ls' ≡ is_one (own_state new s.thread s.xid))
+    by true e = subst (λ (s : Suspended). one_at s.thread (n.xid s.xid) ls'
+        ≡ is_one (own_state new s.thread s.xid))
         (sym (seat_is (record { thread = u; xid = y }) (record { thread = t; xid = x }) e))
         (become.one ∙ sym (ap is_one turns.own))
-    by false e = become.ones u (n.xid y) (seats_apart n t u x y e) ∙ tied.one u y ∙ sym (ap is_one (turns.others u y e))
+    by false e = become.ones u (n.xid y) (seats_apart n t u x y e) ∙ tied.one u y
+        ∙ sym (ap is_one (turns.others u y e))
 
   two_by : (u : ℕ) (y : Xid) → two_at u (n.xid y) ls' ≡ is_two (own_state new u y)
   two_by u y = by (same_seat (record { thread = u; xid = y }) (record { thread = t; xid = x })) refl where
     by : (b : Bool) → same_seat (record { thread = u; xid = y }) (record { thread = t; xid = x }) ≡ b
         → two_at u (n.xid y) ls' ≡ is_two (own_state new u y)
-    by true e = subst (λ (s : Suspended). two_at s.thread (n.xid s.xid) ls' ≡ is_two (own_state new s.thread s.xid))
+    by true e = subst (λ (s : Suspended). two_at s.thread (n.xid s.xid) ls'
+        ≡ is_two (own_state new s.thread s.xid))
         (sym (seat_is (record { thread = u; xid = y }) (record { thread = t; xid = x }) e))
         (become.two ∙ sym (ap is_two turns.own))
-    by false e = become.twos u (n.xid y) (seats_apart n t u x y e) ∙ tied.two u y ∙ sym (ap is_two (turns.others u y e))
+    by false e = become.twos u (n.xid y) (seats_apart n t u x y e) ∙ tied.two u y
+        ∙ sym (ap is_two (turns.others u y e))
 
   moved_by : (y : Xid) → times (n.xid y) ms' ≡ moved_of new y
   moved_by y = by (same x y) refl where
@@ -213,7 +223,8 @@ turned n old new t x from to ls ls' ms ms' tied turns become count = record {
 
 -- What the judge's associations become.
 
-pub linked_one : (n : NameNumbers) (t : ℕ) (x : Xid) (ls : List Link) → AllByRecursion (λ l. IsNamed n l.branch) ls
+pub linked_one : (n : NameNumbers) (t : ℕ) (x : Xid) (ls : List Link)
+    → AllByRecursion (λ l. IsNamed n l.branch) ls
     → two_at t (n.xid x) ls ≡ false → Become n t x ls (ls ++ link t (n.xid x) false ∷ []) T1
 linked_one n t x ls named none = record {
   one = one_here t (n.xid x) ls;
@@ -223,7 +234,8 @@ linked_one n t x ls named none = record {
   named = all_append (λ l. IsNamed n l.branch) ls (link t (n.xid x) false ∷ []) named ((x, refl), tt);
 }
 
-pub unlinked_none : (n : NameNumbers) (t : ℕ) (x : Xid) (ls : List Link) → AllByRecursion (λ l. IsNamed n l.branch) ls
+pub unlinked_none : (n : NameNumbers) (t : ℕ) (x : Xid) (ls : List Link)
+    → AllByRecursion (λ l. IsNamed n l.branch) ls
     → Become n t x ls (links_without t (n.xid x) ls) T0
 unlinked_none n t x ls named = record {
   one = one_gone t (n.xid x) ls;
@@ -233,7 +245,8 @@ unlinked_none n t x ls named = record {
   named = all_filter (λ l. IsNamed n l.branch) (λ l. not (l.thread == t && l.branch == n.xid x)) ls named;
 }
 
-pub relinked_one : (n : NameNumbers) (t : ℕ) (x : Xid) (ls : List Link) → AllByRecursion (λ l. IsNamed n l.branch) ls
+pub relinked_one : (n : NameNumbers) (t : ℕ) (x : Xid) (ls : List Link)
+    → AllByRecursion (λ l. IsNamed n l.branch) ls
     → Become n t x ls (links_without t (n.xid x) ls ++ link t (n.xid x) false ∷ []) T1
 relinked_one n t x ls named =
     let gone = unlinked_none n t x ls named in
@@ -246,7 +259,8 @@ relinked_one n t x ls named =
       named = back.named;
     }
 
-pub relinked_two : (n : NameNumbers) (t : ℕ) (x : Xid) (ls : List Link) → AllByRecursion (λ l. IsNamed n l.branch) ls
+pub relinked_two : (n : NameNumbers) (t : ℕ) (x : Xid) (ls : List Link)
+    → AllByRecursion (λ l. IsNamed n l.branch) ls
     → Become n t x ls (links_without t (n.xid x) ls ++ link t (n.xid x) true ∷ []) T2
 relinked_two n t x ls named =
     let gone = unlinked_none n t x ls named in
@@ -256,11 +270,13 @@ relinked_two n t x ls named =
       two = two_here t (n.xid x) left;
       ones = λ u y apart. one_apart t (n.xid x) u y true left apart ∙ gone.ones u y apart;
       twos = λ u y apart. two_apart t (n.xid x) u y true left apart ∙ gone.twos u y apart;
-      named = all_append (λ l. IsNamed n l.branch) left (link t (n.xid x) true ∷ []) gone.named ((x, refl), tt);
+      named = all_append (λ l. IsNamed n l.branch) left (link t (n.xid x) true ∷ []) gone.named
+          ((x, refl), tt);
     }
 
 pub same_links : (n : NameNumbers) (t : ℕ) (x : Xid) (ls : List Link) (s : AssocState)
-    → AllByRecursion (λ l. IsNamed n l.branch) ls → one_at t (n.xid x) ls ≡ is_one s → two_at t (n.xid x) ls ≡ is_two s
+    → AllByRecursion (λ l. IsNamed n l.branch) ls → one_at t (n.xid x) ls ≡ is_one s
+    → two_at t (n.xid x) ls ≡ is_two s
     → Become n t x ls ls s
 same_links n t x ls s named one two = record {
   one = one;
@@ -272,5 +288,6 @@ same_links n t x ls s named one two = record {
 
 -- What becomes of those that are suspended for migration.
 
-pub same_count : (n : NameNumbers) (x : Xid) (ms : List ℕ) → AllByRecursion (IsNamed n) ms → Count n x ms ms 0 0
+pub same_count : (n : NameNumbers) (x : Xid) (ms : List ℕ) → AllByRecursion (IsNamed n) ms
+    → Count n x ms ms 0 0
 same_count n x ms named = record { own = refl; others = λ y apart. refl; named = named }

@@ -19,10 +19,12 @@ and_apart false b h = refl
 and_apart true false h = refl
 and_apart true true h = absurd (false≢true (sym (h refl)))
 
-pub any_pushed : {X : Type 0} (p : X → Bool) (xs : List X) (x : X) → list_any p (xs ++ x ∷ []) ≡ (list_any p xs || p x)
+pub any_pushed : {X : Type 0} (p : X → Bool) (xs : List X) (x : X)
+    → list_any p (xs ++ x ∷ []) ≡ (list_any p xs || p x)
 any_pushed p xs x = list_any-append p xs (x ∷ []) ∙ ap (λ b. list_any p xs || b) (or_false (p x))
 
-pub any_agree : {X : Type 0} (p q : X → Bool) → ((x : X) → p x ≡ q x) → (xs : List X) → list_any p xs ≡ list_any q xs
+pub any_agree : {X : Type 0} (p q : X → Bool) → ((x : X) → p x ≡ q x) → (xs : List X)
+    → list_any p xs ≡ list_any q xs
 any_agree p q h [] = refl
 any_agree p q h (x ∷ xs) = ap (λ b. b || list_any p xs) (h x) ∙ ap (λ b. q x || b) (any_agree p q h xs)
 
@@ -35,7 +37,8 @@ any_cond : {X : Type 0} (p : X → Bool) (x : X) (ys : List X) (b : Bool)
 any_cond p x ys true = refl
 any_cond p x ys false = refl
 
-pub any_filter : {X : Type 0} (p q : X → Bool) (xs : List X) → list_any p (filter q xs) ≡ list_any (λ x. q x && p x) xs
+pub any_filter : {X : Type 0} (p q : X → Bool) (xs : List X)
+    → list_any p (filter q xs) ≡ list_any (λ x. q x && p x) xs
 any_filter p q [] = refl
 any_filter p q (x ∷ xs) = any_cond p x (filter q xs) (q x) ∙ ap (λ b. (q x && p x) || b) (any_filter p q xs)
 
@@ -49,16 +52,19 @@ pub any_gone : {X : Type 0} (p q : X → Bool) → ((x : X) → p x ≡ true →
     → list_any p (filter q xs) ≡ false
 any_gone p q h xs = any_filter p q xs ∙ any_never (λ x. q x && p x) (λ x. and_apart (q x) (p x) (h x)) xs
 
-pub any_map : {X Y : Type 0} (p : Y → Bool) (f : X → Y) (xs : List X) → list_any p (map f xs) ≡ list_any (λ x. p (f x)) xs
+pub any_map : {X Y : Type 0} (p : Y → Bool) (f : X → Y) (xs : List X)
+    → list_any p (map f xs) ≡ list_any (λ x. p (f x)) xs
 any_map p f [] = refl
 any_map p f (x ∷ xs) = ap (λ b. p (f x) || b) (any_map p f xs)
 
 -- where a test finds something, it finds one of these, of which this holds
-pub any_where : {X : Type 0} (P : X → Type 0) (p : X → Bool) (xs : List X) → list_any p xs ≡ true → AllByRecursion P xs
+pub any_where : {X : Type 0} (P : X → Type 0) (p : X → Bool) (xs : List X) → list_any p xs ≡ true
+    → AllByRecursion P xs
     → (x : X) × (p x ≡ true) × P x
 any_where P p [] e a = absurd (false≢true e)
 any_where {X} P p (x ∷ xs) e a = by (λ h. any_where P p xs h a.1) (p x) refl where
-  by : (list_any p xs ≡ true → (y : X) × (p y ≡ true) × P y) → (b : Bool) → p x ≡ b → (y : X) × (p y ≡ true) × P y
+  by : (list_any p xs ≡ true → (y : X) × (p y ≡ true) × P y) → (b : Bool) → p x ≡ b → (y : X) × (p y ≡ true)
+      × P y
   by rest true q = (x, q, a.0)
   by rest false q = rest (subst (λ (b : Bool). (b || list_any p xs) ≡ true) q e)
 
@@ -70,7 +76,8 @@ pub find_any : {X : Type 0} (p : X → Bool) (xs : List X) → is_some (find p x
 find_any p [] = refl
 find_any p (x ∷ xs) = is_some_cond x (find p xs) (p x) ∙ ap (λ b. p x || b) (find_any p xs)
 
-pub find_where : {X : Type 0} (P : X → Type 0) (p : X → Bool) (xs : List X) (y : X) → find p xs ≡ Some y → AllByRecursion P xs
+pub find_where : {X : Type 0} (P : X → Type 0) (p : X → Bool) (xs : List X) (y : X) → find p xs ≡ Some y
+    → AllByRecursion P xs
     → (p y ≡ true) × P y
 find_where P p [] y e a = absurd cc
 find_where {X} P p (x ∷ xs) y e a = by (λ h. find_where P p xs y h a.1) (p x) refl where
@@ -86,7 +93,8 @@ all_cond : {X : Type 0} (P : X → Type 0) (x : X) (ys : List X) (b : Bool) → 
 all_cond P x ys true h a = (h, a)
 all_cond P x ys false h a = a
 
-pub all_filter : {X : Type 0} (P : X → Type 0) (q : X → Bool) (xs : List X) → AllByRecursion P xs → AllByRecursion P (filter q xs)
+pub all_filter : {X : Type 0} (P : X → Type 0) (q : X → Bool) (xs : List X) → AllByRecursion P xs
+    → AllByRecursion P (filter q xs)
 all_filter P q [] a = tt
 all_filter P q (x ∷ xs) a = all_cond P x (filter q xs) (q x) a.0 (all_filter P q xs a.1)
 
@@ -95,7 +103,8 @@ pub all_append : {X : Type 0} (P : X → Type 0) (xs ys : List X) → AllByRecur
 all_append P [] ys a b = b
 all_append P (x ∷ xs) ys a b = (a.0, all_append P xs ys a.1 b)
 
-pub all_map : {X Y : Type 0} (P : X → Type 0) (Q : Y → Type 0) (f : X → Y) → ((x : X) → P x → Q (f x)) → (xs : List X)
+pub all_map : {X Y : Type 0} (P : X → Type 0) (Q : Y → Type 0) (f : X → Y) → ((x : X) → P x → Q (f x))
+    → (xs : List X)
     → AllByRecursion P xs → AllByRecursion Q (map f xs)
 all_map P Q f h [] a = tt
 all_map P Q f h (x ∷ xs) a = (h x a.0, all_map P Q f h xs a.1)
@@ -106,11 +115,13 @@ all_weaker P Q h [] a = tt
 all_weaker P Q h (x ∷ xs) a = (h x a.0, all_weaker P Q h xs a.1)
 
 -- if nothing is found of whatever has this, the list is empty
-pub none_found : {X : Type 0} (P : X → Type 0) (xs : List X) → ((x : X) → P x → ⊥) → AllByRecursion P xs → xs ≡ []
+pub none_found : {X : Type 0} (P : X → Type 0) (xs : List X) → ((x : X) → P x → ⊥) → AllByRecursion P xs
+    → xs ≡ []
 none_found P [] h a = refl
 none_found P (x ∷ xs) h a = absurd (h x a.0)
 
-pub all_join : {X : Type 0} (P Q R : X → Type 0) → ((x : X) → P x → Q x → R x) → (xs : List X) → AllByRecursion P xs
+pub all_join : {X : Type 0} (P Q R : X → Type 0) → ((x : X) → P x → Q x → R x) → (xs : List X)
+    → AllByRecursion P xs
     → AllByRecursion Q xs → AllByRecursion R xs
 all_join P Q R h [] a b = tt
 all_join P Q R h (x ∷ xs) a b = (h x a.0 b.0, all_join P Q R h xs a.1 b.1)
@@ -138,13 +149,15 @@ bool_same true b f g = sym (f refl)
 bool_same false true f g = g refl
 bool_same false false f g = refl
 
-all_where_by : {X : Type 0} (Q : X → Type 0) (x : X) (ys : List X) (b : Bool) → (b ≡ true → Q x) → AllByRecursion Q ys
+all_where_by : {X : Type 0} (Q : X → Type 0) (x : X) (ys : List X) (b : Bool) → (b ≡ true → Q x)
+    → AllByRecursion Q ys
     → AllByRecursion Q (cond b (x ∷ ys) ys)
 all_where_by Q x ys true h a = (h refl, a)
 all_where_by Q x ys false h a = a
 
 -- what passes a filter keeps what its test says
-pub all_where : {X : Type 0} (P Q : X → Type 0) (q : X → Bool) → ((x : X) → q x ≡ true → P x → Q x) → (xs : List X)
+pub all_where : {X : Type 0} (P Q : X → Type 0) (q : X → Bool) → ((x : X) → q x ≡ true → P x → Q x)
+    → (xs : List X)
     → AllByRecursion P xs → AllByRecursion Q (filter q xs)
 all_where P Q q h [] a = tt
 all_where P Q q h (x ∷ xs) a =

@@ -38,8 +38,8 @@ pub record AreLost (n : NameNumbers) (l : Xid → Bool) (bs : List JudgedBranch)
   pub each : AllByRecursion (IsLost n) bs
   pub here : (x : Xid) → l x ≡ true → list_any (is_named (n.xid x)) bs ≡ true
 
--- what is remembered after a call that ends a branch: what was, if the branch is still known or was not prepared; or this
--- one besides
+-- what is remembered after a call that ends a branch: what was, if the branch is still known or was not
+-- prepared; or this one besides
 pub data Ends (n : NameNumbers) (s u : Sight) (x : Xid) (new : States) : Type 0 where
   Kept : u.lost ≡ s.lost → (state_in new.branches.branches x ≡ S0 → is_prepared_at (n.xid x) s ≡ false)
       → Ends n s u x new
@@ -60,7 +60,8 @@ prepared_stand : (k : Stand) → Some stand.Prepared ≡ Some k → is_prepared 
 prepared_stand k h = let is : stand.Prepared ≡ k = cc in subst (λ (j : Stand). is_prepared j ≡ true) is refl
 
 -- a branch in S3 is prepared to the judge
-pub prepared_same : (n : NameNumbers) (m : States) (d : Xid → JudgedDecision) (s : Sight) (x : Xid) → Mirrors n m d s
+pub prepared_same : (n : NameNumbers) (m : States) (d : Xid → JudgedDecision) (s : Sight) (x : Xid)
+    → Mirrors n m d s
     → state_in m.branches.branches x ≡ S3 → is_prepared_at (n.xid x) s ≡ true
 prepared_same n m d s x mirrors q =
     (any_pick (IsBranch n (state_in m.branches.branches) d) (is_named (n.xid x))
@@ -78,7 +79,8 @@ stands_not : (j k : Stand) → is_prepared j ≡ false → Some j ≡ Some k →
 stands_not j k off e h = let is : j ≡ k = cc in
     false≢true (sym off ∙ subst (λ (i : Stand). is_prepared i ≡ true) (sym is) h)
 
-three_by : (s : BranchState) (d : JudgedDecision) (k : Stand) → stand_as s d ≡ Some k → is_prepared k ≡ true → s ≡ S3
+three_by : (s : BranchState) (d : JudgedDecision) (k : Stand) → stand_as s d ≡ Some k → is_prepared k ≡ true
+    → s ≡ S3
 three_by S0 d k e h = absurd cc
 three_by S1 d k e h = absurd (stands_not stand.Active k refl e h)
 three_by S2 d k e h = absurd (stands_not stand.Active k refl e h)
@@ -87,10 +89,12 @@ three_by S4 d k e h = absurd (stands_not stand.RollbackOnly k refl e h)
 three_by S5 d k e h = absurd (stands_not (stand.Heuristic d) k refl e h)
 
 -- and one that is not in S3 is not
-pub unprepared : (n : NameNumbers) (m : States) (d : Xid → JudgedDecision) (s : Sight) (x : Xid) → Mirrors n m d s
+pub unprepared : (n : NameNumbers) (m : States) (d : Xid → JudgedDecision) (s : Sight) (x : Xid)
+    → Mirrors n m d s
     → (state_in m.branches.branches x ≡ S3 → ⊥) → is_prepared_at (n.xid x) s ≡ false
 unprepared n m d s x mirrors h = false_from_ne_true (is_prepared_at (n.xid x) s) (λ e.
-    let w = any_where (IsBranch n (state_in m.branches.branches) d) (λ b. b.name == n.xid x && is_prepared b.stand)
+    let w = any_where (IsBranch n (state_in m.branches.branches) d)
+    (λ b. b.name == n.xid x && is_prepared b.stand)
     s.branches e mirrors.branches.each in
     let parts = and_parts (w.0.name == n.xid x) (is_prepared w.0.stand) w.1 in
     let one : w.2.xid ≡ x = n.xids_apart w.2.xid x (sym w.2.is ∙ eqb-true w.0.name (n.xid x) parts.0) in
@@ -98,12 +102,15 @@ unprepared n m d s x mirrors h = false_from_ne_true (is_prepared_at (n.xid x) s)
     (three_by (state_in m.branches.branches w.2.xid) (d w.2.xid) w.0.stand w.2.stands parts.1)))
 
 -- where nothing changes the same is remembered
-still : (n : NameNumbers) (old new : States) (d : Xid → JudgedDecision) (s : Sight) (x : Xid) → Mirrors n old d s → SameStates old new
+still : (n : NameNumbers) (old new : States) (d : Xid → JudgedDecision) (s : Sight) (x : Xid)
+    → Mirrors n old d s → SameStates old new
     → Ends n s s x new
 still n old new d s x mirrors same = Kept refl (λ e. unprepared n old d s x mirrors (λ q.
-    let f : S3 ≡ S0 = sym q ∙ ap (λ (bs : List (Xid × BranchState)). state_in bs x) (sym same.branches.branches) ∙ e in cc))
+    let f : S3 ≡ S0 = sym q ∙ ap (λ (bs : List (Xid × BranchState)). state_in bs x)
+    (sym same.branches.branches) ∙ e in cc))
 
-pub unchanged : (v : BranchVerb) (n : NameNumbers) (old new : States) (d : Xid → JudgedDecision) (s : Sight) (x : Xid)
+pub unchanged : (v : BranchVerb) (n : NameNumbers) (old new : States) (d : Xid → JudgedDecision)
+    (s : Sight) (x : Xid)
     → Mirrors n old d s → SameStates old new → Remembers v n s s x new
 unchanged verb.Start n old new d s x mirrors same = refl
 unchanged verb.End n old new d s x mirrors same = refl
@@ -114,7 +121,8 @@ unchanged verb.Forget n old new d s x mirrors same = still n old new d s x mirro
 
 -- What is remembered after a step.
 
-pub lost_stays : (n : NameNumbers) (l l' : Xid → Bool) (bs cs : List JudgedBranch) → cs ≡ bs → NoMore l l' → AreLost n l bs
+pub lost_stays : (n : NameNumbers) (l l' : Xid → Bool) (bs cs : List JudgedBranch) → cs ≡ bs → NoMore l l'
+    → AreLost n l bs
     → AreLost n l' cs
 lost_stays n l l' bs cs is less lost = subst (λ (ks : List JudgedBranch). AreLost n l' ks) (sym is)
     (record { each = lost.each; here = λ x h. lost.here x (less x h) })
@@ -125,7 +133,8 @@ prepared_is stand.Active h = absurd (false≢true h)
 prepared_is stand.RollbackOnly h = absurd (false≢true h)
 prepared_is (stand.Heuristic d) h = absurd (false≢true h)
 
-module _ (n : NameNumbers) (old new : States) (d : Xid → JudgedDecision) (s : Sight) (x : Xid) (l l' : Xid → Bool)
+module _ (n : NameNumbers) (old new : States) (d : Xid → JudgedDecision) (s : Sight) (x : Xid)
+    (l l' : Xid → Bool)
     (mirrors : Mirrors n old d s) (lost : AreLost n l s.lost) (loses : Loses old new x l l') where
   abbrev kept : List JudgedBranch
   kept = others (n.xid x) s.lost
@@ -178,16 +187,17 @@ module _ (n : NameNumbers) (old new : States) (d : Xid → JudgedDecision) (s : 
       | inr left ↦ absurd (false≢true (sym (none left.2) ∙ prepared_same n old d s x mirrors left.1))
     ];
   })
-  lost_ends u (Added is) = subst (λ (bs : List JudgedBranch). AreLost n l' bs) (sym is) (by (is_prepared_at (n.xid x) s) refl) where
-    by : (b : Bool) → is_prepared_at (n.xid x) s ≡ b → AreLost n l' (if b then record s {
-      lost = others (n.xid x) s.lost ++ was_prepared (n.xid x) s.branches;
-      lost_works = works_without (n.xid x) s.lost_works ++ works_of (n.xid x) s.works;
-    } else s).lost
-    by true e = added e
-    by false e = record {
-      each = lost.each;
-      here = λ y h. elim (loses y h) [
-        | inl was ↦ lost.here y was
-        | inr left ↦ absurd (false≢true (sym e ∙ prepared_same n old d s x mirrors left.1))
-      ];
-    }
+  lost_ends u (Added is) = subst (λ (bs : List JudgedBranch). AreLost n l' bs) (sym is)
+      (by (is_prepared_at (n.xid x) s) refl) where
+        by : (b : Bool) → is_prepared_at (n.xid x) s ≡ b → AreLost n l' (if b then record s {
+          lost = others (n.xid x) s.lost ++ was_prepared (n.xid x) s.branches;
+          lost_works = works_without (n.xid x) s.lost_works ++ works_of (n.xid x) s.works;
+        } else s).lost
+        by true e = added e
+        by false e = record {
+          each = lost.each;
+          here = λ y h. elim (loses y h) [
+            | inl was ↦ lost.here y was
+            | inr left ↦ absurd (false≢true (sym e ∙ prepared_same n old d s x mirrors left.1))
+          ];
+        }

@@ -56,13 +56,15 @@ is_quiet S5 = true
 is_quiet _ = false
 
 -- a branch of the judge is one of the manager
-pub record IsBranch (n : NameNumbers) (st : Xid → BranchState) (d : Xid → JudgedDecision) (b : JudgedBranch) : Type 0 where
+pub record IsBranch (n : NameNumbers) (st : Xid → BranchState) (d : Xid → JudgedDecision)
+    (b : JudgedBranch) : Type 0 where
   pub xid : Xid
   pub is : b.name ≡ n.xid xid
   pub stands : stand_as (st xid) (d xid) ≡ Some b.stand
 
 -- the branches of the judge are those of the manager
-pub record AreBranches (n : NameNumbers) (st : Xid → BranchState) (d : Xid → JudgedDecision) (bs : List JudgedBranch) : Type 0 where
+pub record AreBranches (n : NameNumbers) (st : Xid → BranchState) (d : Xid → JudgedDecision)
+    (bs : List JudgedBranch) : Type 0 where
   pub each : AllByRecursion (IsBranch n st d) bs
   pub known : (x : Xid) → list_any (is_named (n.xid x)) bs ≡ is_begun (st x)
 
@@ -70,8 +72,9 @@ pub record AreBranches (n : NameNumbers) (st : Xid → BranchState) (d : Xid →
 abbrev pub IsBegun : BranchState → Type 0
 IsBegun s = is_begun s ≡ true
 
--- what the tables keep: no branch is in S0; in one in S1 some thread is active; in one that is not at work none is,
--- and none has suspended it; a thread that has an association is listed, and one that is listed has one
+-- what the tables keep: no branch is in S0; in one in S1 some thread is active; in one that is not at work
+-- none is, and none has suspended it; a thread that has an association is listed, and one that is listed has
+-- one
 pub record IsOrderly (bs : List (Xid × BranchState)) (a : AssocList) : Type 0 where
   pub once : AreThreadsListedOnce a.holders
   pub here : AllIn IsBegun bs
@@ -105,7 +108,8 @@ pub record Mirrors (n : NameNumbers) (m : States) (d : Xid → JudgedDecision) (
   pub scans : AreScans n m.branches.scans s.scans s.listed
 
 -- tables that are the same but for room mirror the same
-pub same_mirrors : (n : NameNumbers) (old new : States) (d : Xid → JudgedDecision) (s : Sight) → SameStates old new → Mirrors n old d s
+pub same_mirrors : (n : NameNumbers) (old new : States) (d : Xid → JudgedDecision) (s : Sight)
+    → SameStates old new → Mirrors n old d s
     → Mirrors n new d s
 same_mirrors n old new d s same mirrors = record {
   opened = mirrors.opened ∙ ap (λ i. not (is_closed i)) (sym same.init);
@@ -113,10 +117,12 @@ same_mirrors n old new d s same mirrors = record {
   tied = subst (λ (a : AssocList). Tied n a s.links s.migrated) (sym same.associations) mirrors.tied;
   branches = subst (λ (bs : List (Xid × BranchState)). AreBranches n (state_in bs) d s.branches)
       (sym same.branches.branches) mirrors.branches;
-  orderly = subst (λ (bs : List (Xid × BranchState)). IsOrderly bs new.associations) (sym same.branches.branches)
+  orderly = subst (λ (bs : List (Xid × BranchState)). IsOrderly bs new.associations)
+      (sym same.branches.branches)
       (subst (λ (a : AssocList). IsOrderly old.branches.branches a) (sym same.associations) mirrors.orderly);
   shut = λ e. subst IsFree (sym same.associations) (mirrors.shut (sym same.init ∙ e));
-  scans = scans_stay n old.branches.scans new.branches.scans s.scans s.listed same.branches.scans mirrors.scans;
+  scans = scans_stay n old.branches.scans new.branches.scans s.scans s.listed
+      same.branches.scans mirrors.scans;
 }
 
 -- an open manager that stays so need not be free
@@ -134,15 +140,18 @@ unknown_stand S3 d h = absurd cc
 unknown_stand S4 d h = absurd cc
 unknown_stand S5 d h = absurd cc
 
-pub stands_at : (n : NameNumbers) (st : Xid → BranchState) (d : Xid → JudgedDecision) (bs : List JudgedBranch) (x : Xid)
+pub stands_at : (n : NameNumbers) (st : Xid → BranchState) (d : Xid → JudgedDecision)
+    (bs : List JudgedBranch) (x : Xid)
     → AreBranches n st d bs → option_map (λ b. b.stand) (find (is_named (n.xid x)) bs) ≡ stand_as (st x) (d x)
 stands_at n st d bs x are = by (find (is_named (n.xid x)) bs) refl where
-  by : (o : Option JudgedBranch) → find (is_named (n.xid x)) bs ≡ o → option_map (λ b. b.stand) o ≡ stand_as (st x) (d x)
+  by : (o : Option JudgedBranch) → find (is_named (n.xid x)) bs ≡ o
+      → option_map (λ b. b.stand) o ≡ stand_as (st x) (d x)
   by None e = unknown_stand (st x) (d x)
       (sym (are.known x) ∙ sym (find_any (is_named (n.xid x)) bs) ∙ ap is_some e)
   by (Some b) e =
       let found = find_where (IsBranch n st d) (is_named (n.xid x)) bs b e are.each in
-      let is : found.1.xid ≡ x = n.xids_apart found.1.xid x (sym found.1.is ∙ eqb-true b.name (n.xid x) found.0) in
+      let is : found.1.xid ≡ x = n.xids_apart found.1.xid x
+      (sym found.1.is ∙ eqb-true b.name (n.xid x) found.0) in
       sym (subst (λ (y : Xid). stand_as (st y) (d y) ≡ Some b.stand) is found.1.stands)
 
 -- Which threads are in a branch.
@@ -153,12 +162,14 @@ state_one b c h = rw h refl
 pub active_one : (a : AssocList) (t : ℕ) (x : Xid) → is_active a t x ≡ true → own_state a t x ≡ T1
 active_one a t x h = state_one (is_active a t x) (has_seat a t x) h
 
-pub seat_state : (b c : Bool) → c ≡ true → ((if b then T1 else if c then T2 else T0) ≡ T1) ⊎ ((if b then T1 else if c then T2 else T0) ≡ T2)
+pub seat_state : (b c : Bool) → c ≡ true → ((if b then T1 else if c then T2 else T0) ≡ T1)
+    ⊎ ((if b then T1 else if c then T2 else T0) ≡ T2)
 seat_state true c h = inl refl
 seat_state false c h = inr (rw h refl)
 
 -- each thread that holds associations is found by its number, where each is listed once
-found_each : (es : List (ℕ × Option Xid)) → AreThreadsListedOnce es → AllByRecursion (λ f. lookup (nat_eq f.0) es ≡ Some f.1) es
+found_each : (es : List (ℕ × Option Xid)) → AreThreadsListedOnce es
+    → AllByRecursion (λ f. lookup (nat_eq f.0) es ≡ Some f.1) es
 found_each [] h = tt
 found_each (e ∷ es) h = (
   cond-true (nat_eq e.0 e.0) (Some e.1) (lookup (nat_eq e.0) es) (eq-eqb e.0 e.0 refl),
@@ -183,13 +194,16 @@ holder_in [] t x h = absurd (false≢true h)
 holder_in (e ∷ es) t x h = by (λ k. holder_in es t x k) (nat_eq t e.0) refl where
   by : (option_map_or (λ y. same y x) (unwrap_or (lookup (nat_eq t) es) None) false ≡ true
       → list_any (λ f. option_map_or (λ y. same y x) f.1 false) es ≡ true)
-      → (b : Bool) → nat_eq t e.0 ≡ b → list_any (λ f. option_map_or (λ y. same y x) f.1 false) (e ∷ es) ≡ true
+      → (b : Bool) → nat_eq t e.0 ≡ b → list_any
+      (λ f. option_map_or (λ y. same y x) f.1 false) (e ∷ es) ≡ true
   by rest true q = or_left (option_map_or (λ y. same y x) e.1 false)
       (list_any (λ f. option_map_or (λ y. same y x) f.1 false) es)
-      (subst (λ (b : Bool). option_map_or (λ y. same y x) (unwrap_or (cond b (Some e.1) (lookup (nat_eq t) es)) None) false ≡ true) q h)
+      (subst (λ (b : Bool). option_map_or (λ y. same y x)
+      (unwrap_or (cond b (Some e.1) (lookup (nat_eq t) es)) None) false ≡ true) q h)
   by rest false q = or_right (option_map_or (λ y. same y x) e.1 false)
       (list_any (λ f. option_map_or (λ y. same y x) f.1 false) es)
-      (rest (subst (λ (b : Bool). option_map_or (λ y. same y x) (unwrap_or (cond b (Some e.1) (lookup (nat_eq t) es)) None) false ≡ true) q h))
+      (rest (subst (λ (b : Bool). option_map_or (λ y. same y x)
+      (unwrap_or (cond b (Some e.1) (lookup (nat_eq t) es)) None) false ≡ true) q h))
 
 pub holds_one : (a : AssocList) (t : ℕ) (x : Xid) → own_state a t x ≡ T1 → has_active a x ≡ true
 holds_one a t x h = holder_in a.holders t x (is_active-T1 a t x h)
@@ -217,13 +231,15 @@ suspender (s ∷ seats) x h = by (λ k. suspender seats x k) (same s.xid x) refl
             (list_any (same_seat (record { thread = f.0; xid = x })) seats) f.1,
       )
 
-seat_in : (seats : List Suspended) (t : ℕ) (x : Xid) → list_any (same_seat (record { thread = t; xid = x })) seats ≡ true
+seat_in : (seats : List Suspended) (t : ℕ) (x : Xid)
+    → list_any (same_seat (record { thread = t; xid = x })) seats ≡ true
     → list_any (λ s. same s.xid x) seats ≡ true
 seat_in [] t x h = absurd (false≢true h)
 seat_in (s ∷ seats) t x h = elim (or_cases (same_seat (record { thread = t; xid = x }) s)
     (list_any (same_seat (record { thread = t; xid = x })) seats) h) [
       | inl one ↦ or_left (same s.xid x) (list_any (λ s. same s.xid x) seats)
-          (subst (λ (z : Suspended). same z.xid x ≡ true) (seat_is (record { thread = t; xid = x }) s one) (same_refl x))
+          (subst (λ (z : Suspended). same z.xid x ≡ true)
+          (seat_is (record { thread = t; xid = x }) s one) (same_refl x))
       | inr more ↦ or_right (same s.xid x) (list_any (λ s. same s.xid x) seats) (seat_in seats t x more)
     ]
 

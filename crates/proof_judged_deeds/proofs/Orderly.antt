@@ -38,7 +38,8 @@ here_moved old new x to moves here =
 
 named_moved : (old new : BranchList) (x : Xid) (to : BranchState) → BranchMoves old new x to
     → AreNamedOnce old.branches → AreNamedOnce new.branches
-named_moved old new x to moves named = subst (λ (bs : List (Xid × BranchState)). AreNamedOnce bs) (sym moves.order)
+named_moved old new x to moves named = subst (λ (bs : List (Xid × BranchState)). AreNamedOnce bs)
+    (sym moves.order)
     (named_placed old.branches x to named)
 
 and_off : (b : Bool) → (b && false) ≡ false
@@ -60,7 +61,8 @@ held_seat (s ∷ seats) t h = elim (or_cases (nat_eq s.thread t) (list_any (λ z
     s.xid,
     or_left (same_seat (record { thread = t; xid = s.xid }) s)
         (list_any (same_seat (record { thread = t; xid = s.xid })) seats)
-        (and_from (nat_eq t s.thread) (same s.xid s.xid) (eq-eqb t s.thread (sym (eqb-true s.thread t here))) (same_refl s.xid)),
+        (and_from (nat_eq t s.thread) (same s.xid s.xid) (eq-eqb t s.thread (sym (eqb-true s.thread t here)))
+        (same_refl s.xid)),
   )
   | inr more ↦ (let f = held_seat seats t more in (
     f.0,
@@ -107,7 +109,8 @@ moved_holding a b t x from to moves none holding u h = elim (cases_eq u t) [
 ] where
   gone : from ≡ M → to ≡ T0 → is_holder b t ≡ true → (y : Xid) × (own_state b t y ≡ T0 → ⊥)
   gone p q k =
-      let listed : is_holder b t ≡ is_holder a t = moves.holder ∙ ap (λ (s : AssocState). listed_after a b t s to) p
+      let listed : is_holder b t ≡ is_holder a t = moves.holder
+      ∙ ap (λ (s : AssocState). listed_after a b t s to) p
       ∙ ap (λ (s : AssocState). listed_after a b t M s) q in
       let f = holding t (sym listed ∙ k) in
       let apart : same x f.0 ≡ false = false_from_ne_true (same x f.0) (λ e. f.1
@@ -121,8 +124,10 @@ moved_holding a b t x from to moves none holding u h = elim (cases_eq u t) [
   ]
 
 -- a start or an end leads to a state in which threads may work
-pub orderly_worked : (n : NameNumbers) (old new : BranchList) (a b : AssocList) (t : ℕ) (x : Xid) (from to : AssocState)
-    (st : BranchState) → IsOrderly old.branches a → AreThreadsListedOnce b.holders → AssocMoves a b t x from to
+pub orderly_worked : (n : NameNumbers) (old new : BranchList) (a b : AssocList) (t : ℕ) (x : Xid)
+    (from to : AssocState)
+    (st : BranchState) → IsOrderly old.branches a → AreThreadsListedOnce b.holders
+    → AssocMoves a b t x from to
     → (from ≡ M → to ≡ T0 → own_state a t x ≡ T0)
     → BranchMoves old new x st → is_quiet st ≡ false → (st ≡ S1 → (u : ℕ) × (own_state b u x ≡ T1))
     → IsOrderly new.branches b

@@ -14,7 +14,8 @@ use Rattle.proof_judged_deeds.proofs.Lists.{all_append}
 use Rattle.proof_judged_deeds.proofs.Links.{Count, IsNamed}
 
 -- what a list has of this, it has at its first place
-some_place : (x : ℕ) (ms : List ℕ) → list_any (λ m. m == x) ms ≡ true → position_or_len (λ m. m == x) ms < length ms
+some_place : (x : ℕ) (ms : List ℕ) → list_any (λ m. m == x) ms ≡ true
+    → position_or_len (λ m. m == x) ms < length ms
 some_place x ms h = elim (cases_lt (position_or_len (λ m. m == x) ms) (length ms)) [
   | inl lt ↦ lt
   | inr le ↦ absurd (false≢true (sym (list_any_none (λ m. m == x) ms
@@ -27,13 +28,16 @@ one_by b h = rw h refl
 zero_by : (b : Bool) → b ≡ false → ◌≡◌ {A = ℕ} (if b then 1 else 0) 0
 zero_by b h = rw h refl
 
-all_removed : (P : ℕ → Type 0) (ms : List ℕ) (i d : ℕ) → i < length ms → AllByRecursion P ms → AllByRecursion P (remove ms i)
+all_removed : (P : ℕ → Type 0) (ms : List ℕ) (i d : ℕ) → i < length ms → AllByRecursion P ms
+    → AllByRecursion P (remove ms i)
 all_removed P ms i d lt all =
     let every = All-from_recursion P ms all in
     let long = length-remove ms i lt in
     recursion_from_All P (remove ms i) (All-from_get_or P (remove ms i) d (λ k l. elim (cases_lt k i) [
-      | inl below ↦ subst P (sym (get_or-remove_below ms i d k below lt)) (All-get_or P ms k d (omega arith) every)
-      | inr above ↦ subst P (sym (get_or-remove_above ms i d k above lt)) (All-get_or P ms (k + 1) d (omega arith) every)
+      | inl below ↦ subst P (sym (get_or-remove_below ms i d k below lt))
+          (All-get_or P ms k d (omega arith) every)
+      | inr above ↦ subst P (sym (get_or-remove_above ms i d k above lt))
+          (All-get_or P ms (k + 1) d (omega arith) every)
     ]))
 
 -- one that is picked up is counted once less
@@ -45,16 +49,19 @@ picked_count n x ms some named =
     let lt = some_place (n.xid x) ms some in
     let there : without_first (n.xid x) ms ≡ remove ms (position_or_len (λ m. m == n.xid x) ms) =
     ap (λ o. without_place ms o) (cond-true (nat_lt (position_or_len (λ m. m == n.xid x) ms) (length ms))
-    (Some (position_or_len (λ m. m == n.xid x) ms)) None (lt-ltb (position_or_len (λ m. m == n.xid x) ms) (length ms) lt)) in
+    (Some (position_or_len (λ m. m == n.xid x) ms)) None
+    (lt-ltb (position_or_len (λ m. m == n.xid x) ms) (length ms) lt)) in
     let here : (get_or ms (position_or_len (λ m. m == n.xid x) ms) 0 == n.xid x) ≡ true =
     passes_at_first (λ m. m == n.xid x) ms 0 lt in
     subst (λ (ks : List ℕ). Count n x ms ks 1 0) (sym there) (record {
       own = let s = sum_by-remove (λ (m : ℕ). if m == n.xid x then 1 else 0) ms i 0 lt in
-          let o = one_by (get_or ms (position_or_len (λ m. m == n.xid x) ms) 0 == n.xid x) here in omega arith;
+          let o = one_by (get_or ms (position_or_len (λ m. m == n.xid x) ms) 0 == n.xid x) here
+          in omega arith;
       others = λ y apart. let s = sum_by-remove (λ (m : ℕ). if m == y then 1 else 0) ms i 0 lt in
           let z = zero_by (get_or ms (position_or_len (λ m. m == n.xid x) ms) 0 == y)
           (ne_eqb (get_or ms (position_or_len (λ m. m == n.xid x) ms) 0) y
-          (λ e. apart (sym (eqb-true (get_or ms (position_or_len (λ m. m == n.xid x) ms) 0) (n.xid x) here) ∙ e))) in
+          (λ e. apart (sym (eqb-true (get_or ms (position_or_len (λ m. m == n.xid x) ms) 0) (n.xid x) here)
+          ∙ e))) in
           omega arith;
       named = all_removed (IsNamed n) ms i 0 lt named;
     })

@@ -64,7 +64,8 @@ not_waiting i j off e h = let is : i ≡ j = cc in
 is_waiting : (i j : Stand) → waits i ≡ true → Some i ≡ Some j → waits j ≡ true
 is_waiting i j on e = let is : i ≡ j = cc in subst (λ (k : Stand). waits k ≡ true) is on
 
-doubt_stays : (s t : BranchState) (c k : JudgedDecision) (j : Stand) (b : Bool) → stand_as s c ≡ Some j → waits j ≡ true
+doubt_stays : (s t : BranchState) (c k : JudgedDecision) (j : Stand) (b : Bool) → stand_as s c ≡ Some j
+    → waits j ≡ true
     → Returns s t b → (s ≡ S5 → k ≡ c) → stand_as t k ≡ Some j
 doubt_stays S0 t c k j b e w r q = absurd cc
 doubt_stays S1 t c k j b e w r q = absurd (not_waiting stand.Active j refl e w)
@@ -73,7 +74,8 @@ doubt_stays S3 t c k j b e w r q = ap (λ z. stand_as z k) r ∙ e
 doubt_stays S4 t c k j b e w r q = absurd (not_waiting stand.RollbackOnly j refl e w)
 doubt_stays S5 t c k j b e w r q = ap (λ z. stand_as z k) r ∙ ap (λ z. Some (stand.Heuristic z)) (q refl) ∙ e
 
-doubt_waits : (s : BranchState) (c : JudgedDecision) (j : Stand) → is_doubt s ≡ true → stand_as s c ≡ Some j → waits j ≡ true
+doubt_waits : (s : BranchState) (c : JudgedDecision) (j : Stand) → is_doubt s ≡ true → stand_as s c ≡ Some j
+    → waits j ≡ true
 doubt_waits S0 c j d e = absurd (false≢true d)
 doubt_waits S1 c j d e = absurd (false≢true d)
 doubt_waits S2 c j d e = absurd (false≢true d)
@@ -81,7 +83,8 @@ doubt_waits S3 c j d e = is_waiting stand.Prepared j refl e
 doubt_waits S4 c j d e = absurd (false≢true d)
 doubt_waits S5 c j d e = is_waiting (stand.Heuristic c) j refl e
 
-doubt_state : (s : BranchState) (c : JudgedDecision) (j : Stand) → stand_as s c ≡ Some j → waits j ≡ true → is_doubt s ≡ true
+doubt_state : (s : BranchState) (c : JudgedDecision) (j : Stand) → stand_as s c ≡ Some j → waits j ≡ true
+    → is_doubt s ≡ true
 doubt_state S0 c j e w = absurd cc
 doubt_state S1 c j e w = absurd (not_waiting stand.Active j refl e w)
 doubt_state S2 c j e w = absurd (not_waiting stand.Active j refl e w)
@@ -98,7 +101,8 @@ begun_stand S4 c j e = refl
 begun_stand S5 c j e = refl
 
 -- a branch is in doubt, or returns only where a crash brings it back
-by_doubt : (X : Type 0) (s t : BranchState) (b : Bool) → Returns s t b → is_begun t ≡ true → (is_doubt s ≡ true → X)
+by_doubt : (X : Type 0) (s t : BranchState) (b : Bool) → Returns s t b → is_begun t ≡ true
+    → (is_doubt s ≡ true → X)
     → (is_doubt s ≡ false → t ≡ S3 → b ≡ true → X) → X
 by_doubt X S3 t b h k keeps brings = keeps refl
 by_doubt X S5 t b h k keeps brings = keeps refl
@@ -199,20 +203,24 @@ module _ (n : NameNumbers) (to : Xid → BranchState) where
   back_to ws u [] a = u
   back_to ws u (b ∷ bs) a = back_to ws (if is_three (to a.0.xid) then brought_back b ws u else u) bs a.1
 
-  in_fold : (ws : List Work) (us : List Sight) (u : Sight) (bs : List JudgedBranch) (a : AllByRecursion (IsLost n) bs)
+  in_fold : (ws : List Work) (us : List Sight) (u : Sight) (bs : List JudgedBranch)
+      (a : AllByRecursion (IsLost n) bs)
       → Contains us u → Contains (fold (maybe_back ws) us bs) (back_to ws u bs a)
   in_fold ws us u [] a h = h
   in_fold ws us u (b ∷ bs) a h =
       in_fold ws (maybe_back ws us b) (if is_three (to a.0.xid) then brought_back b ws u else u) bs a.1
       (one_more ws us u b (is_three (to a.0.xid)) h)
 
-  shut_back : (ws : List Work) (u s : Sight) (bs before : List JudgedBranch) (a : AllByRecursion (IsLost n) bs)
+  shut_back : (ws : List Work) (u s : Sight) (bs before : List JudgedBranch)
+      (a : AllByRecursion (IsLost n) bs)
       → IsShut u s before → IsShut (back_to ws u bs a) s (before ++ chosen bs a)
-  shut_back ws u s [] before a h = subst (λ (cs : List JudgedBranch). IsShut u s cs) (sym (append-nil before)) h
+  shut_back ws u s [] before a h = subst (λ (cs : List JudgedBranch). IsShut u s cs)
+      (sym (append-nil before)) h
   shut_back ws u s (b ∷ bs) before a h =
       by (λ v cs k. shut_back ws v s bs cs a.1 k) (is_three (to a.0.xid))
     where
-      by : ((v : Sight) (cs : List JudgedBranch) → IsShut v s cs → IsShut (back_to ws v bs a.1) s (cs ++ chosen bs a.1))
+      by : ((v : Sight) (cs : List JudgedBranch) → IsShut v s cs
+          → IsShut (back_to ws v bs a.1) s (cs ++ chosen bs a.1))
           → (c : Bool) → IsShut (back_to ws (if c then brought_back b ws u else u) bs a.1) s
           (before ++ (if c then b ∷ chosen bs a.1 else chosen bs a.1))
       by rest true = subst (λ (cs : List JudgedBranch). IsShut (back_to ws (brought_back b ws u) bs a.1) s cs)
@@ -240,7 +248,8 @@ module _ (n : NameNumbers) (to : Xid → BranchState) where
       record {
         xid = a.0.xid;
         is = a.0.is;
-        stands = ap (λ z. stand_as z (f a.0.xid)) (three_is (to a.0.xid) e) ∙ ap (λ k. Some k) (sym a.0.prepared);
+        stands = ap (λ z. stand_as z (f a.0.xid)) (three_is (to a.0.xid) e)
+            ∙ ap (λ k. Some k) (sym a.0.prepared);
       },
       rest,
     )
@@ -261,7 +270,8 @@ module _ (n : NameNumbers) (to : Xid → BranchState) where
     by rest false = rest u
 
   back_values : (ws : List Work) (u : Sight) (bs : List JudgedBranch) (a : AllByRecursion (IsLost n) bs)
-      → (back_to ws u bs a).values ≡ fold (λ (vs : List JudgedWrite) (b : JudgedBranch). unsettled b.name vs) u.values (chosen bs a)
+      → (back_to ws u bs a).values ≡ fold (λ (vs : List JudgedWrite) (b : JudgedBranch). unsettled b.name vs)
+      u.values (chosen bs a)
   back_values ws u [] a = refl
   back_values ws u (b ∷ bs) a = by (λ v. back_values ws v bs a.1) (is_three (to a.0.xid)) where
     by : ((v : Sight) → (back_to ws v bs a.1).values
@@ -306,14 +316,16 @@ module _ (n : NameNumbers) (to : Xid → BranchState) where
       | inr more ↦ or_right (is_named (n.xid x) b) (list_any (is_named (n.xid x)) (chosen bs a.1)) (rest more)
     ]
     by rest false e = elim (or_cases (is_named (n.xid x) b) (list_any (is_named (n.xid x)) bs) h) [
-      | inl here ↦ (let own : a.0.xid ≡ x = n.xids_apart a.0.xid x (sym a.0.is ∙ eqb-true b.name (n.xid x) here) in
+      | inl here ↦ (let own : a.0.xid ≡ x = n.xids_apart a.0.xid x
+          (sym a.0.is ∙ eqb-true b.name (n.xid x) here) in
           absurd (false≢true (sym e ∙ ap (λ y. is_three (to y)) own ∙ ap is_three q)))
       | inr more ↦ rest more
     ]
 
 -- The step.
 
-module _ (n : NameNumbers) (old new : States) (d f : Xid → JudgedDecision) (l l' : Xid → Bool) (s : Sight) (cut : Bool)
+module _ (n : NameNumbers) (old new : States) (d f : Xid → JudgedDecision) (l l' : Xid → Bool)
+    (s : Sight) (cut : Bool)
     (mirrors : Mirrors n old d s) (lost : AreLost n l s.lost) (h : DeedRestarts old new d f l l' cut) where
   abbrev from : Xid → BranchState
   from = state_in old.branches.branches
@@ -331,7 +343,8 @@ module _ (n : NameNumbers) (old new : States) (d f : Xid → JudgedDecision) (l 
   doubted_each = all_where (IsBranch n from d) (IsBranch n to_state f) is_in_doubt (λ b passes is. record {
     xid = is.xid;
     is = is.is;
-    stands = doubt_stays (from is.xid) (to_state is.xid) (d is.xid) (f is.xid) b.stand (cut && l is.xid) is.stands passes
+    stands = doubt_stays (from is.xid) (to_state is.xid) (d is.xid) (f is.xid) b.stand (cut && l is.xid)
+        is.stands passes
         (h.states is.xid) (h.known is.xid);
   }) s.branches mirrors.branches.each
 
@@ -368,27 +381,32 @@ module _ (n : NameNumbers) (old new : States) (d f : Xid → JudgedDecision) (l 
       false≢true (sym q ∙ doubt_state (from x) (d x) w.0.stand (own_stand x w.0 w.2.0 w.1) w.2.1))
 
   -- the tables are those of a state with such branches
-  module _ (u : Sight) (more : List JudgedBranch) (shut : IsShut u s more) (more_each : AllByRecursion (IsBranch n to_state f) more)
+  module _ (u : Sight) (more : List JudgedBranch) (shut : IsShut u s more)
+      (more_each : AllByRecursion (IsBranch n to_state f) more)
       (more_here : (x : Xid) → is_doubt (from x) ≡ false → to_state x ≡ S3 → (cut && l x) ≡ true
       → list_any (is_named (n.xid x)) more ≡ true) where
     all_each : AllByRecursion (IsBranch n to_state f) (doubted ++ more)
     all_each = all_append (IsBranch n to_state f) doubted more doubted_each more_each
 
     known_by : (x : Xid) → list_any (is_named (n.xid x)) (doubted ++ more) ≡ is_begun (to_state x)
-    known_by x = bool_same (list_any (is_named (n.xid x)) (doubted ++ more)) (is_begun (to_state x)) there back where
-      there : list_any (is_named (n.xid x)) (doubted ++ more) ≡ true → is_begun (to_state x) ≡ true
-      there e =
-          let w = any_where (IsBranch n to_state f) (is_named (n.xid x)) (doubted ++ more) e all_each in
-          let own : w.2.xid ≡ x = n.xids_apart w.2.xid x (sym w.2.is ∙ eqb-true w.0.name (n.xid x) w.1) in
-          begun_stand (to_state x) (f x) w.0.stand
-          (subst (λ (y : Xid). stand_as (to_state y) (f y) ≡ Some w.0.stand) own w.2.stands)
+    known_by x = bool_same (list_any (is_named (n.xid x)) (doubted ++ more)) (is_begun (to_state x))
+        there back where
+          there : list_any (is_named (n.xid x)) (doubted ++ more) ≡ true → is_begun (to_state x) ≡ true
+          there e =
+              let w = any_where (IsBranch n to_state f) (is_named (n.xid x)) (doubted ++ more) e all_each in
+              let own : w.2.xid ≡ x = n.xids_apart w.2.xid x (sym w.2.is ∙ eqb-true w.0.name (n.xid x) w.1) in
+              begun_stand (to_state x) (f x) w.0.stand
+              (subst (λ (y : Xid). stand_as (to_state y) (f y) ≡ Some w.0.stand) own w.2.stands)
 
-      back : is_begun (to_state x) ≡ true → list_any (is_named (n.xid x)) (doubted ++ more) ≡ true
-      back e = list_any-append (is_named (n.xid x)) doubted more
-          ∙ by_doubt ((list_any (is_named (n.xid x)) doubted || list_any (is_named (n.xid x)) more) ≡ true)
-          (from x) (to_state x) (cut && l x) (h.states x) e
-          (λ q. or_left (list_any (is_named (n.xid x)) doubted) (list_any (is_named (n.xid x)) more) (doubted_here x q))
-          (λ q p b. or_right (list_any (is_named (n.xid x)) doubted) (list_any (is_named (n.xid x)) more) (more_here x q p b))
+          back : is_begun (to_state x) ≡ true → list_any (is_named (n.xid x)) (doubted ++ more) ≡ true
+          back e = list_any-append (is_named (n.xid x)) doubted more
+              ∙ by_doubt ((list_any (is_named (n.xid x)) doubted || list_any (is_named (n.xid x)) more)
+              ≡ true)
+              (from x) (to_state x) (cut && l x) (h.states x) e
+              (λ q. or_left (list_any (is_named (n.xid x)) doubted) (list_any (is_named (n.xid x)) more)
+              (doubted_here x q))
+              (λ q p b. or_right (list_any (is_named (n.xid x)) doubted) (list_any (is_named (n.xid x)) more)
+              (more_here x q p b))
 
     free : IsFree new.associations
     free = (
@@ -408,8 +426,10 @@ module _ (n : NameNumbers) (old new : States) (d f : Xid → JudgedDecision) (l 
     orderly : IsOrderly new.branches.branches new.associations
     orderly = record {
       once = none_listed new.associations.holders h.tables.associations.holders;
-      here = subst (λ (bs : List (Xid × BranchState)). AllIn IsBegun bs) (sym h.tables.branches) (left_here h.left);
-      named = subst (λ (bs : List (Xid × BranchState)). AreNamedOnce bs) (sym h.tables.branches) (left_named h.left h.once);
+      here = subst (λ (bs : List (Xid × BranchState)). AllIn IsBegun bs) (sym h.tables.branches)
+          (left_here h.left);
+      named = subst (λ (bs : List (Xid × BranchState)). AreNamedOnce bs) (sym h.tables.branches)
+          (left_named h.left h.once);
       busy = λ x e. absurd (false≢true (sym (ap is_quiet e) ∙ quiet_all x));
       quiet = λ t x e. free.0 t x;
       unmoved = λ x e. free.1 x;
@@ -420,7 +440,8 @@ module _ (n : NameNumbers) (old new : States) (d f : Xid → JudgedDecision) (l 
     unscanned : AreScans n new.branches.scans [] []
     unscanned = record {
       open_so = λ t. sym (ap (λ (z : ScanList). has_scan z t) h.tables.scans);
-      each = λ t rest e. absurd (let g : None ≡ Some rest = sym (ap (λ (z : ScanList). scan_of z t) h.tables.scans) ∙ e in cc);
+      each = λ t rest e. absurd (let g : None ≡ Some rest =
+          sym (ap (λ (z : ScanList). scan_of z t) h.tables.scans) ∙ e in cc);
     }
 
     shut_mirrors : Mirrors n new f u
@@ -454,19 +475,22 @@ module _ (n : NameNumbers) (old new : States) (d f : Xid → JudgedDecision) (l 
   }
 
   abbrev Restarts_so : Bool → Type 0
-  Restarts_so c = (u : Sight) × Contains (restart_next lacks_forced c s answer.Told) u × Mirrors n new f u × AreLost n l' u.lost
+  Restarts_so c = (u : Sight) × Contains (restart_next lacks_forced c s answer.Told) u × Mirrors n new f u
+      × AreLost n l' u.lost
       × IsReturned n s u from to_state
 
   -- the judge keeps the branches in doubt
   kept_doubts : (x : Xid) → list_any (λ b. is_in_doubt b && b.name == n.xid x) s.branches ≡ is_doubt (from x)
-  kept_doubts x = sym (any_filter (is_named (n.xid x)) is_in_doubt s.branches) ∙ by (is_doubt (from x)) refl where
-    by : (b : Bool) → is_doubt (from x) ≡ b → list_any (is_named (n.xid x)) doubted ≡ is_doubt (from x)
-    by true q = doubted_here x q ∙ sym q
-    by false q = doubted_none x q ∙ sym q
+  kept_doubts x = sym (any_filter (is_named (n.xid x)) is_in_doubt s.branches)
+      ∙ by (is_doubt (from x)) refl where
+        by : (b : Bool) → is_doubt (from x) ≡ b → list_any (is_named (n.xid x)) doubted ≡ is_doubt (from x)
+        by true q = doubted_here x q ∙ sym q
+        by false q = doubted_none x q ∙ sym q
 
   -- a branch that was not in doubt is back only if a crash may bring it back
   brought : (x : Xid) → is_doubt (from x) ≡ false → to_state x ≡ S3 → (cut && l x) ≡ true
-  brought x q p = by_doubt ((cut && l x) ≡ true) (from x) (to_state x) (cut && l x) (h.states x) (ap is_begun p)
+  brought x q p = by_doubt ((cut && l x) ≡ true) (from x) (to_state x) (cut && l x)
+      (h.states x) (ap is_begun p)
       (λ e. absurd (false≢true (sym q ∙ e))) (λ e t b. b)
 
 -- all bytes are kept
@@ -476,9 +500,11 @@ whole_goes : (n : NameNumbers) (old new : States) (d f : Xid → JudgedDecision)
 whole_goes n old new d f l l' s mirrors lost h = (
   restarted s,
   first_in (restarted s) [],
-  shut_mirrors n old new d f l l' s false mirrors lost h (restarted s) [] (base n old new d f l l' s false mirrors lost h) tt
+  shut_mirrors n old new d f l l' s false mirrors lost h (restarted s) []
+      (base n old new d f l l' s false mirrors lost h) tt
       (λ x q p e. absurd (false≢true e)),
-  none_remembered n old new d f l l' s false mirrors lost h (restarted s) [] (base n old new d f l l' s false mirrors lost h) tt
+  none_remembered n old new d f l l' s false mirrors lost h (restarted s) []
+      (base n old new d f l l' s false mirrors lost h) tt
       (λ x q p e. absurd (false≢true e)),
   record {
     back = [];
@@ -498,14 +524,17 @@ cut_goes : (n : NameNumbers) (old new : States) (d f : Xid → JudgedDecision) (
 cut_goes n old new d f l l' s mirrors lost h = (
   u,
   in_fold n to s.lost_works (one (restarted s)) (restarted s) back all (first_in (restarted s) []),
-  shut_mirrors n old new d f l l' s true mirrors lost h u (chosen n to back all) shut (chosen_each n to f back all) here,
-  none_remembered n old new d f l l' s true mirrors lost h u (chosen n to back all) shut (chosen_each n to f back all) here,
+  shut_mirrors n old new d f l l' s true mirrors lost h u (chosen n to back all) shut
+      (chosen_each n to f back all) here,
+  none_remembered n old new d f l l' s true mirrors lost h u (chosen n to back all) shut
+      (chosen_each n to f back all) here,
   record {
     back = chosen n to back all;
     works = back_works n to s.lost_works (restarted s) back all;
     values = back_values n to s.lost_works (restarted s) back all;
     lost_works = back_lost n to s.lost_works (restarted s) back all;
-    each = chosen_back n to s back all (all_where (IsLost n) (λ b. is_some (branch_at b.name (restarted s)) ≡ false)
+    each = chosen_back n to s back all (all_where (IsLost n)
+        (λ b. is_some (branch_at b.name (restarted s)) ≡ false)
         (λ b. not (is_some (branch_at b.name (restarted s))))
         (λ b passes is. not-true (is_some (branch_at b.name (restarted s))) passes) s.lost lost.each);
     here = λ x q p. here x q p (brought n old new d f l l' s true mirrors lost h x q p);
@@ -525,7 +554,8 @@ cut_goes n old new d f l l' s mirrors lost h = (
   u = back_to n to s.lost_works (restarted s) back all
 
   shut : IsShut u s (chosen n to back all)
-  shut = shut_back n to s.lost_works (restarted s) s back [] all (base n old new d f l l' s true mirrors lost h)
+  shut = shut_back n to s.lost_works (restarted s) s back [] all
+      (base n old new d f l l' s true mirrors lost h)
 
   here : (x : Xid) → is_doubt (state_in old.branches.branches x) ≡ false → to x ≡ S3 → (true && l x) ≡ true
       → list_any (is_named (n.xid x)) (chosen n to back all) ≡ true
@@ -537,9 +567,11 @@ cut_goes n old new d f l l' s mirrors lost h = (
       ∙ doubted_none n old new d f l l' s true mirrors lost h x q)) s.lost
       ∙ lost.here x e)
 
-pub restart_goes : (n : NameNumbers) (old new : States) (d f : Xid → JudgedDecision) (l l' : Xid → Bool) (s : Sight) (cut : Bool)
+pub restart_goes : (n : NameNumbers) (old new : States) (d f : Xid → JudgedDecision) (l l' : Xid → Bool)
+    (s : Sight) (cut : Bool)
     → Mirrors n old d s → AreLost n l s.lost → DeedRestarts old new d f l l' cut
-    → (u : Sight) × Contains (restart_next lacks_forced cut s answer.Told) u × Mirrors n new f u × AreLost n l' u.lost
+    → (u : Sight) × Contains (restart_next lacks_forced cut s answer.Told) u × Mirrors n new f u
+    × AreLost n l' u.lost
     × IsReturned n s u (state_in old.branches.branches) (state_in new.branches.branches)
 restart_goes n old new d f l l' s true mirrors lost h = cut_goes n old new d f l l' s mirrors lost h
 restart_goes n old new d f l l' s false mirrors lost h = whole_goes n old new d f l l' s mirrors lost h

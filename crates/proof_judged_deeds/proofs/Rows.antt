@@ -21,10 +21,12 @@ first_in s ss = (0, omega arith, refl)
 pub in_if : (b : Bool) (s : Sight) → b ≡ true → Contains (one_if b s) s
 in_if b s h = subst (λ (q : Bool). Contains (one_if q s) s) (sym h) (first_in s [])
 
-pub in_then : (b : Bool) (xs ys : List Sight) (t : Sight) → b ≡ true → Contains xs t → Contains (if b then xs else ys) t
+pub in_then : (b : Bool) (xs ys : List Sight) (t : Sight) → b ≡ true → Contains xs t
+    → Contains (if b then xs else ys) t
 in_then b xs ys t h c = subst (λ (q : Bool). Contains (if q then xs else ys) t) (sym h) c
 
-pub in_else : (b : Bool) (xs ys : List Sight) (t : Sight) → b ≡ false → Contains ys t → Contains (if b then xs else ys) t
+pub in_else : (b : Bool) (xs ys : List Sight) (t : Sight) → b ≡ false → Contains ys t
+    → Contains (if b then xs else ys) t
 in_else b xs ys t h c = subst (λ (q : Bool). Contains (if q then xs else ys) t) (sym h) c
 
 -- which code a defect has
@@ -82,18 +84,22 @@ pub record IsClean (d : Refusals) : Type 0 where
   pub dup_id : d.dup_id ≡ false
   pub not_a : d.not_a ≡ false
 
-none_of : (a b c d e : Bool) → a ≡ false → b ≡ false → c ≡ false → d ≡ false → e ≡ false → (a || b || c || d || e) ≡ false
+none_of : (a b c d e : Bool) → a ≡ false → b ≡ false → c ≡ false → d ≡ false → e ≡ false
+    → (a || b || c || d || e) ≡ false
 none_of a b c d e p q r s t = rw (p, q, r, s, t) refl
 
 pub is_clean : (d : Refusals) → IsClean d → is_defective d ≡ false
-is_clean d h = none_of d.inval d.asynchronous d.proto d.dup_id d.not_a h.inval h.asynchronous h.proto h.dup_id h.not_a
+is_clean d h = none_of d.inval d.asynchronous d.proto d.dup_id d.not_a h.inval h.asynchronous h.proto
+    h.dup_id h.not_a
 
 -- a call is refused by the code of a defect, and nothing changed
-pub refused : (v : BranchVerb) (s : Sight) (o : On) (a : Reply) → IsDefect (branch_defects lacks_forced v s o) a
+pub refused : (v : BranchVerb) (s : Sight) (o : On) (a : Reply)
+    → IsDefect (branch_defects lacks_forced v s o) a
     → Contains (branch_rows lacks_forced v s o a) s
 refused v s o a h =
     let d = branch_defects lacks_forced v s o in
-    Contains-append_right (one_if (is_among (branch_excuses lacks_forced v s o) a) s ++ failed lacks_forced s a)
+    Contains-append_right (one_if (is_among (branch_excuses lacks_forced v s o) a) s
+    ++ failed lacks_forced s a)
     (by_defects lacks_forced v s o a) s
     (in_then (is_defective d) (one_if (is_among d a) s)
     (branch_passes lacks_forced v s o a ++ effects lacks_forced v s o a) s (is_defect d a h)
@@ -103,16 +109,19 @@ refused v s o a h =
 pub failing : (v : BranchVerb) (s : Sight) (o : On) (a : Reply) → Contains (failed_rows s a) s
     → Contains (branch_rows lacks_forced v s o a) s
 failing v s o a h =
-    Contains-append_left (one_if (is_among (branch_excuses lacks_forced v s o) a) s ++ failed lacks_forced s a)
+    Contains-append_left (one_if (is_among (branch_excuses lacks_forced v s o) a) s
+    ++ failed lacks_forced s a)
     (by_defects lacks_forced v s o a) s
     (Contains-append_right (one_if (is_among (branch_excuses lacks_forced v s o) a) s) (failed_rows s a) s h)
 
 -- a call passes that has no defect
-pub passed : (v : BranchVerb) (s : Sight) (o : On) (a : Reply) (t : Sight) → IsClean (branch_defects lacks_forced v s o)
+pub passed : (v : BranchVerb) (s : Sight) (o : On) (a : Reply) (t : Sight)
+    → IsClean (branch_defects lacks_forced v s o)
     → Contains (branch_passes lacks_forced v s o a) t → Contains (branch_rows lacks_forced v s o a) t
 passed v s o a t clean h =
     let d = branch_defects lacks_forced v s o in
-    Contains-append_right (one_if (is_among (branch_excuses lacks_forced v s o) a) s ++ failed lacks_forced s a)
+    Contains-append_right (one_if (is_among (branch_excuses lacks_forced v s o) a) s
+    ++ failed lacks_forced s a)
     (by_defects lacks_forced v s o a) t
     (in_else (is_defective d) (one_if (is_among d a) s)
     (branch_passes lacks_forced v s o a ++ effects lacks_forced v s o a) t (is_clean d clean)

@@ -51,19 +51,23 @@ paid_less true g c = refl
 paid_less false g c = refl
 
 -- lines that are not due may be added to any scans
-pub scan_more : (n : NameNumbers) (t x : ℕ) (ts : List ℕ) (rest : List Xid) (ls : List Listed) → IsScan n t rest ls
+pub scan_more : (n : NameNumbers) (t x : ℕ) (ts : List ℕ) (rest : List Xid) (ls : List Listed)
+    → IsScan n t rest ls
     → IsScan n t rest (ls ++ new_lines x ts)
 scan_more n t x ts rest ls scan = record {
   apart = scan.apart;
   may = all_weaker (λ y. list_any (is_line t (n.xid y)) ls ≡ true)
       (λ y. list_any (is_line t (n.xid y)) (ls ++ new_lines x ts) ≡ true)
       (λ y h. list_any-append (is_line t (n.xid y)) ls (new_lines x ts)
-      ∙ or_left (list_any (is_line t (n.xid y)) ls) (list_any (is_line t (n.xid y)) (new_lines x ts)) h) rest scan.may;
+      ∙ or_left (list_any (is_line t (n.xid y)) ls) (list_any (is_line t (n.xid y)) (new_lines x ts)) h) rest
+      scan.may;
   owes = list_all-append (is_paid t (map n.xid rest)) ls (new_lines x ts)
-      ∙ and_from (list_all (is_paid t (map n.xid rest)) ls) (list_all (is_paid t (map n.xid rest)) (new_lines x ts)) scan.owes
+      ∙ and_from (list_all (is_paid t (map n.xid rest)) ls)
+      (list_all (is_paid t (map n.xid rest)) (new_lines x ts)) scan.owes
       (list_all-map (is_paid t (map n.xid rest))
       (λ (u : ℕ). record { thread = u; branch = x; given = false; due = false }) ts
-      ∙ all_true (λ u. is_paid t (map n.xid rest) (record { thread = u; branch = x; given = false; due = false }))
+      ∙ all_true (λ u. is_paid t (map n.xid rest)
+      (record { thread = u; branch = x; given = false; due = false }))
       (λ u. paid_new (u == t) (has (map n.xid rest) x)) ts);
 }
 
@@ -91,9 +95,11 @@ scan_less n t x rest ls scan = record {
   may = all_weaker (λ y. list_any (is_line t (n.xid y)) ls ≡ true)
       (λ y. list_any (is_line t (n.xid y)) (not_due x ls) ≡ true)
       (λ y h. any_map (is_line t (n.xid y)) (λ (l : Listed). if l.branch == x then without_due l else l) ls
-      ∙ any_agree (λ (l : Listed). is_line t (n.xid y) (if l.branch == x then without_due l else l)) (is_line t (n.xid y))
+      ∙ any_agree (λ (l : Listed). is_line t (n.xid y) (if l.branch == x then without_due l else l))
+      (is_line t (n.xid y))
       (λ l. line_by t (n.xid y) (l.branch == x) l) ls ∙ h) rest scan.may;
-  owes = list_all-map (is_paid t (map n.xid rest)) (λ (l : Listed). if l.branch == x then without_due l else l) ls
+  owes = list_all-map (is_paid t (map n.xid rest))
+      (λ (l : Listed). if l.branch == x then without_due l else l) ls
       ∙ all_implied (is_paid t (map n.xid rest))
       (λ (l : Listed). is_paid t (map n.xid rest) (if l.branch == x then without_due l else l))
       (λ l h. paid_by t (map n.xid rest) (l.branch == x) l h) ls scan.owes;
@@ -107,6 +113,7 @@ scans_less n x scans ts ls are = record {
 }
 
 -- a manager whose scans stay has those of the judge still
-pub scans_stay : (n : NameNumbers) (old new : ScanList) (ts : List ℕ) (ls : List Listed) → new ≡ old → AreScans n old ts ls
+pub scans_stay : (n : NameNumbers) (old new : ScanList) (ts : List ℕ) (ls : List Listed) → new ≡ old
+    → AreScans n old ts ls
     → AreScans n new ts ls
 scans_stay n old new ts ls e are = subst (λ (s : ScanList). AreScans n s ts ls) (sym e) are

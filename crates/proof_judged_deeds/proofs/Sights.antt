@@ -52,24 +52,26 @@ put_between false b c h k = absurd cc
 -- a thread is active in some branch
 pub active_same : (n : NameNumbers) (a : AssocList) (ls : List Link) (ms : List ℕ) (t : ℕ) → Tied n a ls ms
     → list_any (is_active_link t) ls ≡ is_some (active_of a t)
-active_same n a ls ms t tied = bool_same (list_any (is_active_link t) ls) (is_some (active_of a t)) to from where
-  to : list_any (is_active_link t) ls ≡ true → is_some (active_of a t) ≡ true
-  to h =
-      let f = any_pick (λ l. IsNamed n l.branch) (is_active_link t)
-      (λ (x : Xid) (l : Link). l.thread == t && l.branch == n.xid x && not l.suspended)
-      (λ l named is. (
-        named.0,
-        put_between (l.thread == t) (l.branch == n.xid named.0) (not l.suspended)
-            (eq-eqb l.branch (n.xid named.0) named.1) is,
-      )) ls tied.named h in
-      some_at (active_of a t) f.0 (is_active-T1 a t f.0 (one_state (own_state a t f.0) (sym (tied.one t f.0) ∙ f.1)))
+active_same n a ls ms t tied = bool_same (list_any (is_active_link t) ls)
+    (is_some (active_of a t)) to from where
+      to : list_any (is_active_link t) ls ≡ true → is_some (active_of a t) ≡ true
+      to h =
+          let f = any_pick (λ l. IsNamed n l.branch) (is_active_link t)
+          (λ (x : Xid) (l : Link). l.thread == t && l.branch == n.xid x && not l.suspended)
+          (λ l named is. (
+            named.0,
+            put_between (l.thread == t) (l.branch == n.xid named.0) (not l.suspended)
+                (eq-eqb l.branch (n.xid named.0) named.1) is,
+          )) ls tied.named h in
+          some_at (active_of a t) f.0 (is_active-T1 a t f.0
+          (one_state (own_state a t f.0) (sym (tied.one t f.0) ∙ f.1)))
 
-  from : is_some (active_of a t) ≡ true → list_any (is_active_link t) ls ≡ true
-  from h =
-      let f = active_at (active_of a t) h in
-      any_implied (λ l. l.thread == t && l.branch == n.xid f.0 && not l.suspended) (is_active_link t)
-      (λ l is. thread_only (l.thread == t) (l.branch == n.xid f.0) (not l.suspended) is) ls
-      (tied.one t f.0 ∙ ap is_one (active_one a t f.0 f.1))
+      from : is_some (active_of a t) ≡ true → list_any (is_active_link t) ls ≡ true
+      from h =
+          let f = active_at (active_of a t) h in
+          any_implied (λ l. l.thread == t && l.branch == n.xid f.0 && not l.suspended) (is_active_link t)
+          (λ l is. thread_only (l.thread == t) (l.branch == n.xid f.0) (not l.suspended) is) ls
+          (tied.one t f.0 ∙ ap is_one (active_one a t f.0 f.1))
 
 -- a test of one of two kinds of associations of a thread
 abbrev kind : ℕ → (ℕ ⊎ ℕ) → Link → Bool
@@ -99,7 +101,8 @@ linked_same : (n : NameNumbers) (a : AssocList) (ls : List Link) (ms : List ℕ)
     → list_any (λ l. l.branch == n.xid x) ls ≡ (has_active a x || has_suspended a x)
 linked_same n a ls ms x tied once =
     bool_same (list_any (λ l. l.branch == n.xid x) ls) (has_active a x || has_suspended a x) to from where
-      found : (k : ℕ ⊎ ℕ) → list_any (kind (n.xid x) k) ls ≡ true → (has_active a x || has_suspended a x) ≡ true
+      found : (k : ℕ ⊎ ℕ) → list_any (kind (n.xid x) k) ls ≡ true
+          → (has_active a x || has_suspended a x) ≡ true
       found (inl t) h = or_left (has_active a x) (has_suspended a x)
           (holds_one a t x (one_state (own_state a t x) (sym (tied.one t x) ∙ h)))
       found (inr t) h = or_right (has_active a x) (has_suspended a x)
@@ -156,12 +159,14 @@ pub held_same : (n : NameNumbers) (a : AssocList) (ls : List Link) (ms : List �
 held_same n a ls ms x tied once =
     ap (λ b. list_any (λ l. l.branch == n.xid x) ls || b)
     (some_times (n.xid x) ms ∙ ap (λ k. nat_lt 0 k) (tied.moved x))
-    ∙ held_by (has_active a x) (has_suspended a x) (nat_lt 0 (moved_of a x)) (list_any (λ l. l.branch == n.xid x) ls)
+    ∙ held_by (has_active a x) (has_suspended a x) (nat_lt 0 (moved_of a x))
+    (list_any (λ l. l.branch == n.xid x) ls)
     (sym (linked_same n a ls ms x tied once))
 
 -- the branch that a thread is active in
 
-found_in : {X : Type 0} (p q : X → Bool) (xs : List X) (y : X) → find p xs ≡ Some y → q y ≡ true → list_any q xs ≡ true
+found_in : {X : Type 0} (p q : X → Bool) (xs : List X) (y : X) → find p xs ≡ Some y → q y ≡ true
+    → list_any q xs ≡ true
 found_in p q [] y e h = absurd cc
 found_in {X} p q (x ∷ xs) y e h = by (λ k. found_in p q xs y k h) (p x) refl where
   by : (find p xs ≡ Some y → list_any q xs ≡ true) → (b : Bool) → p x ≡ b → list_any q (x ∷ xs) ≡ true
@@ -177,7 +182,8 @@ active_only true true h b k = rw k refl
 active_only true false h b k = absurd (false≢true h)
 active_only false c h b k = absurd (false≢true h)
 
-pub worker_same : (n : NameNumbers) (a : AssocList) (ls : List Link) (ms : List ℕ) (t : ℕ) (x : Xid) → Tied n a ls ms
+pub worker_same : (n : NameNumbers) (a : AssocList) (ls : List Link) (ms : List ℕ) (t : ℕ) (x : Xid)
+    → Tied n a ls ms
     → active_of a t ≡ Some x → option_map (λ l. l.branch) (find (is_active_link t) ls) ≡ Some (n.xid x)
 worker_same n a ls ms t x tied h = by (find (is_active_link t) ls) refl where
   by : (o : Option Link) → find (is_active_link t) ls ≡ o → option_map (λ l. l.branch) o ≡ Some (n.xid x)
@@ -185,8 +191,11 @@ worker_same n a ls ms t x tied h = by (find (is_active_link t) ls) refl where
       ∙ sym (find_any (is_active_link t) ls) ∙ ap is_some e in cc)
   by (Some l) e =
       let w = find_where (λ k. IsNamed n k.branch) (is_active_link t) ls l e tied.named in
-      let here = found_in (is_active_link t) (λ k. k.thread == t && k.branch == n.xid w.1.0 && not k.suspended) ls l e
-      (active_only (l.thread == t) (not l.suspended) w.0 (l.branch == n.xid w.1.0) (eq-eqb l.branch (n.xid w.1.0) w.1.1)) in
+      let here = found_in (is_active_link t) (λ k. k.thread == t && k.branch == n.xid w.1.0
+      && not k.suspended) ls l e
+      (active_only (l.thread == t) (not l.suspended) w.0 (l.branch == n.xid w.1.0)
+      (eq-eqb l.branch (n.xid w.1.0) w.1.1)) in
       let one = is_active-T1 a t w.1.0 (one_state (own_state a t w.1.0) (sym (tied.one t w.1.0) ∙ here)) in
-      let is = same_is x w.1.0 (ap (λ (o : Option Xid). option_map_or (λ y. same y w.1.0) o false) (sym h) ∙ one) in
+      let is = same_is x w.1.0 (ap (λ (o : Option Xid). option_map_or (λ y. same y w.1.0) o false) (sym h)
+      ∙ one) in
       ap (λ k. Some k) (w.1.1 ∙ ap n.xid (sym is))

@@ -44,7 +44,8 @@ use Rattle.proof_judged_deeds.proofs.Flags.{AreRight, StartMarks}
 use Rattle.proof_judged_deeds.proofs.Steps.{Goes, at_false, at_true, by_test, goes_failed, goes_passed, goes_refused}
 use Rattle.proof_judged_deeds.proofs.Checks.{bad_same, closed_same, known_same, or_none, or_two}
 
-pub busy_same : (n : NameNumbers) (m : States) (d : Xid → JudgedDecision) (s : Sight) (t : ℕ) → Mirrors n m d s
+pub busy_same : (n : NameNumbers) (m : States) (d : Xid → JudgedDecision) (s : Sight) (t : ℕ)
+    → Mirrors n m d s
     → is_active t s ≡ is_some (active_of m.associations t)
 busy_same n m d s t mirrors = active_same n m.associations s.links s.migrated t mirrors.tied
 
@@ -82,7 +83,8 @@ in_entered t x b u v h = subst (λ (c : Bool). Contains (linked t x false (if c 
     (linked t x false u)) (sym h) (first_in (linked t x false u) [])
 
 -- the judge's step of a plain start
-plain_row : (n : NameNumbers) (s : Sight) (t : ℕ) (x : Xid) (flags : Flags) → is_plain flags.0 ≡ true → has flags.0 resume ≡ false
+plain_row : (n : NameNumbers) (s : Sight) (t : ℕ) (x : Xid) (flags : Flags) → is_plain flags.0 ≡ true
+    → has flags.0 resume ≡ false
     → Contains (branch_passes lacks_forced verb.Start s (on n t x flags) reply.Ok)
     (linked t (n.xid x) false (begun t (n.xid x) s))
 plain_row n s t x flags plain no_resume =
@@ -94,10 +96,13 @@ plain_row n s t x flags plain no_resume =
     (in_entered t (n.xid x) (is_plain flags.0) (begun t (n.xid x) s) (if has flags.0 join then s
     else if has_suspended t (n.xid x) s then unlinked t (n.xid x) s else picked (n.xid x) s) plain)
 
-module _ (n : NameNumbers) (old new : States) (d : Xid → JudgedDecision) (s : Sight) (t : ℕ) (x : Xid) (flags : Flags) (answer : Code)
-    (mirrors : Mirrors n old d s) (once : AreThreadsListedOnce new.associations.holders) (right : AreRight wrong_at_start flags.0)
+module _ (n : NameNumbers) (old new : States) (d : Xid → JudgedDecision) (s : Sight) (t : ℕ) (x : Xid)
+    (flags : Flags) (answer : Code)
+    (mirrors : Mirrors n old d s) (once : AreThreadsListedOnce new.associations.holders)
+    (right : AreRight wrong_at_start flags.0)
     (opened : is_closed old.init ≡ false) (named : same x null_xid ≡ false) where
-  refuses : (c : Code) → IsDefect (start_defects lacks_forced s (on n t x flags)) (reply_of c) → (answer ≡ c) × SameStates old new
+  refuses : (c : Code) → IsDefect (start_defects lacks_forced s (on n t x flags)) (reply_of c) → (answer ≡ c)
+      × SameStates old new
       → Goes n verb.Start s t x flags answer new d
   refuses c defect h = goes_refused n verb.Start s t x flags answer c old new d mirrors defect h
 
@@ -114,20 +119,24 @@ module _ (n : NameNumbers) (old new : States) (d : Xid → JudgedDecision) (s : 
 
   -- a thread has no association with a branch that is not known
   apart : is_known old.branches.branches x ≡ false → own_state old.associations t x ≡ T0
-  apart e = mirrors.orderly.quiet t x (ap is_quiet (unknown_state (state_in old.branches.branches x) (unknown e)))
+  apart e = mirrors.orderly.quiet t x (ap is_quiet
+      (unknown_state (state_in old.branches.branches x) (unknown e)))
 
   -- no row refuses a start of a new branch
   plain_clean : StartMarks call.Start flags.0 → is_known old.branches.branches x ≡ false
-      → is_some (active_of old.associations t) ≡ false → IsClean (start_defects lacks_forced s (on n t x flags))
+      → is_some (active_of old.associations t) ≡ false
+      → IsClean (start_defects lacks_forced s (on n t x flags))
   plain_clean marks e idle =
       let plain : is_plain flags.0 ≡ true = plain_by false false flags.0 marks.0 marks.1 in
       let fresh : is_some (branch_at (n.xid x) s) ≡ false = known_same n old d s x mirrors ∙ unknown e in
       record {
-        inval = or_from (wrong_at_start flags.0) (is_bad_name lacks_forced (sort_of x)) right.right (bad_same x ∙ named);
+        inval = or_from (wrong_at_start flags.0) (is_bad_name lacks_forced (sort_of x)) right.right
+            (bad_same x ∙ named);
         asynchronous = right.sync;
         proto = or_none (not s.opened && not false) (is_active t s) (last_part n s t x flags.0)
             (closed_same n old d s mirrors ∙ opened) (busy_same n old d s t mirrors ∙ idle)
-            (and_left (not (is_plain flags.0)) (has_no_start (branch_at (n.xid x) s) flags.0 (has_suspended t (n.xid x) s)
+            (and_left (not (is_plain flags.0)) (has_no_start (branch_at (n.xid x) s) flags.0
+            (has_suspended t (n.xid x) s)
             (is_migrated (n.xid x) s)) (not_from_true (is_plain flags.0) plain));
         dup_id = and_right (is_plain flags.0) (is_some (branch_at (n.xid x) s)) fresh;
         not_a = and_left (not (is_plain flags.0)) (not (is_some (branch_at (n.xid x) s)))
@@ -138,25 +147,30 @@ module _ (n : NameNumbers) (old new : States) (d : Xid → JudgedDecision) (s : 
       → is_some (active_of old.associations t) ≡ false
       → Walks old new t x call.Start (T0, code.Ok, T1) S1 answer → Goes n verb.Start s t x flags answer new d
   begins marks e idle w =
-      goes_passed n verb.Start s t x flags answer code.Ok new d (linked t (n.xid x) false (begun t (n.xid x) s)) refl refl w.answers
+      goes_passed n verb.Start s t x flags answer code.Ok new d
+      (linked t (n.xid x) false (begun t (n.xid x) s)) refl refl w.answers
       (plain_clean marks e idle)
       (plain_row n s t x flags (plain_by false false flags.0 marks.0 marks.1) marks.1)
       (record {
         opened = mirrors.opened ∙ ap (λ i. not (is_closed i)) (sym w.init);
         waits = mirrors.waits;
         tied = turned n old.associations new.associations t x T0 T1 s.links
-            (s.links ++ record { thread = t; branch = n.xid x; suspended = false } ∷ []) s.migrated s.migrated mirrors.tied
+            (s.links ++ record { thread = t; branch = n.xid x; suspended = false } ∷ []) s.migrated
+            s.migrated mirrors.tied
             w.association.turns
             (linked_one n t x s.links mirrors.tied.named (mirrors.tied.two t x ∙ ap is_two (apart e)))
             (same_count n x s.migrated mirrors.tied.moved_named);
         branches = begun_branches n (state_in old.branches.branches) (state_in new.branches.branches) d d x S1
             (record { name = n.xid x; stand = stand.Active; owner = t; since = length s.values })
-            s.branches (record { own = w.branch.own; others = w.branch.others; decided = λ y differs. refl }) refl refl
+            s.branches (record { own = w.branch.own; others = w.branch.others; decided = λ y differs. refl })
+            refl refl
             (unknown e) refl mirrors.branches;
-        orderly = orderly_worked n old.branches new.branches old.associations new.associations t x T0 T1 S1 mirrors.orderly
+        orderly = orderly_worked n old.branches new.branches old.associations new.associations t x T0 T1
+            S1 mirrors.orderly
             once w.association (λ p. absurd cc) w.branch refl (λ _. (t, w.association.turns.own));
         shut = still_open old new opened w.init;
-        scans = scans_stay n old.branches.scans new.branches.scans s.scans s.listed w.branch.scans mirrors.scans;
+        scans = scans_stay n old.branches.scans new.branches.scans s.scans s.listed
+            w.branch.scans mirrors.scans;
       })
 
   abbrev Made : AssocState × Code × AssocState → Type 0
@@ -171,7 +185,8 @@ module _ (n : NameNumbers) (old new : States) (d : Xid → JudgedDecision) (s : 
       → is_some (active_of old.associations t) ≡ true
   in_way e h = elim (or_cases (is_some (active_of old.associations t)) (has_seat old.associations t x) h) [
     | inl busy ↦ busy
-    | inr seat ↦ by_test (is_some (active_of old.associations t) ≡ true) (is_some (active_of old.associations t))
+    | inr seat ↦ by_test (is_some (active_of old.associations t) ≡ true)
+        (is_some (active_of old.associations t))
         (λ b. b)
         (λ b. absurd (let f : T2 ≡ T0 = sym (seated old.associations t x b seat) ∙ apart e in cc))
   ]
@@ -180,14 +195,18 @@ module _ (n : NameNumbers) (old new : States) (d : Xid → JudgedDecision) (s : 
       → (is_some (active_of old.associations t) || has_seat old.associations t x) ≡ false
       → MatchResult (start_plan old.associations t x) Made Left → Goes n verb.Start s t x flags answer new d
   fits marks e free h =
-      let in_room = at_false Made Left (is_some (active_of old.associations t) || has_seat old.associations t x)
+      let in_room = at_false Made Left (is_some (active_of old.associations t)
+      || has_seat old.associations t x)
       (Err code.Proto) (if has_room old.associations t then row T0 code.Ok T1 else Err code.RmErr) free h in
       by_test (Goes n verb.Start s t x flags answer new d) (has_room old.associations t)
-      (λ r. begins marks e (or_parts (is_some (active_of old.associations t)) (has_seat old.associations t x) free).0
+      (λ r. begins marks e (or_parts (is_some (active_of old.associations t))
+      (has_seat old.associations t x) free).0
       (at_true Made Left (has_room old.associations t) (row T0 code.Ok T1) (Err code.RmErr) r in_room))
-      (λ r. limited (at_false Made Left (has_room old.associations t) (row T0 code.Ok T1) (Err code.RmErr) r in_room))
+      (λ r. limited (at_false Made Left (has_room old.associations t) (row T0 code.Ok T1)
+      (Err code.RmErr) r in_room))
 
-  pub plain_goes : (wanted : Wanted) → StartMarks call.Start flags.0 → DoesCall wanted old new call.Start t x answer
+  pub plain_goes : (wanted : Wanted) → StartMarks call.Start flags.0
+      → DoesCall wanted old new call.Start t x answer
       → Goes n verb.Start s t x flags answer new d
   plain_goes wanted marks does =
       let known = is_known old.branches.branches x in
@@ -200,11 +219,14 @@ module _ (n : NameNumbers) (old new : States) (d : Xid → JudgedDecision) (s : 
       ∙ sym (known_here old.branches.branches old.associations x mirrors.orderly) ∙ e)))
       (at_true Made Left known (Err code.DupId) (if way then Err code.Proto else if full then Err code.RmErr
       else start_plan old.associations t x) e does))
-      (λ e. let h = at_false Made Left known (Err code.DupId) (if way then Err code.Proto else if full then Err code.RmErr
+      (λ e.
+      let h = at_false Made Left known (Err code.DupId)
+      (if way then Err code.Proto else if full then Err code.RmErr
       else start_plan old.associations t x) e does in
       by_test (Goes n verb.Start s t x flags answer new d) way
       (λ b. refuses code.Proto (busy_proto (in_way e b))
-      (at_true Made Left way (Err code.Proto) (if full then Err code.RmErr else start_plan old.associations t x) b h))
+      (at_true Made Left way (Err code.Proto)
+      (if full then Err code.RmErr else start_plan old.associations t x) b h))
       (λ b. let g = at_false Made Left way (Err code.Proto)
       (if full then Err code.RmErr else start_plan old.associations t x) b h in
       by_test (Goes n verb.Start s t x flags answer new d) full

@@ -23,7 +23,8 @@ use Rattle.proof_judged_deeds.proofs.Mirrors.{Mirrors, same_mirrors}
 use Rattle.proof_judged_deeds.proofs.Rows.{IsClean, IsDefect, failing, first_in, passed, refused}
 
 -- the judge goes on to a state that is that of the tables after the call
-pub record Goes (n : NameNumbers) (v : BranchVerb) (s : Sight) (t : ℕ) (x : Xid) (flags : Flags) (answer : Code)
+pub record Goes (n : NameNumbers) (v : BranchVerb) (s : Sight) (t : ℕ) (x : Xid)
+    (flags : Flags) (answer : Code)
     (new : States) (d : Xid → JudgedDecision) : Type 0 where
   pub sight : Sight
   pub row : Contains (branch_rows lacks_forced v s (on n t x flags) (reply_of answer)) sight
@@ -32,27 +33,34 @@ pub record Goes (n : NameNumbers) (v : BranchVerb) (s : Sight) (t : ℕ) (x : Xi
   pub books : ledger sight ≡ ledger (effect (reply_of answer) v (n.xid x) s)
 
 -- a call is refused by the code of a defect
-pub goes_refused : (n : NameNumbers) (v : BranchVerb) (s : Sight) (t : ℕ) (x : Xid) (flags : Flags) (answer c : Code)
+pub goes_refused : (n : NameNumbers) (v : BranchVerb) (s : Sight) (t : ℕ) (x : Xid) (flags : Flags)
+    (answer c : Code)
     (old new : States) (d : Xid → JudgedDecision) → Mirrors n old d s
-    → IsDefect (branch_defects lacks_forced v s (on n t x flags)) (reply_of c) → (answer ≡ c) × SameStates old new
+    → IsDefect (branch_defects lacks_forced v s (on n t x flags)) (reply_of c) → (answer ≡ c)
+    × SameStates old new
     → Goes n v s t x flags answer new d
 goes_refused n v s t x flags answer c old new d mirrors defect h = record {
   sight = s;
   row = refused v s (on n t x flags) (reply_of answer)
-      (subst (λ (k : Code). IsDefect (branch_defects lacks_forced v s (on n t x flags)) (reply_of k)) (sym h.0) defect);
+      (subst (λ (k : Code). IsDefect (branch_defects lacks_forced v s (on n t x flags)) (reply_of k))
+      (sym h.0) defect);
   mirrors = same_mirrors n old new d s h.1 mirrors;
   lost = unchanged v n old new d s x mirrors h.1;
   books = sym (ap (λ (k : Code). ledger (effect (reply_of k) v (n.xid x) s)) h.0
-      ∙ ap ledger (defect_keeps (branch_defects lacks_forced v s (on n t x flags)) (reply_of c) v (n.xid x) s defect));
+      ∙ ap ledger (defect_keeps (branch_defects lacks_forced v s (on n t x flags)) (reply_of c) v
+      (n.xid x) s defect));
 }
 
 -- a limit of the manager's own is met
-pub goes_failed : (n : NameNumbers) (v : BranchVerb) (s : Sight) (t : ℕ) (x : Xid) (flags : Flags) (answer : Code)
-    (old new : States) (d : Xid → JudgedDecision) → Mirrors n old d s → (answer ≡ code.RmErr) × SameStates old new
+pub goes_failed : (n : NameNumbers) (v : BranchVerb) (s : Sight) (t : ℕ) (x : Xid)
+    (flags : Flags) (answer : Code)
+    (old new : States) (d : Xid → JudgedDecision) → Mirrors n old d s → (answer ≡ code.RmErr)
+    × SameStates old new
     → Goes n v s t x flags answer new d
 goes_failed n v s t x flags answer old new d mirrors h = record {
   sight = s;
-  row = subst (λ (k : Code). Contains (branch_rows lacks_forced v s (on n t x flags) (reply_of k)) s) (sym h.0)
+  row = subst (λ (k : Code). Contains (branch_rows lacks_forced v s (on n t x flags) (reply_of k)) s)
+      (sym h.0)
       (failing v s (on n t x flags) reply.RmErr (first_in s []));
   mirrors = same_mirrors n old new d s h.1 mirrors;
   lost = unchanged v n old new d s x mirrors h.1;
@@ -60,7 +68,8 @@ goes_failed n v s t x flags answer old new d mirrors h = record {
 }
 
 -- a call passes
-pub goes_passed : (n : NameNumbers) (v : BranchVerb) (s : Sight) (t : ℕ) (x : Xid) (flags : Flags) (answer c : Code)
+pub goes_passed : (n : NameNumbers) (v : BranchVerb) (s : Sight) (t : ℕ) (x : Xid) (flags : Flags)
+    (answer c : Code)
     (new : States) (d : Xid → JudgedDecision) (u : Sight) → Remembers v n s u x new
     → ledger u ≡ ledger (effect (reply_of c) v (n.xid x) s) → answer ≡ c
     → IsClean (branch_defects lacks_forced v s (on n t x flags))
@@ -69,7 +78,8 @@ pub goes_passed : (n : NameNumbers) (v : BranchVerb) (s : Sight) (t : ℕ) (x : 
 goes_passed n v s t x flags answer c new d u lost books is clean row mirrors = record {
   sight = u;
   row = passed v s (on n t x flags) (reply_of answer) u clean
-      (subst (λ (k : Code). Contains (branch_passes lacks_forced v s (on n t x flags) (reply_of k)) u) (sym is) row);
+      (subst (λ (k : Code). Contains (branch_passes lacks_forced v s (on n t x flags) (reply_of k)) u)
+      (sym is) row);
   mirrors = mirrors;
   lost = lost;
   books = books ∙ sym (ap (λ (k : Code). ledger (effect (reply_of k) v (n.xid x) s)) is);

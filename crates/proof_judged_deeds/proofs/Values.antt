@@ -18,7 +18,8 @@ holds_from k v held ws = fold (held_after k v) held ws
 -- What was committed since.
 
 -- the value is the last one, or was written
-written_or : (k v : ℕ) (held : Bool) (ws : List JudgedWrite) → holds_from k v held ws ≡ true → (held || is_written k v ws) ≡ true
+written_or : (k v : ℕ) (held : Bool) (ws : List JudgedWrite) → holds_from k v held ws ≡ true
+    → (held || is_written k v ws) ≡ true
 written_or k v held [] h = or_left held false h
 written_or k v held (w ∷ ws) h =
     by (written_or k v (held_after k v held w) ws h) (w.key == k) (w.value == v) refl refl where
@@ -26,26 +27,31 @@ written_or k v held (w ∷ ws) h =
       second true d e = e
       second false d e = absurd (false≢true e)
 
-      by : (held_after k v held w || is_written k v ws) ≡ true → (a b : Bool) → (w.key == k) ≡ a → (w.value == v) ≡ b
+      by : (held_after k v held w || is_written k v ws) ≡ true → (a b : Bool) → (w.key == k) ≡ a
+          → (w.value == v) ≡ b
           → (held || is_written k v (w ∷ ws)) ≡ true
       by rest true true p q = or_right held (is_written k v (w ∷ ws))
-          (or_left (w.key == k && w.value == v) (is_written k v ws) (and_from (w.key == k) (w.value == v) p q))
+          (or_left (w.key == k && w.value == v) (is_written k v ws)
+          (and_from (w.key == k) (w.value == v) p q))
       by rest false b p q = elim (or_cases held (is_written k v ws)
-          (subst (λ (c : Bool). ((if c then w.value == v || (not w.sure && held) else held) || is_written k v ws) ≡ true) p rest)) [
+          (subst (λ (c : Bool). ((if c then w.value == v || (not w.sure && held) else held)
+          || is_written k v ws) ≡ true) p rest)) [
             | inl here ↦ or_left held (is_written k v (w ∷ ws)) here
             | inr more ↦ or_right held (is_written k v (w ∷ ws))
                 (or_right (w.key == k && w.value == v) (is_written k v ws) more)
           ]
       by rest true false p q = elim (or_cases (not w.sure && held) (is_written k v ws)
           (subst (λ (c : Bool). ((c || (not w.sure && held)) || is_written k v ws) ≡ true) q
-          (subst (λ (c : Bool). ((if c then w.value == v || (not w.sure && held) else held) || is_written k v ws) ≡ true) p rest))) [
+          (subst (λ (c : Bool). ((if c then w.value == v || (not w.sure && held) else held)
+          || is_written k v ws) ≡ true) p rest))) [
             | inl here ↦ or_left held (is_written k v (w ∷ ws)) (second (not w.sure) held here)
             | inr more ↦ or_right held (is_written k v (w ∷ ws))
                 (or_right (w.key == k && w.value == v) (is_written k v ws) more)
           ]
 
 -- what may be the committed value now may be read since any time
-pub read_since : (since k v : ℕ) (ws : List JudgedWrite) → may_hold k v ws ≡ true → may_read_in since k v ws ≡ true
+pub read_since : (since k v : ℕ) (ws : List JudgedWrite) → may_hold k v ws ≡ true
+    → may_read_in since k v ws ≡ true
 read_since since k v ws h = written_or k v (may_hold k v (take since ws)) (drop since ws)
     (sym (fold-append (held_after k v) (v == 0) (take since ws) (drop since ws))
     ∙ ap (λ us. may_hold k v us) (take-append-drop since ws) ∙ h)
@@ -71,14 +77,16 @@ holds_unsure : (g : ℕ → Bool) (k v : ℕ) (h i : Bool) (ws : List JudgedWrit
     → holds_from k v h ws ≡ true → holds_from k v i (unsure g ws) ≡ true
 holds_unsure g k v h i [] f e = f e
 holds_unsure g k v h i (w ∷ ws) f e =
-    holds_unsure g k v (held_after k v h w) (held_after k v i (if is_one_of g w.branch then without_surety w else w)) ws
+    holds_unsure g k v (held_after k v h w)
+    (held_after k v i (if is_one_of g w.branch then without_surety w else w)) ws
     (by (is_one_of g w.branch)) e
   where
     by : (b : Bool) → held_after k v h w ≡ true → held_after k v i (if b then without_surety w else w) ≡ true
     by true q = unsure_more (w.key == k) (w.value == v) w.sure h i f q
     by false q = sure_less (w.key == k) (w.value == v) w.sure h i f q
 
-pub unsure_holds : (g : ℕ → Bool) (k v : ℕ) (ws : List JudgedWrite) → may_hold k v ws ≡ true → may_hold k v (unsure g ws) ≡ true
+pub unsure_holds : (g : ℕ → Bool) (k v : ℕ) (ws : List JudgedWrite) → may_hold k v ws ≡ true
+    → may_hold k v (unsure g ws) ≡ true
 unsure_holds g k v ws h = holds_unsure g k v (v == 0) (v == 0) ws (λ e. e) h
 
 -- Commits.
@@ -89,15 +97,18 @@ value_kept : (x k v : ℕ) (js : List Work) → AllByRecursion (λ j. is_at x k 
 value_kept x k v [] all = refl
 value_kept x k v (j ∷ js) all = by (j.branch == x) refl (value_kept x k v js all.1) where
   by : (b : Bool) → (j.branch == x) ≡ b → holds_from k v true (committed_works x true js) ≡ true
-      → holds_from k v true (map (λ (w : Work). record { branch = Some x; key = w.key; value = w.value; sure = true })
+      → holds_from k v true (map (λ (w : Work).
+      record { branch = Some x; key = w.key; value = w.value; sure = true })
       (cond b (j ∷ works_of x js) (works_of x js))) ≡ true
   by false p rest = rest
   by true p rest = own (j.key == k) refl where
     own : (c : Bool) → (j.key == k) ≡ c
-        → holds_from k v (if j.key == k then j.value == v || false else true) (committed_works x true js) ≡ true
+        → holds_from k v (if j.key == k then j.value == v || false else true)
+        (committed_works x true js) ≡ true
     own true q = subst (λ (c : Bool). holds_from k v c (committed_works x true js) ≡ true)
         (sym (ap (λ c. if c then j.value == v || false else true) q
-        ∙ or_left (j.value == v) false (eq-eqb j.value v (all.0 (and_from (j.branch == x) (j.key == k) p q))))) rest
+        ∙ or_left (j.value == v) false (eq-eqb j.value v
+        (all.0 (and_from (j.branch == x) (j.key == k) p q))))) rest
     own false q = subst (λ (c : Bool). holds_from k v c (committed_works x true js) ≡ true)
         (sym (ap (λ c. if c then j.value == v || false else true) q)) rest
 
@@ -111,12 +122,15 @@ value_committed x k v held (j ∷ js) some all =
   where
     by : (b : Bool) → (j.branch == x) ≡ b
         → ((h : Bool) → list_any (is_at x k) js ≡ true → holds_from k v h (committed_works x true js) ≡ true)
-        → holds_from k v held (map (λ (w : Work). record { branch = Some x; key = w.key; value = w.value; sure = true })
+        → holds_from k v held (map (λ (w : Work).
+        record { branch = Some x; key = w.key; value = w.value; sure = true })
         (cond b (j ∷ works_of x js) (works_of x js))) ≡ true
-    by false p rest = rest held (subst (λ (c : Bool). ((c && j.key == k) || list_any (is_at x k) js) ≡ true) p some)
+    by false p rest = rest held (subst (λ (c : Bool). ((c && j.key == k) || list_any (is_at x k) js) ≡ true) p
+        some)
     by true p rest = own (j.key == k) refl where
       own : (c : Bool) → (j.key == k) ≡ c
-          → holds_from k v (if j.key == k then j.value == v || (not true && held) else held) (committed_works x true js) ≡ true
+          → holds_from k v (if j.key == k then j.value == v || (not true && held) else held)
+          (committed_works x true js) ≡ true
       own true q = subst (λ (c : Bool). holds_from k v c (committed_works x true js) ≡ true)
           (sym (ap (λ c. if c then j.value == v || (not true && held) else held) q
           ∙ or_left (j.value == v) (not true && held)
@@ -128,7 +142,8 @@ value_committed x k v held (j ∷ js) some all =
           (subst (λ (c : Bool). ((j.branch == x && c) || list_any (is_at x k) js) ≡ true) q some)))
 
 -- one that wrote nothing under the key does
-pub nothing_committed : (g : ℕ → Bool) (x k v : ℕ) (sure held : Bool) (js : List Work) → list_any (is_at x k) js ≡ false
+pub nothing_committed : (g : ℕ → Bool) (x k v : ℕ) (sure held : Bool) (js : List Work)
+    → list_any (is_at x k) js ≡ false
     → holds_from k v held (unsure g (committed_works x sure js)) ≡ held
 nothing_committed g x k v sure held [] none = refl
 nothing_committed g x k v sure held (j ∷ js) none =
@@ -155,8 +170,10 @@ nothing_committed g x k v sure held (j ∷ js) none =
     rest_off false b r h = h
 
     by : (b : Bool) → (j.branch == x) ≡ b
-        → ((h : Bool) → list_any (is_at x k) js ≡ false → holds_from k v h (unsure g (committed_works x sure js)) ≡ h)
-        → holds_from k v held (unsure g (map (λ (w : Work). record { branch = Some x; key = w.key; value = w.value; sure = sure })
+        → ((h : Bool) → list_any (is_at x k) js ≡ false → holds_from k v h
+        (unsure g (committed_works x sure js)) ≡ h)
+        → holds_from k v held (unsure g (map (λ (w : Work).
+        record { branch = Some x; key = w.key; value = w.value; sure = sure })
         (cond b (j ∷ works_of x js) (works_of x js)))) ≡ held
     by false p rest = rest held (rest_off (j.branch == x) (j.key == k) (list_any (is_at x k) js) none)
     by true p rest =
@@ -181,7 +198,8 @@ doubtful_commit g x k v sure (j ∷ js) here = by (j.branch == x) (doubtful_comm
   step false e = absurd (false≢true e)
 
   by : (b : Bool) → holds_from k v true (unsure g (committed_works x sure js)) ≡ true
-      → holds_from k v true (unsure g (map (λ (w : Work). record { branch = Some x; key = w.key; value = w.value; sure = sure })
+      → holds_from k v true (unsure g (map (λ (w : Work).
+      record { branch = Some x; key = w.key; value = w.value; sure = sure })
       (cond b (j ∷ works_of x js) (works_of x js)))) ≡ true
   by false rest = rest
   by true rest = subst (λ (c : Bool). holds_from k v c (unsure g (committed_works x sure js)) ≡ true)
@@ -189,10 +207,12 @@ doubtful_commit g x k v sure (j ∷ js) here = by (j.branch == x) (doubtful_comm
 
 unsure_append : (g : ℕ → Bool) (us vs : List JudgedWrite) → unsure g (us ++ vs) ≡ unsure g us ++ unsure g vs
 unsure_append g [] vs = refl
-unsure_append g (u ∷ us) vs = ap (λ ws. (if is_one_of g u.branch then without_surety u else u) ∷ ws) (unsure_append g us vs)
+unsure_append g (u ∷ us) vs = ap (λ ws. (if is_one_of g u.branch then without_surety u else u) ∷ ws)
+    (unsure_append g us vs)
 
 -- the values of a store after some more
-pub held_append : (k v : ℕ) (us vs : List JudgedWrite) → may_hold k v (us ++ vs) ≡ holds_from k v (may_hold k v us) vs
+pub held_append : (k v : ℕ) (us vs : List JudgedWrite)
+    → may_hold k v (us ++ vs) ≡ holds_from k v (may_hold k v us) vs
 held_append k v us vs = fold-append (held_after k v) (v == 0) us vs
 
 pub unsure_held_append : (g : ℕ → Bool) (k v : ℕ) (us vs : List JudgedWrite)
@@ -224,7 +244,8 @@ doubted_one g x w h is = by w.branch refl where
       ≡ (if is_one_of h w.branch then without_surety w else w)
   by None e =
       ap (λ c. if is_one_of g (if c then without_surety w else w).branch
-      then without_surety (if c then without_surety w else w) else (if c then without_surety w else w)) (ap (is_of x) e)
+      then without_surety (if c then without_surety w else w) else (if c then without_surety w else w))
+      (ap (is_of x) e)
       ∙ ap (λ c. if c then without_surety w else w) (ap (is_one_of g) e)
       ∙ sym (ap (λ c. if c then without_surety w else w) (ap (is_one_of h) e))
   by (Some y) e =
@@ -261,14 +282,17 @@ doubted_unsure g h x (w ∷ ws) is =
 
 pub unsure_none : (g : ℕ → Bool) (ws : List JudgedWrite) → ((y : ℕ) → g y ≡ false) → unsure g ws ≡ ws
 unsure_none g [] none = refl
-unsure_none g (w ∷ ws) none = ap (λ v. v ∷ unsure g ws) (by w.branch refl) ∙ ap (λ vs. w ∷ vs) (unsure_none g ws none) where
-  by : (o : Option ℕ) → w.branch ≡ o → (if is_one_of g w.branch then without_surety w else w) ≡ w
-  by None e = ap (λ c. if c then without_surety w else w) (ap (is_one_of g) e)
-  by (Some y) e = ap (λ c. if c then without_surety w else w) (ap (is_one_of g) e ∙ none y)
+unsure_none g (w ∷ ws) none = ap (λ v. v ∷ unsure g ws) (by w.branch refl)
+    ∙ ap (λ vs. w ∷ vs) (unsure_none g ws none) where
+      by : (o : Option ℕ) → w.branch ≡ o → (if is_one_of g w.branch then without_surety w else w) ≡ w
+      by None e = ap (λ c. if c then without_surety w else w) (ap (is_one_of g) e)
+      by (Some y) e = ap (λ c. if c then without_surety w else w) (ap (is_one_of g) e ∙ none y)
 
 -- no commit of the branches that come back is sure
 pub all_doubted : (bs : List JudgedBranch) (ws : List JudgedWrite)
-    → fold (λ (vs : List JudgedWrite) (b : JudgedBranch). doubted b.name vs) ws bs ≡ unsure (λ y. list_any (is_named y) bs) ws
+    → fold (λ (vs : List JudgedWrite) (b : JudgedBranch). doubted b.name vs) ws bs
+    ≡ unsure (λ y. list_any (is_named y) bs) ws
 all_doubted [] ws = sym (unsure_none (λ y. false) ws (λ y. refl))
 all_doubted (b ∷ bs) ws = all_doubted bs (doubted b.name ws)
-    ∙ doubted_unsure (λ y. list_any (is_named y) bs) (λ y. list_any (is_named y) (b ∷ bs)) b.name ws (λ y. refl)
+    ∙ doubted_unsure (λ y. list_any (is_named y) bs) (λ y. list_any (is_named y) (b ∷ bs))
+    b.name ws (λ y. refl)

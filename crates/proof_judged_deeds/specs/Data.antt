@@ -25,9 +25,10 @@ JudgeHolds n (Some w) x k js = (list_any (is_at x k) js ≡ true)
 abbrev pub HasWritten : NameNumbers → List Write → Xid → List Work → Type 0
 HasWritten n ws x js = (k : List ℕ) → JudgeHolds n (find (is_of k) ws) (n.xid x) (n.word k) js
 
--- the judge's data are those of a key store that has these values and in which branches have written this: each value may be
--- the committed one, and of each branch it has what the branch has written
-pub record IsHeard (n : NameNumbers) (value : List ℕ → Option (List ℕ)) (written : Xid → List Write) (s : Sight) : Type 0 where
+-- the judge's data are those of a key store that has these values and in which branches have written this:
+-- each value may be the committed one, and of each branch it has what the branch has written
+pub record IsHeard (n : NameNumbers) (value : List ℕ → Option (List ℕ)) (written : Xid → List Write)
+    (s : Sight) : Type 0 where
   pub committed : (k : List ℕ) → may_hold (n.word k) (value_number n (value k)) s.values ≡ true
   pub works : (x : Xid) → HasWritten n (written x) x s.works
 
@@ -40,9 +41,10 @@ is_one_of g (Some x) = g x
 abbrev pub unsure : (ℕ → Bool) → List JudgedWrite → List JudgedWrite
 unsure g vs = map (λ v. if is_one_of g v.branch then without_surety v else v) vs
 
--- the judge admits what a crash leaves, by which branches are back in S3 that had left it: each value may be the committed one
--- if no commit of these branches is sure; and it remembers what these branches had written
-pub record MayLeave (n : NameNumbers) (value : List ℕ → Option (List ℕ)) (promised : Xid → List Write) (back : Xid → Bool) (s : Sight)
+-- the judge admits what a crash leaves, by which branches are back in S3 that had left it: each value may be
+-- the committed one if no commit of these branches is sure; and it remembers what these branches had written
+pub record MayLeave (n : NameNumbers) (value : List ℕ → Option (List ℕ)) (promised : Xid → List Write)
+    (back : Xid → Bool) (s : Sight)
     : Type 0 where
   pub committed : (g : ℕ → Bool) → ((x : Xid) → back x ≡ true → g (n.xid x) ≡ true) → (k : List ℕ)
       → may_hold (n.word k) (value_number n (value k)) (unsure g s.values) ≡ true

@@ -51,7 +51,8 @@ pub record Is (e : HistoryEvent) (c : JudgedCall) (a : JudgedAnswer) : Type 0 wh
   pub calls : e.call ≡ c
   pub says : e.answer ≡ a
 
--- the rows that a key store takes of a branch: by what the branch wrote, and by what an operator decided of it
+-- the rows that a key store takes of a branch: by what the branch wrote, and by what an operator decided of
+-- it
 abbrev pub rows_for : States → Xid → List Write → Known → Wanted
 rows_for m x ws k c = row_of c (state_in m.branches.branches x) ws k
 
@@ -79,8 +80,8 @@ StillKnown m d f = (y : Xid) → state_in m.branches.branches y ≡ S5 → f y �
 
 -- Restarts.
 
--- the state in which a restart finds a branch: as it was, if it was in doubt; else it is known no longer, or, if a crash may
--- bring it back, prepared again
+-- the state in which a restart finds a branch: as it was, if it was in doubt; else it is known no longer, or,
+-- if a crash may bring it back, prepared again
 abbrev pub Returns : BranchState → BranchState → Bool → Type 0
 Returns S3 to lost = to ≡ S3
 Returns S5 to lost = to ≡ S5
@@ -89,13 +90,15 @@ Returns S1 to lost = (to ≡ S0) ⊎ ((to ≡ S3) × (lost ≡ true))
 Returns S2 to lost = (to ≡ S0) ⊎ ((to ≡ S3) × (lost ≡ true))
 Returns S4 to lost = (to ≡ S0) ⊎ ((to ≡ S3) × (lost ≡ true))
 
--- a restart: the manager is not open, and has no associations and scans; each branch returns, those that a crash may
--- bring back only where some bytes are cut off; and from now on a crash may bring back none
-pub record DeedRestarts (old new : States) (d d' : Xid → JudgedDecision) (l l' : Xid → Bool) (cut : Bool) : Type 0 where
+-- a restart: the manager is not open, and has no associations and scans; each branch returns, those that a
+-- crash may bring back only where some bytes are cut off; and from now on a crash may bring back none
+pub record DeedRestarts (old new : States) (d d' : Xid → JudgedDecision) (l l' : Xid → Bool)
+    (cut : Bool) : Type 0 where
   pub left : List (Xid × Bool)
   pub tables : Restored left new
   pub once : has_twice left ≡ false
-  pub states : (x : Xid) → Returns (state_in old.branches.branches x) (state_in new.branches.branches x) (cut && l x)
+  pub states : (x : Xid) → Returns (state_in old.branches.branches x)
+      (state_in new.branches.branches x) (cut && l x)
   pub known : (x : Xid) → state_in old.branches.branches x ≡ S5 → d' x ≡ d x
   pub forgets : (x : Xid) → l' x ≡ true → ⊥
 
@@ -106,34 +109,45 @@ NoMore l l' = (y : Xid) → l' y ≡ true → l y ≡ true
 -- a crash may bring back no branch but these, and this one, if it was prepared and is known no longer
 abbrev pub Loses : States → States → Xid → (Xid → Bool) → (Xid → Bool) → Type 0
 Loses old new x l l' = (y : Xid) → l' y ≡ true
-    → (l y ≡ true) ⊎ ((same x y ≡ true) × (state_in old.branches.branches x ≡ S3) × (state_in new.branches.branches x ≡ S0))
+    → (l y ≡ true) ⊎ ((same x y ≡ true) × (state_in old.branches.branches x ≡ S3)
+    × (state_in new.branches.branches x ≡ S0))
 
--- what happens at a key store whose device works: it takes the tables from a state to another, what is known of
--- operators' decisions, and which branches that left S3 a crash may bring back; and the event is what the judge hears of it
-pub data Deed (n : NameNumbers) (old new : States) (d d' : Xid → JudgedDecision) (l l' : Xid → Bool) (e : HistoryEvent) : Type 0 where
+-- what happens at a key store whose device works: it takes the tables from a state to another, what is known
+-- of operators' decisions, and which branches that left S3 a crash may bring back; and the event is what the
+-- judge hears of it
+pub data Deed (n : NameNumbers) (old new : States) (d d' : Xid → JudgedDecision) (l l' : Xid → Bool)
+    (e : HistoryEvent) : Type 0 where
   -- an open
-  Opened : (flags : Flags) (migrates : Bool) (c : Code) → OpensManager old new flags.0 migrates c → StillKnown new d d' → NoMore l l'
+  Opened : (flags : Flags) (migrates : Bool) (c : Code) → OpensManager old new flags.0 migrates c
+      → StillKnown new d d' → NoMore l l'
       → Is e (call.Function (function.Open flags)) (answer.Code c) → Deed n old new d d' l l' e
   -- a close, of a manager that lists no migration that is none
-  Closed : (flags : Flags) (c : Code) → ArePositiveCounts old.associations.moved → Closes old new flags.0 c → StillKnown new d d' → NoMore l l'
+  Closed : (flags : Flags) (c : Code) → ArePositiveCounts old.associations.moved → Closes old new flags.0 c
+      → StillKnown new d d' → NoMore l l'
       → Is e (call.Function (function.Close flags)) (answer.Code c) → Deed n old new d d' l l' e
   -- a start or an end
   Started : (wanted : Wanted) (t : ℕ) (x : Xid) (flags : Flags) (c : Code)
       → AnswersCall wanted old new table_verb.Start t x flags.0 c
       → StillKnown new d d' → NoMore l l'
-      → Is e (call.Function (function.Branch verb.Start (on n t x flags))) (answer.Code c) → Deed n old new d d' l l' e
+      → Is e (call.Function (function.Branch verb.Start (on n t x flags))) (answer.Code c)
+      → Deed n old new d d' l l' e
   Ended : (wanted : Wanted) (t : ℕ) (x : Xid) (flags : Flags) (c : Code)
       → AnswersCall wanted old new table_verb.End t x flags.0 c
       → StillKnown new d d' → NoMore l l'
-      → Is e (call.Function (function.Branch verb.End (on n t x flags))) (answer.Code c) → Deed n old new d d' l l' e
+      → Is e (call.Function (function.Branch verb.End (on n t x flags))) (answer.Code c)
+      → Deed n old new d d' l l' e
   -- a call that finishes a branch, by the key store's rows; what an operator decided is known
-  Finished : (v : BranchVerb) (w : Verb) (ws : List Write) (k : Known) (t : ℕ) (x : Xid) (flags : Flags) (c : Code)
-      → ends_branch v w → d x ≡ decision_of k.outcome → AnswersCall (rows_for old x ws k) old new w t x flags.0 c
+  Finished : (v : BranchVerb) (w : Verb) (ws : List Write) (k : Known) (t : ℕ) (x : Xid)
+      (flags : Flags) (c : Code)
+      → ends_branch v w → d x ≡ decision_of k.outcome → AnswersCall (rows_for old x ws k) old new w t x
+      flags.0 c
       → StillKnown new d d' → Loses old new x l l'
       → Is e (call.Function (function.Branch v (on n t x flags))) (answer.Code c) → Deed n old new d d' l l' e
   -- any call on a branch, where a limit of the store's own is met
-  Limited : (v : BranchVerb) (t : ℕ) (x : Xid) (flags : Flags) → SameStates old new → StillKnown new d d' → NoMore l l'
-      → Is e (call.Function (function.Branch v (on n t x flags))) (answer.Code code.RmErr) → Deed n old new d d' l l' e
+  Limited : (v : BranchVerb) (t : ℕ) (x : Xid) (flags : Flags) → SameStates old new → StillKnown new d d'
+      → NoMore l l'
+      → Is e (call.Function (function.Branch v (on n t x flags))) (answer.Code code.RmErr)
+      → Deed n old new d d' l l' e
   -- a recover
   Recovered : (t count : ℕ) (flags : Flags) (r : Result (List Xid) Code) (a : JudgedAnswer)
       → Recovers old new t count flags.0 r → IsScan n r a → StillKnown new d d' → NoMore l l'
@@ -148,21 +162,25 @@ pub data Deed (n : NameNumbers) (old new : States) (d d' : Xid → JudgedDecisio
   -- a thread writes a value, or a key is deleted; or it is refused
   Wrote : (t : ℕ) (k : List ℕ) (v : Option (List ℕ)) → SameStates old new → StillKnown new d d' → NoMore l l'
       → Is e (call.Put t (n.word k) (value_number n v)) answer.Done → Deed n old new d d' l l' e
-  Unwritten : (t : ℕ) (k : List ℕ) (v : Option (List ℕ)) → SameStates old new → StillKnown new d d' → NoMore l l'
+  Unwritten : (t : ℕ) (k : List ℕ) (v : Option (List ℕ)) → SameStates old new → StillKnown new d d'
+      → NoMore l l'
       → Is e (call.Put t (n.word k) (value_number n v)) answer.Refused → Deed n old new d d' l l' e
   -- a thread's read is refused
   Unread : (t : ℕ) (k : List ℕ) → SameStates old new → StillKnown new d d' → NoMore l l'
       → Is e (call.Get t (n.word k)) answer.Refused → Deed n old new d d' l l' e
   -- a trim
-  Trimmed : SameStates old new → StillKnown new d d' → NoMore l l' → Is e call.Trim answer.Told → Deed n old new d d' l l' e
+  Trimmed : SameStates old new → StillKnown new d d' → NoMore l l' → Is e call.Trim answer.Told
+      → Deed n old new d d' l l' e
   -- a restart, after which some bytes are cut off or not
   Restarted : (cut : Bool) → DeedRestarts old new d d' l l' cut
       → Is e (call.Restart cut) answer.Told → Deed n old new d d' l l' e
 
 -- events are what the judge hears of such deeds, one after another
-abbrev pub DeedsLead : NameNumbers → States → (Xid → JudgedDecision) → (Xid → Bool) → List HistoryEvent → Type 0
+abbrev pub DeedsLead : NameNumbers → States → (Xid → JudgedDecision) → (Xid → Bool) → List HistoryEvent
+    → Type 0
 DeedsLead n m d l [] = Unit {0}
-DeedsLead n m d l (e ∷ es) = (k : States) × (f : Xid → JudgedDecision) × (j : Xid → Bool) × AreThreadsListedOnce k.associations.holders
+DeedsLead n m d l (e ∷ es) = (k : States) × (f : Xid → JudgedDecision) × (j : Xid → Bool)
+    × AreThreadsListedOnce k.associations.holders
     × Deed n m k d f l j e × DeedsLead n k f j es
 
 -- a crash may bring back no branch

@@ -7,8 +7,8 @@ use Rattle.judge_rules.specs.declared.calls.XidSort.{XidSort}
 use Rattle.judge_words.specs.sort
 use Rattle.judge_rules.specs.declared.words.Rules.{Rules}
 
--- numbers for the names of branches, and for keys and values: no number two names; and 0 is that of the word for
--- no value
+-- numbers for the names of branches, and for keys and values: no number two names; and 0 is that of the word
+-- for no value
 pub record NameNumbers : Type 0 where
   pub xid : Xid → ℕ
   pub word : List ℕ → ℕ
@@ -30,8 +30,8 @@ are_none _ = false
 abbrev pub sort_of : Xid → XidSort
 sort_of x = if same x null_xid then sort.Null else if are_none x.bqual then sort.Bare else sort.Full
 
--- the key store promises that it decides no branch by itself, and lacks one thing: the end of a prepared branch may not be
--- forced, so that a crash may bring the branch back
+-- the key store promises that it decides no branch by itself, and lacks one thing: the end of a prepared
+-- branch may not be forced, so that a crash may bring the branch back
 abbrev pub lacks_forced : Rules
 lacks_forced = record {
   never = record { heuristics = true; failures = false; rollback = false };

@@ -30,7 +30,8 @@ abbrev pub AreBoots : ℕ → List LogRecord → Type 0
 AreBoots b ls = AllByRecursion (λ l. boot_in l.entry ≤ b) ls
 
 pub more_boots : (a b : ℕ) → a ≤ b → (ls : List LogRecord) → AreBoots a ls → AreBoots b ls
-more_boots a b le ls are = all_weaker (λ l. boot_in l.entry ≤ a) (λ l. boot_in l.entry ≤ b) (λ l h. omega (arith, le, h)) ls are
+more_boots a b le ls are = all_weaker (λ l. boot_in l.entry ≤ a) (λ l. boot_in l.entry ≤ b)
+    (λ l h. omega (arith, le, h)) ls are
 
 -- the last boot is none of a later one
 
@@ -53,7 +54,8 @@ after_le a b (record_of.Forgot x) h k = h
 after_le a b (record_of.Base n) h k = h
 after_le a b (record_of.Pair j v) h k = h
 
-fold_le : (a b : ℕ) (ls : List LogRecord) → a ≤ b → AreBoots b ls → fold boot_after a (map (λ l. l.entry) ls) ≤ b
+fold_le : (a b : ℕ) (ls : List LogRecord) → a ≤ b → AreBoots b ls
+    → fold boot_after a (map (λ l. l.entry) ls) ≤ b
 fold_le a b [] h are = h
 fold_le a b (l ∷ ls) h are = fold_le (boot_after a l.entry) b ls (after_le a b l.entry h are.0) are.1
 
@@ -66,20 +68,23 @@ next_le b ls are = let h = fold_le 0 b ls (omega arith) are in omega (arith, h)
 within_boots : (b k : ℕ) (us : List LogRecord) → AreBoots b us → AreBoots b (whole_within k us)
 unfolding whole_within
 within_boots b k [] are = tt
-within_boots b k (u ∷ us) are = by (nat_le (record_size u) k) (within_boots b (k - record_size u) us are.1) where
-  by : (c : Bool) → AreBoots b (whole_within (k - record_size u) us)
-      → AreBoots b (cond c (u ∷ whole_within (k - record_size u) us) [])
-  by true rest = (are.0, rest)
-  by false rest = tt
+within_boots b k (u ∷ us) are = by (nat_le (record_size u) k)
+    (within_boots b (k - record_size u) us are.1) where
+      by : (c : Bool) → AreBoots b (whole_within (k - record_size u) us)
+          → AreBoots b (cond c (u ∷ whole_within (k - record_size u) us) [])
+      by true rest = (are.0, rest)
+      by false rest = tt
 
 parts_boots : (b : ℕ) (ls ks : List LogRecord) → AreBoots b (ls ++ ks) → AreBoots b ls × AreBoots b ks
 parts_boots b [] ks are = (tt, are)
 parts_boots b (l ∷ ls) ks are = let rest = parts_boots b ls ks are.1 in ((are.0, rest.0), rest.1)
 
-pub left_boots : (b : ℕ) (s : LogSight) (keep : ℕ) → AreBoots b (records_of s.kept) → AreBoots b (left_by s keep)
+pub left_boots : (b : ℕ) (s : LogSight) (keep : ℕ) → AreBoots b (records_of s.kept)
+    → AreBoots b (left_by s keep)
 left_boots b s keep are =
     let parts = parts_boots b s.kept.forced s.kept.unforced are in
-    all_append (λ l. boot_in l.entry ≤ b) s.kept.forced (whole_within (s.behind + keep) s.kept.unforced) parts.0
+    all_append (λ l. boot_in l.entry ≤ b) s.kept.forced
+    (whole_within (s.behind + keep) s.kept.unforced) parts.0
     (within_boots b (s.behind + keep) s.kept.unforced parts.1)
 
 -- One record more.
@@ -106,12 +111,14 @@ more_boot b n ls are le = all_append (λ l. boot_in l.entry ≤ b + 1) ls (boot_
 
 -- A trim.
 
-opened_boots : (b : ℕ) (ls os : List LogRecord) → AreBoots b ls → AreBoots b os → AreBoots b (fold opened_after os ls)
+opened_boots : (b : ℕ) (ls os : List LogRecord) → AreBoots b ls → AreBoots b os
+    → AreBoots b (fold opened_after os ls)
 opened_boots b [] os are had = had
-opened_boots b (l ∷ ls) os are had = opened_boots b ls (opened_after os l) are.1 (by (is_opened l.entry)) where
-  by : (c : Bool) → AreBoots b (cond c (l ∷ []) os)
-  by true = (are.0, tt)
-  by false = had
+opened_boots b (l ∷ ls) os are had = opened_boots b ls (opened_after os l) are.1
+    (by (is_opened l.entry)) where
+      by : (c : Bool) → AreBoots b (cond c (l ∷ []) os)
+      by true = (are.0, tt)
+      by false = had
 
 staying_boots : (b : ℕ) (all ls : List LogRecord) → AreBoots b ls → AreBoots b (staying all ls)
 unfolding staying
@@ -127,7 +134,9 @@ pairs_boots b (p ∷ ps) = (omega arith, pairs_boots b ps)
 
 pub trim_boots : (b : ℕ) (ls : List LogRecord) → AreBoots b ls → AreBoots b (trim_of ls)
 unfolding front_of_trim last_opened
-trim_boots b ls are = all_append (λ l. boot_in l.entry ≤ b) (front_of_trim ls) (map unnamed (base_records (data_of ls)))
-    (all_append (λ l. boot_in l.entry ≤ b) (fold opened_after [] ls) (staying ls ls) (opened_boots b ls [] are tt)
+trim_boots b ls are = all_append (λ l. boot_in l.entry ≤ b) (front_of_trim ls)
+    (map unnamed (base_records (data_of ls)))
+    (all_append (λ l. boot_in l.entry ≤ b) (fold opened_after [] ls) (staying ls ls)
+    (opened_boots b ls [] are tt)
     (staying_boots b ls ls are))
     (omega arith, pairs_boots b (data_of ls).pairs)

@@ -127,7 +127,8 @@ end_effect reply.Outside x s = refl
 some_one : {X : Type 0} (x y : X) → Some x ≡ Some y → x ≡ y
 some_one x y h = cc
 
--- the branch that a thread works for is the one that it is active in, and that is neither prepared nor decided
+-- the branch that a thread works for is the one that it is active in, and that is neither prepared nor
+-- decided
 pub worker_is : (s : KeySight) (t : ℕ) (x : Xid) → at_work s t ≡ Some x
     → (active_of s.tables.associations t ≡ Some x) × (state_of s x ≡ S3 → ⊥) × (state_of s x ≡ S5 → ⊥)
 worker_is s t x h = by (active_of s.tables.associations t) refl h where
@@ -152,19 +153,24 @@ worker_is s t x h = by (active_of s.tables.associations t) refl h where
     at S3 p g = absurd cc
     at S5 p g = absurd cc
 
-module _ (n : NameNumbers) (old new : KvSight) (l l' : Xid → Bool) (b : ℕ) (s u : Sight) (e : HistoryEvent) (r : IsRecorded old l)
+module _ (n : NameNumbers) (old new : KvSight) (l l' : Xid → Bool) (b : ℕ) (s u : Sight) (e : HistoryEvent)
+    (r : IsRecorded old l)
     (r' : IsRecorded new l') (j : IsJudged n old s) (boots : AreBoots b (records_of old.log.sight.kept))
-    (sound : IsSoundManager old) (after : IsSoundManager new) (mirrors : Mirrors n old.store.tables (known_in old) s)
-    (carries : Carries n s u (state_in old.store.tables.branches.branches) (state_in new.store.tables.branches.branches)
+    (sound : IsSoundManager old) (after : IsSoundManager new)
+    (mirrors : Mirrors n old.store.tables (known_in old) s)
+    (carries : Carries n s u (state_in old.store.tables.branches.branches)
+    (state_in new.store.tables.branches.branches)
     e.call e.answer) where
   abbrev Kept_so : Type 0
   Kept_so = IsJudged n new u × AreBoots (b + 1) (records_of new.log.sight.kept)
 
   abbrev Carried : JudgedCall → JudgedAnswer → Type 0
-  Carried c a = Carries n s u (state_in old.store.tables.branches.branches) (state_in new.store.tables.branches.branches) c a
+  Carried c a = Carries n s u (state_in old.store.tables.branches.branches)
+      (state_in new.store.tables.branches.branches) c a
 
   carried : (c : JudgedCall) (a : JudgedAnswer) → e.call ≡ c → e.answer ≡ a → Carried c a
-  carried c a is says = subst (λ (z : JudgedAnswer). Carried c z) says (subst (λ (z : JudgedCall). Carried z e.answer) is carries)
+  carried c a is says = subst (λ (z : JudgedAnswer). Carried c z) says
+      (subst (λ (z : JudgedCall). Carried z e.answer) is carries)
 
   breaks_never : MoreFailures old.log.sight.failures new.log.sight.failures → ⊥
   breaks_never = quiet old new sound.device after.device
@@ -180,7 +186,8 @@ module _ (n : NameNumbers) (old new : KvSight) (l l' : Xid → Bool) (b : ℕ) (
   same_kept same books = (same_judged n old new s u j same books, same_boots same.log)
 
   -- a call moves the tables alone
-  moved_kept : (X : Type 0) (Does : States → States → Type 0) → KvCalls old new X (λ before behind. MovesTables before behind Does)
+  moved_kept : (X : Type 0) (Does : States → States → Type 0)
+      → KvCalls old new X (λ before behind. MovesTables before behind Does)
       → ((a c : States) → Does a c → SameDoubts a c) → ledger u ≡ ledger s → Kept_so
   moved_kept X Does calls doubts books =
       let m = calls.works r.works in (
@@ -193,15 +200,18 @@ module _ (n : NameNumbers) (old new : KvSight) (l l' : Xid → Bool) (b : ℕ) (
   branches_doubts : (a c : States) → c.branches ≡ a.branches → SameDoubts a c
   branches_doubts a c one y = ap (λ (bs : BranchList). doubt_of (state_in bs.branches y)) one
 
-  work_kept : (v : Verb) (t : ℕ) (x : Xid) (flags : ℕ) (c : Code) → is_work_verb v ≡ true → RequestJoins v old new t x flags c
+  work_kept : (v : Verb) (t : ℕ) (x : Xid) (flags : ℕ) (c : Code) → is_work_verb v ≡ true
+      → RequestJoins v old new t x flags c
       → ledger u ≡ ledger s → Kept_so
   work_kept v t x flags c work h books = moved_kept _ _ (h (λ k. (code.Ok, S0)))
       (λ a d. works_doubts (λ k. (code.Ok, S0)) a d v t x flags c work) books
 
   -- what a turn writes
-  turn_boots : (x : Xid) (turn : CallRow) → KvMakes old new x turn → AreBoots (b + 1) (records_of new.log.sight.kept)
+  turn_boots : (x : Xid) (turn : CallRow) → KvMakes old new x turn
+      → AreBoots (b + 1) (records_of new.log.sight.kept)
   turn_boots x turn made = by turn.entry made.log where
-    by : (o : Option BranchRecord) → LogsTurn old new x turn.is_forced o → AreBoots (b + 1) (records_of new.log.sight.kept)
+    by : (o : Option BranchRecord) → LogsTurn old new x turn.is_forced o
+        → AreBoots (b + 1) (records_of new.log.sight.kept)
     by None log = same_boots log
     by (Some f) log = subst (λ (ks : List LogRecord). AreBoots (b + 1) ks)
         (sym (records_more old new x f turn.is_forced log))
@@ -215,7 +225,8 @@ module _ (n : NameNumbers) (old new : KvSight) (l l' : Xid → Bool) (b : ℕ) (
     finish_judged n old new (known_in old) l l' s u j r r' mirrors breaks_never v w x flags.0 c ends h books,
     all_boots h,
   ) where
-    taken_boots : (turn : CallRow) → KvTakes old new x turn c → AreBoots (b + 1) (records_of new.log.sight.kept)
+    taken_boots : (turn : CallRow) → KvTakes old new x turn c
+        → AreBoots (b + 1) (records_of new.log.sight.kept)
     taken_boots turn (Made q makes) = turn_boots x turn makes
     taken_boots turn (Broke q fails) = absurd (breaks_never fails.log.cause)
     taken_boots turn (Spent q commits few same) = same_boots same.log
@@ -225,19 +236,23 @@ module _ (n : NameNumbers) (old new : KvSight) (l l' : Xid → Bool) (b : ℕ) (
     all_boots (Refused f off same) = same_boots same.log
     all_boots (Taken f due is takes) = taken_boots due.1 takes
 
-  branch_kept : (f : BranchCall) (t : ℕ) (x : Xid) (flags : Flags) (c : Code) → CallsBranch f old new t x flags.0 c
+  branch_kept : (f : BranchCall) (t : ℕ) (x : Xid) (flags : Flags) (c : Code)
+      → CallsBranch f old new t x flags.0 c
       → ledger u ≡ ledger (effect (reply_of c) (verb_of f) (n.xid x) s) → Kept_so
   branch_kept Start t x flags c h books = work_kept table_verb.Start t x flags.0 c refl h
       (books ∙ ap ledger (start_effect (reply_of c) (n.xid x) s))
   branch_kept End t x flags c h books = work_kept table_verb.End t x flags.0 c refl h
       (books ∙ ap ledger (end_effect (reply_of c) (n.xid x) s))
-  branch_kept Prepare t x flags c h books = finish_kept verb.Prepare table_verb.Prepare t x flags c refl h books
+  branch_kept Prepare t x flags c h books = finish_kept verb.Prepare table_verb.Prepare t x
+      flags c refl h books
   branch_kept Commit t x flags c h books = finish_kept verb.Commit table_verb.Commit t x flags c refl h books
-  branch_kept Rollback t x flags c h books = finish_kept verb.Rollback table_verb.Rollback t x flags c refl h books
+  branch_kept Rollback t x flags c h books = finish_kept verb.Rollback table_verb.Rollback t x
+      flags c refl h books
   branch_kept Forget t x flags c h books = finish_kept verb.Forget table_verb.Forget t x flags c refl h books
 
   -- refused work
-  refused_kept : (refusal : Option WorkError) (w : WorkError) → RefusesWork old new refusal w → ledger u ≡ ledger s → Kept_so
+  refused_kept : (refusal : Option WorkError) (w : WorkError) → RefusesWork old new refusal w
+      → ledger u ≡ ledger s → Kept_so
   refused_kept refusal w h books =
       let same = refused_same old.store new.store refusal w (h.works r.works) in (
         quiet_judged n old new s u j h.log (same_doubts old.store.tables new.store.tables same.tables)
@@ -246,23 +261,27 @@ module _ (n : NameNumbers) (old new : KvSight) (l l' : Xid → Bool) (b : ℕ) (
       )
 
   -- a read
-  found_kept : (t : ℕ) (k : List ℕ) (v : Option (List ℕ)) → KvCalls old new ⊥ (λ before behind. ReadsKey before behind t k v)
+  found_kept : (t : ℕ) (k : List ℕ) (v : Option (List ℕ))
+      → KvCalls old new ⊥ (λ before behind. ReadsKey before behind t k v)
       → ledger u ≡ ledger s → Kept_so
   found_kept t k v h books =
       let w = h.works r.works in (
-        quiet_judged n old new s u j h.log (λ y. ap (λ (m : States). doubt_of (state_in m.branches.branches y)) w.tables)
+        quiet_judged n old new s u j h.log (λ y.
+            ap (λ (m : States). doubt_of (state_in m.branches.branches y)) w.tables)
             (one_data old.store.versions new.store.versions w.versions)
             (λ x. ap (λ (ws : WriteTable). writes_of ws x) w.writes) books,
         same_boots h.log,
       )
 
   -- a write
-  done_kept : (t : ℕ) (k : List ℕ) (v : Option (List ℕ)) → KvCalls old new ⊥ (λ before behind. WritesKey before behind t k v)
+  done_kept : (t : ℕ) (k : List ℕ) (v : Option (List ℕ))
+      → KvCalls old new ⊥ (λ before behind. WritesKey before behind t k v)
       → ledger u ≡ ledger (write_row (judged_active t s) t (n.word k) (value_number n v) s) → Kept_so
   done_kept t k v h books =
       let w = h.works r.works in
       let who = worker_is old.store t w.branch w.works in (
-        write_judged n old new s u j h.log (λ y. ap (λ (m : States). doubt_of (state_in m.branches.branches y)) w.tables)
+        write_judged n old new s u j h.log (λ y.
+            ap (λ (m : States). doubt_of (state_in m.branches.branches y)) w.tables)
             (one_data old.store.versions new.store.versions w.versions) w.branch k v who.1 who.2 w.writes
             (books ∙ ap (λ o. ledger (write_row o t (n.word k) (value_number n v) s))
             (worker_same n old.store.tables.associations s.links s.migrated t w.branch mirrors.tied who.0)),
@@ -284,7 +303,8 @@ module _ (n : NameNumbers) (old new : KvSight) (l l' : Xid → Bool) (b : ℕ) (
   put_kept t k v (answer.NotTrimmed w) h calls says = absurd h
   put_kept t k v (answer.NotDecided w) h calls says = absurd h
 
-  get_kept : (t : ℕ) (k : List ℕ) (a : RequestAnswer) → IsRead old new t k a → IsRequestEvent n (Work t (Get k)) a e → Kept_so
+  get_kept : (t : ℕ) (k : List ℕ) (a : RequestAnswer) → IsRead old new t k a
+      → IsRequestEvent n (Work t (Get k)) a e → Kept_so
   get_kept t k (answer.Found v) h is =
       found_kept t k v h (carried (call.Get t (n.word k)) (judged.Found (value_number n v)) is.calls is.says)
   get_kept t k (answer.Refused w) h is =
@@ -298,13 +318,15 @@ module _ (n : NameNumbers) (old new : KvSight) (l l' : Xid → Bool) (b : ℕ) (
   get_kept t k (answer.NotTrimmed w) h is = absurd h
   get_kept t k (answer.NotDecided w) h is = absurd h
 
-  op_kept : (t : ℕ) (op : Op) (a : RequestAnswer) → RequestWorks old new t op a → IsRequestEvent n (Work t op) a e → Kept_so
+  op_kept : (t : ℕ) (op : Op) (a : RequestAnswer) → RequestWorks old new t op a
+      → IsRequestEvent n (Work t op) a e → Kept_so
   op_kept t (Get k) a h is = get_kept t k a h is
   op_kept t (Put k v) a h is = put_kept t k (Some v) a h is.calls is.says
   op_kept t (Delete k) a h is = put_kept t k None a h is.calls is.says
 
   -- an operator's decision
-  decided_kept : (x : Xid) (o : Outcome) (a : RequestAnswer) → RequestDecides old new x o a → IsRequestEvent n (Decide x o) a e → Kept_so
+  decided_kept : (x : Xid) (o : Outcome) (a : RequestAnswer) → RequestDecides old new x o a
+      → IsRequestEvent n (Decide x o) a e → Kept_so
   decided_kept x o answer.Done h is = (
     decide_data n old new (known_in old) l l' s u j r r' mirrors x o h.0.prepared h.1
         (carried (call_of n (Decide x o)) judged.Done is.calls is.says),
@@ -357,12 +379,14 @@ module _ (n : NameNumbers) (old new : KvSight) (l l' : Xid → Bool) (b : ℕ) (
         restart_judged n old new l l' s u (kept_bytes keep) h.1 j r r' made
             (carried (call_of n (Restart keep)) judged.Told is.calls is.says),
         subst (λ (ks : List LogRecord). AreBoots (b + 1) ks)
-            (sym (forced_all new.log.sight (left_by old.log.sight (kept_bytes keep) ++ boot_record new.boot ∷ [])
+            (sym (forced_all new.log.sight (left_by old.log.sight (kept_bytes keep)
+            ++ boot_record new.boot ∷ [])
             made.log.forced made.log.unforced))
             (more_boot b new.boot (left_by old.log.sight (kept_bytes keep))
             (left_boots b old.log.sight (kept_bytes keep) boots)
             (subst (λ (m : ℕ). m ≤ b + 1) (sym (restarted old new (kept_bytes keep) h.1 made).boot)
-            (next_le b (left_by old.log.sight (kept_bytes keep)) (left_boots b old.log.sight (kept_bytes keep) boots)))),
+            (next_le b (left_by old.log.sight (kept_bytes keep))
+            (left_boots b old.log.sight (kept_bytes keep) boots)))),
       )
   booted_kept keep (answer.Code c) h covered is = absurd h
   booted_kept keep (answer.Given xs) h covered is = absurd h
@@ -390,9 +414,11 @@ module _ (n : NameNumbers) (old new : KvSight) (l l' : Xid → Bool) (b : ℕ) (
 
   scan_kept : (t count : ℕ) (flags : Flags) (a : RequestAnswer) → RequestScans old new t count flags.0 a
       → IsRequestEvent n (Recover t count flags) a e → Kept_so
-  scan_kept t count flags (answer.Code c) h is = moved_kept _ _ h (λ a d. recovers_doubts a d t count flags.0 (Err c))
+  scan_kept t count flags (answer.Code c) h is = moved_kept _ _ h
+      (λ a d. recovers_doubts a d t count flags.0 (Err c))
       (carried (call_of n (Recover t count flags)) e.answer is.calls refl)
-  scan_kept t count flags (answer.Given xs) h is = moved_kept _ _ h (λ a d. recovers_doubts a d t count flags.0 (Ok xs))
+  scan_kept t count flags (answer.Given xs) h is = moved_kept _ _ h
+      (λ a d. recovers_doubts a d t count flags.0 (Ok xs))
       (carried (call_of n (Recover t count flags)) e.answer is.calls refl)
   scan_kept t count flags (answer.Found v) h is = absurd h
   scan_kept t count flags answer.Done h is = absurd h
@@ -413,7 +439,8 @@ module _ (n : NameNumbers) (old new : KvSight) (l l' : Xid → Bool) (b : ℕ) (
       moved_kept _ _ calls (λ m k closes. branches_doubts m k (closes_one m k flags.0 c closes))
       (carried (call_of n (Close flags)) (judged.Code c) is.calls says))
   request_kept (Branch f t x flags) a h is covered = with_code _ a h is.says (λ c calls says.
-      branch_kept f t x flags c calls (carried (call_of n (Branch f t x flags)) (judged.Code c) is.calls says))
+      branch_kept f t x flags c calls (carried (call_of n (Branch f t x flags))
+      (judged.Code c) is.calls says))
   request_kept (Recover t count flags) a h is covered = scan_kept t count flags a h is
   request_kept (Work t op) a h is covered = op_kept t op a h is
   request_kept (Restart keep) a h is covered = booted_kept keep a h (covered keep refl) is

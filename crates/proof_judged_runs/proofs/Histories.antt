@@ -87,14 +87,18 @@ record Goes (n : NameNumbers) (new : KvSight) (b : ℕ) (s : Sight) (e : History
   mirrors : Mirrors n new.store.tables (known_in new) sight
   remembered : AreLost n lost sight.lost
 
-module _ (n : NameNumbers) (old new : KvSight) (l : Xid → Bool) (b : ℕ) (s : Sight) (e : HistoryEvent) (r : IsRecorded old l)
+module _ (n : NameNumbers) (old new : KvSight) (l : Xid → Bool) (b : ℕ) (s : Sight) (e : HistoryEvent)
+    (r : IsRecorded old l)
     (j : IsJudged n old s) (boots : AreBoots b (records_of old.log.sight.kept)) (sound : IsSoundManager old)
-    (after : IsSoundManager new) (mirrors : Mirrors n old.store.tables (known_in old) s) (lost : AreLost n l s.lost) where
+    (after : IsSoundManager new) (mirrors : Mirrors n old.store.tables (known_in old) s)
+    (lost : AreLost n l s.lost) where
   -- a deed
-  deed_goes : (q : Request) (a : RequestAnswer) → is_deed q a ≡ true → RequestMakes old new q a → IsRequestEvent n q a e → Goes n new b s e
+  deed_goes : (q : Request) (a : RequestAnswer) → is_deed q a ≡ true → RequestMakes old new q a
+      → IsRequestEvent n q a e → Goes n new b s e
   deed_goes q a covered makes is =
       let deed = deed_of n old new e l r sound after q a covered makes is in
-      let step = deed_moves n old.store.tables new.store.tables (known_in old) (known_in new) l (lost_next q l old new) s e
+      let step = deed_moves n old.store.tables new.store.tables (known_in old) (known_in new) l
+      (lost_next q l old new) s e
       mirrors lost after.listed.once deed in
       let recorded = recorded_of old new l r sound after q a covered makes in
       record {
@@ -102,14 +106,16 @@ module _ (n : NameNumbers) (old new : KvSight) (l : Xid → Bool) (b : ℕ) (s :
         row = step.row;
         lost = lost_next q l old new;
         recorded = recorded;
-        kept = request_kept n old new l (lost_next q l old new) b s step.sight e r recorded j boots sound after mirrors step.books
+        kept = request_kept n old new l (lost_next q l old new) b s step.sight e r recorded j boots sound
+            after mirrors step.books
             q a makes is (λ keep eq. subst (λ (z : Request). is_deed z a ≡ true) eq covered);
         mirrors = step.mirrors;
         remembered = step.lost;
       }
 
   -- a read that finds
-  found_goes : (t : ℕ) (k : List ℕ) (v : Option (List ℕ)) → KvCalls old new ⊥ (λ before behind. ReadsKey before behind t k v)
+  found_goes : (t : ℕ) (k : List ℕ) (v : Option (List ℕ))
+      → KvCalls old new ⊥ (λ before behind. ReadsKey before behind t k v)
       → IsRequestEvent n (Work t (Get k)) (answer.Found v) e → Goes n new b s e
   found_goes t k v h is =
       let w = h.works r.works in
@@ -124,9 +130,11 @@ module _ (n : NameNumbers) (old new : KvSight) (l : Xid → Bool) (b : ℕ) (s :
       record {
         sight = s;
         row = subst (λ (c : JudgedCall). Contains (next lacks_forced s c e.answer) s) (sym is.calls)
-            (subst (λ (a : JudgedAnswer). Contains (next lacks_forced s (call.Get t (n.word k)) a) s) (sym is.says)
+            (subst (λ (a : JudgedAnswer). Contains (next lacks_forced s (call.Get t (n.word k)) a) s)
+            (sym is.says)
             (in_next s (call.Get t (n.word k)) (judged.Found (value_number n v)) s mirrors.waits
-            (subst (λ (o : Option ℕ). Contains (read_rows lacks_forced o t (n.word k) (value_number n v) s) s) (sym active)
+            (subst (λ (o : Option ℕ). Contains (read_rows lacks_forced o t (n.word k) (value_number n v) s) s)
+            (sym active)
             (in_if (reads_in lacks_forced (n.xid w.branch) (n.word k) (value_number n v) s) s admitted))));
         lost = l;
         recorded = recorded;
@@ -150,7 +158,8 @@ module _ (n : NameNumbers) (old new : KvSight) (l : Xid → Bool) (b : ℕ) (s :
       let le = next_le b (left_by old.log.sight keep) (left_boots b old.log.sight keep boots) in
       omega (arith, few, far, le)
 
-  booted : b + 1 < 2 ^ 63 → (keep : Option ℕ) (a : RequestAnswer) → Boots old new keep a → is_deed (Restart keep) a ≡ true
+  booted : b + 1 < 2 ^ 63 → (keep : Option ℕ) (a : RequestAnswer) → Boots old new keep a
+      → is_deed (Restart keep) a ≡ true
   booted few keep (answer.Booted z) h = refl
   booted few keep (answer.NotBooted w) h = absurd (never_refused few (kept_bytes keep) w h.0 h.1)
   booted few keep (answer.Code c) h = absurd h
@@ -162,7 +171,8 @@ module _ (n : NameNumbers) (old new : KvSight) (l : Xid → Bool) (b : ℕ) (s :
   booted few keep (answer.NotTrimmed w) h = absurd h
   booted few keep (answer.NotDecided w) h = absurd h
 
-  work_goes : (t : ℕ) (op : Op) (a : RequestAnswer) → RequestMakes old new (Work t op) a → IsRequestEvent n (Work t op) a e → Goes n new b s e
+  work_goes : (t : ℕ) (op : Op) (a : RequestAnswer) → RequestMakes old new (Work t op) a
+      → IsRequestEvent n (Work t op) a e → Goes n new b s e
   work_goes t (Get k) (answer.Found v) h is = found_goes t k v h is
   work_goes t (Put k v) (answer.Found w) h is = absurd h
   work_goes t (Delete k) (answer.Found w) h is = absurd h
@@ -176,7 +186,8 @@ module _ (n : NameNumbers) (old new : KvSight) (l : Xid → Bool) (b : ℕ) (s :
   work_goes t op (answer.NotTrimmed w) h is = deed_goes (Work t op) (answer.NotTrimmed w) refl h is
   work_goes t op (answer.NotDecided w) h is = deed_goes (Work t op) (answer.NotDecided w) refl h is
 
-  request_goes : b + 1 < 2 ^ 63 → (q : Request) (a : RequestAnswer) → RequestMakes old new q a → IsRequestEvent n q a e → Goes n new b s e
+  request_goes : b + 1 < 2 ^ 63 → (q : Request) (a : RequestAnswer) → RequestMakes old new q a
+      → IsRequestEvent n q a e → Goes n new b s e
   request_goes few (Open flags migrates) a h is = deed_goes (Open flags migrates) a refl h is
   request_goes few (Close flags) a h is = deed_goes (Close flags) a refl h is
   request_goes few (Branch f t x flags) a h is = deed_goes (Branch f t x flags) a refl h is
@@ -188,15 +199,18 @@ module _ (n : NameNumbers) (old new : KvSight) (l : Xid → Bool) (b : ℕ) (s :
 
 -- Whole runs.
 
-first_sound : (m k : KvSight) (rs : List Request) (given : List RequestAnswer) → RequestsLead m rs given k → IsSoundManager m
+first_sound : (m k : KvSight) (rs : List Request) (given : List RequestAnswer) → RequestsLead m rs given k
+    → IsSoundManager m
 first_sound m k [] [] h = h.1
 first_sound m k [] (a ∷ given) h = absurd h
 first_sound m k (q ∷ rs) [] h = absurd h
 first_sound m k (q ∷ rs) (a ∷ given) h = h.1
 
-goes_on : (n : NameNumbers) (m k : KvSight) (l : Xid → Bool) (b : ℕ) (s : Sight) (rs : List Request) (given : List RequestAnswer)
+goes_on : (n : NameNumbers) (m k : KvSight) (l : Xid → Bool) (b : ℕ) (s : Sight) (rs : List Request)
+    (given : List RequestAnswer)
     (es : List HistoryEvent) → IsRecorded m l → IsJudged n m s → AreBoots b (records_of m.log.sight.kept)
-    → Mirrors n m.store.tables (known_in m) s → AreLost n l s.lost → b + length rs < 2 ^ 63 → RequestsLead m rs given k
+    → Mirrors n m.store.tables (known_in m) s → AreLost n l s.lost → b + length rs < 2 ^ 63
+    → RequestsLead m rs given k
     → AreRequests n rs given es → (u : Sight) × JudgeLeads lacks_forced s es u
 goes_on n m k l b s [] [] [] r j boots mirrors lost few h is = (s, refl)
 goes_on n m k l b s [] [] (e ∷ es) r j boots mirrors lost few h is = absurd is
@@ -205,13 +219,16 @@ goes_on n m k l b s (q ∷ rs) [] es r j boots mirrors lost few h is = absurd h
 goes_on n m k l b s (q ∷ rs) (a ∷ given) [] r j boots mirrors lost few h is = absurd is
 goes_on n m k l b s (q ∷ rs) (a ∷ given) (e ∷ es) r j boots mirrors lost few h is =
     let after = first_sound h.0 k rs given h.3 in
-    let step = request_goes n m h.0 l b s e r j boots h.1 after mirrors lost (omega (arith, few)) q a h.2 is.0 in
-    let rest = goes_on n h.0 k step.lost (b + 1) step.sight rs given es step.recorded step.kept.0 step.kept.1 step.mirrors
+    let step = request_goes n m h.0 l b s e r j boots h.1 after mirrors lost (omega (arith, few)) q a h.2 is.0
+    in
+    let rest = goes_on n h.0 k step.lost (b + 1) step.sight rs given es step.recorded step.kept.0
+    step.kept.1 step.mirrors
     step.remembered (omega (arith, few)) h.3 is.1 in
     (rest.0, (step.sight, step.row, rest.1))
 
 -- a new manager has new tables
-no_records : (log : LogState) → OpensLog (log_form (record { 0 = 1 }) Manager) [] 0 0 log → records_of log.sight.kept ≡ []
+no_records : (log : LogState) → OpensLog (log_form (record { 0 = 1 }) Manager) [] 0 0 log
+    → records_of log.sight.kept ≡ []
 unfolding read_log same_bytes
 no_records log opens = let one : Whole [] 0 ≡ Whole (records_of log.sight.kept) opens.torn = opens.read in cc
 
@@ -256,11 +273,13 @@ module _ (m : KvSight) (fresh : IsFreshManager m) where
       (fresh.starts.forced ∙ ap (λ ls. ls ++ boot_record m.boot ∷ []) empty_log) fresh.starts.unforced
 
   nothing_read : fresh.starts.left.seen ≡ nothing_seen
-  nothing_read = seen_nothing (records_of fresh.log.sight.kept) fresh.starts.left.seen empty_log fresh.starts.left.read
+  nothing_read = seen_nothing (records_of fresh.log.sight.kept) fresh.starts.left.seen empty_log
+      fresh.starts.left.read
 
   first_boot : m.boot ≡ 1
   first_boot =
-      let is : Some 1 ≡ Some m.boot = ap (λ (t : SeenLog). boot_after_last t.boot) (sym nothing_read) ∙ fresh.starts.left.next in
+      let is : Some 1 ≡ Some m.boot = ap (λ (t : SeenLog). boot_after_last t.boot) (sym nothing_read)
+      ∙ fresh.starts.left.next in
       let one : 1 ≡ m.boot = cc in sym one
 
   none_logged : logged m ≡ no_data
@@ -297,15 +316,19 @@ module _ (m : KvSight) (fresh : IsFreshManager m) where
   new_judged : (n : NameNumbers) → IsJudged n m first_sight
   new_judged n = forced_judged n m none_lost first_sight (new_recorded m fresh) none_stored (new_heard n)
       (λ keep. forced_left m.log.sight (boot_record m.boot ∷ []) keep
-      (fresh.starts.forced ∙ ap (λ ls. ls ++ boot_record m.boot ∷ []) empty_log) fresh.starts.unforced ∙ sym one_record)
+      (fresh.starts.forced ∙ ap (λ ls. ls ++ boot_record m.boot ∷ []) empty_log) fresh.starts.unforced
+      ∙ sym one_record)
 
   new_boots : AreBoots 1 (records_of m.log.sight.kept)
   new_boots = subst (λ (ls : List LogRecord). AreBoots 1 ls) (sym one_record) (omega (arith, first_boot), tt)
 
-pub runs_legal : (n : NameNumbers) (m k : KvSight) (rs : List Request) (given : List RequestAnswer) (es : List HistoryEvent) → IsFreshManager m
+pub runs_legal : (n : NameNumbers) (m k : KvSight) (rs : List Request) (given : List RequestAnswer)
+    (es : List HistoryEvent) → IsFreshManager m
     → RequestsLead m rs given k → length rs < 2 ^ 63 - 1 → AreRequests n rs given es → IsLegal lacks_forced es
-runs_legal n m k rs given es fresh h few is = goes_on n m k none_lost 1 first_sight rs given es (new_recorded m fresh)
-    (new_judged m fresh n) (new_boots m fresh) (new_mirrors n m.store.tables (known_in m) (new_tables m fresh))
+runs_legal n m k rs given es fresh h few is = goes_on n m k none_lost 1 first_sight rs given es
+    (new_recorded m fresh)
+    (new_judged m fresh n) (new_boots m fresh)
+    (new_mirrors n m.store.tables (known_in m) (new_tables m fresh))
     (record { each = tt; here = λ x e. absurd (false≢true e) }) (omega (arith, few)) h is
 
 pub report_legal : (input text : List ℕ) → IsXaReport Ended input text → Conforms input text

@@ -58,9 +58,11 @@ three_open Decided h = refl
 three_open (ToldOf o) h = refl
 three_open Finished h = absurd cc
 
-pub trim_judged : (n : NameNumbers) (old new : KvSight) (l l' : Xid → Bool) (s u : Sight) → IsJudged n old s → IsRecorded old l
+pub trim_judged : (n : NameNumbers) (old new : KvSight) (l l' : Xid → Bool) (s u : Sight) → IsJudged n old s
+    → IsRecorded old l
     → IsRecorded new l' → HasSoundLog old
-    → new.log.sight ≡ forced_sight old.log.sight.form (trim_of (records_of old.log.sight.kept)) old.log.sight.failures
+    → new.log.sight ≡ forced_sight old.log.sight.form (trim_of (records_of old.log.sight.kept))
+    old.log.sight.failures
     → RebasesStore old.store new.store → ledger u ≡ ledger s → IsJudged n new u
 trim_judged n old new l l' s u j r r' log is store books = forced_judged n new l' u r' stored
     (same_heard n (value_of old) (value_of new) (written_by old) (written_by new) s u books
@@ -88,7 +90,8 @@ trim_judged n old new l l' s u j r r' log is store books = forced_judged n new l
     stored = record {
       are = rebased_data old.store.versions new.store.versions (logged new) store.versions
           (subst (λ (ks : List LogRecord). AreData old.store.versions (data_of ks)) (sym all)
-          (same_data old.store.versions (data_of ls) (data_of (trim_of ls)) same.count same.pairs j.stored.are));
+          (same_data old.store.versions (data_of ls) (data_of (trim_of ls)) same.count
+          same.pairs j.stored.are));
       rise = ap (λ ks. keys_rise (data_of ks).pairs) all ∙ ap keys_rise same.pairs ∙ j.stored.rise;
       prepared = λ x e.
           let was : state_of old.store x ≡ S3 = sym (state x) ∙ e in
@@ -116,12 +119,15 @@ shut_by (Some p) h = by (opens p.mark) h where
   by true e = absurd (e refl)
   by false e = refl
 
-pub restart_judged : (n : NameNumbers) (old new : KvSight) (l l' : Xid → Bool) (s u : Sight) (keep : ℕ) (given : List Xid)
+pub restart_judged : (n : NameNumbers) (old new : KvSight) (l l' : Xid → Bool) (s u : Sight) (keep : ℕ)
+    (given : List Xid)
     → IsJudged n old s → IsRecorded old l → IsRecorded new l' → Restarted old new keep given
-    → IsReturned n s u (state_in old.store.tables.branches.branches) (state_in new.store.tables.branches.branches)
+    → IsReturned n s u (state_in old.store.tables.branches.branches)
+    (state_in new.store.tables.branches.branches)
     → IsJudged n new u
 restart_judged n old new l l' s u keep given j r r' made returned = forced_judged n new l' u r' stored heard
-    (λ k. forced_left new.log.sight (ls ++ boot_record new.boot ∷ []) k made.log.forced made.log.unforced ∙ sym all)
+    (λ k. forced_left new.log.sight (ls ++ boot_record new.boot ∷ []) k made.log.forced made.log.unforced
+    ∙ sym all)
   where
     ls : List LogRecord
     ls = left_by old.log.sight keep
@@ -157,25 +163,34 @@ restart_judged n old new l l' s u keep given j r r' made returned = forced_judge
     said : (x : Xid) → state_of new.store x ≡ marked_state (mark_at ls x)
     said x = (restarted old new keep given made).states x
 
-    stays : (x : Xid) → is_in_doubt (state_of old.store x) ≡ true → state_of new.store x ≡ state_of old.store x
-    stays x h = said x ∙ by (state_of old.store x) h (known_of old.store x) (decided_in ls x) (l x) (r.left keep x) where
-      by : (st : BranchState) → is_in_doubt st ≡ true
-          → (k k' : Known) (b : Bool) → IsSaid (doubt_of st) k (marked_state (mark_at ls x)) k' b
-          → marked_state (mark_at ls x) ≡ st
-      by S3 e k k' b q = q
-      by S5 e k k' b q = q.0
-      by S0 e k k' b q = absurd (false≢true e)
-      by S1 e k k' b q = absurd (false≢true e)
-      by S2 e k k' b q = absurd (false≢true e)
-      by S4 e k k' b q = absurd (false≢true e)
+    stays : (x : Xid) → is_in_doubt (state_of old.store x) ≡ true
+        → state_of new.store x ≡ state_of old.store x
+    stays x h = said x ∙ by (state_of old.store x) h (known_of old.store x) (decided_in ls x) (l x)
+        (r.left keep x) where
+          by : (st : BranchState) → is_in_doubt st ≡ true
+              → (k k' : Known) (b : Bool) → IsSaid (doubt_of st) k (marked_state (mark_at ls x)) k' b
+              → marked_state (mark_at ls x) ≡ st
+          by S3 e k k' b q = q
+          by S5 e k k' b q = q.0
+          by S0 e k k' b q = absurd (false≢true e)
+          by S1 e k k' b q = absurd (false≢true e)
+          by S2 e k k' b q = absurd (false≢true e)
+          by S4 e k k' b q = absurd (false≢true e)
 
     heard : IsHeard n (value_of new) (written_by new) u
-    heard = restart_heard n (value_left old keep) (value_of new) (written_by old) (promised_left old keep) (written_by new)
-        (comes_back old keep) s u (state_in old.store.tables.branches.branches) (state_in new.store.tables.branches.branches)
+    heard = restart_heard n (value_left old keep) (value_of new) (written_by old) (promised_left old keep)
+        (written_by new)
+        (comes_back old keep) s u (state_in old.store.tables.branches.branches)
+        (state_in new.store.tables.branches.branches)
         returned (j.leave keep) j.heard.works
         (λ x e.
-        let parts = and_parts (is_three (marked_state (mark_at ls x))) (not (is_in_doubt (state_of old.store x))) e in
-        (not-true (is_in_doubt (state_of old.store x)) parts.1, said x ∙ three_is (marked_state (mark_at ls x)) parts.0))
-        (λ x off three. and_from (is_three (marked_state (mark_at ls x))) (not (is_in_doubt (state_of old.store x)))
+        let parts = and_parts (is_three (marked_state (mark_at ls x)))
+        (not (is_in_doubt (state_of old.store x))) e in (
+          not-true (is_in_doubt (state_of old.store x)) parts.1,
+          said x
+              ∙ three_is (marked_state (mark_at ls x)) parts.0,
+        ))
+        (λ x off three. and_from (is_three (marked_state (mark_at ls x)))
+        (not (is_in_doubt (state_of old.store x)))
         (ap is_three (sym (said x) ∙ three)) (not_from_false (is_in_doubt (state_of old.store x)) off))
         stays (j.promised keep) j.stored.decided (λ k. made.left.stored.values k) promises nothing

@@ -63,8 +63,8 @@ use Rattle.xa_engine.specs.Runs.{HasSoundLog}
 
 -- What is kept.
 
--- what records say of a branch that is in doubt so, and was decided so: the same; or of one that is not in doubt nothing, or
--- that it is prepared, if a crash may bring it back
+-- what records say of a branch that is in doubt so, and was decided so: the same; or of one that is not in
+-- doubt nothing, or that it is prepared, if a crash may bring it back
 abbrev pub IsSaid : BranchState → Known → BranchState → Known → Bool → Type 0
 IsSaid S3 k t j lost = t ≡ S3
 IsSaid S5 k t j lost = (t ≡ S5) × (j.outcome ≡ k.outcome)
@@ -76,10 +76,11 @@ IsSaid S4 k t j lost = (t ≡ S0) ⊎ ((t ≡ S3) × (lost ≡ true))
 -- what these records say of a branch of a manager
 abbrev pub SaysOf : KvSight → (Xid → Bool) → List LogRecord → Xid → Type 0
 SaysOf m l ls x =
-    IsSaid (doubt_of (state_of m.store x)) (known_of m.store x) (marked_state (mark_at ls x)) (decided_in ls x) (l x)
+    IsSaid (doubt_of (state_of m.store x)) (known_of m.store x) (marked_state (mark_at ls x))
+    (decided_in ls x) (l x)
 
--- the device has not failed; all records say of each branch what the tables do, and those that a crash may leave say
--- it too, but for branches that it may bring back
+-- the device has not failed; all records say of each branch what the tables do, and those that a crash may
+-- leave say it too, but for branches that it may bring back
 pub record IsRecorded (m : KvSight) (l : Xid → Bool) : Type 0 where
   pub works : m.log.sight.failed ≡ false
   pub begun : has_records (records_of m.log.sight.kept) ≡ true
@@ -96,7 +97,8 @@ five_is S2 h = absurd cc
 five_is S3 h = absurd cc
 five_is S4 h = absurd cc
 
-more_said : (s : BranchState) (k j : Known) (t : BranchState) (a b : Bool) → (a ≡ true → b ≡ true) → IsSaid s k t j a
+more_said : (s : BranchState) (k j : Known) (t : BranchState) (a b : Bool) → (a ≡ true → b ≡ true)
+    → IsSaid s k t j a
     → IsSaid s k t j b
 more_said S0 k j t a b f h = elim h [ inl gone ↦ inl gone | inr back ↦ inr (back.0, f back.1) ]
 more_said S1 k j t a b f h = elim h [ inl gone ↦ inl gone | inr back ↦ inr (back.0, f back.1) ]
@@ -116,14 +118,16 @@ whole_said S4 k j t lost e f = inl e
 whole_said S5 k j t lost e f = (e, f refl)
 
 -- a crash may bring back more
-pub more_recorded : (m : KvSight) (l l' : Xid → Bool) → ((x : Xid) → l x ≡ true → l' x ≡ true) → IsRecorded m l
+pub more_recorded : (m : KvSight) (l l' : Xid → Bool) → ((x : Xid) → l x ≡ true → l' x ≡ true)
+    → IsRecorded m l
     → IsRecorded m l'
 more_recorded m l l' f r = record {
   works = r.works;
   begun = r.begun;
   now = r.now;
   decided = r.decided;
-  left = λ keep x. more_said (doubt_of (state_of m.store x)) (known_of m.store x) (decided_in (left_by m.log.sight keep) x)
+  left = λ keep x. more_said (doubt_of (state_of m.store x)) (known_of m.store x)
+      (decided_in (left_by m.log.sight keep) x)
       (marked_state (mark_at (left_by m.log.sight keep) x)) (l x) (l' x) (f x) (r.left keep x);
 }
 
@@ -138,7 +142,8 @@ pub forced_left : (s : LogSight) (ls : List LogRecord) (keep : ℕ) → s.kept.f
 forced_left s ls keep one none = ap (λ us. s.kept.forced ++ whole_within (s.behind + keep) us) none
     ∙ ap (λ us. s.kept.forced ++ us) (within_none (s.behind + keep)) ∙ append-nil s.kept.forced ∙ one
 
-pub forced_all : (s : LogSight) (ls : List LogRecord) → s.kept.forced ≡ ls → s.kept.unforced ≡ [] → records_of s.kept ≡ ls
+pub forced_all : (s : LogSight) (ls : List LogRecord) → s.kept.forced ≡ ls → s.kept.unforced ≡ []
+    → records_of s.kept ≡ ls
 forced_all s ls one none = ap (λ us. s.kept.forced ++ us) none ∙ append-nil s.kept.forced ∙ one
 
 pub forced_recorded : (m : KvSight) (l : Xid → Bool) (ls : List LogRecord) → m.log.sight.failed ≡ false
@@ -153,8 +158,10 @@ forced_recorded m l ls works one none some now decided =
       begun = ap has_records all ∙ some;
       now = λ x. ap (λ ks. marked_state (mark_at ks x)) all ∙ now x;
       decided = λ x e. ap (λ ks. (decided_in ks x).outcome) all ∙ decided x e;
-      left = λ keep x. subst (λ (ks : List LogRecord). SaysOf m l ks x) (sym (forced_left m.log.sight ls keep one none))
-          (whole_said (state_of m.store x) (known_of m.store x) (decided_in ls x) (marked_state (mark_at ls x)) (l x) (now x)
+      left = λ keep x. subst (λ (ks : List LogRecord). SaysOf m l ks x)
+          (sym (forced_left m.log.sight ls keep one none))
+          (whole_said (state_of m.store x) (known_of m.store x) (decided_in ls x)
+          (marked_state (mark_at ls x)) (l x) (now x)
           (decided x));
     }
 
@@ -166,14 +173,17 @@ pub stays_recorded : (old new : KvSight) (l : Xid → Bool) → IsRecorded old l
 stays_recorded old new l r log doubts known = record {
   works = ap (λ (k : LogSight). k.failed) log ∙ r.works;
   begun = ap (λ (k : LogSight). has_records (records_of k.kept)) log ∙ r.begun;
-  now = λ x. ap (λ (k : LogSight). marked_state (mark_at (records_of k.kept) x)) log ∙ r.now x ∙ sym (doubts x);
+  now = λ x. ap (λ (k : LogSight). marked_state (mark_at (records_of k.kept) x)) log ∙ r.now x
+      ∙ sym (doubts x);
   decided = λ x e. ap (λ (k : LogSight). (decided_in (records_of k.kept) x).outcome) log
       ∙ r.decided x (five_is (state_of old.store x) (sym (doubts x) ∙ ap doubt_of e))
       ∙ ap (λ (k : Known). k.outcome) (sym (known x));
   left = λ keep x. subst (λ (k : LogSight). SaysOf new l (left_by k keep) x) (sym log)
-      (subst (λ (s : BranchState). IsSaid s (known_of new.store x) (marked_state (mark_at (left_by old.log.sight keep) x))
+      (subst (λ (s : BranchState). IsSaid s (known_of new.store x)
+      (marked_state (mark_at (left_by old.log.sight keep) x))
       (decided_in (left_by old.log.sight keep) x) (l x)) (sym (doubts x))
-      (subst (λ (k : Known). IsSaid (doubt_of (state_of old.store x)) k (marked_state (mark_at (left_by old.log.sight keep) x))
+      (subst (λ (k : Known). IsSaid (doubt_of (state_of old.store x)) k
+      (marked_state (mark_at (left_by old.log.sight keep) x))
       (decided_in (left_by old.log.sight keep) x) (l x)) (sym (known x)) (r.left keep x)));
 }
 
@@ -251,7 +261,8 @@ within_more k [] u = by (nat_le (record_size u) k) where
 within_more k (v ∷ us) u = by (nat_le (record_size v) k) (within_more (k - record_size v) us u) where
   by : (b : Bool) → (whole_within (k - record_size v) (us ++ u ∷ []) ≡ whole_within (k - record_size v) us)
       ⊎ (whole_within (k - record_size v) (us ++ u ∷ []) ≡ us ++ u ∷ [])
-      → (cond b (v ∷ whole_within (k - record_size v) (us ++ u ∷ [])) [] ≡ cond b (v ∷ whole_within (k - record_size v) us) [])
+      → (cond b (v ∷ whole_within (k - record_size v) (us ++ u ∷ [])) []
+      ≡ cond b (v ∷ whole_within (k - record_size v) us) [])
       ⊎ (cond b (v ∷ whole_within (k - record_size v) (us ++ u ∷ [])) [] ≡ v ∷ (us ++ u ∷ []))
   by true h = elim h [
     | inl front ↦ inl (ap (λ ls. v ∷ ls) front)
@@ -268,7 +279,8 @@ IsLoose RolledBack = Unit {0}
 IsLoose (Told o) = Unit {0}
 IsLoose _ = ⊥
 
-module _ (old new : KvSight) (l l' : Xid → Bool) (x : Xid) (e : BranchRecord) (ws : List Write) (is_forced : Bool)
+module _ (old new : KvSight) (l l' : Xid → Bool) (x : Xid) (e : BranchRecord) (ws : List Write)
+    (is_forced : Bool)
     (r : IsRecorded old l) (log : new.log.sight ≡ with_record old.log.sight (entry_record e x ws) is_forced)
     (was : state_of old.store x ≡ comes_from e) (own : state_of new.store x ≡ leads e)
     (others : (y : Xid) → same x y ≡ false → state_of new.store y ≡ state_of old.store y)
@@ -283,18 +295,23 @@ module _ (old new : KvSight) (l l' : Xid → Bool) (x : Xid) (e : BranchRecord) 
   u = entry_record e x ws
 
   said_other : (ks : List LogRecord) (y : Xid) → same x y ≡ false → mark_at (ks ++ u ∷ []) y ≡ mark_at ks y
-  said_other ks y apart = mark_behind ks u y ∙ ap (mark_after (Foreign y) (mark_at ks y)) (entry_by_xid e x ws)
+  said_other ks y apart = mark_behind ks u y ∙ ap (mark_after (Foreign y) (mark_at ks y))
+      (entry_by_xid e x ws)
       ∙ other_marks (mark_at ks y) e x y ws apart
 
-  decided_other : (ks : List LogRecord) (y : Xid) → same x y ≡ false → decided_in (ks ++ u ∷ []) y ≡ decided_in ks y
-  decided_other ks y apart = decided_behind ks u y ∙ ap (decision_after (Foreign y) (decided_in ks y)) (entry_by_xid e x ws)
+  decided_other : (ks : List LogRecord) (y : Xid) → same x y ≡ false
+      → decided_in (ks ++ u ∷ []) y ≡ decided_in ks y
+  decided_other ks y apart = decided_behind ks u y ∙ ap (decision_after (Foreign y) (decided_in ks y))
+      (entry_by_xid e x ws)
       ∙ other_decides (decided_in ks y) e x y ws apart
 
   said_own : marked_state (mark_at (ls ++ u ∷ []) x) ≡ doubt_of (state_of new.store x)
-  said_own = ap marked_state (mark_behind ls u x ∙ ap (mark_after (Foreign x) (mark_at ls x)) (entry_by_xid e x ws))
+  said_own = ap marked_state (mark_behind ls u x ∙ ap (mark_after (Foreign x) (mark_at ls x))
+      (entry_by_xid e x ws))
       ∙ own_marks (mark_at ls x) e x ws ∙ ap doubt_of (sym own)
 
-  decided_own : state_of new.store x ≡ S5 → (decided_in (ls ++ u ∷ []) x).outcome ≡ (known_of new.store x).outcome
+  decided_own : state_of new.store x ≡ S5 → (decided_in (ls ++ u ∷ []) x).outcome
+      ≡ (known_of new.store x).outcome
   decided_own q = ap (λ (k : Known). k.outcome)
       (decided_behind ls u x ∙ ap (decision_after (Foreign x) (decided_in ls x)) (entry_by_xid e x ws))
       ∙ own_decides (decided_in ls x) (decision_in old.store.decisions x) e x ws (sym own ∙ q)
@@ -314,7 +331,8 @@ module _ (old new : KvSight) (l l' : Xid → Bool) (x : Xid) (e : BranchRecord) 
     by : (b : Bool) → same x y ≡ b → state_of new.store y ≡ S5
         → (decided_in (ls ++ u ∷ []) y).outcome ≡ (known_of new.store y).outcome
     by true p q = subst (λ (z : Xid). state_of new.store z ≡ S5
-        → (decided_in (ls ++ u ∷ []) z).outcome ≡ (known_of new.store z).outcome) (same_is x y p) decided_own q
+        → (decided_in (ls ++ u ∷ []) z).outcome ≡ (known_of new.store z).outcome)
+        (same_is x y p) decided_own q
     by false p q = ap (λ (k : Known). k.outcome) (decided_other ls y p) ∙ r.decided y (sym (others y p) ∙ q)
         ∙ ap (λ (k : Known). k.outcome) (sym (others_known y p))
 
@@ -334,7 +352,8 @@ module _ (old new : KvSight) (l l' : Xid → Bool) (x : Xid) (e : BranchRecord) 
 
     ended : comes_from e ≡ S3 → leads e ≡ S0 → SaysOf new l' (left_by old.log.sight keep) x
     ended p q =
-        let three : t ≡ S3 = subst (λ (s : BranchState). IsSaid (doubt_of s) (known_of old.store x) t j (l x)) (was ∙ p)
+        let three : t ≡ S3 = subst (λ (s : BranchState). IsSaid (doubt_of s) (known_of old.store x) t j (l x))
+        (was ∙ p)
         (r.left keep x) in
         subst (λ (s : BranchState). IsSaid (doubt_of s) (known_of new.store x) t j (l' x)) (sym (own ∙ q))
         (inr (three, loses (was ∙ p) (own ∙ q)))
@@ -344,12 +363,15 @@ module _ (old new : KvSight) (l l' : Xid → Bool) (x : Xid) (e : BranchRecord) 
     by RolledBack is k = ended (ap comes_from is) (ap leads is)
     by (Told o) is k =
         let five : (t ≡ S5) × (j.outcome ≡ (known_of old.store x).outcome) =
-        subst (λ (s : BranchState). IsSaid (doubt_of s) (known_of old.store x) t j (l x)) (was ∙ ap comes_from is)
+        subst (λ (s : BranchState). IsSaid (doubt_of s) (known_of old.store x) t j (l x))
+        (was ∙ ap comes_from is)
         (r.left keep x) in
-        subst (λ (s : BranchState). IsSaid (doubt_of s) (known_of new.store x) t j (l' x)) (sym (own ∙ ap leads is)) (
+        subst (λ (s : BranchState). IsSaid (doubt_of s) (known_of new.store x) t j (l' x))
+        (sym (own ∙ ap leads is)) (
           five.0,
           five.1 ∙ sym (ap (λ o. (decision_or o).outcome) known
-              ∙ ap (λ (f : BranchRecord). (decision_or (known_behind (Some f) (decision_in old.store.decisions x))).outcome) is),
+              ∙ ap (λ (f : BranchRecord). (decision_or
+              (known_behind (Some f) (decision_in old.store.decisions x))).outcome) is),
         )
     by Prepared is k = absurd k
     by Direct is k = absurd k
@@ -366,10 +388,12 @@ module _ (old new : KvSight) (l l' : Xid → Bool) (x : Xid) (e : BranchRecord) 
     j = decided_in (left_by old.log.sight keep) y
 
     by : (b : Bool) → same x y ≡ b → SaysOf new l' (left_by old.log.sight keep) y
-    by true p = subst (λ (z : Xid). SaysOf new l' (left_by old.log.sight keep) z) (same_is x y p) (front_own ok keep)
+    by true p = subst (λ (z : Xid). SaysOf new l' (left_by old.log.sight keep) z) (same_is x y p)
+        (front_own ok keep)
     by false p = more_said (doubt_of (state_of new.store y)) (known_of new.store y) j t (l y) (l' y) (more y)
         (subst (λ (s : BranchState). IsSaid (doubt_of s) (known_of new.store y) t j (l y)) (sym (others y p))
-        (subst (λ (k : Known). IsSaid (doubt_of (state_of old.store y)) k t j (l y)) (sym (others_known y p)) (r.left keep y)))
+        (subst (λ (k : Known). IsSaid (doubt_of (state_of old.store y)) k t j (l y)) (sym (others_known y p))
+        (r.left keep y)))
 
   pub written_recorded : IsRecorded new l'
   written_recorded = by is_forced refl where
@@ -380,7 +404,8 @@ module _ (old new : KvSight) (l l' : Xid → Bool) (x : Xid) (e : BranchRecord) 
     by true q =
         let one = at_force true q in
         forced_recorded new l' (ls ++ u ∷ []) (ap (λ (k : LogSight). k.failed) one ∙ r.works)
-        (ap (λ (k : LogSight). k.kept.forced) one) (ap (λ (k : LogSight). k.kept.unforced) one) (has_more ls u) now_all
+        (ap (λ (k : LogSight). k.kept.forced) one) (ap (λ (k : LogSight). k.kept.unforced) one)
+        (has_more ls u) now_all
         decided_all
     by false q =
         let one = at_force false q in
@@ -393,11 +418,14 @@ module _ (old new : KvSight) (l l' : Xid → Bool) (x : Xid) (e : BranchRecord) 
           decided = λ y five. ap (λ ks. (decided_in ks y).outcome) all ∙ decided_all y five;
           left = λ keep y. subst (λ (k : LogSight). SaysOf new l' (left_by k keep) y) (sym one)
               (elim (within_more (old.log.sight.behind + keep) old.log.sight.kept.unforced u) [
-                | inl front ↦ subst (λ (ks : List LogRecord). SaysOf new l' (old.log.sight.kept.forced ++ ks) y) (sym front)
+                | inl front ↦ subst (λ (ks : List LogRecord). SaysOf new l'
+                    (old.log.sight.kept.forced ++ ks) y) (sym front)
                     (front_so (loose q) keep y)
-                | inr whole ↦ subst (λ (ks : List LogRecord). SaysOf new l' (old.log.sight.kept.forced ++ ks) y) (sym whole)
+                | inr whole ↦ subst (λ (ks : List LogRecord). SaysOf new l'
+                    (old.log.sight.kept.forced ++ ks) y) (sym whole)
                     (subst (λ (ks : List LogRecord). SaysOf new l' ks y)
-                    (append_assoc old.log.sight.kept.forced old.log.sight.kept.unforced (u ∷ [])) (whole_so y))
+                    (append_assoc old.log.sight.kept.forced old.log.sight.kept.unforced (u ∷ []))
+                    (whole_so y))
               ]);
         }
 
@@ -434,7 +462,8 @@ loose_call s _ wrote b d e h f = absurd cc
 loose_decision : (o : Outcome) (e : BranchRecord) → (decide_turn o).is_forced ≡ false → IsLoose e
 loose_decision o e f = absurd cc
 
-pub due_loose : (s : KvSight) (x : Xid) (c : Call) (turn : CallRow) (e : BranchRecord) → IsDueTurn s x c turn → turn.entry ≡ Some e
+pub due_loose : (s : KvSight) (x : Xid) (c : Call) (turn : CallRow) (e : BranchRecord) → IsDueTurn s x c turn
+    → turn.entry ≡ Some e
     → turn.is_forced ≡ false → IsLoose e
 due_loose s x c turn e due is f = by due.due where
   by : IsTurn s.store x c turn → IsLoose e
@@ -472,24 +501,29 @@ zero_is S4 h = absurd (false≢true h)
 zero_is S5 h = absurd (false≢true h)
 
 pub lost_before : (l : Xid → Bool) (old new : KvSight) (y : Xid) → l y ≡ true → lost_after l old new y ≡ true
-lost_before l old new y h = or_left (l y) (is_three (state_of old.store y) && is_zero (state_of new.store y)) h
+lost_before l old new y h = or_left (l y)
+    (is_three (state_of old.store y) && is_zero (state_of new.store y)) h
 
-pub lost_now : (l : Xid → Bool) (old new : KvSight) (y : Xid) → state_of old.store y ≡ S3 → state_of new.store y ≡ S0
+pub lost_now : (l : Xid → Bool) (old new : KvSight) (y : Xid) → state_of old.store y ≡ S3
+    → state_of new.store y ≡ S0
     → lost_after l old new y ≡ true
 lost_now l old new y p q = or_right (l y) (is_three (state_of old.store y) && is_zero (state_of new.store y))
-    (and_from (is_three (state_of old.store y)) (is_zero (state_of new.store y)) (ap is_three p) (ap is_zero q))
+    (and_from (is_three (state_of old.store y)) (is_zero (state_of new.store y))
+    (ap is_three p) (ap is_zero q))
 
 pub lost_cases : (l : Xid → Bool) (old new : KvSight) (y : Xid) → lost_after l old new y ≡ true
     → (l y ≡ true) ⊎ ((state_of old.store y ≡ S3) × (state_of new.store y ≡ S0))
 lost_cases l old new y h =
     elim (or_cases (l y) (is_three (state_of old.store y) && is_zero (state_of new.store y)) h) [
       | inl was ↦ inl was
-      | inr both ↦ (let parts = and_parts (is_three (state_of old.store y)) (is_zero (state_of new.store y)) both in
+      | inr both ↦ (let parts = and_parts (is_three (state_of old.store y))
+          (is_zero (state_of new.store y)) both in
           inr (three_is (state_of old.store y) parts.0, zero_is (state_of new.store y) parts.1))
     ]
 
 -- a branch took a turn
-pub turn_recorded : (old new : KvSight) (l : Xid → Bool) (x : Xid) (c : Call) (turn : CallRow) → IsRecorded old l
+pub turn_recorded : (old new : KvSight) (l : Xid → Bool) (x : Xid) (c : Call) (turn : CallRow)
+    → IsRecorded old l
     → IsDueTurn old x c turn → KvMakes old new x turn → IsRecorded new (lost_after l old new)
 turn_recorded old new l x c turn r due makes = by turn.entry refl where
   known_by : (y : Xid) → same x y ≡ false → known_of new.store y ≡ known_of old.store y
@@ -501,15 +535,19 @@ turn_recorded old new l x c turn r due makes = by turn.entry refl where
   by : (o : Option BranchRecord) → turn.entry ≡ o → IsRecorded new (lost_after l old new)
   by None is = more_recorded new l (lost_after l old new) (lost_before l old new)
       (stays_recorded old new l r (log_by None is)
-      (moves_doubts old.store.tables new.store.tables x turn.to (silent_doubt old x c turn due is) makes.tables.branch)
+      (moves_doubts old.store.tables new.store.tables x turn.to (silent_doubt old x c turn due is)
+      makes.tables.branch)
       (λ y. at_known y (same x y) refl))
     where
       at_known : (y : Xid) (b : Bool) → same x y ≡ b → known_of new.store y ≡ known_of old.store y
       at_known y true p = subst (λ (z : Xid). known_of new.store z ≡ known_of old.store z) (same_is x y p)
-          (ap decision_or (makes.decisions.own ∙ ap (λ o. known_behind o (decision_in old.store.decisions x)) is))
+          (ap decision_or (makes.decisions.own ∙ ap
+          (λ o. known_behind o (decision_in old.store.decisions x)) is))
       at_known y false p = known_by y p
-  by (Some e) is = written_recorded old new l (lost_after l old new) x e (writes_of old.store.writes x) turn.is_forced r
-      (log_by (Some e) is) (due_from old x c turn e due is) (makes.tables.branch.own ∙ due_leads old x c turn e due is)
+  by (Some e) is = written_recorded old new l (lost_after l old new) x e (writes_of old.store.writes x)
+      turn.is_forced r
+      (log_by (Some e) is) (due_from old x c turn e due is)
+      (makes.tables.branch.own ∙ due_leads old x c turn e due is)
       makes.tables.branch.others
       (makes.decisions.own ∙ ap (λ o. known_behind o (decision_in old.store.decisions x)) is) known_by
       (due_loose old x c turn e due is) (lost_before l old new) (lost_now l old new x)
@@ -578,7 +616,8 @@ module _ (ls : List LogRecord) (sound : AllByRecursion (IsSound Manager) ls) (or
 
   trim_marks : (x : Xid) → marked_state (mark_at (trim_of ls) x) ≡ marked_state (mark_at ls x)
   trim_marks x = by (is_open (mark_at ls x)) refl where
-    by : (b : Bool) → is_open (mark_at ls x) ≡ b → marked_state (mark_at (trim_of ls) x) ≡ marked_state (mark_at ls x)
+    by : (b : Bool) → is_open (mark_at ls x) ≡ b → marked_state (mark_at (trim_of ls) x)
+        ≡ marked_state (mark_at ls x)
     by true stays = ap marked_state (keeps.marks x stays)
     by false gone =
         let before : marked_state (mark_at ls x) ≡ S0 = shut_state (mark_at ls x) gone in
@@ -590,16 +629,19 @@ module _ (ls : List LogRecord) (sound : AllByRecursion (IsSound Manager) ls) (or
   trim_decides x five = keeps.decisions x (five_open (mark_at ls x) five)
 
 pub trim_recorded : (old new : KvSight) (l : Xid → Bool) → IsRecorded old l → HasSoundLog old
-    → new.log.sight ≡ forced_sight old.log.sight.form (trim_of (records_of old.log.sight.kept)) old.log.sight.failures
+    → new.log.sight ≡ forced_sight old.log.sight.form (trim_of (records_of old.log.sight.kept))
+    old.log.sight.failures
     → SameDoubts old.store.tables new.store.tables → ((y : Xid) → known_of new.store y ≡ known_of old.store y)
     → IsRecorded new l
 trim_recorded old new l r log is doubts known =
     let ls = records_of old.log.sight.kept in
-    forced_recorded new l (trim_of ls) (ap (λ (k : LogSight). k.failed) is) (ap (λ (k : LogSight). k.kept.forced) is)
+    forced_recorded new l (trim_of ls) (ap (λ (k : LogSight). k.failed) is)
+    (ap (λ (k : LogSight). k.kept.forced) is)
     (ap (λ (k : LogSight). k.kept.unforced) is) (some_trimmed ls)
     (λ x. trim_marks ls log.sound log.ordered r.begun x ∙ r.now x ∙ sym (doubts x))
     (λ x e. let five = five_is (state_of old.store x) (sym (doubts x) ∙ ap doubt_of e) in
-    ap (λ (k : Known). k.outcome) (trim_decides ls log.sound log.ordered r.begun x (r.now x ∙ ap doubt_of five))
+    ap (λ (k : Known). k.outcome) (trim_decides ls log.sound log.ordered r.begun x
+    (r.now x ∙ ap doubt_of five))
     ∙ r.decided x five ∙ ap (λ (k : Known). k.outcome) (sym (known x)))
 
 -- A restart.
@@ -614,20 +656,25 @@ marked_doubt Finished = refl
 pub boot_recorded : (new : KvSight) (ls : List LogRecord) (b : ℕ) → new.log.sight.failed ≡ false
     → new.log.sight.kept.forced ≡ ls ++ boot_record b ∷ [] → new.log.sight.kept.unforced ≡ []
     → ((x : Xid) → state_of new.store x ≡ marked_state (mark_at ls x))
-    → ((x : Xid) → state_of new.store x ≡ S5 → known_of new.store x ≡ decided_in ls x) → IsRecorded new none_lost
+    → ((x : Xid) → state_of new.store x ≡ S5 → known_of new.store x ≡ decided_in ls x)
+    → IsRecorded new none_lost
 boot_recorded new ls b works one none states decided =
     forced_recorded new none_lost (ls ++ boot_record b ∷ []) works one none (has_more ls (boot_record b))
-    (λ x. ap marked_state (mark_behind ls (boot_record b) x) ∙ sym (marked_doubt (mark_at ls x)) ∙ ap doubt_of (sym (states x)))
-    (λ x e. ap (λ (k : Known). k.outcome) (decided_behind ls (boot_record b) x) ∙ ap (λ (k : Known). k.outcome) (sym (decided x e)))
+    (λ x. ap marked_state (mark_behind ls (boot_record b) x) ∙ sym (marked_doubt (mark_at ls x))
+    ∙ ap doubt_of (sym (states x)))
+    (λ x e. ap (λ (k : Known). k.outcome) (decided_behind ls (boot_record b) x)
+    ∙ ap (λ (k : Known). k.outcome) (sym (decided x e)))
 
 -- A crash that keeps enough keeps all.
 
 within_all : (us : List LogRecord) (a b : ℕ) → a ≤ b → whole_within a us ≡ us → whole_within b us ≡ us
 unfolding whole_within
 within_all [] a b le h = refl
-within_all (u ∷ us) a b le h = by (nat_le (record_size u) a) refl h (λ q. within_all us (a - record_size u) (b - record_size u)
+within_all (u ∷ us) a b le h = by (nat_le (record_size u) a) refl h
+    (λ q. within_all us (a - record_size u) (b - record_size u)
     (omega arith) q) where
-      by : (c : Bool) → nat_le (record_size u) a ≡ c → cond c (u ∷ whole_within (a - record_size u) us) [] ≡ u ∷ us
+      by : (c : Bool) → nat_le (record_size u) a ≡ c → cond c (u ∷ whole_within (a - record_size u) us) []
+          ≡ u ∷ us
           → (whole_within (a - record_size u) us ≡ us → whole_within (b - record_size u) us ≡ us)
           → cond (nat_le (record_size u) b) (u ∷ whole_within (b - record_size u) us) [] ≡ u ∷ us
       by true q e rest =
@@ -640,7 +687,9 @@ pub all_left : (m : KvSight) → HasSoundLog m → left_by m.log.sight (2 ^ 64 -
 all_left m log =
     let s = m.log.sight in
     let whole : whole_within (s.behind + log.size) s.kept.unforced ≡ s.kept.unforced =
-    append_cancel_left s.kept.forced (whole_within (s.behind + log.size) s.kept.unforced) s.kept.unforced log.whole in
+    append_cancel_left s.kept.forced (whole_within (s.behind + log.size) s.kept.unforced)
+    s.kept.unforced log.whole in
     let fits = log.fits in
     let le : s.behind + log.size ≤ s.behind + (2 ^ 64 - 1) = omega arith in
-    ap (λ us. s.kept.forced ++ us) (within_all s.kept.unforced (s.behind + log.size) (s.behind + (2 ^ 64 - 1)) le whole)
+    ap (λ us. s.kept.forced ++ us) (within_all s.kept.unforced (s.behind + log.size)
+    (s.behind + (2 ^ 64 - 1)) le whole)

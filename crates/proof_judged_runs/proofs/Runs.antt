@@ -99,7 +99,8 @@ abbrev pub known_in : KvSight → Xid → JudgedDecision
 known_in m x = decision_of (known_of m.store x).outcome
 
 -- what is known of decisions hangs on their table alone
-pub same_known : (old new : KeySight) → new.decisions ≡ old.decisions → (y : Xid) → known_of new y ≡ known_of old y
+pub same_known : (old new : KeySight) → new.decisions ≡ old.decisions → (y : Xid)
+    → known_of new y ≡ known_of old y
 same_known old new e y = ap (λ (t : DecisionTable). decision_or (decision_in t y)) e
 
 -- the device of a manager in memory does not fail
@@ -167,12 +168,14 @@ returns_whole S5 t lost h = h
 five_left : (s t : BranchState) (b : Bool) → s ≡ S5 → Returns s t b → t ≡ S5
 five_left s t b q h = subst (λ (z : BranchState). Returns z t b) q h
 
-off_by_tests : (a b : Bool) (p q : Code) → (if a then Some p else if b then Some q else None) ≡ None → b ≡ false
+off_by_tests : (a b : Bool) (p q : Code) → (if a then Some p else if b then Some q else None) ≡ None
+    → b ≡ false
 off_by_tests true b p q h = absurd cc
 off_by_tests false true p q h = absurd cc
 off_by_tests false false p q h = refl
 
-module _ (n : NameNumbers) (old new : KvSight) (e : HistoryEvent) (l : Xid → Bool) (r : IsRecorded old l) (sound : IsSoundManager old)
+module _ (n : NameNumbers) (old new : KvSight) (e : HistoryEvent) (l : Xid → Bool) (r : IsRecorded old l)
+    (sound : IsSoundManager old)
     (after : IsSoundManager new) where
   -- the device fails nowhere
   breaks_none : MoreFailures old.log.sight.failures new.log.sight.failures → ⊥
@@ -221,10 +224,12 @@ module _ (n : NameNumbers) (old new : KvSight) (e : HistoryEvent) (l : Xid → B
       → Loses old.store.tables new.store.tables x l (lost_after l old new)
   loses_same x same y h = inl (same_more same y h)
 
-  still : ((y : Xid) → known_of new.store y ≡ known_of old.store y) → StillKnown new.store.tables (known_in old) (known_in new)
+  still : ((y : Xid) → known_of new.store y ≡ known_of old.store y)
+      → StillKnown new.store.tables (known_in old) (known_in new)
   still h y q = ap (λ (k : Known). decision_of k.outcome) (h y)
 
-  open_deed : (flags : Flags) (migrates : Bool) (c : Code) → RequestMoves old new c (λ a b. OpensManager a b flags.0 migrates c)
+  open_deed : (flags : Flags) (migrates : Bool) (c : Code)
+      → RequestMoves old new c (λ a b. OpensManager a b flags.0 migrates c)
       → Is e (asked.Function (function.Open flags)) (judged.Code c) → Deed_of
   open_deed flags migrates c h is =
       let m = h.works r.works in
@@ -233,7 +238,8 @@ module _ (n : NameNumbers) (old new : KvSight) (e : HistoryEvent) (l : Xid → B
   any_row : Wanted
   any_row c = (code.Ok, S0)
 
-  start_deed : (t : ℕ) (x : Xid) (flags : Flags) (c : Code) → RequestJoins table_verb.Start old new t x flags.0 c
+  start_deed : (t : ℕ) (x : Xid) (flags : Flags) (c : Code)
+      → RequestJoins table_verb.Start old new t x flags.0 c
       → Is e (asked.Function (function.Branch verb.Start (on n t x flags))) (judged.Code c) → Deed_of
   start_deed t x flags c h is =
       let m = (h any_row).works r.works in
@@ -246,7 +252,8 @@ module _ (n : NameNumbers) (old new : KvSight) (e : HistoryEvent) (l : Xid → B
       Ended any_row t x flags c m.tables (still (same_known old.store new.store m.decisions)) no_more is
 
   -- the row of a call that finishes a branch leaves what is known
-  row_known : (x : Xid) (c : Call) → BranchMakes (sight_of old) (sight_of new) x c (row_for (sight_of old) x c)
+  row_known : (x : Xid) (c : Call) → BranchMakes (sight_of old) (sight_of new) x c
+      (row_for (sight_of old) x c)
       → StillKnown new.store.tables (known_in old) (known_in new)
   row_known x c makes y q = by (same x y) refl where
     by : (b : Bool) → same x y ≡ b → known_in new y ≡ known_in old y
@@ -263,47 +270,58 @@ module _ (n : NameNumbers) (old new : KvSight) (e : HistoryEvent) (l : Xid → B
   finish_deed v w t x flags c ends work is (Failed f q same) = absurd (fails_none f)
   finish_deed v w t x flags c ends work is (Refused f ready same) =
       Finished v w (writes_of old.store.writes x) (known_of old.store x) t x flags c ends refl
-      (refused_call (rows_for old.store.tables x (writes_of old.store.writes x) (known_of old.store x)) old.store.tables
-      new.store.tables w t x flags.0 c work ready same.tables) (still same.rest.decided) (loses_same x same.tables) is
+      (refused_call (rows_for old.store.tables x (writes_of old.store.writes x) (known_of old.store x))
+      old.store.tables
+      new.store.tables w t x flags.0 c work ready same.tables) (still same.rest.decided)
+      (loses_same x same.tables) is
   finish_deed v w t x flags c ends work is (Limited f spent q same) =
       LimitedDeed v t x flags same.tables (still same.rest.decided) (same_more same.tables)
       (record { calls = is.calls; says = is.says ∙ ap (λ z. judged.Code z) q })
   finish_deed v w t x flags c ends work is (Unlisted f k ready none q same) =
       Finished v w (writes_of old.store.writes x) (known_of old.store x) t x flags c ends refl
-      (finishing (rows_for old.store.tables x (writes_of old.store.writes x) (known_of old.store x)) old.store.tables
+      (finishing (rows_for old.store.tables x (writes_of old.store.writes x) (known_of old.store x))
+      old.store.tables
       new.store.tables w t x flags.0 k c work ready (λ listed. absurd (none listed))
       (λ _. (
-        q ∙ sym (off_is k (works_as w flags.0 k (passed old.store.tables w x flags.0 k ready).by_flags ∙ work)),
+        q ∙ sym (off_is k (works_as w flags.0 k (passed old.store.tables w x flags.0 k ready).by_flags
+            ∙ work)),
         same.tables,
       ))) (still same.rest.decided) (loses_same x same.tables) is
   finish_deed v w t x flags c ends work is (Made f k ready q makes) =
       Finished v w (writes_of old.store.writes x) (known_of old.store x) t x flags c ends refl
-      (finishing (rows_for old.store.tables x (writes_of old.store.writes x) (known_of old.store x)) old.store.tables
-      new.store.tables w t x flags.0 k c work ready (λ listed. (q, makes.tables)) (λ none. absurd (none makes.listed)))
+      (finishing (rows_for old.store.tables x (writes_of old.store.writes x) (known_of old.store x))
+      old.store.tables
+      new.store.tables w t x flags.0 k c work ready (λ listed. (q, makes.tables))
+      (λ none. absurd (none makes.listed)))
       (row_known x k makes) (loses_by x makes.tables.branch.others) is
   finish_deed v w t x flags c ends work is (Broke f k ready q fails) = absurd (breaks_none fails.log.cause)
 
-  branch_deed : (f : BranchCall) (t : ℕ) (x : Xid) (flags : Flags) (c : Code) → CallsBranch f old new t x flags.0 c
-      → Is e (asked.Function (function.Branch (verb_of f) (on n t x flags))) (judged.Code c) → Deed_by (lost_call f l old new)
+  branch_deed : (f : BranchCall) (t : ℕ) (x : Xid) (flags : Flags) (c : Code)
+      → CallsBranch f old new t x flags.0 c
+      → Is e (asked.Function (function.Branch (verb_of f) (on n t x flags))) (judged.Code c)
+      → Deed_by (lost_call f l old new)
   branch_deed Start t x flags c h is = start_deed t x flags c h is
   branch_deed End t x flags c h is = end_deed t x flags c h is
   branch_deed Prepare t x flags c h is = finish_deed verb.Prepare table_verb.Prepare t x flags c refl refl is
       (finished old new table_verb.Prepare x flags.0 c refl h)
   branch_deed Commit t x flags c h is = finish_deed verb.Commit table_verb.Commit t x flags c refl refl is
       (finished old new table_verb.Commit x flags.0 c refl h)
-  branch_deed Rollback t x flags c h is = finish_deed verb.Rollback table_verb.Rollback t x flags c refl refl is
+  branch_deed Rollback t x flags c h is = finish_deed verb.Rollback table_verb.Rollback t x
+      flags c refl refl is
       (finished old new table_verb.Rollback x flags.0 c refl h)
   branch_deed Forget t x flags c h is = finish_deed verb.Forget table_verb.Forget t x flags c refl refl is
       (finished old new table_verb.Forget x flags.0 c refl h)
 
   -- refused work changes nothing
   refused_work : (refusal : Option WorkError) (w : WorkError) (X : Type 0) → RefusesWork old new refusal w
-      → (SameStates old.store.tables new.store.tables → ((y : Xid) → known_of new.store y ≡ known_of old.store y) → X) → X
+      → (SameStates old.store.tables new.store.tables
+      → ((y : Xid) → known_of new.store y ≡ known_of old.store y) → X) → X
   refused_work refusal w X h then_so =
       let same = refused_same old.store new.store refusal w (h.works r.works) in
       then_so same.tables (λ y. ap decision_or (same.decisions y))
 
-  read_deed : (t : ℕ) (k : List ℕ) (a : RequestAnswer) → is_deed (Work t (Get k)) a ≡ true → IsRead old new t k a
+  read_deed : (t : ℕ) (k : List ℕ) (a : RequestAnswer) → is_deed (Work t (Get k)) a ≡ true
+      → IsRead old new t k a
       → IsRequestEvent n (Work t (Get k)) a e → Deed_of
   read_deed t k (answer.Found v) covered h is = absurd (false≢true covered)
   read_deed t k (answer.Refused w) covered h is = refused_work _ w Deed_of h.1
@@ -334,7 +352,8 @@ module _ (n : NameNumbers) (old new : KvSight) (e : HistoryEvent) (l : Xid → B
   write_deed t k v (answer.NotTrimmed w) h calls says = absurd h
   write_deed t k v (answer.NotDecided w) h calls says = absurd h
 
-  work_deed : (t : ℕ) (op : Op) (a : RequestAnswer) → is_deed (Work t op) a ≡ true → RequestWorks old new t op a
+  work_deed : (t : ℕ) (op : Op) (a : RequestAnswer) → is_deed (Work t op) a ≡ true
+      → RequestWorks old new t op a
       → IsRequestEvent n (Work t op) a e → Deed_of
   work_deed t (Get k) a covered h is = read_deed t k a covered h is
   work_deed t (Put k v) a covered h is = write_deed t k (Some v) a h is.calls is.says
@@ -354,8 +373,10 @@ module _ (n : NameNumbers) (old new : KvSight) (e : HistoryEvent) (l : Xid → B
   decide_deed x o (answer.NotDecided decide_error.Memory) h is = absurd (h.0 refl)
   decide_deed x o (answer.NotDecided decide_error.Device) h is = absurd (breaks_none h.1.log.cause)
   decide_deed x o (answer.NotDecided decide_error.Failed) h is = absurd (fails_none h.1.0)
-  decide_deed x o (answer.NotDecided decide_error.NotInDoubt) h is = undecided x o decide_error.NotInDoubt h.2 is
-  decide_deed x o (answer.NotDecided decide_error.Exhausted) h is = undecided x o decide_error.Exhausted h.2 is
+  decide_deed x o (answer.NotDecided decide_error.NotInDoubt) h is =
+      undecided x o decide_error.NotInDoubt h.2 is
+  decide_deed x o (answer.NotDecided decide_error.Exhausted) h is =
+      undecided x o decide_error.Exhausted h.2 is
   decide_deed x o (answer.Code c) h is = absurd h
   decide_deed x o (answer.Given xs) h is = absurd h
   decide_deed x o (answer.Found v) h is = absurd h
@@ -380,7 +401,8 @@ module _ (n : NameNumbers) (old new : KvSight) (e : HistoryEvent) (l : Xid → B
   trim_deed (answer.NotBooted w) h is = absurd h
   trim_deed (answer.NotDecided w) h is = absurd h
 
-  open_by : (flags : Flags) (migrates : Bool) (a : RequestAnswer) → RequestMakes old new (Open flags migrates) a
+  open_by : (flags : Flags) (migrates : Bool) (a : RequestAnswer)
+      → RequestMakes old new (Open flags migrates) a
       → IsRequestEvent n (Open flags migrates) a e → Deed_of
   open_by flags migrates (answer.Code c) h is =
       open_deed flags migrates c h (record { calls = is.calls; says = is.says })
@@ -398,7 +420,8 @@ module _ (n : NameNumbers) (old new : KvSight) (e : HistoryEvent) (l : Xid → B
       → IsRequestEvent n (Close flags) a e → Deed_of
   close_by flags (answer.Code c) h is =
       let m = h.works r.works in
-      Closed flags c sound.listed.counted m.tables (still (same_known old.store new.store m.decisions)) no_more
+      Closed flags c sound.listed.counted m.tables
+      (still (same_known old.store new.store m.decisions)) no_more
       (record { calls = is.calls; says = is.says })
   close_by flags (answer.Given xs) h is = absurd h
   close_by flags (answer.Found v) h is = absurd h
@@ -410,7 +433,9 @@ module _ (n : NameNumbers) (old new : KvSight) (e : HistoryEvent) (l : Xid → B
   close_by flags (answer.NotTrimmed w) h is = absurd h
   close_by flags (answer.NotDecided w) h is = absurd h
 
-  branch_by : (f : BranchCall) (t : ℕ) (x : Xid) (flags : Flags) (a : RequestAnswer) → RequestMakes old new (Branch f t x flags) a → IsRequestEvent n (Branch f t x flags) a e → Deed_by (lost_call f l old new)
+  branch_by : (f : BranchCall) (t : ℕ) (x : Xid) (flags : Flags) (a : RequestAnswer)
+      → RequestMakes old new (Branch f t x flags) a → IsRequestEvent n (Branch f t x flags) a e
+      → Deed_by (lost_call f l old new)
   branch_by f t x flags (answer.Code c) h is =
       branch_deed f t x flags c h (record { calls = is.calls; says = is.says })
   branch_by f t x flags (answer.Given xs) h is = absurd h
@@ -430,9 +455,11 @@ module _ (n : NameNumbers) (old new : KvSight) (e : HistoryEvent) (l : Xid → B
       → IsScan n q a → Is e (asked.Function (function.Recover t count flags)) a → Deed_of
   scans t count flags q a calls says is =
       let m = calls.works r.works in
-      Recovered t count flags q a m.tables says (still (same_known old.store new.store m.decisions)) no_more is
+      Recovered t count flags q a m.tables says
+      (still (same_known old.store new.store m.decisions)) no_more is
 
-  scan_deed : (t count : ℕ) (flags : Flags) (a : RequestAnswer) → RequestMakes old new (Recover t count flags) a
+  scan_deed : (t count : ℕ) (flags : Flags) (a : RequestAnswer)
+      → RequestMakes old new (Recover t count flags) a
       → IsRequestEvent n (Recover t count flags) a e → Deed_of
   scan_deed t count flags (answer.Code c) h is = scans t count flags (Err c) (judged.Code c) h refl
       (record { calls = is.calls; says = is.says })
@@ -449,7 +476,8 @@ module _ (n : NameNumbers) (old new : KvSight) (e : HistoryEvent) (l : Xid → B
 
   -- a restart
   restart_by : (cut : Bool) (keep : ℕ) (given : List Xid) → Restarted old new keep given
-      → ((x : Xid) → Returns (state_of old.store x) (marked_state (mark_at (left_by old.log.sight keep) x)) (cut && l x))
+      → ((x : Xid) → Returns (state_of old.store x)
+      (marked_state (mark_at (left_by old.log.sight keep) x)) (cut && l x))
       → ((x : Xid) → state_of old.store x ≡ S5
       → (decided_in (left_by old.log.sight keep) x).outcome ≡ (known_of old.store x).outcome)
       → Is e (asked.Restart cut) judged.Told → Deed_by none_lost
@@ -458,24 +486,31 @@ module _ (n : NameNumbers) (old new : KvSight) (e : HistoryEvent) (l : Xid → B
       RestartedDeed cut (record {
         left = in_doubt_by made.left.seen;
         tables = made.left.tables;
-        once = off_by_tests (nat_lt 1024 (length (in_doubt_by made.left.seen))) (has_twice (in_doubt_by made.left.seen))
+        once = off_by_tests (nat_lt 1024 (length (in_doubt_by made.left.seen)))
+            (has_twice (in_doubt_by made.left.seen))
             code.RmErr code.DupId (none_refused (left_by old.log.sight keep) made.left.seen made.left.read);
-        states = λ x. subst (λ (t : BranchState). Returns (state_of old.store x) t (cut && l x)) (sym (after.states x)) (states x);
+        states = λ x. subst (λ (t : BranchState). Returns (state_of old.store x) t (cut && l x))
+            (sym (after.states x)) (states x);
         known = λ x q. ap decision_of (ap (λ (k : Known). k.outcome) (after.decided x (after.states x
-            ∙ five_left (state_of old.store x) (marked_state (mark_at (left_by old.log.sight keep) x)) (cut && l x) q (states x)))
+            ∙ five_left (state_of old.store x) (marked_state (mark_at (left_by old.log.sight keep) x))
+            (cut && l x) q (states x)))
             ∙ decided x q);
         forgets = λ x q. false≢true q;
       }) is
 
-  restart_deed : (keep : Option ℕ) (a : RequestAnswer) → is_booted a ≡ true → Boots old new keep a → IsRequestEvent n (Restart keep) a e → Deed_by none_lost
+  restart_deed : (keep : Option ℕ) (a : RequestAnswer) → is_booted a ≡ true → Boots old new keep a
+      → IsRequestEvent n (Restart keep) a e → Deed_by none_lost
   restart_deed (Some k) (answer.Booted b) covered h is = restart_by true k h.1 h.2
-      (λ x. returns_left (state_of old.store x) (known_of old.store x) (marked_state (mark_at (left_by old.log.sight k) x))
+      (λ x. returns_left (state_of old.store x) (known_of old.store x)
+      (marked_state (mark_at (left_by old.log.sight k) x))
       (decided_in (left_by old.log.sight k) x) (l x) (r.left k x))
       (λ x q. (subst (λ (s : BranchState). IsSaid (doubt_of s) (known_of old.store x)
-      (marked_state (mark_at (left_by old.log.sight k) x)) (decided_in (left_by old.log.sight k) x) (l x)) q (r.left k x)).1)
+      (marked_state (mark_at (left_by old.log.sight k) x)) (decided_in (left_by old.log.sight k) x) (l x)) q
+      (r.left k x)).1)
       (record { calls = is.calls; says = is.says })
   restart_deed None (answer.Booted b) covered h is = restart_by false (kept_bytes None) h.1 h.2
-      (λ x. returns_whole (state_of old.store x) (marked_state (mark_at (left_by old.log.sight (kept_bytes None)) x)) false
+      (λ x. returns_whole (state_of old.store x)
+      (marked_state (mark_at (left_by old.log.sight (kept_bytes None)) x)) false
       (ap (λ ks. marked_state (mark_at ks x)) (all_left old sound.log) ∙ r.now x))
       (λ x q. ap (λ ks. (decided_in ks x).outcome) (all_left old sound.log) ∙ r.decided x q)
       (record { calls = is.calls; says = is.says })
@@ -489,7 +524,8 @@ module _ (n : NameNumbers) (old new : KvSight) (e : HistoryEvent) (l : Xid → B
   restart_deed keep (answer.NotTrimmed w) covered h is = absurd (false≢true covered)
   restart_deed keep (answer.NotDecided w) covered h is = absurd (false≢true covered)
 
-  pub deed_of : (q : Request) (a : RequestAnswer) → is_deed q a ≡ true → RequestMakes old new q a → IsRequestEvent n q a e
+  pub deed_of : (q : Request) (a : RequestAnswer) → is_deed q a ≡ true → RequestMakes old new q a
+      → IsRequestEvent n q a e
       → Deed_by (lost_next q l old new)
   deed_of (Open flags migrates) a covered h is = open_by flags migrates a h is
   deed_of (Close flags) a covered h is = close_by flags a h is
@@ -512,7 +548,8 @@ module _ (old new : KvSight) (l : Xid → Bool) (r : IsRecorded old l) (sound : 
 
   -- nothing changes but room
   same_recorded : SameKv old new → IsRecorded new l
-  same_recorded same = stays_recorded old new l r same.log (same_doubts old.store.tables new.store.tables same.tables)
+  same_recorded same = stays_recorded old new l r same.log
+      (same_doubts old.store.tables new.store.tables same.tables)
       (λ y. ap decision_or (same.decisions y))
 
   -- a call moves the tables alone
@@ -539,12 +576,14 @@ module _ (old new : KvSight) (l : Xid → Bool) (r : IsRecorded old l) (sound : 
       more_recorded new l (lost_after l old new) (lost_before l old new) (same_recorded same)
   finish_recorded v x flags c (Taken f due is takes) = by takes where
     by : KvTakes old new x due.1 c → IsRecorded new (lost_after l old new)
-    by (KvMade q makes) = turn_recorded old new l x due.0 due.1 r (due_turn old v x flags due.0 due.1 f is) makes
+    by (KvMade q makes) = turn_recorded old new l x due.0 due.1 r
+        (due_turn old v x flags due.0 due.1 f is) makes
     by (KvBroke q fails) = absurd (breaks_not fails.log.cause)
     by (Spent q commits none same) =
         more_recorded new l (lost_after l old new) (lost_before l old new) (same_recorded same)
 
-  call_recorded : (f : BranchCall) (t : ℕ) (x : Xid) (flags : ℕ) (c : Code) → CallsBranch f old new t x flags c → IsRecorded new (lost_call f l old new)
+  call_recorded : (f : BranchCall) (t : ℕ) (x : Xid) (flags : ℕ) (c : Code)
+      → CallsBranch f old new t x flags c → IsRecorded new (lost_call f l old new)
   call_recorded Start t x flags c h = work_recorded table_verb.Start t x flags c refl h
   call_recorded End t x flags c h = work_recorded table_verb.End t x flags c refl h
   call_recorded Prepare t x flags c h = finish_recorded table_verb.Prepare x flags c h
@@ -552,7 +591,8 @@ module _ (old new : KvSight) (l : Xid → Bool) (r : IsRecorded old l) (sound : 
   call_recorded Rollback t x flags c h = finish_recorded table_verb.Rollback x flags c h
   call_recorded Forget t x flags c h = finish_recorded table_verb.Forget x flags c h
 
-  refused_recorded : (refusal : Option WorkError) (w : WorkError) → RefusesWork old new refusal w → IsRecorded new l
+  refused_recorded : (refusal : Option WorkError) (w : WorkError) → RefusesWork old new refusal w
+      → IsRecorded new l
   refused_recorded refusal w h =
       let same = refused_same old.store new.store refusal w (h.works r.works) in
       stays_recorded old new l r h.log (same_doubts old.store.tables new.store.tables same.tables)
@@ -564,7 +604,8 @@ module _ (old new : KvSight) (l : Xid → Bool) (r : IsRecorded old l) (sound : 
   done_recorded Does h tables decisions =
       let w = h.works r.works in
       stays_recorded old new l r h.log
-      (same_doubts old.store.tables new.store.tables (same_tables old.store.tables new.store.tables (tables w)))
+      (same_doubts old.store.tables new.store.tables
+      (same_tables old.store.tables new.store.tables (tables w)))
       (same_known old.store new.store (decisions w))
 
   read_recorded : (t : ℕ) (k : List ℕ) (a : RequestAnswer) → IsRead old new t k a → IsRecorded new l
@@ -579,7 +620,8 @@ module _ (old new : KvSight) (l : Xid → Bool) (r : IsRecorded old l) (sound : 
   read_recorded t k (answer.NotTrimmed w) h = absurd h
   read_recorded t k (answer.NotDecided w) h = absurd h
 
-  write_recorded : (t : ℕ) (k : List ℕ) (v : Option (List ℕ)) (a : RequestAnswer) → IsWritten old new t k v a → IsRecorded new l
+  write_recorded : (t : ℕ) (k : List ℕ) (v : Option (List ℕ)) (a : RequestAnswer) → IsWritten old new t k v a
+      → IsRecorded new l
   write_recorded t k v answer.Done h = done_recorded _ h (λ w. w.tables) (λ w. w.decisions)
   write_recorded t k v (answer.Refused w) h = refused_recorded _ w h.1
   write_recorded t k v (answer.Code c) h = absurd h
@@ -608,12 +650,16 @@ module _ (old new : KvSight) (l : Xid → Bool) (r : IsRecorded old l) (sound : 
 
   decided_recorded : (x : Xid) (o : Outcome) → state_of old.store x ≡ S3 → KvMakes old new x (decide_turn o)
       → IsRecorded new l
-  decided_recorded x o three makes = written_recorded old new l l x (heur_entry o) (writes_of old.store.writes x) true r
-      makes.log (three ∙ sym (from_three o)) (makes.tables.branch.own ∙ sym (to_five o)) makes.tables.branch.others
-      makes.decisions.own (λ y apart. ap decision_or (makes.decisions.others y apart)) (λ q. absurd (false≢true (sym q)))
+  decided_recorded x o three makes = written_recorded old new l l x (heur_entry o)
+      (writes_of old.store.writes x) true r
+      makes.log (three ∙ sym (from_three o)) (makes.tables.branch.own ∙ sym (to_five o))
+      makes.tables.branch.others
+      makes.decisions.own (λ y apart. ap decision_or (makes.decisions.others y apart))
+      (λ q. absurd (false≢true (sym q)))
       (λ y h. h) (λ p q. absurd (let f : S5 ≡ S0 = sym makes.tables.branch.own ∙ q in cc))
 
-  decide_recorded : (x : Xid) (o : Outcome) (a : RequestAnswer) → RequestDecides old new x o a → IsRecorded new l
+  decide_recorded : (x : Xid) (o : Outcome) (a : RequestAnswer) → RequestDecides old new x o a
+      → IsRecorded new l
   decide_recorded x o answer.Done h = decided_recorded x o h.0.prepared h.1
   decide_recorded x o (answer.NotDecided decide_error.Memory) h = absurd (h.0 refl)
   decide_recorded x o (answer.NotDecided decide_error.Device) h = absurd (breaks_not h.1.log.cause)
@@ -649,7 +695,8 @@ module _ (old new : KvSight) (l : Xid → Bool) (r : IsRecorded old l) (sound : 
   restarted_recorded keep (answer.Booted b) covered h =
       let made = h.2 in
       let after = restarted old new (kept_bytes keep) h.1 made in
-      boot_recorded new (left_by old.log.sight (kept_bytes keep)) new.boot made.log.works made.log.forced made.log.unforced
+      boot_recorded new (left_by old.log.sight (kept_bytes keep)) new.boot made.log.works made.log.forced
+      made.log.unforced
       after.states after.decided
   restarted_recorded keep (answer.Code c) covered h = absurd (false≢true covered)
   restarted_recorded keep (answer.Given xs) covered h = absurd (false≢true covered)
@@ -674,9 +721,12 @@ module _ (old new : KvSight) (l : Xid → Bool) (r : IsRecorded old l) (sound : 
   with_code X P (answer.NotTrimmed w) h then_so = absurd h
   with_code X P (answer.NotDecided w) h then_so = absurd h
 
-  scan_recorded : (t count flags : ℕ) (a : RequestAnswer) → RequestScans old new t count flags a → IsRecorded new l
-  scan_recorded t count flags (answer.Code c) h = moved_recorded _ _ h (λ a b. recovers_doubts a b t count flags (Err c))
-  scan_recorded t count flags (answer.Given xs) h = moved_recorded _ _ h (λ a b. recovers_doubts a b t count flags (Ok xs))
+  scan_recorded : (t count flags : ℕ) (a : RequestAnswer) → RequestScans old new t count flags a
+      → IsRecorded new l
+  scan_recorded t count flags (answer.Code c) h = moved_recorded _ _ h
+      (λ a b. recovers_doubts a b t count flags (Err c))
+  scan_recorded t count flags (answer.Given xs) h =
+      moved_recorded _ _ h (λ a b. recovers_doubts a b t count flags (Ok xs))
   scan_recorded t count flags (answer.Found v) h = absurd h
   scan_recorded t count flags answer.Done h = absurd h
   scan_recorded t count flags (answer.Refused w) h = absurd h

@@ -47,12 +47,13 @@ value_of m k = value_at m.store.versions m.store.versions.count k
 abbrev pub written_by : KvSight → Xid → List Write
 written_by m x = writes_of m.store.writes x
 
--- the data are those that the records make; each prepared branch has written what it promised, one that was decided nothing;
--- and no branch has written a key twice
+-- the data are those that the records make; each prepared branch has written what it promised, one that was
+-- decided nothing; and no branch has written a key twice
 pub record IsStored (m : KvSight) : Type 0 where
   pub are : AreData m.store.versions (logged m)
   pub rise : keys_rise (logged m).pairs ≡ true
-  pub prepared : (x : Xid) → state_of m.store x ≡ S3 → written_by m x ≡ promised_of (Foreign x) (logged m).promised
+  pub prepared : (x : Xid) → state_of m.store x ≡ S3
+      → written_by m x ≡ promised_of (Foreign x) (logged m).promised
   pub decided : (x : Xid) → state_of m.store x ≡ S5 → written_by m x ≡ []
   pub once : (x : Xid) → keys_once (written_by m x) ≡ true
 
@@ -99,7 +100,8 @@ pub quiet_stored : (old new : KvSight) → new.log.sight ≡ old.log.sight
 quiet_stored old new log doubts same three five once j =
     let is : logged new ≡ logged old = ap (λ (k : LogSight). data_of (records_of k.kept)) log in
     record {
-      are = subst (AreData new.store.versions) (sym is) (data_stay old.store.versions new.store.versions (logged old) same j.are);
+      are = subst (AreData new.store.versions) (sym is)
+          (data_stay old.store.versions new.store.versions (logged old) same j.are);
       rise = ap (λ (d : Data). keys_rise d.pairs) is ∙ j.rise;
       prepared = λ x e.
           let was = three_doubt (state_of old.store x) (sym (doubts x) ∙ ap doubt_of e) in
@@ -125,30 +127,37 @@ write_once (w ∷ ws) k v once =
     let parts = and_parts (not (names_key ws w.key)) (keys_once ws) once in
     by (same_bytes w.key k) refl (write_once ws k v parts.1) (not-true (names_key ws w.key) parts.0)
   where
-    by : (b : Bool) → same_bytes w.key k ≡ b → keys_once (with_write ws k v) ≡ true → names_key ws w.key ≡ false
+    by : (b : Bool) → same_bytes w.key k ≡ b → keys_once (with_write ws k v) ≡ true
+        → names_key ws w.key ≡ false
         → keys_once (cond b (record { key = k; value = v } ∷ ws) (w ∷ with_write ws k v)) ≡ true
-    by true q rest off = subst (λ (j : List ℕ). (not (names_key ws j) && keys_once ws) ≡ true) (bytes_are w.key k q) once
+    by true q rest off = subst (λ (j : List ℕ). (not (names_key ws j) && keys_once ws) ≡ true)
+        (bytes_are w.key k q) once
     by false q rest off = and_from (not (names_key (with_write ws k v) w.key)) (keys_once (with_write ws k v))
         (not_from_false (names_key (with_write ws k v) w.key)
         (with_write_names ws k w.key v off (other_bytes w.key k q))) rest
 
 -- What a turn does to what branches have written.
 
-pub other_written : (old new : KeySight) (x y : Xid) (to : BranchState) → LetsBranchGo old new x to → same x y ≡ false
+pub other_written : (old new : KeySight) (x y : Xid) (to : BranchState) → LetsBranchGo old new x to
+    → same x y ≡ false
     → writes_of new.writes y ≡ writes_of old.writes y
 other_written old new x y to goes apart = by (is_let_go to) goes where
-  by : (b : Bool) → MatchBool b (LeavesWrites old.writes new.writes x [] × ReleasesLocks old.locks new.locks x)
+  by : (b : Bool) → MatchBool b (LeavesWrites old.writes new.writes x []
+      × ReleasesLocks old.locks new.locks x)
       ((new.writes ≡ old.writes) × (new.locks ≡ old.locks)) → writes_of new.writes y ≡ writes_of old.writes y
   by true h = h.0.others y apart
   by false h = ap (λ (w : WriteTable). writes_of w y) h.0
 
-pub kept_written : (old new : KeySight) (x : Xid) (to : BranchState) → LetsBranchGo old new x to → is_let_go to ≡ false
+pub kept_written : (old new : KeySight) (x : Xid) (to : BranchState) → LetsBranchGo old new x to
+    → is_let_go to ≡ false
     → (y : Xid) → writes_of new.writes y ≡ writes_of old.writes y
 kept_written old new x to goes keeps y = ap (λ (w : WriteTable). writes_of w y)
-    (subst (λ (b : Bool). MatchBool b (LeavesWrites old.writes new.writes x [] × ReleasesLocks old.locks new.locks x)
+    (subst (λ (b : Bool). MatchBool b (LeavesWrites old.writes new.writes x []
+    × ReleasesLocks old.locks new.locks x)
     ((new.writes ≡ old.writes) × (new.locks ≡ old.locks))) keeps goes).0
 
-pub none_written : (old new : KeySight) (x : Xid) (to : BranchState) → LetsBranchGo old new x to → is_let_go to ≡ true
+pub none_written : (old new : KeySight) (x : Xid) (to : BranchState) → LetsBranchGo old new x to
+    → is_let_go to ≡ true
     → writes_of new.writes x ≡ []
 none_written old new x to goes lets = (subst (λ (b : Bool). MatchBool b
     (LeavesWrites old.writes new.writes x [] × ReleasesLocks old.locks new.locks x)
@@ -159,7 +168,8 @@ unfolding keys_once
 none_once ws h = ap keys_once h
 
 pub turn_once : (old new : KeySight) (x : Xid) (to : BranchState) → LetsBranchGo old new x to
-    → ((y : Xid) → keys_once (writes_of old.writes y) ≡ true) → (y : Xid) → keys_once (writes_of new.writes y) ≡ true
+    → ((y : Xid) → keys_once (writes_of old.writes y) ≡ true) → (y : Xid)
+    → keys_once (writes_of new.writes y) ≡ true
 turn_once old new x to goes once y = by (same x y) (is_let_go to) refl refl where
   by : (b c : Bool) → same x y ≡ b → is_let_go to ≡ c → keys_once (writes_of new.writes y) ≡ true
   by b false p q = ap keys_once (kept_written old new x to goes q y) ∙ once y
@@ -232,20 +242,24 @@ module _ (old new : KvSight) (x : Xid) (e : BranchRecord) (is_forced : Bool)
   module _ (j : IsStored old) (to : BranchState) (leads_to : to ≡ leads e) (own : state_of new.store x ≡ to)
       (others : (y : Xid) → same x y ≡ false → state_of new.store y ≡ state_of old.store y)
       (goes : LetsBranchGo old.store new.store x to) (was : settles e ≡ true → state_of old.store x ≡ S3)
-      (versions : MatchBool (applies e) (AppliesCommit old.store.versions new.store.versions (written_by old x))
+      (versions : MatchBool (applies e) (AppliesCommit old.store.versions new.store.versions
+      (written_by old x))
       (new.store.versions ≡ old.store.versions)) where
     applied : applies e ≡ true → logged new ≡ commits_of (written_by old x) (logged old)
-    applied q = logged_more ∙ committed_data (logged old) e x (written_by old x) q (λ s. sym (j.prepared x (was s)))
+    applied q = logged_more ∙ committed_data (logged old) e x (written_by old x) q
+        (λ s. sym (j.prepared x (was s)))
 
     are_now : AreData new.store.versions (logged new)
     are_now = by (applies e) refl versions where
-      by : (b : Bool) → applies e ≡ b → MatchBool b (AppliesCommit old.store.versions new.store.versions (written_by old x))
+      by : (b : Bool) → applies e ≡ b → MatchBool b
+          (AppliesCommit old.store.versions new.store.versions (written_by old x))
           (new.store.versions ≡ old.store.versions) → AreData new.store.versions (logged new)
       by true q h = subst (AreData new.store.versions) (sym (applied q))
           (applies_data old.store.versions new.store.versions (logged old) (written_by old x) j.rise j.are h)
       by false q h = subst (AreData new.store.versions) (sym logged_more)
           (same_data new.store.versions (logged old) (after_entry (logged old) e x (written_by old x))
-          (noted_count (logged old) e x (written_by old x) q) (noted_pairs (logged old) e x (written_by old x) q)
+          (noted_count (logged old) e x (written_by old x) q)
+          (noted_pairs (logged old) e x (written_by old x) q)
           (subst (λ (v : VersionTable). AreData v (logged old)) (sym h) j.are))
 
     rise_now : keys_rise (logged new).pairs ≡ true
@@ -256,12 +270,14 @@ module _ (old new : KvSight) (x : Xid) (e : BranchRecord) (is_forced : Bool)
       by false q = ap (λ (d : Data). keys_rise d.pairs) logged_more
           ∙ ap keys_rise (noted_pairs (logged old) e x (written_by old x) q) ∙ j.rise
 
-    own_prepared : state_of new.store x ≡ S3 → written_by new x ≡ promised_of (Foreign x) (logged new).promised
+    own_prepared : state_of new.store x ≡ S3 → written_by new x
+        ≡ promised_of (Foreign x) (logged new).promised
     own_prepared three =
         let is : e ≡ Prepared = prepares e (sym leads_to ∙ sym own ∙ three) in
         kept_written old.store new.store x to goes (ap is_let_go (sym own ∙ three)) x
         ∙ sym (promised_own (logged old) x (written_by old x))
-        ∙ ap (λ f. promised_of (Foreign x) (after_entry (logged old) f x (written_by old x)).promised) (sym is)
+        ∙ ap (λ f. promised_of (Foreign x) (after_entry (logged old) f x (written_by old x)).promised)
+        (sym is)
         ∙ ap (λ (d : Data). promised_of (Foreign x) d.promised) (sym logged_more)
 
     pub turned_stored : IsStored new
@@ -275,7 +291,8 @@ module _ (old new : KvSight) (x : Xid) (e : BranchRecord) (is_forced : Bool)
       by_three : (y : Xid) (b : Bool) → same x y ≡ b → state_of new.store y ≡ S3
           → written_by new y ≡ promised_of (Foreign y) (logged new).promised
       by_three y true p three = subst (λ (z : Xid). state_of new.store z ≡ S3
-          → written_by new z ≡ promised_of (Foreign z) (logged new).promised) (same_is x y p) own_prepared three
+          → written_by new z ≡ promised_of (Foreign z) (logged new).promised) (same_is x y p)
+          own_prepared three
       by_three y false p three = other_written old.store new.store x y to goes p
           ∙ j.prepared y (sym (others y p) ∙ three)
           ∙ sym (promised_other (logged old) e x y (written_by old x) p)
@@ -285,4 +302,5 @@ module _ (old new : KvSight) (x : Xid) (e : BranchRecord) (is_forced : Bool)
       by_five y true p five = subst (λ (z : Xid). written_by new z ≡ []) (same_is x y p)
           (none_written old.store new.store x to goes (ap is_let_go (sym own
           ∙ subst (λ (z : Xid). state_of new.store z ≡ S5) (sym (same_is x y p)) five)))
-      by_five y false p five = other_written old.store new.store x y to goes p ∙ j.decided y (sym (others y p) ∙ five)
+      by_five y false p five = other_written old.store new.store x y to goes p
+          ∙ j.decided y (sym (others y p) ∙ five)

@@ -62,7 +62,8 @@ SaysNumbered n (answer.NotTrimmed e) j = j ≡ judged.Refused
 SaysNumbered n (answer.NotDecided e) j = j ≡ judged.Refused
 
 -- an event is a request with its answer
-pub record IsRequestEvent (n : NameNumbers) (r : Request) (a : RequestAnswer) (e : HistoryEvent) : Type 0 where
+pub record IsRequestEvent (n : NameNumbers) (r : Request) (a : RequestAnswer)
+    (e : HistoryEvent) : Type 0 where
   pub calls : e.call ≡ call_of n r
   pub says : SaysNumbered n a e.answer
 
@@ -72,12 +73,13 @@ AreRequests n [] [] [] = Unit {0}
 AreRequests n (r ∷ rs) (a ∷ given) (e ∷ es) = IsRequestEvent n r a e × AreRequests n rs given es
 AreRequests n _ _ _ = ⊥
 
--- what is written of a script conforms: the input spells requests, the text has their answers, and they are, their names
--- numbered, events of a legal history, if they are fewer than 2^63 - 1
+-- what is written of a script conforms: the input spells requests, the text has their answers, and they are,
+-- their names numbered, events of a legal history, if they are fewer than 2^63 - 1
 pub record Conforms (input text : List ℕ) : Type 0 where
   pub requests : List Request
   pub answers : List RequestAnswer
   pub script : IsXaScript input requests
   pub report : text ≡ report_text answers
-  pub legal : (n : NameNumbers) (es : List HistoryEvent) → length requests < 2 ^ 63 - 1 → AreRequests n requests answers es
+  pub legal : (n : NameNumbers) (es : List HistoryEvent) → length requests < 2 ^ 63 - 1
+      → AreRequests n requests answers es
       → IsLegal lacks_forced es

@@ -34,8 +34,8 @@ use Rattle.proof_judged_texts.proofs.Requests.{visible_word}
 use Rattle.proof_judged_texts.proofs.Words.{AreWords, IsWord, decimal_word, line_of, word_is}
 use Rattle.proof_judged_texts.proofs.Flags.{one_name, xid_word}
 
--- an answer whose line can be read: each branch that it gives is an XID, and they are fewer than 2^63; the value that it
--- gives is one that a script can write
+-- an answer whose line can be read: each branch that it gives is an XID, and they are fewer than 2^63; the
+-- value that it gives is one that a script can write
 abbrev pub IsReadable : RequestAnswer → Type 0
 IsReadable (Given xs) = (length xs < 2 ^ 63) × AllByRecursion IsXid xs
 IsReadable (Found (Some v)) = is_visible_word 256 v ≡ true
@@ -262,18 +262,21 @@ code_again code.Outside = refl
 
 code_one : (c d : AnyCode) → same (code_name c) (code_name d) ≡ true → c ≡ d
 code_one c d e =
-    let both : Some c ≡ Some d = sym (code_again c) ∙ ap code_at ((bytes_decides (code_name c) (code_name d)).0 e)
+    let both : Some c ≡ Some d = sym (code_again c) ∙ ap code_at
+    ((bytes_decides (code_name c) (code_name d)).0 e)
     ∙ code_again d in cc
 
 code_no_number : (c : AnyCode) → number_at (code_name c) ≡ None
 code_no_number c = let (r, is) = code_begins c in ap number_at is ∙ x_none 0 (65 ∷ r)
 
 -- a word that begins otherwise is no code
-not_code : (w : List ℕ) (d : AnyCode) → ((r : List ℕ) → same w (88 ∷ 65 ∷ r) ≡ false) → same w (code_name d) ≡ true → ⊥
+not_code : (w : List ℕ) (d : AnyCode) → ((r : List ℕ) → same w (88 ∷ 65 ∷ r) ≡ false)
+    → same w (code_name d) ≡ true → ⊥
 not_code w d differs e =
     let (r, is) = code_begins d in false_true (sym (differs r) ∙ ap (same w) (sym is) ∙ e)
 
-code_differs : (c : AnyCode) (v : List ℕ) → ((r : List ℕ) → same (88 ∷ 65 ∷ r) v ≡ false) → same (code_name c) v ≡ true → ⊥
+code_differs : (c : AnyCode) (v : List ℕ) → ((r : List ℕ) → same (88 ∷ 65 ∷ r) v ≡ false)
+    → same (code_name c) v ≡ true → ⊥
 code_differs c v differs e =
     let (r, is) = code_begins c in false_true (sym (differs r) ∙ ap (λ (w : List ℕ). same w v) (sym is) ∙ e)
 
@@ -337,16 +340,20 @@ same_names (x ∷ xs) (y ∷ ys) h k =
     let first : y ≡ x = one_name (xid_text x) y x k.0.0 k.0.1 h.0 refl in
     ap (λ (z : Xid). z ∷ ys) first ∙ ap (λ (zs : List Xid). x ∷ zs) (same_names xs ys h.1 k.1)
 
-given_only : (w : List ℕ) (xs : List Xid) (n : ℕ) → number_at w ≡ Some n → AllByRecursion IsXid xs → (s : SaidAnswer)
+given_only : (w : List ℕ) (xs : List Xid) (n : ℕ) → number_at w ≡ Some n → AllByRecursion IsXid xs
+    → (s : SaidAnswer)
     → SaysBy w (map xid_text xs) s → Tells s (Given xs)
 given_only w xs n is h (said.Code d) (e, k) = absurd (not_word w (code_name d) n is (code_no_number d) k)
 given_only w xs n is h (said.Given ys) (e, k) = same_names xs ys.items h k
-given_only w xs n is h (said.Found v) k = absurd (not_word w (codes "=") n is found_none (found_first w (map xid_text xs) v.now k))
+given_only w xs n is h (said.Found v) k =
+    absurd (not_word w (codes "=") n is found_none (found_first w (map xid_text xs) v.now k))
 given_only w xs n is h said.Done (e, k) = absurd (not_word w (codes "done") n is done_none k)
 given_only w xs n is h said.Refused k = absurd
-    (number_refuses w n (same w (codes "refused")) (same w (codes "threw")) (same w (codes "XA")) is refl refl refl k)
+    (number_refuses w n (same w (codes "refused")) (same w (codes "threw")) (same w (codes "XA")) is
+    refl refl refl k)
 given_only w xs n is h said.Told k = absurd
-    (number_tells w n (same w (codes "boot")) (same w (codes "trim")) is refl refl (told_first w (map xid_text xs) k))
+    (number_tells w n (same w (codes "boot")) (same w (codes "trim")) is refl refl
+    (told_first w (map xid_text xs) k))
 given_only w xs n is h said.Hung (e, k) = absurd (not_word w (codes "hung") n is hung_none k)
 
 names_of : (xs : List Xid) → AllByRecursion IsXid xs → AreNames (map xid_text xs) xs
@@ -393,7 +400,8 @@ unfolding vec_of room
 vec_items_of heap none xs small =
     with_items_is (in_vec (λ _. none) (room heap (length xs) small)) xs (sym (letters_many (length xs)))
 
-given_spoken : (heap : Global) (xs : List Xid) → length xs < 2 ^ 63 → AllByRecursion IsXid xs → IsSpoken (Given xs)
+given_spoken : (heap : Global) (xs : List Xid) → length xs < 2 ^ 63 → AllByRecursion IsXid xs
+    → IsSpoken (Given xs)
 given_spoken heap xs small h =
     let is : number_at (decimal (length xs)) ≡ Some (length xs) = number_again (length xs) (omega arith) in
     record {
@@ -403,7 +411,11 @@ given_spoken heap xs small h =
       words = (decimal_word (length xs), names_words xs);
       no_arrow = λ e. no_number (codes "->") (length xs) arrow_none (ap number_at (sym e) ∙ is);
       said = said.Given (vec_of heap null_xid xs small);
-      says = (is ∙ ap (λ (n : ℕ). Some n) (sym (names_many xs)), subst (λ (ys : List Xid). AreNames (map xid_text xs) ys) (sym (vec_items_of heap null_xid xs small)) (names_of xs h));
+      says = (
+        is ∙ ap (λ (n : ℕ). Some n) (sym (names_many xs)),
+        subst (λ (ys : List Xid). AreNames (map xid_text xs) ys) (sym (vec_items_of heap null_xid xs small))
+            (names_of xs h),
+      );
       only = given_only (decimal (length xs)) xs (length xs) is h;
     }
 
@@ -445,7 +457,8 @@ done_only said.Refused k = false_true k
 done_only said.Told k = absurd k
 done_only said.Hung (e, k) = false_true k
 
-found_only : (x : List ℕ) (o : Option (List ℕ)) → ((v : Bor (List ℕ)) → x ≡ v.now → Tells (said.Found v) (Found o))
+found_only : (x : List ℕ) (o : Option (List ℕ))
+    → ((v : Bor (List ℕ)) → x ≡ v.now → Tells (said.Found v) (Found o))
     → (s : SaidAnswer) → SaysBy (codes "=") (x ∷ []) s → Tells s (Found o)
 found_only x o f (said.Code d) (e, k) = absurd (not_code (codes "=") d (λ r. refl) k)
 found_only x o f (said.Given ys) (e, k) = absurd (no_number (codes "=") 1 found_none e)
@@ -518,7 +531,8 @@ work_spoken e none = refused_spoken (Refused e) (decimal (number_of e) ∷ []) t
 work_refused : (e : WorkError) → IsSpoken (Refused e)
 work_refused work_error.Memory = work_spoken work_error.Memory refl
 work_refused work_error.NotAssociated = work_spoken work_error.NotAssociated refl
-work_refused (work_error.Locked x) = refused_spoken (Refused (work_error.Locked x)) (decimal 2 ∷ xid_text x ∷ []) tt refl
+work_refused (work_error.Locked x) = refused_spoken (Refused (work_error.Locked x))
+    (decimal 2 ∷ xid_text x ∷ []) tt refl
     (decimal_word 2, (xid_word x, tt))
 work_refused work_error.TooLong = work_spoken work_error.TooLong refl
 work_refused work_error.TooManyWrites = work_spoken work_error.TooManyWrites refl

@@ -17,19 +17,24 @@ use Rattle.proof_judged_texts.proofs.Lacking.{no_bad_line}
 use Rattle.proof_judged_texts.proofs.Readable.{answered, answers_readable, few}
 use Rattle.proof_judged_texts.proofs.Reading.{transcript_read}
 
-pub run_read : (m k : KvSight) (input : List ℕ) (rs : List Request) (given : List RequestAnswer) (t : Transcript) → IsFreshManager m
-    → RequestsLead m rs given k → IsXaScript input rs → IsTranscript (transcript input (report_text given)) t → IsReadAs rs given t
+pub run_read : (m k : KvSight) (input : List ℕ) (rs : List Request) (given : List RequestAnswer)
+    (t : Transcript) → IsFreshManager m
+    → RequestsLead m rs given k → IsXaScript input rs → IsTranscript (transcript input (report_text given)) t
+    → IsReadAs rs given t
 run_read m k input rs given t fresh run s h =
     transcript_read input (report_text given) rs given t s refl (answered m k rs given run)
     (answers_readable (vec_allocator t.events) m k input rs given fresh run s) h
 
-pub run_not_bad : (m k : KvSight) (input : List ℕ) (rs : List Request) (given : List RequestAnswer) (number : ℕ) → IsFreshManager m
-    → RequestsLead m rs given k → IsXaScript input rs → IsBadLine (transcript input (report_text given)) number → ⊥
+pub run_not_bad : (m k : KvSight) (input : List ℕ) (rs : List Request) (given : List RequestAnswer)
+    (number : ℕ) → IsFreshManager m
+    → RequestsLead m rs given k → IsXaScript input rs
+    → IsBadLine (transcript input (report_text given)) number → ⊥
 run_not_bad m k input rs given number fresh run s h =
     no_bad_line input (report_text given) rs given number s refl (answered m k rs given run)
     (answers_readable (vec_allocator h.front.events) m k input rs given fresh run s) h
 
-pub run_conforms : (m k : KvSight) (input : List ℕ) (rs : List Request) (given : List RequestAnswer) (t : Transcript) → IsFreshManager m
+pub run_conforms : (m k : KvSight) (input : List ℕ) (rs : List Request) (given : List RequestAnswer)
+    (t : Transcript) → IsFreshManager m
     → RequestsLead m rs given k → IsXaScript input rs → IsTranscript (transcript input (report_text given)) t
     → (t.rules ≡ lacks_forced) × IsLegal t.rules t.events.items
 run_conforms m k input rs given t fresh run s h =

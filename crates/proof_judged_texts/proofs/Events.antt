@@ -45,7 +45,8 @@ pub record Keeps (n : NameNumbers) (t : NameTable) : Type 0 where
 -- Calls.
 
 sort_of_null : (x : Xid) → x ≡ null_xid → sort_of x ≡ sort.Null
-sort_of_null x e = let yes : same x null_xid ≡ true = ap (λ (y : Xid). same y null_xid) e ∙ same_refl null_xid in rw yes refl
+sort_of_null x e =
+    let yes : same x null_xid ≡ true = ap (λ (y : Xid). same y null_xid) e ∙ same_refl null_xid in rw yes refl
 
 not_null : (x : Xid) → x ≢ null_xid → same x null_xid ≡ false
 not_null x h = elim (cases_Bool (same x null_xid)) [ inl t ↦ absurd (h (same_is x null_xid t)) | inr f ↦ f ]
@@ -76,22 +77,32 @@ asked_call n (asked.Restart c) = call.Restart c
 asked_call n (asked.Disconnect t) = call.Disconnect t
 asked_call n asked.Trim = call.Trim
 
-branch_call : (v w : BranchVerb) (t u : ℕ) (f g : Flags) (j k : ℕ) (p q : XidSort) → w ≡ v → u ≡ t → g ≡ f → j ≡ k → p ≡ q
-    → ◌≡◌ {A = JudgedCall} (call.Function (function.Branch w (record { thread = u; xid = record { number = j; sort = p }; flags = g })))
-    (call.Function (function.Branch v (record { thread = t; xid = record { number = k; sort = q }; flags = f })))
+branch_call : (v w : BranchVerb) (t u : ℕ) (f g : Flags) (j k : ℕ) (p q : XidSort) → w ≡ v → u ≡ t → g ≡ f
+    → j ≡ k → p ≡ q
+    → ◌≡◌ {A = JudgedCall} (call.Function (function.Branch w
+    (record { thread = u; xid = record { number = j; sort = p }; flags = g })))
+    (call.Function (function.Branch v (record {
+      thread = t;
+      xid = record { number = k; sort = q };
+      flags = f;
+    })))
 branch_call v w t u f g j k p q a b c d e = cc
 
-numbered_call : (n : NameNumbers) (t : NameTable) → Keeps n t → (a : TranscriptCall) (c : JudgedCall) → IsCall t a c → c ≡ asked_call n a
-numbered_call n t keep (asked.Open f) (call.Function (function.Open g)) h = ap (λ (x : Flags). call.Function (function.Open x)) h
+numbered_call : (n : NameNumbers) (t : NameTable) → Keeps n t → (a : TranscriptCall) (c : JudgedCall)
+    → IsCall t a c → c ≡ asked_call n a
+numbered_call n t keep (asked.Open f) (call.Function (function.Open g)) h =
+    ap (λ (x : Flags). call.Function (function.Open x)) h
 numbered_call n t keep (asked.Open f) c h = absurd h
-numbered_call n t keep (asked.Close f) (call.Function (function.Close g)) h = ap (λ (x : Flags). call.Function (function.Close x)) h
+numbered_call n t keep (asked.Close f) (call.Function (function.Close g)) h =
+    ap (λ (x : Flags). call.Function (function.Close x)) h
 numbered_call n t keep (asked.Close f) c h = absurd h
 numbered_call n t keep (asked.Branch v u x f) (call.Function (function.Branch w o)) (a, b, c, d, e) =
     branch_call v w u o.thread f o.flags o.xid.number (n.xid x) o.xid.sort (sort_of x) a b c
     (sym (keep.xid o.xid.number x d)) (sort_same x o.xid.sort e)
 numbered_call n t keep (asked.Branch v u x f) c h = absurd h
 numbered_call n t keep (asked.Recover u k f) (call.Function (function.Recover v d g)) (a, b, c) =
-    ap (λ (z : ℕ). call.Function (function.Recover z d g)) a ∙ ap (λ (z : ℕ). call.Function (function.Recover u z g)) b
+    ap (λ (z : ℕ). call.Function (function.Recover z d g)) a
+    ∙ ap (λ (z : ℕ). call.Function (function.Recover u z g)) b
     ∙ ap (λ (z : Flags). call.Function (function.Recover u k z)) c
 numbered_call n t keep (asked.Recover u k f) c h = absurd h
 numbered_call n t keep (asked.Get u k) (call.Get v j) (a, b) =
@@ -120,15 +131,18 @@ same_call n (asked.Branch v t x f) (Branch b u y g) (p, q, r, s) =
     ∙ ap (λ (z : Xid). call.Function (function.Branch (verb_of b) (on n u z f))) r
     ∙ ap (λ (z : Flags). call.Function (function.Branch (verb_of b) (on n u y z))) s
 same_call n (asked.Recover t c f) (Recover u d g) (p, q, r) =
-    ap (λ (z : ℕ). call.Function (function.Recover z c f)) p ∙ ap (λ (z : ℕ). call.Function (function.Recover u z f)) q
+    ap (λ (z : ℕ). call.Function (function.Recover z c f)) p
+    ∙ ap (λ (z : ℕ). call.Function (function.Recover u z f)) q
     ∙ ap (λ (z : Flags). call.Function (function.Recover u d z)) r
 same_call n (asked.Get t k) (Work u (Get j)) (p, q) =
     ap (λ (z : ℕ). call.Get z (n.word k.now)) p ∙ ap (λ (z : List ℕ). call.Get u (n.word z)) q
 same_call n (asked.Put t k v) (Work u (Put j w)) (p, q, r) =
-    ap (λ (z : ℕ). call.Put z (n.word k.now) (n.word v.now)) p ∙ ap (λ (z : List ℕ). call.Put u (n.word z) (n.word v.now)) q
+    ap (λ (z : ℕ). call.Put z (n.word k.now) (n.word v.now)) p
+    ∙ ap (λ (z : List ℕ). call.Put u (n.word z) (n.word v.now)) q
     ∙ ap (λ (z : List ℕ). call.Put u (n.word j) (n.word z)) r
 same_call n (asked.Put t k v) (Work u (Delete j)) (p, q, r) =
-    ap (λ (z : ℕ). call.Put z (n.word k.now) (n.word v.now)) p ∙ ap (λ (z : List ℕ). call.Put u (n.word z) (n.word v.now)) q
+    ap (λ (z : ℕ). call.Put z (n.word k.now) (n.word v.now)) p
+    ∙ ap (λ (z : List ℕ). call.Put u (n.word z) (n.word v.now)) q
     ∙ ap (λ (z : ℕ). call.Put u (n.word j) z) (ap n.word r ∙ n.none)
 same_call n (asked.Decide x c) (Decide y o) (p, q) =
     ap (λ (z : Xid). call.Decide (n.xid z) c) p ∙ ap (λ (z : Bool). call.Decide (n.xid y) z) q
@@ -138,14 +152,17 @@ same_call n a r h = absurd h
 
 -- Answers.
 
-places : (n : NameNumbers) (t : NameTable) → Keeps n t → (ks : List ℕ) (xs : List Xid) → ArePlaces t.xids ks xs → ks ≡ map n.xid xs
+places : (n : NameNumbers) (t : NameTable) → Keeps n t → (ks : List ℕ) (xs : List Xid)
+    → ArePlaces t.xids ks xs → ks ≡ map n.xid xs
 places n t keep [] [] h = refl
 places n t keep [] (x ∷ xs) h = absurd h
 places n t keep (k ∷ ks) [] h = absurd h
 places n t keep (k ∷ ks) (x ∷ xs) h =
-    ap (λ (z : ℕ). z ∷ ks) (sym (keep.xid k x h.0)) ∙ ap (λ (zs : List ℕ). n.xid x ∷ zs) (places n t keep ks xs h.1)
+    ap (λ (z : ℕ). z ∷ ks) (sym (keep.xid k x h.0)) ∙ ap (λ (zs : List ℕ). n.xid x ∷ zs)
+    (places n t keep ks xs h.1)
 
-code_answer : (t : NameTable) (c : AnyCode) (j : JudgedAnswer) → IsLineAnswer t (said.Code c) j → j ≡ judged.Code c
+code_answer : (t : NameTable) (c : AnyCode) (j : JudgedAnswer) → IsLineAnswer t (said.Code c) j
+    → j ≡ judged.Code c
 code_answer t c (judged.Code d) h = ap (λ (z : AnyCode). judged.Code z) h
 code_answer t c j h = absurd h
 
@@ -154,7 +171,8 @@ given_answer : (n : NameNumbers) (t : NameTable) → Keeps n t → (ys : _) (xs 
 given_answer n t keep ys xs (judged.Given ks) h e = places n t keep ks.items ys.items h ∙ ap (map n.xid) e
 given_answer n t keep ys xs j h e = absurd h
 
-found_answer : (n : NameNumbers) (t : NameTable) → Keeps n t → (v : _) (j : JudgedAnswer) → IsLineAnswer t (said.Found v) j
+found_answer : (n : NameNumbers) (t : NameTable) → Keeps n t → (v : _) (j : JudgedAnswer)
+    → IsLineAnswer t (said.Found v) j
     → j ≡ judged.Found (n.word v.now)
 found_answer n t keep v (judged.Found k) h = ap (λ (z : ℕ). judged.Found z) (sym (keep.word k v.now h))
 found_answer n t keep v j h = absurd h
@@ -171,9 +189,11 @@ told_answer : (t : NameTable) (j : JudgedAnswer) → IsLineAnswer t said.Told j 
 told_answer t judged.Told h = refl
 told_answer t j h = absurd h
 
-says_numbered : (n : NameNumbers) (t : NameTable) → Keeps n t → (s : SaidAnswer) (a : RequestAnswer) (j : JudgedAnswer) → Tells s a → IsLineAnswer t s j
+says_numbered : (n : NameNumbers) (t : NameTable) → Keeps n t
+    → (s : SaidAnswer) (a : RequestAnswer) (j : JudgedAnswer) → Tells s a → IsLineAnswer t s j
     → SaysNumbered n a j
-says_numbered n t keep (said.Code c) (answer.Code d) j h k = code_answer t c j k ∙ ap (λ (z : AnyCode). judged.Code z) h
+says_numbered n t keep (said.Code c) (answer.Code d) j h k = code_answer t c j k
+    ∙ ap (λ (z : AnyCode). judged.Code z) h
 says_numbered n t keep (said.Given ys) (answer.Given xs) j h k = given_answer n t keep ys xs j k h
 says_numbered n t keep (said.Found v) (answer.Found None) j h k =
     found_answer n t keep v j k ∙ ap (λ (z : ℕ). judged.Found z) (ap n.word h ∙ n.none)
@@ -190,7 +210,8 @@ says_numbered n t keep s a j h k = absurd h
 
 -- The words of the line.
 
-abbrev pub words_with : {l : List ℕ} {r : Request} {a : RequestAnswer} → IsWorded l r → IsSpoken a → List (List ℕ)
+abbrev pub words_with : {l : List ℕ} {r : Request} {a : RequestAnswer} → IsWorded l r → IsSpoken a
+    → List (List ℕ)
 words_with w s = (w.first ∷ w.rest) ++ codes "->" ∷ (s.first ∷ s.rest)
 
 asked_by : (o : Option CallWord) (k : CallWord) (ws : List (List ℕ)) (a : TranscriptCall) → o ≡ Some k
@@ -201,25 +222,32 @@ asked_by (Some q) k ws a e h = let same : q ≡ k = cc in subst (λ (z : CallWor
 pub heads : {A : Type 0} (x y : A) (xs ys : List A) → x ∷ xs ≡ y ∷ ys → (x ≡ y) × (xs ≡ ys)
 heads x y xs ys e = (cc, cc)
 
-by_call : (l : List ℕ) (r : Request) (a : RequestAnswer) (w : IsWorded l r) (s : IsSpoken a) (calls later : List (List ℕ)) (q : TranscriptCall)
-    (p : SaidAnswer) → (w.first ∷ w.rest) ++ codes "->" ∷ (s.first ∷ s.rest) ≡ calls ++ codes "->" ∷ later → AsksCall calls q → SaysAnswer later p
+by_call : (l : List ℕ) (r : Request) (a : RequestAnswer) (w : IsWorded l r) (s : IsSpoken a)
+    (calls later : List (List ℕ)) (q : TranscriptCall)
+    (p : SaidAnswer) → (w.first ∷ w.rest) ++ codes "->" ∷ (s.first ∷ s.rest) ≡ calls ++ codes "->" ∷ later
+    → AsksCall calls q → SaysAnswer later p
     → Same q r × Tells p a
 by_call l r a w s [] later q p e h k = absurd h
 by_call l r a w s (f ∷ other) later q p e h k =
-    let (first, tails) = heads w.first f (w.rest ++ codes "->" ∷ (s.first ∷ s.rest)) (other ++ codes "->" ∷ later) e in
+    let (first, tails) = heads w.first f (w.rest ++ codes "->" ∷ (s.first ∷ s.rest))
+    (other ++ codes "->" ∷ later) e in
     let named : word_at f ≡ Some w.word = ap word_at (sym first) ∙ w.named in
     let asks : AsksBy w.word other q = asked_by (word_at f) w.word other q named h in
     let is : w.rest ≡ other = w.place other later (s.first ∷ s.rest) q asks
     (λ z i. s.no_arrow (heads s.first (codes "->") s.rest z i).0) tails in
-    let cut = append_one w.rest (codes "->" ∷ (s.first ∷ s.rest)) other (codes "->" ∷ later) (ap length is) tails in
-    let rest : s.first ∷ s.rest ≡ later = (heads (codes "->") (codes "->") (s.first ∷ s.rest) later cut.1).1 in
-    let says : SaysAnswer (s.first ∷ s.rest) p = subst (λ (z : List (List ℕ)). SaysAnswer z p) (sym rest) k in (
+    let cut = append_one w.rest (codes "->" ∷ (s.first ∷ s.rest)) other (codes "->" ∷ later)
+    (ap length is) tails in
+    let rest : s.first ∷ s.rest ≡ later = (heads (codes "->") (codes "->") (s.first ∷ s.rest) later cut.1).1
+    in
+    let says : SaysAnswer (s.first ∷ s.rest) p = subst (λ (z : List (List ℕ)). SaysAnswer z p) (sym rest) k
+    in (
       w.only q (subst (λ (z : List (List ℕ)). AsksBy w.word z q) (sym is) asks),
       s.only p says,
     )
 
 -- an event that such words spell is the request with its answer
-pub line_event : (n : NameNumbers) (t : NameTable) → Keeps n t → (l : List ℕ) (r : Request) (a : RequestAnswer) (w : IsWorded l r)
+pub line_event : (n : NameNumbers) (t : NameTable) → Keeps n t
+    → (l : List ℕ) (r : Request) (a : RequestAnswer) (w : IsWorded l r)
     (s : IsSpoken a) (e : HistoryEvent) → IsLineEvent t (words_with w s) e → IsRequestEvent n r a e
 line_event n t keep l r a w s e h =
     let (same, tells) = by_call l r a w s h.call h.answer h.asked h.said h.parts h.asks h.says in

@@ -147,9 +147,12 @@ pub xid_word : (x : XidParts) → IsWord (xid_text x)
 xid_word x =
     let colon : IsWord (codes ":") = word_is (codes ":") refl in
     let one = word_append (signed_decimal x.format) (codes ":") (signed_word x.format) colon in
-    let two = word_append (signed_decimal x.format ++ codes ":") (encode_lower x.gtrid) one (hex_word x.gtrid) in
-    let three = word_append (signed_decimal x.format ++ codes ":" ++ encode_lower x.gtrid) (codes ":") two colon in
-    word_append (signed_decimal x.format ++ codes ":" ++ encode_lower x.gtrid ++ codes ":") (encode_lower x.bqual) three
+    let two = word_append (signed_decimal x.format ++ codes ":") (encode_lower x.gtrid) one (hex_word x.gtrid)
+    in
+    let three = word_append (signed_decimal x.format ++ codes ":" ++ encode_lower x.gtrid)
+    (codes ":") two colon in
+    word_append (signed_decimal x.format ++ codes ":" ++ encode_lower x.gtrid ++ codes ":")
+    (encode_lower x.bqual) three
     (hex_word x.bqual)
 
 pub one_name : (w : List ℕ) (x y : XidParts) → IsXid x → w ≡ xid_text x → IsXid y → w ≡ xid_text y → x ≡ y
@@ -158,7 +161,8 @@ one_name w x y sx ex sy ey = one_text w x y sx.fits sy.fits ex ey
 -- numbers
 
 pub number_word : (w : List ℕ) (n : ℕ) → number_at w ≡ Some n → IsWord w
-number_word w n e = let (is, small) = number_takes w n e in subst (λ (t : List ℕ). IsWord t) (sym is) (decimal_word n)
+number_word w n e =
+    let (is, small) = number_takes w n e in subst (λ (t : List ℕ). IsWord t) (sym is) (decimal_word n)
 
 pub one_number : (w : List ℕ) (m n : ℕ) → number_at w ≡ Some m → number_at w ≡ Some n → m ≡ n
 one_number w m n e f = cc

@@ -56,7 +56,8 @@ place_next y ys x k h = (let lt = h.0 in omega arith, h.1)
 place_by : (b : Bool) (y : Xid) (ys : List Xid) (x : Xid) → b ≡ pointwise nat_eq (xid_key x) (xid_key y)
     → (b ≡ false → IsPlace ys (placed ys x) x) → IsPlace (y ∷ ys) (cond b 0 (suc (placed ys x))) x
 place_by true y ys x e more =
-    let is : x ≡ y = xid_key_one x y ((bytes_decides (xid_key x) (xid_key y)).0 (sym e)) in (omega arith, sym is)
+    let is : x ≡ y = xid_key_one x y ((bytes_decides (xid_key x) (xid_key y)).0 (sym e))
+    in (omega arith, sym is)
 place_by false y ys x e more = place_next y ys x (placed ys x) (more refl)
 
 -- a name of the list has its number
@@ -64,17 +65,20 @@ place_among : (names : List Xid) (x : Xid) → Among names x → IsPlace names (
 place_among [] x h = absurd h
 place_among (y ∷ ys) x (inl is) =
     place_by (pointwise nat_eq (xid_key x) (xid_key y)) y ys x refl
-    (λ e. absurd (let gone : false ≡ true = sym e ∙ (bytes_decides (xid_key x) (xid_key y)).1 (ap xid_key is) in cc))
+    (λ e. absurd (let gone : false ≡ true = sym e ∙ (bytes_decides (xid_key x) (xid_key y)).1 (ap xid_key is)
+    in cc))
 place_among (y ∷ ys) x (inr h) =
     place_by (pointwise nat_eq (xid_key x) (xid_key y)) y ys x refl (λ e. place_among ys x h)
 
-all_places : (names xs : List Xid) → ((x : Xid) → Among xs x → Among names x) → ArePlaces names (map (placed names) xs) xs
+all_places : (names xs : List Xid) → ((x : Xid) → Among xs x → Among names x)
+    → ArePlaces names (map (placed names) xs) xs
 all_places names [] f = tt
 all_places names (x ∷ xs) f = (place_among names x (f x (inl refl)), all_places names xs (λ y h. f y (inr h)))
 
 -- Calls and answers, numbered.
 
-sort_by : (b c : Bool) (x : Xid) → b ≡ same x null_xid → (c ≡ true → x.bqual ≡ []) → (c ≡ false → x.bqual ≢ [])
+sort_by : (b c : Bool) (x : Xid) → b ≡ same x null_xid → (c ≡ true → x.bqual ≡ [])
+    → (c ≡ false → x.bqual ≢ [])
     → (s : XidSort) × IsSort x s
 sort_by true c x e f g = (sort.Null, same_is x null_xid (sym e))
 sort_by false true x e f g = (sort.Bare, (not_null, f refl))
@@ -93,7 +97,8 @@ empty_not : (bs : List ℕ) → pointwise nat_eq bs [] ≡ false → bs ≢ []
 empty_not bs e is = let gone : false ≡ true = sym e ∙ (bytes_decides bs []).1 is in cc
 
 sorted : (x : Xid) → (s : XidSort) × IsSort x s
-sorted x = sort_by (same x null_xid) (pointwise nat_eq x.bqual []) x refl (empty_is x.bqual) (empty_not x.bqual)
+sorted x = sort_by (same x null_xid) (pointwise nat_eq x.bqual []) x refl (empty_is x.bqual)
+    (empty_not x.bqual)
 
 abbrev xid_in : TranscriptCall → Xid
 xid_in (asked.Branch v t x f) = x
@@ -115,7 +120,11 @@ call_there n (asked.Open f) p q s = (call.Function (function.Open f), refl)
 call_there n (asked.Close f) p q s = (call.Function (function.Close f), refl)
 call_there n (asked.Branch v t x f) p q s =
     let (k, is) = sorted x in (
-      call.Function (function.Branch v (record { thread = t; xid = record { number = 0; sort = k }; flags = f })),
+      call.Function (function.Branch v (record {
+        thread = t;
+        xid = record { number = 0; sort = k };
+        flags = f;
+      })),
       (refl, refl, refl, p, is),
     )
 call_there n (asked.Recover t c f) p q s = (call.Function (function.Recover t c f), (refl, refl, refl))
@@ -134,7 +143,8 @@ abbrev given_in : SaidAnswer → List Xid
 given_in (said.Given xs) = xs.items
 given_in s = []
 
-answer_there : (n : NameTable) (s : SaidAnswer) → IsPlace n.words 2 (found_in s) → ((x : Xid) → Among (given_in s) x → Among n.xids x)
+answer_there : (n : NameTable) (s : SaidAnswer) → IsPlace n.words 2 (found_in s)
+    → ((x : Xid) → Among (given_in s) x → Among n.xids x)
     → (j : JudgedAnswer) × IsLineAnswer n s j
 answer_there n (said.Code c) p f = (judged.Code c, refl)
 answer_there n (said.Given xs) p f = (judged.Given (in_vec (placed n.xids) xs), all_places n.xids xs.items f)
@@ -168,19 +178,24 @@ event_there l r a w s lacks =
       is_answer = is_j;
     })
   where
-    asks_there : (o : Option CallWord) (k : CallWord) (ws : List (List ℕ)) (a : TranscriptCall) → o ≡ Some k → AsksBy k ws a
+    asks_there : (o : Option CallWord) (k : CallWord) (ws : List (List ℕ)) (a : TranscriptCall) → o ≡ Some k
+        → AsksBy k ws a
         → IsSomeAnd o (λ q. AsksBy q ws a)
     asks_there None k ws a e h = absurd (let gone : None ≡ Some k = e in cc)
     asks_there (Some q) k ws a e h = let is : q ≡ k = cc in subst (λ (z : CallWord). AsksBy z ws a) (sym is) h
 
-row_there : (ls : List (List ℕ)) (rs : List Request) (given : List RequestAnswer) (m : AreRows ls rs given) (i : ℕ)
+row_there : (ls : List (List ℕ)) (rs : List Request) (given : List RequestAnswer)
+    (m : AreRows ls rs given) (i : ℕ)
     → i < length (rows ls rs given m)
-    → ((n : NameTable) (e : HistoryEvent) → IsLineEvent n (words_in (slice_index_or (rows ls rs given m) i [])) e → ⊥) → ⊥
+    → ((n : NameTable) (e : HistoryEvent) → IsLineEvent n
+    (words_in (slice_index_or (rows ls rs given m) i [])) e → ⊥) → ⊥
 unfolding rows
 row_there _ _ _ Last i lt lacks = omega arith
 row_there _ _ _ (Row l r a ls rs given w s k more) zero lt lacks =
-    event_there l r a w s (λ n e h. lacks n e (subst (λ (ws : List (List ℕ)). IsLineEvent n ws e) (sym (row_words l r a w s)) h))
-row_there _ _ _ (Row l r a ls rs given w s k more) (suc i) lt lacks = row_there ls rs given more i (omega arith) lacks
+    event_there l r a w s (λ n e h. lacks n e
+    (subst (λ (ws : List (List ℕ)). IsLineEvent n ws e) (sym (row_words l r a w s)) h))
+row_there _ _ _ (Row l r a ls rs given w s k more) (suc i) lt lacks =
+    row_there ls rs given more i (omega arith) lacks
 
 -- The first two lines.
 
@@ -191,13 +206,15 @@ none_yet n (e ∷ es) h = absurd h
 at_first : (t : Transcript) → AreTranscript [] t → length t.events.items ≡ 0
 at_first t h = by h.first h.others h.parts h.events
   where
-    by : (first others : List (List ℕ)) → ◌≡◌ {A = List (List ℕ)} [] (first ++ others) → AreEvents (table_of t.names) others t.events.items
+    by : (first others : List (List ℕ)) → ◌≡◌ {A = List (List ℕ)} [] (first ++ others)
+        → AreEvents (table_of t.names) others t.events.items
         → length t.events.items ≡ 0
     by [] others e k = none_yet (table_of t.names) t.events.items
         (subst (λ (q : List (List ℕ)). AreEvents (table_of t.names) q t.events.items) (sym e) k)
     by (a ∷ first) others e k = absurd (let gone : [] ≡ a ∷ (first ++ others) = e in cc)
 
-one_event : (n : NameTable) (es : List HistoryEvent) → AreEvents n (codes "never heuristics" ∷ []) es → length es ≡ 0
+one_event : (n : NameTable) (es : List HistoryEvent) → AreEvents n (codes "never heuristics" ∷ []) es
+    → length es ≡ 0
 one_event n [] h = refl
 one_event n (e ∷ es) h = absurd (first_no_event n e h.0)
 
@@ -212,7 +229,8 @@ at_second t h = by h.first h.others h.parts h.events
         (subst (λ (q : List (List ℕ)). AreEvents (table_of t.names) q t.events.items)
         (sym (heads (codes "never heuristics") a [] others e).1) k)
     by (a ∷ b ∷ first) others e k =
-        absurd (let gone : [] ≡ b ∷ (first ++ others) = (heads (codes "never heuristics") a [] (b ∷ (first ++ others)) e).1 in cc)
+        absurd (let gone : [] ≡ b ∷ (first ++ others) =
+        (heads (codes "never heuristics") a [] (b ∷ (first ++ others)) e).1 in cc)
 
 never_none : (q : Rules) → ruled q (words_in (codes "never heuristics")) ≡ None → ⊥
 never_none q e = cc
@@ -221,16 +239,20 @@ lacks_none : (q : Rules) → ruled q (words_in (codes "lacks forced")) ≡ None 
 lacks_none q e = cc
 
 -- no line of these is bad
-none_bad : (ls : List (List ℕ)) (rs : List Request) (given : List RequestAnswer) (m : AreRows ls rs given) (i : ℕ) (t : Transcript)
+none_bad : (ls : List (List ℕ)) (rs : List Request) (given : List RequestAnswer) (m : AreRows ls rs given)
+    (i : ℕ) (t : Transcript)
     → i < length (codes "never heuristics" ∷ codes "lacks forced" ∷ rows ls rs given m)
     → AreTranscript (take i (codes "never heuristics" ∷ codes "lacks forced" ∷ rows ls rs given m)) t
-    → IsNoLine t (slice_index_or (codes "never heuristics" ∷ codes "lacks forced" ∷ rows ls rs given m) i []) → ⊥
+    → IsNoLine t (slice_index_or (codes "never heuristics" ∷ codes "lacks forced" ∷ rows ls rs given m) i [])
+    → ⊥
 none_bad ls rs given m zero t lt before bad = never_none t.rules (bad.header (at_first t before))
 none_bad ls rs given m (suc zero) t lt before bad = lacks_none t.rules (bad.header (at_second t before))
 none_bad ls rs given m (suc (suc i)) t lt before bad = row_there ls rs given m i (omega arith) bad.event
 
-pub no_bad_line : (input report : List ℕ) (rs : List Request) (given : List RequestAnswer) (number : ℕ) → IsXaScript input rs
-    → report ≡ report_text given → length given ≡ length rs → AreReadable given → IsBadLine (transcript input report) number → ⊥
+pub no_bad_line : (input report : List ℕ) (rs : List Request) (given : List RequestAnswer) (number : ℕ)
+    → IsXaScript input rs
+    → report ≡ report_text given → length given ≡ length rs → AreReadable given
+    → IsBadLine (transcript input report) number → ⊥
 no_bad_line input report rs given number s is long k h =
     let heap : Global = vec_allocator h.front.events in
     let ls = call_lines (lines input) in

@@ -44,16 +44,19 @@ all_at P [] x all (k, lt, e) = absurd (omega arith)
 all_at P (y ∷ ys) x all (zero, lt, e) = subst P e all.0
 all_at P (y ∷ ys) x all (suc k, lt, e) = all_at P ys x all.1 (k, omega arith, e)
 
-all_made : {X Y : Type 0} (P : Y → Type 0) (f : X → Y) → ((x : X) → P (f x)) → (xs : List X) → AllByRecursion P (map f xs)
+all_made : {X Y : Type 0} (P : Y → Type 0) (f : X → Y) → ((x : X) → P (f x)) → (xs : List X)
+    → AllByRecursion P (map f xs)
 all_made P f h [] = tt
 all_made P f h (x ∷ xs) = (h x, all_made P f h xs)
 
-all_take : {X : Type 0} (P : X → Type 0) (k : ℕ) (xs : List X) → AllByRecursion P xs → AllByRecursion P (take k xs)
+all_take : {X : Type 0} (P : X → Type 0) (k : ℕ) (xs : List X) → AllByRecursion P xs
+    → AllByRecursion P (take k xs)
 all_take P zero xs all = tt
 all_take P (suc k) [] all = tt
 all_take P (suc k) (x ∷ xs) all = (all.0, all_take P k xs all.1)
 
-all_drop : {X : Type 0} (P : X → Type 0) (k : ℕ) (xs : List X) → AllByRecursion P xs → AllByRecursion P (drop k xs)
+all_drop : {X : Type 0} (P : X → Type 0) (k : ℕ) (xs : List X) → AllByRecursion P xs
+    → AllByRecursion P (drop k xs)
 all_drop P zero xs all = all
 all_drop P (suc k) [] all = tt
 all_drop P (suc k) (x ∷ xs) all = all_drop P k xs all.1
@@ -82,7 +85,8 @@ module _ (P Q : ℕ → Type 0) where
 
   -- the branches that a state names, and the values in it; and no call has hung
   abbrev pub IsNamed : Sight → Type 0
-  IsNamed s = AllByRecursion OfBranch s.branches × AllByRecursion OfBranch s.lost × AllByRecursion OfLine s.listed
+  IsNamed s = AllByRecursion OfBranch s.branches × AllByRecursion OfBranch s.lost
+      × AllByRecursion OfLine s.listed
       × AllByRecursion OfWork s.works × AllByRecursion OfWork s.lost_works × AllByRecursion OfWrite s.values
       × (s.hung ≡ false)
 
@@ -186,12 +190,21 @@ module _ (P Q : ℕ → Type 0) where
       (settled_named x d (stands x (Heuristic d) s) (stands_named x (Heuristic d) s h))
 
   fallen_named : (s : Sight) → IsNamed s → IsNamed (fallen s)
-  fallen_named s h = (all_filter OfBranch is_in_doubt s.branches h.0, h.1, tt, all_filter OfWork _ s.works h.3, h.4, h.5, h.6)
+  fallen_named s h = (
+    all_filter OfBranch is_in_doubt s.branches h.0,
+    h.1,
+    tt,
+    all_filter OfWork _ s.works h.3,
+    h.4,
+    h.5,
+    h.6,
+  )
 
   restarted_named : (s : Sight) → IsNamed s → IsNamed (restarted s)
   restarted_named s h = let f = fallen_named s h in (f.0, tt, f.2, f.3, tt, f.5, f.6)
 
-  back_named : (b : JudgedBranch) (ws : List Work) (s : Sight) → OfBranch b → AllByRecursion OfWork ws → IsNamed s
+  back_named : (b : JudgedBranch) (ws : List Work) (s : Sight) → OfBranch b → AllByRecursion OfWork ws
+      → IsNamed s
       → IsNamed (brought_back b ws s)
   back_named b ws s p w h = (
     all_append OfBranch s.branches (b ∷ []) h.0 (p, tt),
@@ -214,7 +227,8 @@ module _ (P Q : ℕ → Type 0) where
     h.0,
     h.1,
     all_append OfLine _ _ (all_filter OfLine _ s.listed h.2)
-        (all_map OfBranch OfLine _ (λ b k. k) (filter is_in_doubt s.branches) (all_filter OfBranch is_in_doubt s.branches h.0)),
+        (all_map OfBranch OfLine _ (λ b k. k) (filter is_in_doubt s.branches)
+        (all_filter OfBranch is_in_doubt s.branches h.0)),
     h.3,
     h.4,
     h.5,
@@ -226,8 +240,10 @@ module _ (P Q : ℕ → Type 0) where
       (h.0, h.1, all_filter OfLine _ s.listed h.2, h.3, h.4, h.5, h.6) (
         h.0,
         h.1,
-        all_map OfLine OfLine (λ (l : Listed). if l.thread == t && lists_number xs l.branch then with_given l else l)
-            (λ l k. either_one OfLine (l.thread == t && lists_number xs l.branch) (with_given l) l k k) s.listed h.2,
+        all_map OfLine OfLine (λ (l : Listed). if l.thread == t && lists_number xs l.branch then with_given l
+            else l)
+            (λ l k. either_one OfLine (l.thread == t && lists_number xs l.branch) (with_given l) l k k)
+            s.listed h.2,
         h.3,
         h.4,
         h.5,
@@ -237,8 +253,10 @@ module _ (P Q : ℕ → Type 0) where
   -- What a call that nothing refuses does.
 
   entered_named : (s : Sight) (o : On) → P o.xid.number → IsNamed s → IsNamed (entered s o)
-  entered_named s o p h = named_if _ (begun o.thread o.xid.number s) _ (begun_named o.thread o.xid.number s p h)
-      (named_if (has o.flags.0 _) s _ h (named_if _ (unlinked o.thread o.xid.number s) (picked o.xid.number s) h h))
+  entered_named s o p h = named_if _ (begun o.thread o.xid.number s) _
+      (begun_named o.thread o.xid.number s p h)
+      (named_if (has o.flags.0 _) s _ h (named_if _ (unlinked o.thread o.xid.number s)
+      (picked o.xid.number s) h h))
 
   start_named : (r : Rules) (s : Sight) (o : On) (u : Sight) (a : Reply) → IsNamed s → IsNamed u
       → AreNamed (start_passes r s o u a)
@@ -251,17 +269,20 @@ module _ (P Q : ℕ → Type 0) where
   start_named r s o u reply.Retry h k = if_named _ s h
   start_named r s o u a h k = tt
 
-  spoiled_named : (s : Sight) (o : On) (u : Sight) (a : Reply) → IsNamed s → IsNamed u → AreNamed (spoiled_passes s o u a)
+  spoiled_named : (s : Sight) (o : On) (u : Sight) (a : Reply) → IsNamed s → IsNamed u
+      → AreNamed (spoiled_passes s o u a)
   spoiled_named s o u reply.RolledBack h k = (k, tt)
   spoiled_named s o u reply.Retry h k = if_named _ s h
   spoiled_named s o u a h k = tt
 
   left_named : (o : On) (u : Sight) → IsNamed u → IsNamed (left o u)
-  left_named o u h = named_if _ _ u (named_if _ (migrating o.xid.number u) (linked o.thread o.xid.number true u) h h) h
+  left_named o u h = named_if _ _ u (named_if _ (migrating o.xid.number u)
+      (linked o.thread o.xid.number true u) h h) h
 
   end_named : (r : Rules) (o : On) (u : Sight) (a : Reply) → IsNamed u → AreNamed (end_passes r o u a)
   end_named r o u reply.Ok h = (left_named o u h, tt)
-  end_named r o u reply.RolledBack h = if_named _ (marked o.xid.number u) (stands_named o.xid.number RollbackOnly u h)
+  end_named r o u reply.RolledBack h = if_named _ (marked o.xid.number u)
+      (stands_named o.xid.number RollbackOnly u h)
   end_named r o u reply.NoMigrate h = if_named _ (linked o.thread o.xid.number true u) h
   end_named r o u a h = tt
 
@@ -270,7 +291,8 @@ module _ (P Q : ℕ → Type 0) where
   end_spoiled_named o u reply.RolledBack h = (h, tt)
   end_spoiled_named o u a h = tt
 
-  prepare_named : (r : Rules) (s : Sight) (x : ℕ) (a : Reply) → P x → IsNamed s → AreNamed (prepare_passes r s x a)
+  prepare_named : (r : Rules) (s : Sight) (x : ℕ) (a : Reply) → P x → IsNamed s
+      → AreNamed (prepare_passes r s x a)
   prepare_named r s x reply.Ok p h = (prepared_named x s p h, tt)
   prepare_named r s x reply.RdOnly p h = (committed_named x s h, tt)
   prepare_named r s x reply.RolledBack p h = if_named _ (gone x s) (gone_named x s h)
@@ -279,13 +301,15 @@ module _ (P Q : ℕ → Type 0) where
   own_named : (r : Rules) (s : Sight) (x : ℕ) (a : Reply) → P x → IsNamed s → AreNamed (own_decision r s x a)
   own_named r s x a p h = if_named _ (decided x (decision_in a) s) (decided_named x (decision_in a) s p h)
 
-  commit_named : (r : Rules) (s : Sight) (o : On) (a : Reply) → P o.xid.number → IsNamed s → AreNamed (commit_passes r s o a)
+  commit_named : (r : Rules) (s : Sight) (o : On) (a : Reply) → P o.xid.number → IsNamed s
+      → AreNamed (commit_passes r s o a)
   commit_named r s o reply.Ok p h = (committed_named o.xid.number s h, tt)
   commit_named r s o reply.RolledBack p h = if_named _ (gone o.xid.number s) (gone_named o.xid.number s h)
   commit_named r s o reply.Retry p h = if_named _ s h
   commit_named r s o a p h = own_named r s o.xid.number a p h
 
-  rollback_named : (r : Rules) (s : Sight) (x : ℕ) (a : Reply) → P x → IsNamed s → AreNamed (rollback_passes r s x a)
+  rollback_named : (r : Rules) (s : Sight) (x : ℕ) (a : Reply) → P x → IsNamed s
+      → AreNamed (rollback_passes r s x a)
   rollback_named r s x reply.Ok p h = (rolled_named x s h, tt)
   rollback_named r s x reply.RolledBack p h = (rolled_named x s h, tt)
   rollback_named r s x a p h = own_named r s x a p h
@@ -294,11 +318,13 @@ module _ (P Q : ℕ → Type 0) where
   forget_named s x reply.Ok h = (gone_named x s h, tt)
   forget_named s x a h = tt
 
-  told_named : (s : Sight) (x : ℕ) (d : JudgedDecision) (a : Reply) → IsNamed s → AreNamed (decided_passes s x d a)
+  told_named : (s : Sight) (x : ℕ) (d : JudgedDecision) (a : Reply) → IsNamed s
+      → AreNamed (decided_passes s x d a)
   told_named s x d a h =
       if_named _ (stands x (Heuristic (decision_in a)) s) (stands_named x (Heuristic (decision_in a)) s h)
 
-  decides_named : (r : Rules) (v : BranchVerb) (s : Sight) (o : On) (d : Stand) (a : Reply) → P o.xid.number → IsNamed s
+  decides_named : (r : Rules) (v : BranchVerb) (s : Sight) (o : On) (d : Stand) (a : Reply) → P o.xid.number
+      → IsNamed s
       → AreNamed (decide_passes r v s o d a)
   decides_named r v s o (Heuristic d) a p h = told_named s o.xid.number d a h
   decides_named r verb.Commit s o d a p h = commit_named r s o a p h
@@ -313,8 +339,10 @@ module _ (P Q : ℕ → Type 0) where
       (end_named r o (unlinked o.thread o.xid.number s) a h)
   passes_named r verb.Prepare s o a p h = prepare_named r s o.xid.number a p h
   passes_named r verb.Forget s o a p h = forget_named s o.xid.number a h
-  passes_named r verb.Commit s o a p h = decides_named r verb.Commit s o (stand_in (branch_at o.xid.number s)) a p h
-  passes_named r verb.Rollback s o a p h = decides_named r verb.Rollback s o (stand_in (branch_at o.xid.number s)) a p h
+  passes_named r verb.Commit s o a p h = decides_named r verb.Commit s o
+      (stand_in (branch_at o.xid.number s)) a p h
+  passes_named r verb.Rollback s o a p h = decides_named r verb.Rollback s o
+      (stand_in (branch_at o.xid.number s)) a p h
 
   -- Failures and restarts.
 
@@ -336,7 +364,10 @@ module _ (P Q : ℕ → Type 0) where
 
   failing_named : (v : BranchVerb) (s : Sight) (o : On) → IsNamed s → AreNamed (done_failing v s o)
   failing_named verb.Start s o h = tt
-  failing_named verb.End s o h = (stands_named o.xid.number RollbackOnly (unlinked o.thread o.xid.number s) h, tt)
+  failing_named verb.End s o h = (
+    stands_named o.xid.number RollbackOnly (unlinked o.thread o.xid.number s) h,
+    tt,
+  )
   failing_named verb.Prepare s o h = tt
   failing_named verb.Commit s o h = (committed_named o.xid.number s h, tt)
   failing_named verb.Rollback s o h = tt
@@ -376,9 +407,11 @@ module _ (P Q : ℕ → Type 0) where
       (if_named (is_among (branch_excuses r v s o) a) s h) (failed_named r s a h))
       (are_if (is_defective (branch_defects r v s o)) (one_if (is_among (branch_defects r v s o) a) s)
       (branch_passes r v s o a ++ effects r v s o a) (if_named (is_among (branch_defects r v s o) a) s h)
-      (both_named (branch_passes r v s o a) (effects r v s o a) (passes_named r v s o a p h) (effects_named r v s o a p h)))
+      (both_named (branch_passes r v s o a) (effects r v s o a) (passes_named r v s o a p h)
+      (effects_named r v s o a p h)))
 
-  branch_named : (r : Rules) (v : BranchVerb) (s : Sight) (o : On) (a : JudgedAnswer) → Came a → P o.xid.number → IsNamed s
+  branch_named : (r : Rules) (v : BranchVerb) (s : Sight) (o : On) (a : JudgedAnswer) → Came a
+      → P o.xid.number → IsNamed s
       → AreNamed (branch_next r v s o a)
   branch_named r v s o (answer.Code c) came p h = rows_named r v s o (reply_of c) p h
   branch_named r v s o answer.Hung came p h = absurd came
@@ -388,7 +421,8 @@ module _ (P Q : ℕ → Type 0) where
   opens_named o s reply.Ok h = (h, tt)
   opens_named o s a h = tt
 
-  open_named : (r : Rules) (d : Refusals) (o : Bool) (s : Sight) (a : JudgedAnswer) → Came a → IsNamed s → AreNamed (open_next r d o s a)
+  open_named : (r : Rules) (d : Refusals) (o : Bool) (s : Sight) (a : JudgedAnswer) → Came a → IsNamed s
+      → AreNamed (open_next r d o s a)
   open_named r d o s (answer.Code c) came h =
       both_named (if may_fail (reply_of c) then failed r s (reply_of c) else []) _
       (are_if _ _ [] (failed_named r s (reply_of c) h) tt)
@@ -397,48 +431,57 @@ module _ (P Q : ℕ → Type 0) where
   open_named r d o s answer.Hung came h = absurd came
   open_named r d o s a came h = tt
 
-  given_named : (r : Rules) (s : Sight) (t count f : ℕ) (xs : List ℕ) → IsNamed s → AreNamed (given_rows r s t count f xs)
+  given_named : (r : Rules) (s : Sight) (t count f : ℕ) (xs : List ℕ) → IsNamed s
+      → AreNamed (given_rows r s t count f xs)
   given_named r s t count f xs h = are_if (is_unscanned s t f) (s ∷ [])
       (one_if (may_give_all r t count xs (scan_in t f s)) (scan_after t f xs (scan_in t f s))) (h, tt)
-      (if_named (may_give_all r t count xs (scan_in t f s)) (scan_after t f xs (scan_in t f s)) (scan_after_named t f xs (scan_in t f s) (scan_in_named t f s h)))
+      (if_named (may_give_all r t count xs (scan_in t f s)) (scan_after t f xs (scan_in t f s))
+      (scan_after_named t f xs (scan_in t f s) (scan_in_named t f s h)))
 
-  recover_named : (r : Rules) (s : Sight) (t count f : ℕ) (a : JudgedAnswer) → Came a → IsNamed s → AreNamed (recover_next r s t count f a)
+  recover_named : (r : Rules) (s : Sight) (t count f : ℕ) (a : JudgedAnswer) → Came a → IsNamed s
+      → AreNamed (recover_next r s t count f a)
   recover_named r s t count f (answer.Code c) came h =
       both_named (one_if (is_among (recover_excuses r s t f) (reply_of c)) s ++ failed r s (reply_of c))
       (one_if (is_among (recover_defects r s t f) (reply_of c)) s)
       (both_named (one_if (is_among (recover_excuses r s t f) (reply_of c)) s) (failed r s (reply_of c))
       (if_named (is_among (recover_excuses r s t f) (reply_of c)) s h) (failed_named r s (reply_of c) h))
       (if_named (is_among (recover_defects r s t f) (reply_of c)) s h)
-  recover_named r s t count f (answer.Given xs) came h = are_if _ [] _ tt (given_named r s t count f xs.items h)
+  recover_named r s t count f (answer.Given xs) came h =
+      are_if _ [] _ tt (given_named r s t count f xs.items h)
   recover_named r s t count f answer.Hung came h = absurd came
   recover_named r s t count f a came h = tt
 
-  read_named : (r : Rules) (o : Option ℕ) (t k v : ℕ) (s : Sight) → IsNamed s → AreNamed (read_rows r o t k v s)
+  read_named : (r : Rules) (o : Option ℕ) (t k v : ℕ) (s : Sight) → IsNamed s
+      → AreNamed (read_rows r o t k v s)
   read_named r (Some x) t k v s h = if_named _ s h
   read_named r None t k v s h = if_named _ _ h
 
-  get_named : (r : Rules) (s : Sight) (t k : ℕ) (a : JudgedAnswer) → Came a → IsNamed s → AreNamed (get_next r s t k a)
+  get_named : (r : Rules) (s : Sight) (t k : ℕ) (a : JudgedAnswer) → Came a → IsNamed s
+      → AreNamed (get_next r s t k a)
   get_named r s t k (answer.Found v) came h = read_named r (active_of t s) t k v s h
   get_named r s t k answer.Refused came h = (h, tt)
   get_named r s t k (answer.Code c) came h = (h, tt)
   get_named r s t k answer.Hung came h = absurd came
   get_named r s t k a came h = tt
 
-  put_named : (s : Sight) (t k v : ℕ) (a : JudgedAnswer) → Came a → Q v → IsNamed s → AreNamed (put_next s t k v a)
+  put_named : (s : Sight) (t k v : ℕ) (a : JudgedAnswer) → Came a → Q v → IsNamed s
+      → AreNamed (put_next s t k v a)
   put_named s t k v answer.Done came q h = (written_named (active_of t s) t k v s q h, tt)
   put_named s t k v answer.Refused came q h = (h, tt)
   put_named s t k v (answer.Code c) came q h = (h, tt)
   put_named s t k v answer.Hung came q h = absurd came
   put_named s t k v a came q h = tt
 
-  decide_named : (s : Sight) (x : ℕ) (commits : Bool) (a : JudgedAnswer) → Came a → P x → IsNamed s → AreNamed (decide_next s x commits a)
+  decide_named : (s : Sight) (x : ℕ) (commits : Bool) (a : JudgedAnswer) → Came a → P x → IsNamed s
+      → AreNamed (decide_next s x commits a)
   decide_named s x commits answer.Done came p h = if_named _ _ (decided_named x (outcome commits) s p h)
   decide_named s x commits answer.Refused came p h = (h, tt)
   decide_named s x commits (answer.Code c) came p h = (h, tt)
   decide_named s x commits answer.Hung came p h = absurd came
   decide_named s x commits a came p h = tt
 
-  answered : (a : JudgedAnswer) → Came a → (us vs : List Sight) → AreNamed us → AreNamed (if is_answered a then us else vs)
+  answered : (a : JudgedAnswer) → Came a → (us vs : List Sight) → AreNamed us
+      → AreNamed (if is_answered a then us else vs)
   answered answer.Hung came us vs h = absurd came
   answered (answer.Code c) came us vs h = h
   answered (answer.Given xs) came us vs h = h
@@ -455,30 +498,35 @@ module _ (P Q : ℕ → Type 0) where
   Names (call.Disconnect t) = ⊥
   Names _ = Unit {0}
 
-  function_named : (r : Rules) (s : Sight) (f : Function) (a : JudgedAnswer) → Came a → Names (call.Function f) → IsNamed s
+  function_named : (r : Rules) (s : Sight) (f : Function) (a : JudgedAnswer) → Came a
+      → Names (call.Function f) → IsNamed s
       → AreNamed (function_next r s f a)
   function_named r s (function.Open f) a came p h = open_named r (open_defects f.0) true s a came h
   function_named r s (function.Close f) a came p h = open_named r (close_defects s f.0) false s a came h
   function_named r s (function.Branch v o) a came p h = branch_named r v s o a came p h
   function_named r s (function.Recover t count f) a came p h = recover_named r s t count f.0 a came h
 
-  by_named : (r : Rules) (s : Sight) (c : JudgedCall) (a : JudgedAnswer) → Came a → Names c → IsNamed s → AreNamed (next_by r s c a)
+  by_named : (r : Rules) (s : Sight) (c : JudgedCall) (a : JudgedAnswer) → Came a → Names c → IsNamed s
+      → AreNamed (next_by r s c a)
   by_named r s (call.Function f) a came p h = function_named r s f a came p h
   by_named r s (call.Get t k) a came p h = get_named r s t k a came h
   by_named r s (call.Put t k v) a came p h = put_named s t k v a came p h
   by_named r s (call.Decide x commits) a came p h = decide_named s x commits a came p h
-  by_named r s (call.Restart cut) a came p h = answered a came (after_restart r cut s) _ (restart_named r cut s h)
+  by_named r s (call.Restart cut) a came p h = answered a came (after_restart r cut s) _
+      (restart_named r cut s h)
   by_named r s (call.Disconnect t) a came p h = absurd p
   by_named r s call.Trim a came p h = answered a came (s ∷ []) _ (h, tt)
 
   -- the states that follow are those of the rules, as no call has hung
-  next_is : (r : Rules) (s : Sight) (c : JudgedCall) (a : JudgedAnswer) (u : Sight) → IsNamed s → Contains (next r s c a) u
+  next_is : (r : Rules) (s : Sight) (c : JudgedCall) (a : JudgedAnswer) (u : Sight) → IsNamed s
+      → Contains (next r s c a) u
       → Contains (next_by r s c a) u
   next_is r s c a u h is =
       subst (λ (b : Bool). Contains (if b then s ∷ [] else next_by r s c a) u) h.6 is
 
   -- the state that follows names nothing else
-  pub next_named : (r : Rules) (s : Sight) (c : JudgedCall) (a : JudgedAnswer) (u : Sight) → Came a → Names c → IsNamed s
+  pub next_named : (r : Rules) (s : Sight) (c : JudgedCall) (a : JudgedAnswer) (u : Sight) → Came a → Names c
+      → IsNamed s
       → Contains (next r s c a) u → IsNamed u
   next_named r s c a u came p h is =
       all_at IsNamed (next_by r s c a) u (by_named r s c a came p h) (next_is r s c a u h is)
@@ -495,11 +543,13 @@ module _ (P Q : ℕ → Type 0) where
   middle true false c e = absurd (false≢true e)
   middle false b c e = absurd (false≢true e)
 
-  may_named : (t : ℕ) (s : Sight) (xs : List ℕ) → IsNamed s → list_all (may_give t s) xs ≡ true → AllByRecursion P xs
+  may_named : (t : ℕ) (s : Sight) (xs : List ℕ) → IsNamed s → list_all (may_give t s) xs ≡ true
+      → AllByRecursion P xs
   may_named t s [] h e = tt
   may_named t s (x ∷ xs) h e =
       let (here, more) = and_parts (may_give t s x) (list_all (may_give t s) xs) e in
-      let (l, test, p) = any_where OfLine (λ l. l.thread == t && l.branch == x && not l.given) s.listed here h.2 in (
+      let (l, test, p) = any_where OfLine (λ l. l.thread == t && l.branch == x && not l.given)
+      s.listed here h.2 in (
         subst P (eqb-true l.branch x (middle (l.thread == t) (l.branch == x) (not l.given) test)) p,
         may_named t s xs h more,
       )
@@ -510,38 +560,49 @@ module _ (P Q : ℕ → Type 0) where
       (or_left (d.inval || d.asynchronous || d.proto) d.dup_id
       (or_left (d.inval || d.asynchronous) d.proto (or_left d.inval d.asynchronous e)))
 
-  either_empty : (b : Bool) (us : List Sight) (u : Sight) → Contains (if b then [] else us) u → (b ≡ false) × Contains us u
+  either_empty : (b : Bool) (us : List Sight) (u : Sight) → Contains (if b then [] else us) u → (b ≡ false)
+      × Contains us u
   either_empty true us u (k, lt, e) = absurd (omega arith)
   either_empty false us u is = (refl, is)
 
-  given_in : (r : Rules) (s : Sight) (t count f : ℕ) (xs : List ℕ) (u : Sight) (b : Bool) → b ≡ false → IsNamed s
-      → Contains (if b then s ∷ [] else one_if (may_give_all r t count xs (scan_in t f s)) (scan_after t f xs (scan_in t f s))) u
+  given_in : (r : Rules) (s : Sight) (t count f : ℕ) (xs : List ℕ) (u : Sight) (b : Bool) → b ≡ false
+      → IsNamed s
+      → Contains (if b then s ∷ [] else one_if (may_give_all r t count xs (scan_in t f s))
+      (scan_after t f xs (scan_in t f s))) u
       → AllByRecursion P xs
   given_in r s t count f xs u true e h is = absurd (false≢true (sym e))
   given_in r s t count f xs u false e h is =
-      let passes = passed (may_give_all r t count xs (scan_in t f s)) (scan_after t f xs (scan_in t f s)) u is in
+      let passes = passed (may_give_all r t count xs (scan_in t f s)) (scan_after t f xs (scan_in t f s)) u is
+      in
       let (most, owes) = and_parts _ _ passes in
       let (all, few) = and_parts _ _ most in
       let (distinct, may) = and_parts _ _ all in
       may_named t (scan_in t f s) xs (scan_in_named t f s h) may
 
-  not_unscanned : (r : Rules) → r.lacks.scan ≡ false → (s : Sight) (t f : ℕ) → is_defective (recover_defects r s t f) ≡ false
+  not_unscanned : (r : Rules) → r.lacks.scan ≡ false → (s : Sight) (t f : ℕ)
+      → is_defective (recover_defects r s t f) ≡ false
       → (b : Bool) → is_unscanned s t f ≡ b → b ≡ false
   not_unscanned r scans s t f fine false e = refl
-  not_unscanned r scans s t f fine true e = absurd (false≢true (sym fine ∙ inval_defective (recover_defects r s t f)
+  not_unscanned r scans s t f fine true e =
+      absurd (false≢true (sym fine ∙ inval_defective (recover_defects r s t f)
       (or_right _ (is_unscanned s t f && not r.lacks.scan)
       (and_from (is_unscanned s t f) (not r.lacks.scan) e (ap not scans)))))
 
   -- the branches that a recover gives
-  pub gives_named : (r : Rules) → r.lacks.scan ≡ false → (s : Sight) (t count f : ℕ) (xs : List ℕ) (u : Sight) → IsNamed s
-      → Contains (if is_defective (recover_defects r s t f) then [] else given_rows r s t count f xs) u → AllByRecursion P xs
+  pub gives_named : (r : Rules) → r.lacks.scan ≡ false → (s : Sight) (t count f : ℕ) (xs : List ℕ) (u : Sight)
+      → IsNamed s
+      → Contains (if is_defective (recover_defects r s t f) then [] else given_rows r s t count f xs) u
+      → AllByRecursion P xs
   gives_named r scans s t count f xs u h is =
-      let (fine, given) = either_empty (is_defective (recover_defects r s t f)) (given_rows r s t count f xs) u is in
-      given_in r s t count f xs u (is_unscanned s t f) (not_unscanned r scans s t f fine (is_unscanned s t f) refl) h given
+      let (fine, given) = either_empty (is_defective (recover_defects r s t f))
+      (given_rows r s t count f xs) u is in
+      given_in r s t count f xs u (is_unscanned s t f)
+      (not_unscanned r scans s t f fine (is_unscanned s t f) refl) h given
 
   -- values
 
-  held_named : (k v : ℕ) (held : Bool) (w : JudgedWrite) → (held ≡ true → Q v) → Q w.value → held_after k v held w ≡ true → Q v
+  held_named : (k v : ℕ) (held : Bool) (w : JudgedWrite) → (held ≡ true → Q v) → Q w.value
+      → held_after k v held w ≡ true → Q v
   held_named k v held w before q e = by (w.key == k) (w.value == v) (not w.sure) refl e where
     by : (a b c : Bool) → (w.value == v) ≡ b → (if a then (b || (c && held)) else held) ≡ true → Q v
     by true true c is passes = subst Q (eqb-true w.value v is) q
@@ -549,7 +610,8 @@ module _ (P Q : ℕ → Type 0) where
     by true false false is passes = absurd (false≢true passes)
     by false b c is passes = before passes
 
-  holds_named : (k v : ℕ) (ws : List JudgedWrite) (held : Bool) → (held ≡ true → Q v) → AllByRecursion OfWrite ws
+  holds_named : (k v : ℕ) (ws : List JudgedWrite) (held : Bool) → (held ≡ true → Q v)
+      → AllByRecursion OfWrite ws
       → fold (held_after k v) held ws ≡ true → Q v
   holds_named k v [] held before all e = before e
   holds_named k v (w ∷ ws) held before all e =
@@ -557,25 +619,31 @@ module _ (P Q : ℕ → Type 0) where
 
   read_in_named : Q 0 → (since k v : ℕ) (ws : List JudgedWrite) → AllByRecursion OfWrite ws
       → (may_hold k v (take since ws) || is_written k v (drop since ws)) ≡ true → Q v
-  read_in_named none since k v ws all e = elim (or_cases (may_hold k v (take since ws)) (is_written k v (drop since ws)) e) [
-    | inl held ↦ holds_named k v (take since ws) (v == 0) (λ is. subst Q (sym (eqb-true v 0 is)) none)
-        (all_take OfWrite since ws all) held
-    | inr later ↦ (let found = any_where OfWrite (λ w. w.key == k && w.value == v) (drop since ws) later (all_drop OfWrite since ws all) in
-        subst Q (eqb-true found.0.value v (and_parts (found.0.key == k) (found.0.value == v) found.1).1) found.2)
-  ]
+  read_in_named none since k v ws all e =
+      elim (or_cases (may_hold k v (take since ws)) (is_written k v (drop since ws)) e) [
+        | inl held ↦ holds_named k v (take since ws) (v == 0) (λ is. subst Q (sym (eqb-true v 0 is)) none)
+            (all_take OfWrite since ws all) held
+        | inr later ↦ (let found = any_where OfWrite (λ w. w.key == k && w.value == v) (drop since ws) later
+            (all_drop OfWrite since ws all) in
+            subst Q (eqb-true found.0.value v (and_parts (found.0.key == k) (found.0.value == v) found.1).1)
+            found.2)
+      ]
 
   sees_named : Q 0 → (r : Rules) (since k v : ℕ) (s : Sight) → IsNamed s → may_see r since k v s ≡ true → Q v
-  sees_named none r since k v s h e = elim (or_cases (may_read since k v s) (r.lacks.isolation && is_worked k v s) e) [
-    | inl read ↦ read_in_named none since k v s.values h.5 read
-    | inr work ↦ (let found = any_where OfWork (λ w. w.key == k && w.value == v) s.works
-        (and_parts r.lacks.isolation (is_worked k v s) work).1 h.3 in
-        subst Q (eqb-true found.0.value v (and_parts (found.0.key == k) (found.0.value == v) found.1).1) found.2)
-  ]
+  sees_named none r since k v s h e = elim
+      (or_cases (may_read since k v s) (r.lacks.isolation && is_worked k v s) e) [
+        | inl read ↦ read_in_named none since k v s.values h.5 read
+        | inr work ↦ (let found = any_where OfWork (λ w. w.key == k && w.value == v) s.works
+            (and_parts r.lacks.isolation (is_worked k v s) work).1 h.3 in
+            subst Q (eqb-true found.0.value v (and_parts (found.0.key == k) (found.0.value == v) found.1).1)
+            found.2)
+      ]
 
   own_read : (x k v : ℕ) (s : Sight) → IsNamed s → has_value x k v s ≡ true → Q v
   own_read x k v s h e =
       let found = any_where OfWork (λ w. w.branch == x && w.key == k && w.value == v) s.works e h.3 in
-      subst Q (eqb-true found.0.value v (and_parts (found.0.branch == x && found.0.key == k) (found.0.value == v) found.1).1)
+      subst Q (eqb-true found.0.value v (and_parts (found.0.branch == x && found.0.key == k)
+      (found.0.value == v) found.1).1)
       found.2
 
   branch_reads : Q 0 → (r : Rules) (x k v since : ℕ) (s : Sight) → IsNamed s → (b : Bool)
@@ -586,9 +654,11 @@ module _ (P Q : ℕ → Type 0) where
   reads_named : Q 0 → (r : Rules) (o : Option ℕ) (t k v : ℕ) (s u : Sight) → IsNamed s
       → Contains (read_rows r o t k v s) u → Q v
   reads_named none r (Some x) t k v s u h is =
-      branch_reads none r x k v (since_of (branch_at x s) s) s h (has_worked x k s) (passed (reads_in r x k v s) s u is)
+      branch_reads none r x k v (since_of (branch_at x s) s) s h (has_worked x k s)
+      (passed (reads_in r x k v s) s u is)
   reads_named none r None t k v s u h is =
-      sees_named none r (length s.values) k v s h (passed (may_see r (length s.values) k v s) (outside t s) u is)
+      sees_named none r (length s.values) k v s h
+      (passed (may_see r (length s.values) k v s) (outside t s) u is)
 
   -- what the answer of a recover and of a read names
   abbrev pub Tells : JudgedCall → JudgedAnswer → Type 0
@@ -596,14 +666,17 @@ module _ (P Q : ℕ → Type 0) where
   Tells (call.Get t k) (answer.Found v) = Q v
   Tells _ _ = Unit {0}
 
-  told_by : Q 0 → (r : Rules) → r.lacks.scan ≡ false → (s : Sight) (c : JudgedCall) (a : JudgedAnswer) (u : Sight) → IsNamed s
+  told_by : Q 0 → (r : Rules) → r.lacks.scan ≡ false
+      → (s : Sight) (c : JudgedCall) (a : JudgedAnswer) (u : Sight) → IsNamed s
       → Contains (next_by r s c a) u → Tells c a
   told_by none r scans s (call.Function (function.Recover t count f)) (answer.Given xs) u h is =
       gives_named r scans s t count f.0 xs.items u h is
-  told_by none r scans s (call.Get t k) (answer.Found v) u h is = reads_named none r (active_of t s) t k v s u h is
+  told_by none r scans s (call.Get t k) (answer.Found v) u h is =
+      reads_named none r (active_of t s) t k v s u h is
   told_by none r scans s c a u h is = tt
 
   -- it was named before
-  pub next_told : Q 0 → (r : Rules) → r.lacks.scan ≡ false → (s : Sight) (c : JudgedCall) (a : JudgedAnswer) (u : Sight) → IsNamed s
+  pub next_told : Q 0 → (r : Rules) → r.lacks.scan ≡ false
+      → (s : Sight) (c : JudgedCall) (a : JudgedAnswer) (u : Sight) → IsNamed s
       → Contains (next r s c a) u → Tells c a
   next_told none r scans s c a u h is = told_by none r scans s c a u h (next_is r s c a u h is)

@@ -52,11 +52,13 @@ step_one true false m n P e both more = absurd (omega arith)
 step_one false true m n P e both more = absurd (omega arith)
 step_one false false m n P e both more = more (omega arith)
 
-pub number_one : {A : Type 0} (key : A → List ℕ) → ((x y : A) → key x ≡ key y → x ≡ y) → (ys : List A) (x z : A)
+pub number_one : {A : Type 0} (key : A → List ℕ) → ((x y : A) → key x ≡ key y → x ≡ y)
+    → (ys : List A) (x z : A)
     → number_by key ys x ≡ number_by key ys z → x ≡ z
 number_one key inj [] x z e = inj x z (code_one (key x) (key z) e)
 number_one key inj (y ∷ ys) x z e =
-    step_one (alike (key x) (key y)) (alike (key z) (key y)) (number_by key ys x) (number_by key ys z) (x ≡ z) e
+    step_one (alike (key x) (key y)) (alike (key z) (key y)) (number_by key ys x)
+    (number_by key ys z) (x ≡ z) e
     (λ p q. inj x z ((bytes_decides (key x) (key y)).0 p ∙ sym ((bytes_decides (key z) (key y)).0 q)))
     (λ more. number_one key inj ys x z more)
 
@@ -67,11 +69,13 @@ unlike : (a b : List ℕ) → a ≢ b → alike a b ≡ false
 unlike a b h = elim (cases_Bool (alike a b)) [ inl t ↦ absurd (h ((bytes_decides a b).0 t)) | inr f ↦ f ]
 
 -- a name of the list has its place
-pub number_place : {A : Type 0} (key : A → List ℕ) → ((x y : A) → key x ≡ key y → x ≡ y) → (ys : List A) (k : ℕ) (x : A)
+pub number_place : {A : Type 0} (key : A → List ℕ) → ((x y : A) → key x ≡ key y → x ≡ y)
+    → (ys : List A) (k : ℕ) (x : A)
     → AreApartNames ys → IsPlace ys k x → number_by key ys x ≡ k
 number_place key inj [] k x apart (lt, is) = absurd (omega arith)
 number_place key inj (y ∷ ys) zero x apart (lt, is) =
-    let same : alike (key x) (key y) ≡ true = (bytes_decides (key x) (key y)).1 (ap key (sym is)) in rw same refl
+    let same : alike (key x) (key y) ≡ true = (bytes_decides (key x) (key y)).1 (ap key (sym is))
+    in rw same refl
 number_place key inj (y ∷ ys) (suc k) x apart (lt, is) =
     let differs : y ≢ x = λ e. apart 0 (suc k) x (omega arith) lt (e ∙ sym is) in
     let no : alike (key x) (key y) ≡ false = unlike (key x) (key y) (λ e. differs (sym (inj x y e))) in

@@ -1,4 +1,5 @@
--- What a new manager answers to a script can be read: it names branches and gives values that the script named before.
+-- What a new manager answers to a script can be read: it names branches and gives values that the script
+-- named before.
 use Rattle.std.proofs.Common.{◌≡◌, ℕ, ◌-◌, ◌<◌, ◌≤◌, ◌^◌, not, Bool, true, false, cond, List, [], ◌∷◌, length, map, take, Option, Some, None, Result, Ok, Err, refl, sym, ap, ◌∙◌, subst, codes, arith, inl, inr}
 use Rattle.std.specs.Prelude.{MatchResult}
 use Rattle.std.specs.Global.{Global}
@@ -57,7 +58,8 @@ use Rattle.proof_judged_texts.proofs.Numbers.{number_by, number_one, word_key, w
 use Rattle.proof_judged_texts.proofs.Requests.{bind_some, some_and, visible_by}
 
 -- a run has as many answers as requests
-pub answered : (m k : KvSight) (rs : List Request) (given : List RequestAnswer) → RequestsLead m rs given k → length given ≡ length rs
+pub answered : (m k : KvSight) (rs : List Request) (given : List RequestAnswer) → RequestsLead m rs given k
+    → length given ≡ length rs
 answered m k [] [] h = refl
 answered m k [] (a ∷ given) h = absurd h
 answered m k (r ∷ rs) [] h = absurd h
@@ -73,7 +75,8 @@ spelled_many (l ∷ ls) (r ∷ rs) h = let rest = spelled_many ls rs h.1 in omeg
 pub few : (input : List ℕ) (rs : List Request) → IsXaScript input rs → length rs < 2 ^ 63 - 1
 unfolding asked_in
 few input rs s =
-    let many : length rs ≡ length (call_lines (lines input)) = spelled_many (call_lines (lines input)) rs s.calls in
+    let many : length rs ≡ length (call_lines (lines input)) =
+    spelled_many (call_lines (lines input)) rs s.calls in
     let kept = length-filter (λ line. not (is_skipped line)) (lines input) in
     let short = s.short in
     omega (arith, many, kept, short)
@@ -91,8 +94,10 @@ IsSpelled _ = Unit {0}
 put_seen : (rest k v : List ℕ) → put_at rest ≡ Some (Put k v) → is_visible_word 256 v ≡ true
 unfolding put_at
 put_seen rest k v e =
-    let (p, cut, e1) = bind_some (cut_at 32 rest) (λ p. key_at p.0 >>= λ key. value_at p.1 >>= λ value. Some (Put key value)) (Put k v) e in
-    let (j, key, e2) = bind_some (key_at p.0) (λ key. value_at p.1 >>= λ value. Some (Put key value)) (Put k v) e1 in
+    let (p, cut, e1) = bind_some (cut_at 32 rest)
+    (λ p. key_at p.0 >>= λ key. value_at p.1 >>= λ value. Some (Put key value)) (Put k v) e in
+    let (j, key, e2) = bind_some (key_at p.0)
+    (λ key. value_at p.1 >>= λ value. Some (Put key value)) (Put k v) e1 in
     let (w, value, e3) = bind_some (value_at p.1) (λ value. Some (Put j value)) (Put k v) e2 in
     let (is, seen) = visible_by (is_visible_word 256 p.1) p.1 w value in
     let it : w ≡ v = (let s : Some (Put j w) ≡ Some (Put k v) = e3 in cc) in
@@ -112,18 +117,22 @@ op_seen false false false rest k v e = absurd (let s : None ≡ Some (Put k v) =
 
 task_spelled : (f rest : List ℕ) (t : ℕ) (op : Op) → SpellsTask f rest t op → IsSpelled (Work t op)
 task_spelled f rest t (Put k v) h =
-    let (p, cut, (n, is)) = some_and (cut_at 32 rest) (λ p. IsNumber p.0 t × (op_by f p.1 ≡ Some (Put k v))) h in
+    let (p, cut, (n, is)) = some_and (cut_at 32 rest) (λ p. IsNumber p.0 t × (op_by f p.1 ≡ Some (Put k v))) h
+    in
     op_seen (same f (codes "put")) (same f (codes "get")) (same f (codes "del")) p.1 k v is
 task_spelled f rest t (Get k) h = tt
 task_spelled f rest t (Delete k) h = tt
 
 call_spelled : (c : RequestCall) (rest : List ℕ) (r : Request) → SpellsCall c rest r → IsSpelled r
 call_spelled c rest (Branch b t xid flags) (ec, h) =
-    let (p, three, (n, m, k)) = some_and (three_at rest) (λ p. IsNumber p.0 t × IsName p.1 xid × IsFlagText p.2 flags.0) h in m.0
+    let (p, three, (n, m, k)) = some_and (three_at rest)
+    (λ p. IsNumber p.0 t × IsName p.1 xid × IsFlagText p.2 flags.0) h in m.0
 call_spelled c rest (Recover t count flags) (ec, h) =
-    let (p, three, (n, m, k)) = some_and (three_at rest) (λ p. IsNumber p.0 t × IsNumber p.1 count × IsFlagText p.2 flags.0) h in m.1
+    let (p, three, (n, m, k)) = some_and (three_at rest)
+    (λ p. IsNumber p.0 t × IsNumber p.1 count × IsFlagText p.2 flags.0) h in m.1
 call_spelled c rest (Decide xid o) (ec, h) =
-    let (p, cut, (m, k)) = some_and (cut_at 32 rest) (λ p. IsName p.0 xid × (outcome_at p.1 ≡ Some o)) h in m.0
+    let (p, cut, (m, k)) = some_and (cut_at 32 rest) (λ p. IsName p.0 xid × (outcome_at p.1 ≡ Some o)) h
+    in m.0
 call_spelled c rest (Work t op) h = absurd h
 call_spelled c rest r h = tt
 
@@ -152,10 +161,12 @@ all_spelled (l ∷ ls) (r ∷ rs) h = (cut_spelled l (cut_at 32 l) r h.0, all_sp
 
 -- How many branches a recover gives.
 
-none_given : {X : Type 0} (xs : List Xid) (c : AnyCode) → ◌≡◌ {A = Result (List Xid) AnyCode} (Ok xs) (Err c) → X
+none_given : {X : Type 0} (xs : List Xid) (c : AnyCode) → ◌≡◌ {A = Result (List Xid) AnyCode} (Ok xs) (Err c)
+    → X
 none_given xs c e = absurd cc
 
-scanned_few : (a b : States) (t count : ℕ) (c : TableCall) (xs : List Xid) → Scanned a b t count c (Ok xs) → (i : InitState)
+scanned_few : (a b : States) (t count : ℕ) (c : TableCall) (xs : List Xid) → Scanned a b t count c (Ok xs)
+    → (i : InitState)
     → a.init ≡ i → length xs ≤ count
 scanned_few a b t count c xs h R0 is = none_given xs _ (h.closed is).0
 scanned_few a b t count c xs h R1 is =
@@ -165,15 +176,18 @@ scanned_few a b t count c xs h R1 is =
     omega (arith, long, cut)
 
 recovers_few : (a b : States) (t count : ℕ) (xs : List Xid) (q : Result TableCall AnyCode)
-    → MatchResult q (λ c. Scanned a b t count c (Ok xs)) (λ refusal. (Ok xs ≡ Err refusal) × SameStates a b) → length xs ≤ count
+    → MatchResult q (λ c. Scanned a b t count c (Ok xs)) (λ refusal. (Ok xs ≡ Err refusal) × SameStates a b)
+    → length xs ≤ count
 recovers_few a b t count xs (Ok c) h = scanned_few a b t count c xs h a.init refl
 recovers_few a b t count xs (Err e) h = none_given xs e h.0
 
-scans_few : (old new : KvSight) (t count flags : ℕ) (xs : List Xid) → RequestScans old new t count flags (answer.Given xs)
+scans_few : (old new : KvSight) (t count flags : ℕ) (xs : List Xid)
+    → RequestScans old new t count flags (answer.Given xs)
     → length xs ≤ count
 scans_few old new t count flags xs h = elim (cases_Bool old.log.sight.failed) [
   | inl failed ↦ none_given xs _ (h.failed failed).0
-  | inr works ↦ recovers_few old.store.tables new.store.tables t count xs (legal verb.Recover flags) (h.works works).tables
+  | inr works ↦ recovers_few old.store.tables new.store.tables t count xs (legal verb.Recover flags)
+      (h.works works).tables
 ]
 
 -- an answer gives few branches
@@ -181,7 +195,8 @@ abbrev IsFew : RequestAnswer → Type 0
 IsFew (answer.Given xs) = length xs < 2 ^ 63
 IsFew _ = Unit {0}
 
-given_few : (old new : KvSight) (r : Request) (a : RequestAnswer) → IsSpelled r → RequestMakes old new r a → IsFew a
+given_few : (old new : KvSight) (r : Request) (a : RequestAnswer) → IsSpelled r → RequestMakes old new r a
+    → IsFew a
 given_few old new (Recover t count flags) (answer.Given xs) s h =
     let most = scans_few old new t count flags.0 xs h in omega arith
 given_few old new (Open flags migrates) (answer.Given xs) s h = absurd h
@@ -226,15 +241,19 @@ module _ (n : NameNumbers) (heap : Global) where
   HasCome e = Came e.answer
 
   -- the events of a run
-  events_of : (m k : KvSight) (rs : List Request) (given : List RequestAnswer) → RequestsLead m rs given k → AllByRecursion IsSpelled rs
+  events_of : (m k : KvSight) (rs : List Request) (given : List RequestAnswer) → RequestsLead m rs given k
+      → AllByRecursion IsSpelled rs
       → (es : List HistoryEvent) × AreRequests n rs given es × AllByRecursion HasCome es
   events_of m k [] [] h s = ([], tt, tt)
   events_of m k [] (a ∷ given) h s = absurd h
   events_of m k (r ∷ rs) [] h s = absurd h
   events_of m k (r ∷ rs) (a ∷ given) h s =
       let (j, says, came) = told_as a (given_few m h.0 r a s.0 h.2) in
-      let (es, are, all) = events_of h.0 k rs given h.3 s.1 in
-      (record { call = call_of n r; answer = j } ∷ es, (record { calls = refl; says = says }, are), (came, all))
+      let (es, are, all) = events_of h.0 k rs given h.3 s.1 in (
+        record { call = call_of n r; answer = j } ∷ es,
+        (record { calls = refl; says = says }, are),
+        (came, all),
+      )
 
   -- the number of an XID, and of a value that a script can write
   abbrev OfXid : ℕ → Type 0
@@ -263,16 +282,20 @@ module _ (n : NameNumbers) (heap : Global) where
   all_xids (x ∷ xs) h =
       let (y, is, one) = h.0 in (subst IsXid (n.xids_apart y x one) is, all_xids xs h.1)
 
-  given_read : (t c : ℕ) (flags : _) (xs : List Xid) (j : JudgedAnswer) → length xs < 2 ^ 63 → GivesBranches (map n.xid xs) j
+  given_read : (t c : ℕ) (flags : _) (xs : List Xid) (j : JudgedAnswer) → length xs < 2 ^ 63
+      → GivesBranches (map n.xid xs) j
       → Tells OfXid OfValue (call_of n (Recover t c flags)) j → IsReadable (answer.Given xs)
-  given_read t c flags xs (judged.Given v) f is h = (f, all_xids xs (subst (λ (ks : List ℕ). AllByRecursion OfXid ks) is h))
+  given_read t c flags xs (judged.Given v) f is h =
+      (f, all_xids xs (subst (λ (ks : List ℕ). AllByRecursion OfXid ks) is h))
   given_read t c flags xs j f is h = absurd is
 
-  answer_read : (old new : KvSight) (r : Request) (a : RequestAnswer) (j : JudgedAnswer) → RequestMakes old new r a → IsFew a → SaysNumbered n a j
+  answer_read : (old new : KvSight) (r : Request) (a : RequestAnswer) (j : JudgedAnswer)
+      → RequestMakes old new r a → IsFew a → SaysNumbered n a j
       → Tells OfXid OfValue (call_of n r) j → IsReadable a
   answer_read old new (Recover t c flags) (answer.Given xs) j made f is h = given_read t c flags xs j f is h
   answer_read old new (Work t (Get k)) (answer.Found (Some v)) j made f is h =
-      let (w, seen, one) = subst (λ (q : JudgedAnswer). Tells OfXid OfValue (call_of n (Work t (Get k))) q) is h in
+      let (w, seen, one) = subst (λ (q : JudgedAnswer). Tells OfXid OfValue (call_of n (Work t (Get k))) q) is
+      h in
       subst (λ (z : List ℕ). is_visible_word 256 z ≡ true) (n.words_apart w v one) seen
   answer_read old new (Open flags migrates) (answer.Given xs) j made f is h = absurd made
   answer_read old new (Close flags) (answer.Given xs) j made f is h = absurd made
@@ -295,8 +318,10 @@ module _ (n : NameNumbers) (heap : Global) where
   answer_read old new r a j made f is h = tt
 
   -- the answers of a run that is legal
-  run_read : (m k : KvSight) (rs : List Request) (given : List RequestAnswer) (es : List HistoryEvent) (s t : Sight) → RequestsLead m rs given k
-      → AllByRecursion IsSpelled rs → AreRequests n rs given es → AllByRecursion HasCome es → IsNamed OfXid OfValue s
+  run_read : (m k : KvSight) (rs : List Request) (given : List RequestAnswer) (es : List HistoryEvent)
+      (s t : Sight) → RequestsLead m rs given k
+      → AllByRecursion IsSpelled rs → AreRequests n rs given es → AllByRecursion HasCome es
+      → IsNamed OfXid OfValue s
       → JudgeLeads lacks_forced s es t → AreReadable given
   run_read m k [] [] es s t h spelled are came named_so legal_so = tt
   run_read m k [] (a ∷ given) es s t h spelled are came named_so legal_so = absurd h
@@ -311,11 +336,13 @@ module _ (n : NameNumbers) (heap : Global) where
         answer_read m h.0 r a e.answer h.2 (given_few m h.0 r a spelled.0 h.2) are.0.says
             (subst (λ (c : JudgedCall). Tells OfXid OfValue c e.answer) are.0.calls tells),
         run_read h.0 k rs given es u t h.3 spelled.1 are.1 came.1
-            (next_named OfXid OfValue lacks_forced s e.call e.answer u came.0 names named_so legal_so.1) legal_so.2,
+            (next_named OfXid OfValue lacks_forced s e.call e.answer u came.0 names named_so legal_so.1)
+            legal_so.2,
       )
 
 -- what a new manager answers to a script can be read
-pub answers_readable : Global → (m k : KvSight) (input : List ℕ) (rs : List Request) (given : List RequestAnswer) → IsFreshManager m
+pub answers_readable : Global → (m k : KvSight) (input : List ℕ) (rs : List Request)
+    (given : List RequestAnswer) → IsFreshManager m
     → RequestsLead m rs given k → IsXaScript input rs → AreReadable given
 answers_readable heap m k input rs given fresh run s =
     let spelled = all_spelled (call_lines (lines input)) rs s.calls in

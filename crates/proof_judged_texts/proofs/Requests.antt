@@ -56,7 +56,8 @@ Same _ _ = ⊥
 abbrev NoArrow : List (List ℕ) → Type 0
 NoArrow answer = (q : List (List ℕ)) → answer ≡ codes "->" ∷ q → ⊥
 
--- the line of a request, by its words: they ask for it and for nothing else, wherever the arrow is thought to be
+-- the line of a request, by its words: they ask for it and for nothing else, wherever the arrow is thought to
+-- be
 pub record IsWorded (l : List ℕ) (r : Request) : Type 0 where
   pub first : List ℕ
   pub rest : List (List ℕ)
@@ -90,7 +91,8 @@ arity word.Restart = 0
 arity word.Disconnect = 1
 arity word.Trim = 0
 
-has_arity : (w : CallWord) (ws : List (List ℕ)) (a : TranscriptCall) → is_fixed w ≡ true → AsksBy w ws a → length ws ≡ arity w
+has_arity : (w : CallWord) (ws : List (List ℕ)) (a : TranscriptCall) → is_fixed w ≡ true → AsksBy w ws a
+    → length ws ≡ arity w
 has_arity word.Open ws a fixed h = absurd (let none : false ≡ true = fixed in cc)
 has_arity word.Close [] a fixed h = absurd h
 has_arity word.Close (x ∷ []) a fixed h = refl
@@ -139,14 +141,16 @@ has_arity word.Trim (x ∷ y ∷ []) a fixed h = absurd h
 has_arity word.Trim (x ∷ y ∷ z ∷ []) a fixed h = absurd h
 has_arity word.Trim (x ∷ y ∷ z ∷ t ∷ more) a fixed h = absurd h
 
-fixed_place : (w : CallWord) (rest other later answer : List (List ℕ)) (a b : TranscriptCall) → is_fixed w ≡ true → AsksBy w rest a
+fixed_place : (w : CallWord) (rest other later answer : List (List ℕ)) (a b : TranscriptCall)
+    → is_fixed w ≡ true → AsksBy w rest a
     → AsksBy w other b → rest ++ codes "->" ∷ answer ≡ other ++ codes "->" ∷ later → rest ≡ other
 fixed_place w rest other later answer a b fixed h k e =
     (append_one rest (codes "->" ∷ answer) other (codes "->" ∷ later)
     (has_arity w rest a fixed h ∙ sym (has_arity w other b fixed k)) e).0
 
 fixed_worded : (l f : List ℕ) (rest : List (List ℕ)) (w : CallWord) (r : Request) → l ≡ line_of (f ∷ rest)
-    → AreWords (f ∷ rest) → judged_word f ≡ Some w → is_fixed w ≡ true → (a : TranscriptCall) → AsksBy w rest a
+    → AreWords (f ∷ rest) → judged_word f ≡ Some w → is_fixed w ≡ true → (a : TranscriptCall)
+    → AsksBy w rest a
     → ((b : TranscriptCall) → AsksBy w rest b → Same b r) → IsWorded l r
 fixed_worded l f rest w r line words named fixed a asks only = record {
   first = f;
@@ -210,7 +214,8 @@ same_number : (y : List ℕ) (m n : ℕ) → IsNumber y m → IsNumber y n → m
 same_number y m n h k = one_number y m n h.0 k.0
 
 branch_only : (b : BranchCall) (x y z : List ℕ) (t : ℕ) (xid : Xid) (f : Flags) → IsNumber x t → IsName y xid
-    → IsFlagText z f.0 → (a : TranscriptCall) → AsksBy (word.Branch (verb_of b)) (x ∷ y ∷ z ∷ []) a → Same a (Branch b t xid f)
+    → IsFlagText z f.0 → (a : TranscriptCall) → AsksBy (word.Branch (verb_of b)) (x ∷ y ∷ z ∷ []) a
+    → Same a (Branch b t xid f)
 branch_only b x y z t xid f n m k (asked.Branch v u o g) (e, p, q, s) =
     (e, same_number x u t p n, same_name y o xid q m, same_flags z g f s k)
 branch_only b x y z t xid f n m k a h = absurd h
@@ -221,7 +226,8 @@ branch_worded : (l x y z : List ℕ) (b : BranchCall) (t : ℕ) (xid : Xid) (f :
 branch_worded l x y z b t xid f is n m k =
     fixed_worded l (branch_word b) (x ∷ y ∷ z ∷ []) (word.Branch (verb_of b)) (Branch b t xid f) is
     (branch_is_word b, (thread_word x t n, (name_word y xid m, (flags_word z f.0 k, tt))))
-    (branch_named b) refl (asked.Branch (verb_of b) t xid f) (refl, n, m, k) (branch_only b x y z t xid f n m k)
+    (branch_named b) refl (asked.Branch (verb_of b) t xid f) (refl, n, m, k)
+    (branch_only b x y z t xid f n m k)
 
 recover_only : (x y z : List ℕ) (t c : ℕ) (f : Flags) → IsNumber x t → IsNumber y c → IsFlagText z f.0
     → (a : TranscriptCall) → AsksBy word.Recover (x ∷ y ∷ z ∷ []) a → Same a (Recover t c f)
@@ -229,30 +235,35 @@ recover_only x y z t c f n m k (asked.Recover u d g) (p, q, s) =
     (same_number x u t p n, same_number y d c q m, same_flags z g f s k)
 recover_only x y z t c f n m k a h = absurd h
 
-recover_worded : (l x y z : List ℕ) (t c : ℕ) (f : Flags) → l ≡ codes "recover" ++ 32 ∷ (x ++ 32 ∷ (y ++ 32 ∷ z))
+recover_worded : (l x y z : List ℕ) (t c : ℕ) (f : Flags)
+    → l ≡ codes "recover" ++ 32 ∷ (x ++ 32 ∷ (y ++ 32 ∷ z))
     → IsNumber x t → IsNumber y c → IsFlagText z f.0 → IsWorded l (Recover t c f)
 recover_worded l x y z t c f is n m k =
     fixed_worded l (codes "recover") (x ∷ y ∷ z ∷ []) word.Recover (Recover t c f) is
     (word_is (codes "recover") refl, (thread_word x t n, (thread_word y c m, (flags_word z f.0 k, tt))))
     refl refl (asked.Recover t c f) (n, m, k) (recover_only x y z t c f n m k)
 
-close_only : (x : List ℕ) (f : Flags) → IsFlagText x f.0 → (a : TranscriptCall) → AsksBy word.Close (x ∷ []) a → Same a (Close f)
+close_only : (x : List ℕ) (f : Flags) → IsFlagText x f.0 → (a : TranscriptCall) → AsksBy word.Close (x ∷ []) a
+    → Same a (Close f)
 close_only x f k (asked.Close g) h = same_flags x g f h k
 close_only x f k a h = absurd h
 
-close_worded : (l x : List ℕ) (f : Flags) → l ≡ codes "close" ++ 32 ∷ x → IsFlagText x f.0 → IsWorded l (Close f)
+close_worded : (l x : List ℕ) (f : Flags) → l ≡ codes "close" ++ 32 ∷ x → IsFlagText x f.0
+    → IsWorded l (Close f)
 close_worded l x f is k =
     fixed_worded l (codes "close") (x ∷ []) word.Close (Close f) is
     (word_is (codes "close") refl, (flags_word x f.0 k, tt)) refl refl (asked.Close f) k (close_only x f k)
 
 -- Opens and restarts: one word more or less.
 
-open_place : (rest other later answer : List (List ℕ)) (a b : TranscriptCall) → AsksBy word.Open rest a → AsksBy word.Open other b
+open_place : (rest other later answer : List (List ℕ)) (a b : TranscriptCall) → AsksBy word.Open rest a
+    → AsksBy word.Open other b
     → NoArrow answer → ((x y : List ℕ) → rest ≡ x ∷ y ∷ [] → y ≡ codes "->" → ⊥)
     → rest ++ codes "->" ∷ answer ≡ other ++ codes "->" ∷ later → rest ≡ other
 open_place [] other later answer a b h k lone text e = absurd h
 open_place (x ∷ []) [] later answer a b h k lone text e = absurd k
-open_place (x ∷ []) (u ∷ []) later answer a b h k lone text e = let first : x ≡ u = cc in ap (λ (w : List ℕ). w ∷ []) first
+open_place (x ∷ []) (u ∷ []) later answer a b h k lone text e =
+    let first : x ≡ u = cc in ap (λ (w : List ℕ). w ∷ []) first
 open_place (x ∷ []) (u ∷ v ∷ []) later answer a b h k lone text e =
     let past : answer ≡ codes "->" ∷ later = cc in absurd (lone later past)
 open_place (x ∷ []) (u ∷ v ∷ w ∷ []) later answer a b h k lone text e = absurd k
@@ -269,12 +280,14 @@ open_place (x ∷ y ∷ []) (u ∷ v ∷ w ∷ z ∷ more) later answer a b h k 
 open_place (x ∷ y ∷ z ∷ []) other later answer a b h k lone text e = absurd h
 open_place (x ∷ y ∷ z ∷ t ∷ more) other later answer a b h k lone text e = absurd h
 
-open_one : (x : List ℕ) (f : Flags) (m : Bool) → IsFlagText x f.0 → (a : TranscriptCall) → AsksBy word.Open (x ∷ []) a
+open_one : (x : List ℕ) (f : Flags) (m : Bool) → IsFlagText x f.0 → (a : TranscriptCall)
+    → AsksBy word.Open (x ∷ []) a
     → Same a (Open f m)
 open_one x f m k (asked.Open g) h = same_flags x g f h k
 open_one x f m k a h = absurd h
 
-open_two : (x y : List ℕ) (f : Flags) (m : Bool) → IsFlagText x f.0 → (a : TranscriptCall) → AsksBy word.Open (x ∷ y ∷ []) a
+open_two : (x y : List ℕ) (f : Flags) (m : Bool) → IsFlagText x f.0 → (a : TranscriptCall)
+    → AsksBy word.Open (x ∷ y ∷ []) a
     → Same a (Open f m)
 open_two x y f m k (asked.Open g) h = same_flags x g f h k
 open_two x y f m k a h = absurd h
@@ -282,7 +295,8 @@ open_two x y f m k a h = absurd h
 no_second : (x u v : List ℕ) → x ∷ [] ≡ u ∷ v ∷ [] → ⊥
 no_second x u v e = cc
 
-open_worded : (l x : List ℕ) (f : Flags) (m : Bool) → l ≡ codes "open" ++ 32 ∷ x → IsFlagText x f.0 → IsWorded l (Open f m)
+open_worded : (l x : List ℕ) (f : Flags) (m : Bool) → l ≡ codes "open" ++ 32 ∷ x → IsFlagText x f.0
+    → IsWorded l (Open f m)
 open_worded l x f m is k = record {
   first = codes "open";
   rest = x ∷ [];
@@ -309,7 +323,8 @@ arrow_no_letters w h e =
 second_is : (x y u v : List ℕ) → x ∷ y ∷ [] ≡ u ∷ v ∷ [] → y ≡ v
 second_is x y u v e = cc
 
-told_worded : (l x y : List ℕ) (f : Flags) (m : Bool) → l ≡ codes "open" ++ 32 ∷ (x ++ 32 ∷ y) → IsFlagText x f.0
+told_worded : (l x y : List ℕ) (f : Flags) (m : Bool) → l ≡ codes "open" ++ 32 ∷ (x ++ 32 ∷ y)
+    → IsFlagText x f.0
     → IsInfoText y → IsWorded l (Open f m)
 told_worded l x y f m is k info = record {
   first = codes "open";
@@ -321,7 +336,8 @@ told_worded l x y f m is k info = record {
   asked = asked.Open f;
   asks = k;
   only = open_two x y f m k;
-  place = λ other later answer a h lone e. open_place (x ∷ y ∷ []) other later answer (asked.Open f) a k h lone
+  place = λ other later answer a h lone e. open_place (x ∷ y ∷ []) other later answer
+      (asked.Open f) a k h lone
       (λ u v i j. arrow_no_letters y info.letters (second_is x y u v i ∙ j)) e;
 }
 
@@ -349,7 +365,8 @@ restart_all : (a : TranscriptCall) → AsksBy word.Restart [] a → Same a (Rest
 restart_all (asked.Restart cut) h = h
 restart_all a h = absurd h
 
-restart_some : (x : List ℕ) (n : ℕ) (a : TranscriptCall) → AsksBy word.Restart (x ∷ []) a → Same a (Restart (Some n))
+restart_some : (x : List ℕ) (n : ℕ) (a : TranscriptCall) → AsksBy word.Restart (x ∷ []) a
+    → Same a (Restart (Some n))
 restart_some x n (asked.Restart cut) h = h.1
 restart_some x n a h = absurd h
 
@@ -367,7 +384,8 @@ restart_worded l is = record {
   asked = asked.Restart false;
   asks = refl;
   only = restart_all;
-  place = λ other later answer a h lone e. restart_place [] other later answer (asked.Restart false) a refl h lone
+  place = λ other later answer a h lone e. restart_place [] other later answer
+      (asked.Restart false) a refl h lone
       (λ x i j. no_first x i) e;
 }
 
@@ -404,7 +422,8 @@ trim_only asked.Trim h = tt
 trim_only a h = absurd h
 
 trim_worded : (l : List ℕ) → l ≡ codes "trim" → IsWorded l Trim
-trim_worded l is = fixed_worded l (codes "trim") [] word.Trim Trim is (word_is (codes "trim") refl, tt) refl refl
+trim_worded l is = fixed_worded l (codes "trim") [] word.Trim Trim is
+    (word_is (codes "trim") refl, tt) refl refl
     asked.Trim tt trim_only
 
 -- Decisions.
@@ -418,21 +437,25 @@ outcome_by false false o e = cc
 outcome_same : (w : List ℕ) (o : Outcome) → outcome_at w ≡ Some o → judged_outcome w ≡ Some (is_commit o)
 outcome_same w o e = outcome_by (same w (codes "commit")) (same w (codes "rollback")) o e
 
-outcome_word : (w : List ℕ) (b c : Bool) (o : Outcome) → b ≡ same w (codes "commit") → c ≡ same w (codes "rollback")
+outcome_word : (w : List ℕ) (b c : Bool) (o : Outcome) → b ≡ same w (codes "commit")
+    → c ≡ same w (codes "rollback")
     → cond b (Some Committed) (cond c (Some Aborted) None) ≡ Some o → IsWord w
 outcome_word w true c o p q e = let is : w ≡ codes "commit" = (bytes_decides w (codes "commit")).0 (sym p) in
     subst (λ (v : List ℕ). IsWord v) (sym is) (word_is (codes "commit") refl)
-outcome_word w false true o p q e = let is : w ≡ codes "rollback" = (bytes_decides w (codes "rollback")).0 (sym q) in
+outcome_word w false true o p q e =
+    let is : w ≡ codes "rollback" = (bytes_decides w (codes "rollback")).0 (sym q) in
     subst (λ (v : List ℕ). IsWord v) (sym is) (word_is (codes "rollback") refl)
 outcome_word w false false o p q e = absurd (let none : None ≡ Some o = e in cc)
 
-decide_only : (x y : List ℕ) (xid : Xid) (o : Outcome) → IsName x xid → outcome_at y ≡ Some o → (a : TranscriptCall)
+decide_only : (x y : List ℕ) (xid : Xid) (o : Outcome) → IsName x xid → outcome_at y ≡ Some o
+    → (a : TranscriptCall)
     → AsksBy word.Decide (x ∷ y ∷ []) a → Same a (Decide xid o)
 decide_only x y xid o m k (asked.Decide z c) (p, q) =
     (same_name x z xid p m, let both : Some c ≡ Some (is_commit o) = sym q ∙ outcome_same y o k in cc)
 decide_only x y xid o m k a h = absurd h
 
-decide_worded : (l x y : List ℕ) (xid : Xid) (o : Outcome) → l ≡ codes "heur" ++ 32 ∷ (x ++ 32 ∷ y) → IsName x xid
+decide_worded : (l x y : List ℕ) (xid : Xid) (o : Outcome) → l ≡ codes "heur" ++ 32 ∷ (x ++ 32 ∷ y)
+    → IsName x xid
     → outcome_at y ≡ Some o → IsWorded l (Decide xid o)
 decide_worded l x y xid o is m k =
     fixed_worded l (codes "heur") (x ∷ y ∷ []) word.Decide (Decide xid o) is (
@@ -449,7 +472,8 @@ decide_worded l x y xid o is m k =
 
 -- Operations on data.
 
-get_only : (x k : List ℕ) (t : ℕ) → IsNumber x t → (a : TranscriptCall) → AsksBy word.Get (x ∷ k ∷ []) a → Same a (Work t (Get k))
+get_only : (x k : List ℕ) (t : ℕ) → IsNumber x t → (a : TranscriptCall) → AsksBy word.Get (x ∷ k ∷ []) a
+    → Same a (Work t (Get k))
 get_only x k t n (asked.Get u j) (p, q) = (same_number x u t p n, sym q)
 get_only x k t n a h = absurd h
 
@@ -458,7 +482,8 @@ get_worded : (l x k : List ℕ) (t : ℕ) → l ≡ codes "get" ++ 32 ∷ (x ++ 
 unfolding bor
 get_worded l x k t is n w =
     fixed_worded l (codes "get") (x ∷ k ∷ []) word.Get (Work t (Get k)) is
-    (word_is (codes "get") refl, (thread_word x t n, (w, tt))) refl refl (asked.Get t (bor k)) (n, refl) (get_only x k t n)
+    (word_is (codes "get") refl, (thread_word x t n, (w, tt))) refl refl (asked.Get t (bor k)) (n, refl)
+    (get_only x k t n)
 
 delete_only : (x k : List ℕ) (t : ℕ) → IsNumber x t → (a : TranscriptCall) → AsksBy word.Delete (x ∷ k ∷ []) a
     → Same a (Work t (Delete k))
@@ -470,7 +495,8 @@ delete_worded : (l x k : List ℕ) (t : ℕ) → l ≡ codes "del" ++ 32 ∷ (x 
 unfolding bor
 delete_worded l x k t is n w =
     fixed_worded l (codes "del") (x ∷ k ∷ []) word.Delete (Work t (Delete k)) is
-    (word_is (codes "del") refl, (thread_word x t n, (w, tt))) refl refl (asked.Put t (bor k) (bor (codes "none")))
+    (word_is (codes "del") refl, (thread_word x t n, (w, tt))) refl refl
+    (asked.Put t (bor k) (bor (codes "none")))
     (n, refl, refl) (delete_only x k t n)
 
 put_only : (x k v : List ℕ) (t : ℕ) → IsNumber x t → (a : TranscriptCall) → AsksBy word.Put (x ∷ k ∷ v ∷ []) a
@@ -478,7 +504,8 @@ put_only : (x k v : List ℕ) (t : ℕ) → IsNumber x t → (a : TranscriptCall
 put_only x k v t n (asked.Put u j w) (p, q, s) = (same_number x u t p n, sym q, sym s)
 put_only x k v t n a h = absurd h
 
-put_worded : (l x k v : List ℕ) (t : ℕ) → l ≡ codes "put" ++ 32 ∷ (x ++ 32 ∷ (k ++ 32 ∷ v)) → IsNumber x t → IsWord k
+put_worded : (l x k v : List ℕ) (t : ℕ) → l ≡ codes "put" ++ 32 ∷ (x ++ 32 ∷ (k ++ 32 ∷ v)) → IsNumber x t
+    → IsWord k
     → IsWord v → IsWorded l (Work t (Put k v))
 unfolding bor
 put_worded l x k v t is n w z =
@@ -517,14 +544,16 @@ delete_task : (l x q : List ℕ) (t : ℕ) (op : Op) → l ≡ codes "del" ++ 32
 delete_task l x q t op is n e =
     let (k, found, same) = bind_some (key_at q) (λ key. Some (Delete key)) op e in
     let (there, w) = key_takes q k found in
-    let it : Delete q ≡ op = ap (λ (j : List ℕ). Delete j) there ∙ (let s : Some (Delete k) ≡ Some op = same in cc) in
+    let it : Delete q ≡ op = ap (λ (j : List ℕ). Delete j) there
+    ∙ (let s : Some (Delete k) ≡ Some op = same in cc) in
     subst (λ (o : Op). IsWorded l (Work t o)) it (delete_worded l x q t is n w)
 
 put_task : (l x q : List ℕ) (t : ℕ) (op : Op) → l ≡ codes "put" ++ 32 ∷ (x ++ 32 ∷ q) → IsNumber x t
     → put_at q ≡ Some op → IsWorded l (Work t op)
 unfolding put_at
 put_task l x q t op is n e =
-    let (p, cut, e1) = bind_some (cut_at 32 q) (λ p. key_at p.0 >>= λ key. value_at p.1 >>= λ value. Some (Put key value)) op e in
+    let (p, cut, e1) = bind_some (cut_at 32 q)
+    (λ p. key_at p.0 >>= λ key. value_at p.1 >>= λ value. Some (Put key value)) op e in
     let (k, key, e2) = bind_some (key_at p.0) (λ key. value_at p.1 >>= λ value. Some (Put key value)) op e1 in
     let (v, value, e3) = bind_some (value_at p.1) (λ value. Some (Put k value)) op e2 in
     let (is_k, w) = key_takes p.0 k key in
@@ -550,7 +579,8 @@ abbrev Named : List ℕ → RequestWord → Type 0
 Named w (asking.Call c) = w ≡ call_word c
 Named w asking.Work = (w ≡ codes "get") ⊎ ((w ≡ codes "put") ⊎ (w ≡ codes "del"))
 
-at_word : (w v : List ℕ) (n k : RequestWord) (rest : Option RequestWord) (b : Bool) → b ≡ same w v → (w ≡ v → Named w n)
+at_word : (w v : List ℕ) (n k : RequestWord) (rest : Option RequestWord) (b : Bool) → b ≡ same w v
+    → (w ≡ v → Named w n)
     → (rest ≡ Some k → Named w k) → cond b (Some n) rest ≡ Some k → Named w k
 at_word w v n k rest true is here more e =
     let it : n ≡ k = cc in subst (λ (q : RequestWord). Named w q) it (here ((bytes_decides w v).0 (sym is)))
@@ -580,7 +610,8 @@ word_named w k e =
     at_word w (codes "commit") (asking.Call (call.Branch Commit)) k _ _ refl (λ i. i) (
     at_word w (codes "rollback") (asking.Call (call.Branch Rollback)) k _ _ refl (λ i. i) (
     at_word w (codes "forget") (asking.Call (call.Branch Forget)) k _ _ refl (λ i. i)
-    (at_work w k (same w (codes "get")) (same w (codes "put")) (same w (codes "del")) refl refl refl)))))))))))) e
+    (at_work w k (same w (codes "get")) (same w (codes "put")) (same w (codes "del")) refl refl
+    refl)))))))))))) e
 
 -- Whole lines.
 
@@ -588,7 +619,8 @@ pub some_and : {A : Type 0} (o : Option A) (P : A → Type 0) → IsSomeAnd o P 
 some_and None P h = absurd h
 some_and (Some x) P h = (x, refl, h)
 
-last_takes : (first rest : List ℕ) (o : Option (List ℕ × List ℕ)) (p : List ℕ × List ℕ × List ℕ) → cut_at 32 rest ≡ o
+last_takes : (first rest : List ℕ) (o : Option (List ℕ × List ℕ)) (p : List ℕ × List ℕ × List ℕ)
+    → cut_at 32 rest ≡ o
     → last_two first o ≡ Some p → (first ≡ p.0) × (rest ≡ p.1 ++ 32 ∷ p.2)
 last_takes first rest None p cut e = absurd (let none : None ≡ Some p = e in cc)
 last_takes first rest (Some q) p cut e =
@@ -597,7 +629,8 @@ last_takes first rest (Some q) p cut e =
       cut_takes 32 rest q cut ∙ ap (λ (r : List ℕ × List ℕ × List ℕ). r.1 ++ 32 ∷ r.2) whole,
     )
 
-first_takes : (rest : List ℕ) (o : Option (List ℕ × List ℕ)) (p : List ℕ × List ℕ × List ℕ) → cut_at 32 rest ≡ o
+first_takes : (rest : List ℕ) (o : Option (List ℕ × List ℕ)) (p : List ℕ × List ℕ × List ℕ)
+    → cut_at 32 rest ≡ o
     → first_of_three o ≡ Some p → rest ≡ p.0 ++ 32 ∷ (p.1 ++ 32 ∷ p.2)
 first_takes rest None p cut e = absurd (let none : None ≡ Some p = e in cc)
 first_takes rest (Some q) p cut e =
@@ -618,10 +651,12 @@ opened : (l rest : List ℕ) (o : Option (List ℕ × List ℕ)) (f : Flags) (m 
     → l ≡ codes "open" ++ 32 ∷ rest → IsOpenOf rest o f.0 m → IsWorded l (Open f m)
 opened l rest None f m cut is h = open_worded l rest f m is h.0
 opened l rest (Some p) f m cut is h =
-    told_worded l p.0 p.1 f m (after l (codes "open") rest (codes "open") (p.0 ++ 32 ∷ p.1) is refl (cut_takes 32 rest p cut))
+    told_worded l p.0 p.1 f m (after l (codes "open") rest (codes "open") (p.0 ++ 32 ∷ p.1) is refl
+    (cut_takes 32 rest p cut))
     h.0 h.1
 
-called : (l f rest : List ℕ) (c : RequestCall) → l ≡ f ++ 32 ∷ rest → f ≡ call_word c → (r : Request) → SpellsCall c rest r
+called : (l f rest : List ℕ) (c : RequestCall) → l ≡ f ++ 32 ∷ rest → f ≡ call_word c → (r : Request)
+    → SpellsCall c rest r
     → IsWorded l r
 called l f rest c is named (Open flags migrates) (ec, h) =
     opened l rest (cut_at 32 rest) flags migrates refl
@@ -629,14 +664,18 @@ called l f rest c is named (Open flags migrates) (ec, h) =
 called l f rest c is named (Close flags) (ec, h) =
     close_worded l rest flags (after l f rest (codes "close") rest is (named ∙ ap call_word ec) refl) h
 called l f rest c is named (Branch b t xid flags) (ec, h) =
-    let (p, three, (n, m, k)) = some_and (three_at rest) (λ p. IsNumber p.0 t × IsName p.1 xid × IsFlagText p.2 flags.0) h in
+    let (p, three, (n, m, k)) = some_and (three_at rest)
+    (λ p. IsNumber p.0 t × IsName p.1 xid × IsFlagText p.2 flags.0) h in
     branch_worded l p.0 p.1 p.2 b t xid flags
-    (after l f rest (branch_word b) (p.0 ++ 32 ∷ (p.1 ++ 32 ∷ p.2)) is (named ∙ ap call_word ec) (three_takes rest p three))
+    (after l f rest (branch_word b) (p.0 ++ 32 ∷ (p.1 ++ 32 ∷ p.2)) is (named ∙ ap call_word ec)
+    (three_takes rest p three))
     n m k
 called l f rest c is named (Recover t count flags) (ec, h) =
-    let (p, three, (n, m, k)) = some_and (three_at rest) (λ p. IsNumber p.0 t × IsNumber p.1 count × IsFlagText p.2 flags.0) h in
+    let (p, three, (n, m, k)) = some_and (three_at rest)
+    (λ p. IsNumber p.0 t × IsNumber p.1 count × IsFlagText p.2 flags.0) h in
     recover_worded l p.0 p.1 p.2 t count flags
-    (after l f rest (codes "recover") (p.0 ++ 32 ∷ (p.1 ++ 32 ∷ p.2)) is (named ∙ ap call_word ec) (three_takes rest p three))
+    (after l f rest (codes "recover") (p.0 ++ 32 ∷ (p.1 ++ 32 ∷ p.2)) is (named ∙ ap call_word ec)
+    (three_takes rest p three))
     n m k
 called l f rest c is named (Work t op) h = absurd h
 called l f rest c is named (Restart None) (ec, h) = absurd h
@@ -646,31 +685,38 @@ called l f rest c is named Trim h = absurd h
 called l f rest c is named (Decide xid o) (ec, h) =
     let (p, cut, (m, k)) = some_and (cut_at 32 rest) (λ p. IsName p.0 xid × (outcome_at p.1 ≡ Some o)) h in
     decide_worded l p.0 p.1 xid o
-    (after l f rest (codes "heur") (p.0 ++ 32 ∷ p.1) is (named ∙ ap call_word ec) (cut_takes 32 rest p cut)) m k
+    (after l f rest (codes "heur") (p.0 ++ 32 ∷ p.1) is (named ∙ ap call_word ec) (cut_takes 32 rest p cut)) m
+    k
 
-worked : (l f rest : List ℕ) → l ≡ f ++ 32 ∷ rest → Named f asking.Work → (t : ℕ) (op : Op) → SpellsTask f rest t op
+worked : (l f rest : List ℕ) → l ≡ f ++ 32 ∷ rest → Named f asking.Work → (t : ℕ) (op : Op)
+    → SpellsTask f rest t op
     → IsWorded l (Work t op)
 worked l f rest is (inl v) t op h =
     let (p, cut, (n, k)) = some_and (cut_at 32 rest) (λ p. IsNumber p.0 t × (op_by f p.1 ≡ Some op)) h in
     let task : op_by (codes "get") p.1 ≡ Some op = ap (λ (w : List ℕ). op_by w p.1) (sym v) ∙ k in
-    get_task l p.0 p.1 t op (after l f rest (codes "get") (p.0 ++ 32 ∷ p.1) is v (cut_takes 32 rest p cut)) n task
+    get_task l p.0 p.1 t op (after l f rest (codes "get") (p.0 ++ 32 ∷ p.1) is v (cut_takes 32 rest p cut)) n
+    task
 worked l f rest is (inr (inl v)) t op h =
     let (p, cut, (n, k)) = some_and (cut_at 32 rest) (λ p. IsNumber p.0 t × (op_by f p.1 ≡ Some op)) h in
     let task : op_by (codes "put") p.1 ≡ Some op = ap (λ (w : List ℕ). op_by w p.1) (sym v) ∙ k in
-    put_task l p.0 p.1 t op (after l f rest (codes "put") (p.0 ++ 32 ∷ p.1) is v (cut_takes 32 rest p cut)) n task
+    put_task l p.0 p.1 t op (after l f rest (codes "put") (p.0 ++ 32 ∷ p.1) is v (cut_takes 32 rest p cut)) n
+    task
 worked l f rest is (inr (inr v)) t op h =
     let (p, cut, (n, k)) = some_and (cut_at 32 rest) (λ p. IsNumber p.0 t × (op_by f p.1 ≡ Some op)) h in
     let task : op_by (codes "del") p.1 ≡ Some op = ap (λ (w : List ℕ). op_by w p.1) (sym v) ∙ k in
-    delete_task l p.0 p.1 t op (after l f rest (codes "del") (p.0 ++ 32 ∷ p.1) is v (cut_takes 32 rest p cut)) n task
+    delete_task l p.0 p.1 t op (after l f rest (codes "del") (p.0 ++ 32 ∷ p.1) is v (cut_takes 32 rest p cut))
+    n task
 
 by_word : (l f rest : List ℕ) → l ≡ f ++ 32 ∷ rest → (k : Option RequestWord) → word_at f ≡ k → (r : Request)
     → SpellsBy k f rest r → IsWorded l r
 by_word l f rest is None e r h = absurd h
 by_word l f rest is (Some (asking.Call c)) e r h = called l f rest c is (word_named f (asking.Call c) e) r h
-by_word l f rest is (Some asking.Work) e (Work t op) h = worked l f rest is (word_named f asking.Work e) t op h
+by_word l f rest is (Some asking.Work) e (Work t op) h =
+    worked l f rest is (word_named f asking.Work e) t op h
 by_word l f rest is (Some asking.Work) e r h = absurd h
 
-alone : (l : List ℕ) (k : Option RequestWord) → word_at l ≡ k → (r : Request) → alone_by k ≡ Some r → IsWorded l r
+alone : (l : List ℕ) (k : Option RequestWord) → word_at l ≡ k → (r : Request) → alone_by k ≡ Some r
+    → IsWorded l r
 alone l (Some (asking.Call call.Restart)) e r h =
     let it : Restart None ≡ r = (let s : Some (Restart None) ≡ Some r = h in cc) in
     subst (λ (q : Request). IsWorded l q) it (restart_worded l (word_named l (asking.Call call.Restart) e))
@@ -679,7 +725,8 @@ alone l (Some (asking.Call call.Trim)) e r h =
     subst (λ (q : Request). IsWorded l q) it (trim_worded l (word_named l (asking.Call call.Trim) e))
 alone l k e r h = absurd (let none : None ≡ Some r = h in cc)
 
-spelled : (l : List ℕ) (o : Option (List ℕ × List ℕ)) → cut_at 32 l ≡ o → (r : Request) → SpellsCut l o r → IsWorded l r
+spelled : (l : List ℕ) (o : Option (List ℕ × List ℕ)) → cut_at 32 l ≡ o → (r : Request) → SpellsCut l o r
+    → IsWorded l r
 spelled l None cut r h = alone l (word_at l) refl r h
 spelled l (Some p) cut r h = by_word l p.0 p.1 (cut_takes 32 l p cut) (word_at p.0) refl r h
 

@@ -1,4 +1,5 @@
-//! The laws of what a new manager answers to a script. The functions do nothing: each one's contract is a law.
+//! The laws of what a new manager answers to a script. The functions do nothing: each one's contract is a
+//! law.
 
 ghost use Rattle.std.specs.Prelude.{ℕ, List, ◌≡◌};
 ghost use Rattle.judge_rules.specs.Histories.{IsLegal};
@@ -12,8 +13,8 @@ ghost use Rattle.xa_engine.specs.script.Scripts.{IsXaScript};
 ghost use Rattle.proof_judged_deeds.specs.Names.{lacks_forced};
 ghost use Rattle.proof_judged_texts.specs.Texts.{IsReadAs, transcript};
 
-/// What the judge reads in the transcript of a script and its report are the requests with their answers, and the
-/// key store is judged as one whose end of a prepared branch may be lost.
+/// What the judge reads in the transcript of a script and its report are the requests with their answers, and
+/// the key store is judged as one whose end of a prepared branch may be lost.
 pub fn transcripts_are_read()
     ensures { (m k : KvSight) (input : List ℕ) (requests : List AnyRequest) (answers : List RequestAnswer)
         (t : AnyTranscript) → IsFreshManager m → RequestsLead m requests answers k → IsXaScript input requests
@@ -22,7 +23,8 @@ pub fn transcripts_are_read()
 
 /// No line of that transcript is bad.
 pub fn transcripts_have_no_bad_line()
-    ensures { (m k : KvSight) (input : List ℕ) (requests : List AnyRequest) (answers : List RequestAnswer) (number : ℕ)
+    ensures { (m k : KvSight) (input : List ℕ) (requests : List AnyRequest)
+        (answers : List RequestAnswer) (number : ℕ)
         → IsFreshManager m → RequestsLead m requests answers k → IsXaScript input requests
         → IsBadLine (transcript input (report_text answers)) number → ⊥ }
 {}

@@ -21,7 +21,8 @@ some_entry a b e = cc
 -- What a process's log spells.
 
 -- the log of a listed process spells what it keeps
-pub spells_at : (w : WorldState) (es : List TreeProcess) (ls : List ProcessLog) (q : ProcessId) (e : TreeProcess)
+pub spells_at : (w : WorldState) (es : List TreeProcess) (ls : List ProcessLog) (q : ProcessId)
+    (e : TreeProcess)
     → AreLogs w es ls → find (λ x. same_process x.id q) es ≡ Some e
     → SpellsLogBy (w.node_at e.id) (bytes_of ls q)
 unfolding bytes_of

@@ -11,8 +11,11 @@ use Rattle.proof_runs.specs.worlds.Follows.{Follows}
 use Rattle.tree_state.specs.Worlds.{WorldState}
 use Rattle.tree_world.specs.LogsLeft.{AreLogs, LogsStand}
 
--- Where events led a tree, opened, to a state that stands for a run, none of the logs that its processes keep then is damaged.
+-- Where events led a tree, opened, to a state that stands for a run, none of the logs that its processes keep
+-- then is damaged.
 abbrev pub LeftLogsAreRead : Type 0
-LeftLogsAreRead = (tree : List TreeProcess) (events : List Event) (start end : WorldState) (es : List Made) (w : World)
-    (logs : List ProcessLog) → IsTree end.tree → IsOpenedTree start tree → EventsLead start events end → Follows es w end
+LeftLogsAreRead = (tree : List TreeProcess) (events : List Event) (start end : WorldState)
+    (es : List Made) (w : World)
+    (logs : List ProcessLog) → IsTree end.tree → IsOpenedTree start tree → EventsLead start events end
+    → Follows es w end
     → AreLogs end end.tree logs → LogsStand end end.tree → first_damage end.tree logs ≡ None

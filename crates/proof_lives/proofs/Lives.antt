@@ -118,7 +118,8 @@ pub counts_alike : (q : ProcessId) (n : ℕ) (es : List Made) (w : World) (s : W
 counts_alike q n es w s f = changes_alike q (λ c. counted c n) es w s
     (λ p c is there h. record { place = h.place; stands = stands_counted (w.at p) c n h.stands }) f
 
-anew_alike : (q : ProcessId) (n : ℕ) (said : Case → Option Outcome) (spent : Bool) (es : List Made) (w : World)
+anew_alike : (q : ProcessId) (n : ℕ) (said : Case → Option Outcome) (spent : Bool)
+    (es : List Made) (w : World)
     (s : WorldState)
     → ((p : ProcessId) (c : CoreState) → same_process q p ≡ true → s.node_at p ≡ Some c
     → (d : Case) → (c.branch_of d).standing ≢ Heuristic)
@@ -148,7 +149,8 @@ held_so es w t d f = record {
   shown = f.shown;
 }
 
-pub anew : (q : ProcessId) (n : ℕ) (es : List Made) (w : World) (s t : WorldState) → FollowsBehindFaults es w s
+pub anew : (q : ProcessId) (n : ℕ) (es : List Made) (w : World) (s t : WorldState)
+    → FollowsBehindFaults es w s
     → BeginsAnew s t q n → FollowsBehindFaults es w t
 anew q n es w s t f h =
     held_so es w t s.data_at
@@ -157,7 +159,10 @@ anew q n es w s t f h =
     (record {
       tree = h.tree;
       nodes = h.nodes;
-      holdings = λ p. record { keeps = record { writes = λ x. refl; holders = λ k. refl }; known = λ x. refl };
+      holdings = λ p. record {
+        keeps = record { writes = λ x. refl; holders = λ k. refl };
+        known = λ x. refl;
+      };
       net = h.net;
       delivered = h.delivered;
       entries = h.entries;

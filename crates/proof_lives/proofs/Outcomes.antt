@@ -111,7 +111,8 @@ abort_decides : (o : Outcome) (c : Case) (ts : List Ticket) → news.Aborted ≡
 abort_decides outcome.Committed c ts h = absurd (cc)
 abort_decides outcome.Aborted c ts h = same_case-refl c
 
-said : (x : Txn) (o : Outcome) (n : News) (r : Record) → said_behind x n (saying_of r) ≡ news_of o → Said x o n r
+said : (x : Txn) (o : Outcome) (n : News) (r : Record) → said_behind x n (saying_of r) ≡ news_of o
+    → Said x o n r
 said x o n (Commit c ts) h =
     of_case x o n (Commit c ts) c news.Committed (same_case-refl c) (commit_decides o c ts) h
 said x o n (Abort c ts) h =
@@ -130,7 +131,8 @@ said x o n (Told (CaseBranch c) outcome.Committed) h =
     of_branch x o n (Told (CaseBranch c) outcome.Committed) c news.Committed
     (same_case-refl c) (same_case-refl c) h
 said x o n (Told (CaseBranch c) outcome.Aborted) h =
-    of_branch x o n (Told (CaseBranch c) outcome.Aborted) c news.Aborted (same_case-refl c) (same_case-refl c) h
+    of_branch x o n (Told (CaseBranch c) outcome.Aborted) c news.Aborted (same_case-refl c)
+    (same_case-refl c) h
 said x o n (Prepared (CaseBranch c) ws) h = waits x o n (Prepared (CaseBranch c) ws) c h
 said x o n (HeurCommit (CaseBranch c)) h = waits x o n (HeurCommit (CaseBranch c)) c h
 said x o n (HeurRollback (CaseBranch c)) h = waits x o n (HeurRollback (CaseBranch c)) c h
@@ -189,7 +191,8 @@ module _ (tree : List TreeProcess) (es : List Made) (w : World) (run : IsRun tre
   pub record OwnEnd : Type 0 where
     pub root : x.root ≡ q
     pub by : (has (is_branch_record (root_case x)) (kept n) ≡ true)
-        ⊎ ((r : Record) × Decides o (root_case x) r × ((p : Record → Bool) → p r ≡ true → has p (kept n) ≡ true))
+        ⊎ ((r : Record) × Decides o (root_case x) r
+        × ((p : Record → Bool) → p r ≡ true → has p (kept n) ≡ true))
 
   own_end : (r : Record) → Ending x o r → ((p : Record → Bool) → p r ≡ true → has p (kept n) ≡ true) → OwnEnd
   own_end r e among =

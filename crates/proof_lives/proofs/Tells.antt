@@ -60,13 +60,20 @@ module _ (place : Place) (n : Node) (h : Heard) where
   -- the root alone tells
   row_tells : (parent : Option ProcessId) (c : Case) (row : Row) → CaseTurn place parent n h c row
       → (a : Conclusion) → row.told ≡ Some a → (parent ≡ None) × TellsBy c row.written a
-  row_tells None c _ (finds_nobody i e f) a g = (refl, quiet_by c _ ReadOnly a (some_same ReadOnly a g) (λ y. cc))
-  row_tells None c _ (gives_up why p i e f) a g = (refl, quiet_by c _ Aborted a (some_same Aborted a g) (λ y. cc))
-  row_tells None c _ (reads_only t w ys p i e f) a g = (refl, quiet_by c _ ReadOnly a (some_same ReadOnly a g) (λ y. cc))
-  row_tells None c _ (hears_no t us PresumeAbort i e f) a g = (refl, quiet_by c _ Aborted a (some_same Aborted a g) (λ y. cc))
-  row_tells None c _ (hears_no t us PresumeCommit i e f) a g = (refl, quiet_by c _ Aborted a (some_same Aborted a g) (λ y. cc))
-  row_tells None c _ (aborts why us PresumeAbort i e f k) a g = (refl, quiet_by c _ Aborted a (some_same Aborted a g) (λ y. cc))
-  row_tells None c _ (aborts why us PresumeCommit i e f k) a g = (refl, quiet_by c _ Aborted a (some_same Aborted a g) (λ y. cc))
+  row_tells None c _ (finds_nobody i e f) a g =
+      (refl, quiet_by c _ ReadOnly a (some_same ReadOnly a g) (λ y. cc))
+  row_tells None c _ (gives_up why p i e f) a g =
+      (refl, quiet_by c _ Aborted a (some_same Aborted a g) (λ y. cc))
+  row_tells None c _ (reads_only t w ys p i e f) a g =
+      (refl, quiet_by c _ ReadOnly a (some_same ReadOnly a g) (λ y. cc))
+  row_tells None c _ (hears_no t us PresumeAbort i e f) a g =
+      (refl, quiet_by c _ Aborted a (some_same Aborted a g) (λ y. cc))
+  row_tells None c _ (hears_no t us PresumeCommit i e f) a g =
+      (refl, quiet_by c _ Aborted a (some_same Aborted a g) (λ y. cc))
+  row_tells None c _ (aborts why us PresumeAbort i e f k) a g =
+      (refl, quiet_by c _ Aborted a (some_same Aborted a g) (λ y. cc))
+  row_tells None c _ (aborts why us PresumeCommit i e f k) a g =
+      (refl, quiet_by c _ Aborted a (some_same Aborted a g) (λ y. cc))
   row_tells (Some p) c _ (finds_nobody i e f) a g = absurd (cc)
   row_tells (Some p) c _ (gives_up why q i e f) a g = absurd (cc)
   row_tells (Some p) c _ (reads_only t w ys q i e f) a g = absurd (cc)
@@ -217,7 +224,8 @@ module _ (place : Place) (m : Move) where
 
 abbrev Held : List TreeProcess → World → Txn → Conclusion → Type 0
 Held tree w x Committed = is_commit_outcome w x ≡ true
-Held tree w x Aborted = (role_of tree x.root ≡ AtRoot) × (list_any (is_told_aborted x) (w.at x.root).told ≡ true)
+Held tree w x Aborted = (role_of tree x.root ≡ AtRoot)
+    × (list_any (is_told_aborted x) (w.at x.root).told ≡ true)
 Held tree w x ReadOnly = ⊤
 
 abbrev HeldOf : List TreeProcess → World → Option Told → Type 0
@@ -260,7 +268,8 @@ module _ (tree : List TreeProcess) (es : List Made) (w : World) (m : Move) (e : 
   unfolding is_commit_outcome
   commits_still x = by_process
       (λ n k. has (is_commit (root_case x)) n.durable ≡ true → has (is_commit (root_case x)) k.durable ≡ true)
-      (λ n f. f) (durable_still (place_of tree q) m (is_commit (root_case x)) (w.at q) e (w'.at q) step) x.root
+      (λ n f. f) (durable_still (place_of tree q) m (is_commit (root_case x)) (w.at q) e (w'.at q) step)
+      x.root
 
   aborts_still : (x : Txn) → list_any (is_told_aborted x) (w.at x.root).told ≡ true
       → list_any (is_told_aborted x) (w'.at x.root).told ≡ true
@@ -277,7 +286,8 @@ module _ (tree : List TreeProcess) (es : List Made) (w : World) (m : Move) (e : 
   begins_here : role_of tree q ≡ AtRoot → RootHolds (place_of tree q) (w'.at q)
   begins_here top = roots_begin tree (record { move = m; effect = e } ∷ es) w' run q top
 
-  module _ (i : Heard) (does : reacts (place_of tree q) (w.at q) i ≡ Does e) (is : w'.at q ≡ after (w.at q) i e)
+  module _ (i : Heard) (does : reacts (place_of tree q) (w.at q) i ≡ Does e)
+      (is : w'.at q ≡ after (w.at q) i e)
       (u : Told) (g : e.told ≡ Some u) where
     says : Says (place_of tree q) (w.at q) i (role_of tree q) e u
     says = input_says (place_of tree q) (w.at q) i e does u g
@@ -326,7 +336,8 @@ module _ (tree : List TreeProcess) (es : List Made) (w : World) (m : Move) (e : 
         let any : list_any (is_told_aborted u.txn) (w'.at q).told ≡ true =
         ap (λ ts. list_any (is_told_aborted u.txn) ts) told_now ∙ rw (same_self u.txn, a) refl in (
           ap (λ (p : ProcessId). role_of tree p) own_root ∙ says.at_root,
-          subst (λ (p : ProcessId). list_any (is_told_aborted u.txn) (w'.at p).told ≡ true) (sym own_root) any,
+          subst (λ (p : ProcessId). list_any (is_told_aborted u.txn) (w'.at p).told ≡ true)
+              (sym own_root) any,
         )
 
     held_by : (a : Conclusion) → u.conclusion ≡ a → Held tree w' u.txn a
@@ -368,11 +379,13 @@ all_held tree _ _ (makes es w m e w' run stands made) = (
 
 -- So it is the outcome.
 
-module _ (tree : List TreeProcess) (is_tree : IsTree tree) (es : List Made) (w : World) (run : IsRun tree es w) where
+module _ (tree : List TreeProcess) (is_tree : IsTree tree) (es : List Made) (w : World)
+    (run : IsRun tree es w) where
   is_outcome : (x : Txn) (a : Conclusion) → Held tree w x a → IsOutcome w x a
   is_outcome x Committed h = rw h refl
   is_outcome x Aborted h =
-      sym ((Headline.headline tree is_tree es w run).agreement.root_agrees x outcome.Aborted h.0 (by_told _ _ _ h.1))
+      sym ((Headline.headline tree is_tree es w run).agreement.root_agrees x outcome.Aborted h.0
+      (by_told _ _ _ h.1))
     where
       by_told : (a b c : Bool) → b ≡ true → (a || b || c) ≡ true
       by_told true b c e = refl
@@ -398,7 +411,8 @@ module _ (w : World) where
   abbrev So : JournalEntry → Type 0
   So x = TellsSo w x.reaction.told
 
-  all_behind : (xs ys : List JournalEntry) → AllByRecursion So xs → AllByRecursion So ys → AllByRecursion So (xs ++ ys)
+  all_behind : (xs ys : List JournalEntry) → AllByRecursion So xs → AllByRecursion So ys
+      → AllByRecursion So (xs ++ ys)
   all_behind [] ys h k = k
   all_behind (x ∷ xs) ys h k = (h.0, all_behind xs ys h.1 k)
 
@@ -414,7 +428,8 @@ module _ (w : World) where
       all_behind (journal_of es) (entry_of e ∷ []) (journal_so es h.1)
       (entry_so e e.move.step.fault refl h.0, tt)
 
-  filtered : (q : JournalEntry → Bool) (xs : List JournalEntry) → AllByRecursion So xs → AllByRecursion So (filter q xs)
+  filtered : (q : JournalEntry → Bool) (xs : List JournalEntry) → AllByRecursion So xs
+      → AllByRecursion So (filter q xs)
   filtered q [] h = tt
   filtered q (x ∷ xs) h = by_test (q x) (filtered q xs h.1)
     where

@@ -1,5 +1,5 @@
--- Lives of the processes of a tree. Each is a program of its own, over a log that outlives it: it starts, makes
--- steps, and ends in one of them or between two; then another starts over what it left.
+-- Lives of the processes of a tree. Each is a program of its own, over a log that outlives it: it starts,
+-- makes steps, and ends in one of them or between two; then another starts over what it left.
 use Rattle.std.specs.Prelude.{◌≡◌, ◌≢◌, ℕ, Bool, true, if◌then◌else◌, Option, Some, option_map, List}
 use Rattle.protocol.specs.declared.names.Case.{Case}
 use Rattle.protocol.specs.declared.names.Outcome.{Outcome}
@@ -31,8 +31,8 @@ counted_at q n s = record s {
   node_at = λ p. if same_process q p then option_map (λ c. counted c n) (s.node_at p) else s.node_at p;
 }
 
--- the process, where this is said of what operators decided, which counts only of a branch that one decided, and of
--- whether it has met a limit of its own
+-- the process, where this is said of what operators decided, which counts only of a branch that one decided,
+-- and of whether it has met a limit of its own
 abbrev pub saying : CoreState → (Case → Option Outcome) → Bool → CoreState
 saying s said spent = record s { decided_of = said; spent = spent }
 
@@ -40,12 +40,13 @@ saying s said spent = record s { decided_of = said; spent = spent }
 abbrev pub anew_at : ProcessId → ℕ → (Case → Option Outcome) → Bool → WorldState → WorldState
 anew_at q n said spent s = record s {
   node_at = λ p.
-      if same_process q p then option_map (λ c. saying (counted c n) said spent) (s.node_at p) else s.node_at p;
+      if same_process q p then option_map (λ c. saying (counted c n) said spent) (s.node_at p)
+      else s.node_at p;
 }
 
 -- A program starts over a log that is as it was made, where the process has opened and heard nothing: but for
--- the count of failures, what is said of branches that no operator decided, and whether it has met a limit of its
--- own, nothing is otherwise. Of a manager's data nothing is said.
+-- the count of failures, what is said of branches that no operator decided, and whether it has met a limit of
+-- its own, nothing is otherwise. Of a manager's data nothing is said.
 pub record BeginsAnew (s t : WorldState) (q : ProcessId) (n : ℕ) : Type 0 where
   pub tree : t.tree ≡ s.tree
   pub undecided : (p : ProcessId) (c : CoreState) → same_process q p ≡ true → s.node_at p ≡ Some c
@@ -58,8 +59,8 @@ pub record BeginsAnew (s t : WorldState) (q : ProcessId) (n : ℕ) : Type 0 wher
   pub entries : t.entries ≡ s.entries
 
 -- A step of one of the programs. A message that a program hears was sent, under whatever number it comes. An
--- end within a step leaves what a failure of the device in it leaves: a front of what it appended, of which some
--- is forced. What a program says as it ends is lost, or is not.
+-- end within a step leaves what a failure of the device in it leaves: a front of what it appended, of which
+-- some is forced. What a program says as it ends is lost, or is not.
 pub data LifeStep (s t : WorldState) : Type 0 where
   -- nothing is otherwise: an input was refused, or something was asked
   rests : SameTree s t → LifeStep s t
@@ -89,8 +90,8 @@ abbrev pub StepsGoOn : Type 0
 StepsGoOn = (s t : WorldState) (es : List Made) (w : World) → IsTree s.tree → FollowsBehindFaults es w s
     → LifeStep s t → GoesOnBehindFaults es w t
 
--- whatever programs of a tree come and go, it makes a run of the model; the headline holds of it, and mismatches
--- are reported in it
+-- whatever programs of a tree come and go, it makes a run of the model; the headline holds of it, and
+-- mismatches are reported in it
 abbrev pub LivesAreRuns : Type 0
 LivesAreRuns = (tree : List TreeProcess) (s t : WorldState) → IsTree tree → IsOpenedTree s tree → Lives s t
     → KeepsHeadline t

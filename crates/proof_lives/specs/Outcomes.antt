@@ -24,5 +24,6 @@ NewsAreSo w x _ = ⊤
 -- ended is its outcome
 abbrev pub RootsTellSo : Type 0
 RootsTellSo = (s : WorldState) (es : List Made) (w : World) → FollowsBehindFaults es w s
-    → (q : ProcessId) (c : CoreState) → s.node_at q ≡ Some c → role_of s.tree q ≡ AtRoot → c.log.failed ≡ false
+    → (q : ProcessId) (c : CoreState) → s.node_at q ≡ Some c → role_of s.tree q ≡ AtRoot
+    → c.log.failed ≡ false
     → (x : Txn) → NewsAreSo w x (news_in (records_of c.log.kept) x)

@@ -20,8 +20,8 @@ pub fn what_is_told_is_so()
     ensures entries { EntriesTellSo }
 {}
 
-/// Where the state of a tree stands for a run, what the records of a root that is up tell of how a transaction
-/// ended is its outcome.
+/// Where the state of a tree stands for a run, what the records of a root that is up tell of how a
+/// transaction ended is its outcome.
 pub fn roots_tell_so()
     ensures { RootsTellSo }
 {}

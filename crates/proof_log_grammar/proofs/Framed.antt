@@ -98,7 +98,8 @@ second_by a b d g k rest c h cut =
       place = omega arith;
     })
 
-pub is_frame : (f : LogFormat) (xs : List ℕ) (c : Cut) → AreBytes xs → first_frame f xs ≡ Some c → IsFrame f xs c
+pub is_frame : (f : LogFormat) (xs : List ℕ) (c : Cut) → AreBytes xs → first_frame f xs ≡ Some c
+    → IsFrame f xs c
 is_frame First [] c h e = absurd (cc)
 is_frame First (a ∷ []) c h e = absurd (cc)
 is_frame First (a ∷ b ∷ []) c h e = absurd (cc)
@@ -120,9 +121,11 @@ begins_more : (p : LogForm) (s t : SeenLog) (xs : List ℕ) (c : Cut) (l : LogRe
 unfolding admitted record_text records_text
 begins_more p s t xs c l ls said rest frame written reads follows more = record {
   text = frame.text
-      ∙ ap (λ t. t ++ c.2) (sym (ap (λ k. frame_text p.format k (payload_text p l.parent l.entry)) written.same_kind
+      ∙ ap (λ t. t ++ c.2) (sym (ap (λ k. frame_text p.format k (payload_text p l.parent l.entry))
+      written.same_kind
       ∙ ap (frame_text p.format c.0) written.same_payload))
-      ∙ ap (λ t. record_text p l ++ t) more.text ∙ sym (append_assoc (record_text p l) (records_text p ls) rest);
+      ∙ ap (λ t. record_text p l ++ t) more.text
+      ∙ sym (append_assoc (record_text p l) (records_text p ls) rest);
   order = ap (λ o. and_then o (λ u. admitted u ls)) follows ∙ more.order;
   frames = (
     record {
@@ -162,7 +165,8 @@ says_more p s t place xs c l (Damaged at) frame written reads follows said =
     ∙ ap (frame_text p.format c.0) written.same_payload) ∙ frame.place in
     let size : length (records_text p (l ∷ said.2.sound)) ≡ suc (size_bytes p.format) + length c.1 + said.0 =
     length-append (record_text p l) (records_text p said.2.sound)
-    ∙ ap (λ n. n + length (records_text p said.2.sound)) own ∙ ap (λ n. suc (size_bytes p.format) + length c.1 + n) said.2.size in (
+    ∙ ap (λ n. n + length (records_text p said.2.sound)) own
+    ∙ ap (λ n. suc (size_bytes p.format) + length c.1 + n) said.2.size in (
       suc (size_bytes p.format) + length c.1 + said.0,
       omega (arith, said.1),
       record {
@@ -178,7 +182,8 @@ says_more p s t place xs c l (Damaged at) frame written reads follows said =
       },
     )
 
-damaged_here : (p : LogForm) (s : SeenLog) (place : ℕ) (xs : List ℕ) (c : Cut) → first_frame p.format xs ≡ Some c
+damaged_here : (p : LogForm) (s : SeenLog) (place : ℕ) (xs : List ℕ) (c : Cut)
+    → first_frame p.format xs ≡ Some c
     → IsWrong p s c → Says p s place xs (Damaged place)
 unfolding records_text
 damaged_here p s place xs c whole wrong = (
@@ -199,18 +204,22 @@ damaged_here p s place xs c whole wrong = (
 -- one frame, and what is read after it
 reads_on : (p : LogForm) (s : SeenLog) (place : ℕ) (xs : List ℕ) (c : Cut) → AreBytes xs
     → first_frame p.format xs ≡ Some c
-    → ((t : SeenLog) → Says p t (place + suc (size_bytes p.format) + length c.1) c.2 (read_frames p (place + suc (size_bytes p.format) + length c.1) t 0 c.2))
+    → ((t : SeenLog) → Says p t (place + suc (size_bytes p.format) + length c.1) c.2
+    (read_frames p (place + suc (size_bytes p.format) + length c.1) t 0 c.2))
     → (o : Option LogRecord) → read_record p c.0 c.1 ≡ o
-    → Says p s place xs (record_by place s o (λ t. read_frames p (place + suc (size_bytes p.format) + length c.1) t 0 c.2))
+    → Says p s place xs (record_by place s o
+    (λ t. read_frames p (place + suc (size_bytes p.format) + length c.1) t 0 c.2))
 reads_on p s place xs c h whole more None reads = damaged_here p s place xs c whole (inl reads)
 reads_on p s place xs c h whole more (Some l) reads = by_order (after s l) refl
   where
     by_order : (o : Option SeenLog) → after s l ≡ o
-        → Says p s place xs (seen_by place l o (λ t. read_frames p (place + suc (size_bytes p.format) + length c.1) t 0 c.2))
+        → Says p s place xs (seen_by place l o (λ t.
+        read_frames p (place + suc (size_bytes p.format) + length c.1) t 0 c.2))
     by_order None follows = damaged_here p s place xs c whole (inr (l, reads, follows))
     by_order (Some t) follows =
         let frame = is_frame p.format xs c h whole in
-        says_more p s t place xs c l (read_frames p (place + suc (size_bytes p.format) + length c.1) t 0 c.2) frame
+        says_more p s t place xs c l (read_frames p (place + suc (size_bytes p.format) + length c.1) t 0 c.2)
+        frame
         (read_is_written p c.0 c.1 l frame.payload reads) reads follows (more t)
 
 torn_says : (p : LogForm) (s : SeenLog) (place : ℕ) (xs : List ℕ) → first_frame p.format xs ≡ None
@@ -230,7 +239,8 @@ reading_says zero p s place xs short h = absurd (omega (arith, short))
 reading_says (suc n) p s place xs short h = reads_first n p s place xs short h (first_frame p.format xs) refl
     (λ t q ys le k. reading_says n p t q ys le k)
   where
-    reads_first : (n : ℕ) (p : LogForm) (s : SeenLog) (place : ℕ) (xs : List ℕ) → length xs < suc n → AreBytes xs
+    reads_first : (n : ℕ) (p : LogForm) (s : SeenLog) (place : ℕ) (xs : List ℕ) → length xs < suc n
+        → AreBytes xs
         → (o : Option Cut) → first_frame p.format xs ≡ o
         → ((t : SeenLog) (q : ℕ) (ys : List ℕ) → length ys < n → AreBytes ys
         → Says p t q ys (read_frames p q t 0 ys))
@@ -241,7 +251,8 @@ reading_says (suc n) p s place xs short h = reads_first n p s place xs short h (
         let frame = is_frame p.format xs c h whole in
         let less : length c.2 < n = omega (arith, frame.shorter, short) in
         subst (Says p s place xs) (sym (step_read p place s xs c whole))
-        (reads_on p s place xs c h whole (λ t. more t (place + suc (size_bytes p.format) + length c.1) c.2 less frame.behind)
+        (reads_on p s place xs c h whole (λ t. more t (place + suc (size_bytes p.format) + length c.1) c.2
+        less frame.behind)
         (read_record p c.0 c.1) refl)
 
 -- What is there is read.
@@ -258,14 +269,17 @@ steps p s t place xs behind l has follows is =
     let whole : first_frame p.format xs ≡ Some (k, payload, behind) = ap (first_frame p.format) is
     ∙ own_frame p.format k payload behind has.short in
     step_read p place s xs (k, payload, behind) whole
-    ∙ ap (λ o. record_by place s o (λ u. read_frames p (place + suc (size_bytes p.format) + length payload) u 0 behind)) has.reads
-    ∙ ap (λ o. seen_by place l o (λ u. read_frames p (place + suc (size_bytes p.format) + length payload) u 0 behind)) follows
+    ∙ ap (λ o. record_by place s o (λ u. read_frames p (place + suc (size_bytes p.format) + length payload) u
+    0 behind)) has.reads
+    ∙ ap (λ o. seen_by place l o (λ u. read_frames p (place + suc (size_bytes p.format) + length payload) u 0
+    behind)) follows
 
 -- what is read of bytes that begin with sound records is these and what is read after them
 there_reads : (p : LogForm) (s : SeenLog) (place : ℕ) (xs : List ℕ) (ls : List LogRecord) (said : SeenLog)
     (rest : List ℕ)
     → BeginsWithFrames p s xs ls said rest
-    → read_frames p place s 0 xs ≡ with_all ls (read_frames p (place + length (records_text p ls)) said 0 rest)
+    → read_frames p place s 0 xs ≡ with_all ls
+    (read_frames p (place + length (records_text p ls)) said 0 rest)
 unfolding admitted records_text
 there_reads p s place xs [] said rest begins =
     let same : s ≡ said = some_is s said begins.order in
@@ -274,7 +288,8 @@ there_reads p s place xs [] said rest begins =
     ∙ ap (λ n. read_frames p n said 0 rest) (sym here)
 there_reads p s place xs (l ∷ ls) said rest begins =
     by_order (after s l) refl begins.order (λ t order. there_reads p t
-    (place + suc (size_bytes p.format) + length (payload_text p l.parent l.entry)) (records_text p ls ++ rest) ls said rest
+    (place + suc (size_bytes p.format) + length (payload_text p l.parent l.entry))
+    (records_text p ls ++ rest) ls said rest
     (record { text = refl; order = order; frames = begins.frames.1 }))
   where
     size : length (record_text p l) ≡ suc (size_bytes p.format) + length (payload_text p l.parent l.entry)
@@ -282,14 +297,17 @@ there_reads p s place xs (l ∷ ls) said rest begins =
 
     by_order : (o : Option SeenLog) → after s l ≡ o → and_then o (λ u. admitted u ls) ≡ Some said
         → ((t : SeenLog) → admitted t ls ≡ Some said
-        → read_frames p (place + suc (size_bytes p.format) + length (payload_text p l.parent l.entry)) t 0 (records_text p ls ++ rest)
-        ≡ with_all ls (read_frames p (place + suc (size_bytes p.format) + length (payload_text p l.parent l.entry) + length
+        → read_frames p (place + suc (size_bytes p.format) + length (payload_text p l.parent l.entry)) t 0
+        (records_text p ls ++ rest)
+        ≡ with_all ls (read_frames p (place + suc (size_bytes p.format)
+        + length (payload_text p l.parent l.entry) + length
         (records_text p ls)) said 0 rest))
         → read_frames p place s 0 xs ≡ with_first l
         (with_all ls (read_frames p (place + length (record_text p l ++ records_text p ls)) said 0 rest))
     by_order None follows order more = absurd (none_some said order)
     by_order (Some t) follows order more =
-        let at : place + suc (size_bytes p.format) + length (payload_text p l.parent l.entry) + length (records_text p ls)
+        let at : place + suc (size_bytes p.format) + length (payload_text p l.parent l.entry)
+        + length (records_text p ls)
         ≡ place + length (record_text p l ++ records_text p ls) =
         omega (arith, size, length-append (record_text p l) (records_text p ls)) in
         steps p s t place xs (records_text p ls ++ rest) l begins.frames.0 follows
@@ -303,7 +321,8 @@ text_reads p bytes ls torn text =
     ∙ ap (with_all ls) (torn_read p (5 + length (records_text p ls)) text.said text.tail text.is_torn)
     ∙ with_all_whole ls (length text.tail) ∙ ap (Whole ls) text.size
 
-wrong_reads : (p : LogForm) (said : SeenLog) (place : ℕ) (rest : List ℕ) (c : Cut) → first_frame p.format rest ≡ Some c
+wrong_reads : (p : LogForm) (said : SeenLog) (place : ℕ) (rest : List ℕ) (c : Cut)
+    → first_frame p.format rest ≡ Some c
     → IsWrong p said c
     → read_frames p place said 0 rest ≡ Damaged place
 wrong_reads p said place rest c whole (inl none) =
@@ -312,7 +331,8 @@ wrong_reads p said place rest c whole (inl none) =
 wrong_reads p said place rest c whole (inr w) =
     step_read p place said rest c whole ∙ ap (λ o. record_by place said o
     (λ t. read_frames p (place + suc (size_bytes p.format) + length c.1) t 0 c.2)) w.1
-    ∙ ap (λ o. seen_by place w.0 o (λ t. read_frames p (place + suc (size_bytes p.format) + length c.1) t 0 c.2)) w.2
+    ∙ ap (λ o. seen_by place w.0 o (λ t. read_frames p
+    (place + suc (size_bytes p.format) + length c.1) t 0 c.2)) w.2
 
 damage_reads : (p : LogForm) (bytes : List ℕ) (place : ℕ) → IsDamagedAt p nothing_seen bytes place
     → read_frames p 5 nothing_seen 0 bytes ≡ Damaged (5 + place)

@@ -19,7 +19,8 @@ use Rattle.proof_log_grammar.specs.Grammar.{HasFrame, OrderedIsRead, OrderedLogI
 use Rattle.proof_log_grammar.proofs.Framed.{text_reads}
 
 -- each record that can be in a log is in a frame of its own
-all_frames : (p : LogForm) (ls : List LogRecord) → AllByRecursion (IsSound p.kind) ls → AllByRecursion (HasFrame p) ls
+all_frames : (p : LogForm) (ls : List LogRecord) → AllByRecursion (IsSound p.kind) ls
+    → AllByRecursion (HasFrame p) ls
 all_frames p [] h = tt
 all_frames p (l ∷ ls) h = (
   record { short = (records_fit_frames p l h.0).short; reads = records_read_back p l h.0 },
@@ -46,7 +47,8 @@ ordered_is_read p ls sound follow tail torn = by_order (admitted nothing_seen ls
 
 -- these bytes are read as their records, from whatever place and after whatever is seen
 abbrev AreRead : LogForm → List ℕ → Type 0
-AreRead p bs = (at : ℕ) (t : SeenLog) (k : ℕ) → is_whole p k bs ≡ true → is_some (admitted t (records_in p k bs)) ≡ true
+AreRead p bs = (at : ℕ) (t : SeenLog) (k : ℕ) → is_whole p k bs ≡ true
+    → is_some (admitted t (records_in p k bs)) ≡ true
     → read_frames p at t k bs ≡ Whole (records_in p k bs) 0
 
 frames_read : (p : LogForm) (place : ℕ) (s : SeenLog) (k : ℕ) (bytes : List ℕ) → is_whole p k bytes ≡ true
@@ -58,17 +60,22 @@ frames_read p place s (suc k) (b ∷ bs) whole follow = frames_read p place s k 
 frames_read p place s zero (b ∷ bs) whole follow =
     by_frame (first_frame p.format (b ∷ bs)) (λ at t k. frames_read p at t k bs) whole follow
   where
-    by_seen : (c : Cut) (l : LogRecord) (o : Option SeenLog) → AreRead p bs → is_whole p (size_bytes p.format + length c.1) bs ≡ true
+    by_seen : (c : Cut) (l : LogRecord) (o : Option SeenLog) → AreRead p bs
+        → is_whole p (size_bytes p.format + length c.1) bs ≡ true
         → is_some (and_then o (λ t. admitted t (records_in p (size_bytes p.format + length c.1) bs))) ≡ true
-        → seen_by place l o (λ t. read_frames p (place + suc (size_bytes p.format) + length c.1) t (size_bytes p.format + length c.1) bs)
+        → seen_by place l o (λ t. read_frames p (place + suc (size_bytes p.format) + length c.1) t
+        (size_bytes p.format + length c.1) bs)
         ≡ Whole (l ∷ records_in p (size_bytes p.format + length c.1) bs) 0
     by_seen c l None more whole follow = absurd (cc)
     by_seen c l (Some t) more whole follow =
-        ap (with_first l) (more (place + suc (size_bytes p.format) + length c.1) t (size_bytes p.format + length c.1) whole follow)
+        ap (with_first l) (more (place + suc (size_bytes p.format) + length c.1) t
+        (size_bytes p.format + length c.1) whole follow)
 
-    by_record : (c : Cut) (o : Option LogRecord) → AreRead p bs → whole_if o (is_whole p (size_bytes p.format + length c.1) bs) ≡ true
+    by_record : (c : Cut) (o : Option LogRecord) → AreRead p bs
+        → whole_if o (is_whole p (size_bytes p.format + length c.1) bs) ≡ true
         → is_some (admitted s (and_records o (records_in p (size_bytes p.format + length c.1) bs))) ≡ true
-        → record_by place s o (λ t. read_frames p (place + suc (size_bytes p.format) + length c.1) t (size_bytes p.format + length c.1) bs)
+        → record_by place s o (λ t. read_frames p (place + suc (size_bytes p.format) + length c.1) t
+        (size_bytes p.format + length c.1) bs)
         ≡ Whole (and_records o (records_in p (size_bytes p.format + length c.1) bs)) 0
     by_record c None more whole follow = absurd (cc)
     by_record c (Some l) more whole follow = by_seen c l (after s l) more whole follow

@@ -39,9 +39,11 @@ text_more p xs c l frame whole written reads more =
     ∙ sym (ap (records_text p) (step p xs c whole ∙ ap (λ o. and_records o (records_in p 0 c.2)) reads))
 
 module _ (p : LogForm) where
-  by_record : (n : ℕ) (xs : List ℕ) (c : Cut) → length xs < suc n → AreBytes xs → first_frame p.format xs ≡ Some c
+  by_record : (n : ℕ) (xs : List ℕ) (c : Cut) → length xs < suc n → AreBytes xs
+      → first_frame p.format xs ≡ Some c
       → ((ys : List ℕ) → length ys < n → AreBytes ys → is_whole p 0 ys ≡ true → IsOwnText p ys)
-      → (o : Option LogRecord) → read_record p c.0 c.1 ≡ o → whole_if o (is_whole p 0 c.2) ≡ true → IsOwnText p xs
+      → (o : Option LogRecord) → read_record p c.0 c.1 ≡ o → whole_if o (is_whole p 0 c.2) ≡ true
+      → IsOwnText p xs
   by_record n xs c short bytes whole more None reads all = absurd (cc)
   by_record n xs c short bytes whole more (Some l) reads all =
       let frame = is_frame p.format xs c bytes whole in
@@ -49,7 +51,8 @@ module _ (p : LogForm) where
       text_more p xs c l frame whole (read_is_written p c.0 c.1 l frame.payload reads) reads
       (more c.2 less frame.behind all)
 
-  by_frame : (n : ℕ) (b : ℕ) (bs : List ℕ) → length (b ∷ bs) < suc n → AreBytes (b ∷ bs) → is_whole p 0 (b ∷ bs) ≡ true
+  by_frame : (n : ℕ) (b : ℕ) (bs : List ℕ) → length (b ∷ bs) < suc n → AreBytes (b ∷ bs)
+      → is_whole p 0 (b ∷ bs) ≡ true
       → ((ys : List ℕ) → length ys < n → AreBytes ys → is_whole p 0 ys ≡ true → IsOwnText p ys)
       → (o : Option Cut) → first_frame p.format (b ∷ bs) ≡ o → IsOwnText p (b ∷ bs)
   by_frame n b bs short bytes all more None whole = absurd (no_frame_whole p b bs whole all)
@@ -61,8 +64,10 @@ module _ (p : LogForm) where
   within zero xs short bytes all = absurd (omega (arith, short))
   within (suc n) [] short bytes all = nothing_written p
   within (suc n) (b ∷ bs) short bytes all =
-      by_frame n b bs short bytes all (λ ys less are w. within n ys less are w) (first_frame p.format (b ∷ bs)) refl
+      by_frame n b bs short bytes all (λ ys less are w. within n ys less are w)
+      (first_frame p.format (b ∷ bs)) refl
 
   -- bytes that are whole frames of records to their end are the text of these records
-  pub whole_is_text : (xs : List ℕ) → AreBytes xs → is_whole p 0 xs ≡ true → xs ≡ records_text p (records_in p 0 xs)
+  pub whole_is_text : (xs : List ℕ) → AreBytes xs → is_whole p 0 xs ≡ true
+      → xs ≡ records_text p (records_in p 0 xs)
   whole_is_text xs bytes all = within (suc (length xs)) xs (omega arith) bytes all

@@ -32,7 +32,8 @@ pub record HasFrame (p : LogForm) (l : LogRecord) : Type 0 where
 
 -- bytes begin with the frames of these records, each of which may follow those before it, where a log has
 -- said this; after them it has said that, and other bytes stand
-pub record BeginsWithFrames (p : LogForm) (s : SeenLog) (bytes : List ℕ) (ls : List LogRecord) (said : SeenLog)
+pub record BeginsWithFrames (p : LogForm) (s : SeenLog) (bytes : List ℕ) (ls : List LogRecord)
+    (said : SeenLog)
     (rest : List ℕ) : Type 0 where
   pub text : bytes ≡ records_text p ls ++ rest
   pub order : admitted s ls ≡ Some said
@@ -83,15 +84,16 @@ BytesReadAsText = (p : LogForm) (bytes : List ℕ) → AreBytes bytes → ReadsA
 abbrev pub MayFollowInLog : List LogRecord → Type 0
 MayFollowInLog ls = is_some (admitted nothing_seen ls) ≡ true
 
--- records that can be in a log of this sort of process, and that may follow one another, are read as these after the
--- header, and as damaged nowhere; bytes after them that are no whole frame are a torn tail
+-- records that can be in a log of this sort of process, and that may follow one another, are read as these
+-- after the header, and as damaged nowhere; bytes after them that are no whole frame are a torn tail
 abbrev pub OrderedIsRead : Type 0
 OrderedIsRead = (p : LogForm) (ls : List LogRecord) → AllByRecursion (IsSound p.kind) ls → MayFollowInLog ls
     → (tail : List ℕ) → first_frame p.format tail ≡ None
     → read_log p (header p.format ++ (records_text p ls ++ tail)) ≡ Whole ls (length tail)
 
--- bytes that begin as a log does, that are whole frames of records to their end, and whose records may follow one another, are
--- read as these records, and as damaged nowhere
+-- bytes that begin as a log does, that are whole frames of records to their end, and whose records may follow
+-- one another, are read as these records, and as damaged nowhere
 abbrev pub OrderedLogIsRead : Type 0
-OrderedLogIsRead = (p : LogForm) (bytes : List ℕ) → take 5 bytes ≡ header p.format → is_whole p 0 (body bytes) ≡ true
+OrderedLogIsRead = (p : LogForm) (bytes : List ℕ) → take 5 bytes ≡ header p.format
+    → is_whole p 0 (body bytes) ≡ true
     → MayFollowInLog (records_in p 0 (body bytes)) → read_log p bytes ≡ Whole (records_in p 0 (body bytes)) 0

@@ -8,8 +8,8 @@ pub fn bytes_read_as_text()
     ensures { BytesReadAsText }
 {}
 
-/// Records that can be in a log, and may follow one another, are read after its header as these records, and never as
-/// damaged; what is no whole frame after them is read as a torn tail.
+/// Records that can be in a log, and may follow one another, are read after its header as these records, and
+/// never as damaged; what is no whole frame after them is read as a torn tail.
 pub fn ordered_records_are_read()
     ensures { OrderedIsRead }
 {}

@@ -95,7 +95,8 @@ reported_behind rs x c = fold-append (reported_after c) false rs (x ∷ [])
 
 -- boots only rise along the list
 boot_grows : (rs xs : List Record) → AllFollow rs xs → boot_of rs ≤ boot_of (rs ++ xs)
-boot_grows rs [] f = subst (λ (z : List Record). boot_of rs ≤ boot_of z) (sym (append-nil rs)) (itself (boot_of rs))
+boot_grows rs [] f = subst (λ (z : List Record). boot_of rs ≤ boot_of z) (sym (append-nil rs))
+    (itself (boot_of rs))
   where
     itself : (a : ℕ) → a ≤ a
     itself a = omega arith
@@ -139,7 +140,8 @@ module _ (place : Place) (parent : Option ProcessId) (n : Node) (h : Heard) (c :
   decided_once _ _ by_commit e = not_ended Committing (λ x. cc) e
   decided_once _ _ by_abort e = not_ended Aborting (λ x. cc) e
 
-  follows_turn : (row : Row) → CaseTurn place parent n h c row → AllFollow (kept n) (entries_written row.written)
+  follows_turn : (row : Row) → CaseTurn place parent n h c row
+      → AllFollow (kept n) (entries_written row.written)
   follows_turn _ (asks_for_votes PresumeAbort i e f g) = tt
   follows_turn _ (asks_for_votes PresumeCommit i e f g) = (tt, tt)
   follows_turn _ (commits t w ys PresumeAbort i e f g) = (tt, tt)
@@ -222,7 +224,8 @@ module _ (role : Role) (coordinator : IsCoordinator role) (whole : List Record) 
       by_role (Below p) i = refl
       by_role (AtLeaf p) i = absurd i
 
-  stays_as : (behind : List Record) (x : Record) → stays role whole behind x ≡ case_stays whole (record_case x)
+  stays_as : (behind : List Record) (x : Record) → stays role whole behind x
+      ≡ case_stays whole (record_case x)
   stays_as behind x = by_role role coordinator
     where
       by_role : (r : Role) → IsCoordinator r → stays r whole behind x ≡ case_stays whole (record_case x)
@@ -241,7 +244,8 @@ module _ (role : Role) (coordinator : IsCoordinator role) (whole : List Record) 
           by_same : (z : Bool) → same_case d c ≡ z → same_case d c ≡ false
           by_same false e = e
           by_same true e = absurd
-              (let clash : true ≡ false = sym k ∙ (ap (λ y. case_stays whole (Some y)) (sym (case_is d c e)) ∙ t) in cc)
+              (let clash : true ≡ false = sym k ∙ (ap (λ y. case_stays whole (Some y)) (sym (case_is d c e))
+              ∙ t) in cc)
 
       of_record : (y : Record) → case_stays whole (record_case y) ≡ false → reported_after c b y ≡ b
       of_record (EndRecord d rep) t = ap (λ z. if z then is_some rep else b) (apart d t)
@@ -268,7 +272,8 @@ module _ (role : Role) (coordinator : IsCoordinator role) (whole : List Record) 
       by_test (stays role whole xs x) refl
       (follows_staying (rs ++ x ∷ []) (less ++ x ∷ []) xs
       (record {
-        fewer = λ q g e. in_none q less (x ∷ []) (l.fewer q g (first_false _ _ (sym (has-append q rs (x ∷ [])) ∙ e)))
+        fewer = λ q g e. in_none q less (x ∷ [])
+            (l.fewer q g (first_false _ _ (sym (has-append q rs (x ∷ [])) ∙ e)))
             (second_false _ _ (sym (has-append q rs (x ∷ [])) ∙ e));
         reported = λ c k. reported_behind less x c
             ∙ (ap (λ b. reported_after c b x) (l.reported c k) ∙ sym (reported_behind rs x c));
@@ -276,7 +281,8 @@ module _ (role : Role) (coordinator : IsCoordinator role) (whole : List Record) 
       (λ s. follows_staying (rs ++ x ∷ []) less xs
       (record {
         fewer = λ q g e. l.fewer q g (first_false _ _ (sym (has-append q rs (x ∷ [])) ∙ e));
-        reported = λ c k. l.reported c k ∙ sym (reported_behind rs x c ∙ unstayed xs x s c k (is_reported rs c));
+        reported = λ c k. l.reported c k ∙ sym (reported_behind rs x c
+            ∙ unstayed xs x s c k (is_reported rs c));
       }) f.1)
     where
       by_test : (b : Bool) → stays role whole xs x ≡ b → AllFollow (less ++ x ∷ []) (staying role whole xs)
@@ -294,7 +300,8 @@ module _ (role : Role) (coordinator : IsCoordinator role) (whole : List Record) 
       by_both : (a b : ℕ) → 0 < a → a ≤ b → 0 < b
       by_both a b g e = omega arith
 
-  follows_trimmed : Begins whole → AllFollow [] whole → AllFollow [] (Opened (boot_of whole) ∷ staying role whole whole)
+  follows_trimmed : Begins whole → AllFollow [] whole
+      → AllFollow [] (Opened (boot_of whole) ∷ staying role whole whole)
   unfolding boot_of is_reported
   follows_trimmed b f = (
     boot_is_some whole b f,
@@ -302,9 +309,11 @@ module _ (role : Role) (coordinator : IsCoordinator role) (whole : List Record) 
         (record { fewer = λ q g k. one_none q (g (boot_of whole)); reported = λ c k. refl }) f,
   )
     where
-      one_none : (q : Record → Bool) → q (Opened (boot_of whole)) ≡ false → has q (Opened (boot_of whole) ∷ []) ≡ false
+      one_none : (q : Record → Bool) → q (Opened (boot_of whole)) ≡ false
+          → has q (Opened (boot_of whole) ∷ []) ≡ false
       one_none q e =
-          has-cons q (Opened (boot_of whole)) [] ∙ neither (q (Opened (boot_of whole))) (has q []) e (has-nil q)
+          has-cons q (Opened (boot_of whole)) [] ∙ neither (q (Opened (boot_of whole)))
+          (has q []) e (has-nil q)
 
 -- Steps.
 
@@ -315,7 +324,8 @@ record Coordinating (role : Role) : Type 0 where
   no_data : (rs : List Record) → data_records role rs ≡ []
 
 module _ (place : Place) (role : Coordinating place.role) (n : Node) (old : IsWrittenAt n)
-    (turns : (h : Heard) (e : Effect) → reacts place n h ≡ Does e → AllFollow (kept n) (entries_written e.written))
+    (turns : (h : Heard) (e : Effect) → reacts place n h ≡ Does e
+    → AllFollow (kept n) (entries_written e.written))
   where
     all_of : (h : Heard) (e : Effect) → reacts place n h ≡ Does e
         → AllFollow [] (kept n ++ entries_written e.written)
@@ -376,14 +386,16 @@ module _ (place : Place) (role : Coordinating place.role) (n : Node) (old : IsWr
     written_last m _ _ (reopened k hp) =
         let rs = n.forced ++ take k n.unforced in
         record {
-          begins = begins_still rs (reopens place.role rs) (begins_still n.forced (take k n.unforced) old.begins);
+          begins = begins_still rs (reopens place.role rs)
+              (begins_still n.forced (take k n.unforced) old.begins);
           follow = subst (AllFollow []) (sym (append-nil (rs ++ reopens place.role rs))) (reopened_follows k);
         }
     written_last m _ _ (failed_reopening k f fl hp) =
         let rs = n.forced ++ take k n.unforced in
         let new = reopens place.role rs in
         record {
-          begins = begins_still n.forced (take f.forced (take k n.unforced ++ take f.appended new)) old.begins;
+          begins = begins_still n.forced (take f.forced (take k n.unforced ++ take f.appended new))
+              old.begins;
           follow = subst (AllFollow []) (sym (breaks_keeps (loses (logs_of n) k) new f.appended f.forced))
               (a_front rs new f.appended (reopened_follows k));
         }
@@ -412,10 +424,12 @@ written_so tree _ _ (makes es w m e w' run stands step) p i =
     let at = makes_at tree w m e w' step in
     let q = m.step.process in
     let s = step_of (place_of tree q) (w.at q) m e at.node at.made in
-    let P : ProcessId → Node → Type 0 = λ x k. IsCoordinator (role_of tree x) → IsWritten k.forced k.unforced in
+    let P : ProcessId → Node → Type 0 = λ x k. IsCoordinator (role_of tree x) → IsWritten k.forced k.unforced
+    in
     subst (λ (x : World). P p (x.at p)) (sym at.world)
     (put P q p at.node w.at
-    (λ c. written_last (place_of tree q) (coordinating (role_of tree q) c) (w.at q) (written_so tree es w run q c)
+    (λ c. written_last (place_of tree q) (coordinating (role_of tree q) c) (w.at q)
+    (written_so tree es w run q c)
     (λ h g r. follows_at (role_of tree q) c (place_of tree q) (w.at q) h g
     (coordinator_turn_of (place_of tree q) (w.at q) h g r)) m e at.node s)
     (written_so tree es w run p)) i

@@ -28,7 +28,8 @@ xid_is p c = ap (branch_parts c.txn) (by_ticket c.ticket)
     by_ticket None = refl
     by_ticket (Some t) = refl
 
-names_are_one : (x y : Txn) (b d : Option (ProcessId × Ticket)) → FitsTxn x → FitsBelow b → FitsTxn y → FitsBelow d
+names_are_one : (x y : Txn) (b d : Option (ProcessId × Ticket)) → FitsTxn x → FitsBelow b → FitsTxn y
+    → FitsBelow d
     → branch_parts x b ≡ branch_parts y d → case_name x b ≡ case_name y d
 names_are_one x y b d hx hb hy hd e =
     sym (case_of x b (branch_parts x b) hx hb refl) ∙ case_of y d (branch_parts x b) hy hd (sym e)
@@ -41,7 +42,8 @@ one_name : (r : Role) → IsCoordinator r → (x y : Txn) (t u : Option Ticket) 
     → is_ticketed r u ≡ true → case_name x (below_of t (parent_of r)) ≡ case_name y (below_of u (parent_of r))
     → ◌≡◌ {A = Case} (record { txn = x; ticket = t }) (record { txn = y; ticket = u })
 one_name AtRoot i x y None None f g e =
-    same_case_in (record { txn = x; ticket = None }) (record { txn = y; ticket = None }) (ap (λ (n : Name). n.1) e)
+    same_case_in (record { txn = x; ticket = None }) (record { txn = y; ticket = None })
+    (ap (λ (n : Name). n.1) e)
 one_name AtRoot i x y (Some t) u f g e = absurd (cc)
 one_name AtRoot i x y None (Some u) f g e = absurd (cc)
 one_name (Below p) i x y (Some t) (Some u) f g e =

@@ -1,4 +1,5 @@
--- What has been seen of a case is no higher than its records allow; so each record of a coordinator may follow.
+-- What has been seen of a case is no higher than its records allow; so each record of a coordinator may
+-- follow.
 use Rattle.std.proofs.Common.{◌≡◌, ◌∙◌, ◌≤◌, ◌<◌, ◌||◌, ◌&&◌, nat_le, nat_lt, ℕ, suc, Bool, true, false, is_some, unwrap_or, Option, Some, None, List, [], ◌∷◌, ◌++◌, map, refl, sym, ap, subst, append_assoc, arith, if◌then◌else◌}
 use Rattle.std.proofs.lemmas.Bool.Decides.{nat_tests}
 use Rattle.std.specs.List.{list_all}
@@ -119,7 +120,8 @@ rank_grows : (rs : List Record) (x : Record) (c : Case) → rank_of rs c ≤ ran
 rank_grows rs x c =
     subst (λ (n : ℕ). rank_of rs c ≤ n) (sym parts)
     (grows (has (is_end c) rs) (has (is_commit c) rs || has (is_abort c) rs) (has (is_prepare c) rs)
-    (has (is_collecting c) rs) (has (is_end c) (x ∷ [])) (has (is_commit c) (x ∷ []) || has (is_abort c) (x ∷ []))
+    (has (is_collecting c) rs) (has (is_end c) (x ∷ []))
+    (has (is_commit c) (x ∷ []) || has (is_abort c) (x ∷ []))
     (has (is_prepare c) (x ∷ [])) (has (is_collecting c) (x ∷ [])))
   where
     paired : (a b a' b' : Bool) → ((a || a') || (b || b')) ≡ ((a || b) || (a' || b'))
@@ -127,7 +129,8 @@ rank_grows rs x c =
 
     parts : rank_of (rs ++ x ∷ []) c
         ≡ rank_by (has (is_end c) rs || has (is_end c) (x ∷ []))
-        ((has (is_commit c) rs || has (is_abort c) rs) || (has (is_commit c) (x ∷ []) || has (is_abort c) (x ∷ [])))
+        ((has (is_commit c) rs || has (is_abort c) rs)
+        || (has (is_commit c) (x ∷ []) || has (is_abort c) (x ∷ [])))
         (has (is_prepare c) rs || has (is_prepare c) (x ∷ []))
         (has (is_collecting c) rs || has (is_collecting c) (x ∷ []))
     parts =
@@ -137,7 +140,8 @@ rank_grows rs x c =
           has-append (is_abort c) rs (x ∷ []),
           has-append (is_prepare c) rs (x ∷ []),
           has-append (is_collecting c) rs (x ∷ []),
-          paired (has (is_commit c) rs) (has (is_abort c) rs) (has (is_commit c) (x ∷ [])) (has (is_abort c) (x ∷ [])),
+          paired (has (is_commit c) rs) (has (is_abort c) rs) (has (is_commit c) (x ∷ []))
+              (has (is_abort c) (x ∷ [])),
         )
         refl
 
@@ -159,8 +163,10 @@ module _ (rs : List Record) (c : Case) where
 
   collected : (x : Record) → is_collecting c x ≡ true → 1 ≤ behind x
   collected x e =
-      by_bool (has (is_end c) (rs ++ x ∷ [])) (has (is_commit c) (rs ++ x ∷ []) || has (is_abort c) (rs ++ x ∷ []))
-      (has (is_prepare c) (rs ++ x ∷ [])) (has (is_collecting c) (rs ++ x ∷ [])) (last_passes (is_collecting c) x e)
+      by_bool (has (is_end c) (rs ++ x ∷ []))
+      (has (is_commit c) (rs ++ x ∷ []) || has (is_abort c) (rs ++ x ∷ []))
+      (has (is_prepare c) (rs ++ x ∷ [])) (has (is_collecting c) (rs ++ x ∷ []))
+      (last_passes (is_collecting c) x e)
     where
       by_bool : (e d p k : Bool) → k ≡ true → 1 ≤ rank_by e d p k
       by_bool true d p k f = omega arith
@@ -171,8 +177,10 @@ module _ (rs : List Record) (c : Case) where
 
   promised : (x : Record) → is_prepare c x ≡ true → 2 ≤ behind x
   promised x e =
-      by_bool (has (is_end c) (rs ++ x ∷ [])) (has (is_commit c) (rs ++ x ∷ []) || has (is_abort c) (rs ++ x ∷ []))
-      (has (is_prepare c) (rs ++ x ∷ [])) (has (is_collecting c) (rs ++ x ∷ [])) (last_passes (is_prepare c) x e)
+      by_bool (has (is_end c) (rs ++ x ∷ []))
+      (has (is_commit c) (rs ++ x ∷ []) || has (is_abort c) (rs ++ x ∷ []))
+      (has (is_prepare c) (rs ++ x ∷ [])) (has (is_collecting c) (rs ++ x ∷ []))
+      (last_passes (is_prepare c) x e)
     where
       by_bool : (e d p k : Bool) → p ≡ true → 2 ≤ rank_by e d p k
       by_bool true d p k f = omega arith
@@ -182,8 +190,10 @@ module _ (rs : List Record) (c : Case) where
 
   decided : (x : Record) → (is_commit c x || is_abort c x) ≡ true → 3 ≤ behind x
   decided x e =
-      by_bool (has (is_end c) (rs ++ x ∷ [])) (has (is_commit c) (rs ++ x ∷ []) || has (is_abort c) (rs ++ x ∷ []))
-      (has (is_prepare c) (rs ++ x ∷ [])) (has (is_collecting c) (rs ++ x ∷ [])) (either_way (is_commit c x) (is_abort c x)
+      by_bool (has (is_end c) (rs ++ x ∷ []))
+      (has (is_commit c) (rs ++ x ∷ []) || has (is_abort c) (rs ++ x ∷ []))
+      (has (is_prepare c) (rs ++ x ∷ [])) (has (is_collecting c) (rs ++ x ∷ []))
+      (either_way (is_commit c x) (is_abort c x)
       (has (is_commit c) (rs ++ x ∷ [])) (has (is_abort c) (rs ++ x ∷ [])) e (last_passes (is_commit c) x)
       (last_passes (is_abort c) x))
     where
@@ -206,7 +216,8 @@ module _ (rs : List Record) (c : Case) where
 
   before_end : has (is_end c) rs ≡ false → rank_of rs c ≤ 3
   before_end e =
-      rw e (at_most_3 (has (is_commit c) rs || has (is_abort c) rs) (has (is_prepare c) rs) (has (is_collecting c) rs))
+      rw e (at_most_3 (has (is_commit c) rs || has (is_abort c) rs) (has (is_prepare c) rs)
+      (has (is_collecting c) rs))
 
   before_decision : Undecided rs c → rank_of rs c ≤ 2
   before_decision u =
@@ -262,14 +273,16 @@ module _ (place : Place) (coordinator : IsCoordinator place.role) where
       by_test false = refl
 
   module _ (rs : List Record) (s : SeenLog) (seen : Seen rs s) (c : Case) (named : IsNamed c) (x : Record)
-      (least most r : ℕ) (above : least ≤ rank_in s.ranks (xid_of p c)) (below : rank_in s.ranks (xid_of p c) ≤ most)
+      (least most r : ℕ) (above : least ≤ rank_in s.ranks (xid_of p c))
+      (below : rank_in s.ranks (xid_of p c) ≤ most)
       (reached : r ≤ rank_of (rs ++ x ∷ []) c) (no_boot : boot_of (rs ++ x ∷ []) ≡ boot_of rs)
       (of : record_case x ≡ Some c) (then_reported : is_reported (rs ++ x ∷ []) c ≡ true → r ≡ 5)
     where
       seen_so : Seen (rs ++ x ∷ []) (ranks_on s c r)
       seen_so = record {
         boot = seen.boot ∙ ap Some (sym no_boot);
-        ranks = λ d is. subst (λ (n : ℕ). n ≤ rank_of (rs ++ x ∷ []) d) (sym (rank_now s (xid_of p d) (xid_of p c) r))
+        ranks = λ d is. subst (λ (n : ℕ). n ≤ rank_of (rs ++ x ∷ []) d)
+            (sym (rank_now s (xid_of p d) (xid_of p c) r))
             (by_test d is (same (xid_of p d) (xid_of p c)) refl);
         reported = λ d is e. rank_now s (xid_of p d) (xid_of p c) r
             ∙ five d is e (same (xid_of p d) (xid_of p c)) refl;
@@ -284,7 +297,8 @@ module _ (place : Place) (coordinator : IsCoordinator place.role) where
               by_same : (b : Bool) → same_case c d ≡ b → same_case c d ≡ false
               by_same false f = f
               by_same true f = absurd (let clash : true ≡ false =
-                  sym ((same_by_parts (xid_of p d) (xid_of p c)).1 (ap (xid_of p) (sym (case_is c d f)))) ∙ e in cc)
+                  sym ((same_by_parts (xid_of p d) (xid_of p c)).1 (ap (xid_of p) (sym (case_is c d f)))) ∙ e
+                  in cc)
 
           five : (d : Case) → IsNamed d → is_reported (rs ++ x ∷ []) d ≡ true → (b : Bool)
               → same (xid_of p d) (xid_of p c) ≡ b → (if b then r else rank_in s.ranks (xid_of p d)) ≡ 5
@@ -303,7 +317,8 @@ module _ (place : Place) (coordinator : IsCoordinator place.role) where
               ((same_by_parts (xid_of p d) (xid_of p c)).0 e) in
               subst (λ (k : Case). r ≤ rank_of (rs ++ x ∷ []) k) (sym one) reached
           by_test d is false e =
-              no_less (rank_in s.ranks (xid_of p d)) (rank_of rs d) (rank_of (rs ++ x ∷ []) d) (seen.ranks d is)
+              no_less (rank_in s.ranks (xid_of p d)) (rank_of rs d) (rank_of (rs ++ x ∷ []) d)
+              (seen.ranks d is)
               (rank_grows rs x d)
 
       ranked_so : ranked s (xid_of p c) least most r ≡ Some (ranks_on s c r)
@@ -337,11 +352,13 @@ module _ (place : Place) (coordinator : IsCoordinator place.role) where
   after_so rs s seen l = rw seen.boot refl
 
   module _ (rs : List Record) (s : SeenLog) (seen : Seen rs s) where
-    between_step : (x : Record) (c : Case) (least most r : ℕ) → IsNamed c → least ≤ rank_in s.ranks (xid_of p c)
+    between_step : (x : Record) (c : Case) (least most r : ℕ) → IsNamed c
+        → least ≤ rank_in s.ranks (xid_of p c)
         → rank_in s.ranks (xid_of p c) ≤ most → r ≤ rank_of (rs ++ x ∷ []) c
         → boot_of (rs ++ x ∷ []) ≡ boot_of rs → record_case x ≡ Some c
         → (is_reported (rs ++ x ∷ []) c ≡ true → r ≡ 5)
-        → followed s (in_log p x).parent (in_log p x).entry ≡ ranked s (xid_of p c) least most r → Stepped rs s x
+        → followed s (in_log p x).parent (in_log p x).entry ≡ ranked s (xid_of p c) least most r
+        → Stepped rs s x
     between_step x c least most r named above below reached no_boot of known e = record {
       then_seen = ranks_on s c r;
       is = after_so rs s seen (in_log p x)
@@ -364,9 +381,11 @@ module _ (place : Place) (coordinator : IsCoordinator place.role) where
 
     -- a record of a case that has not ended reports nothing of it
     unreported : (x : Record) (c : Case) (r : ℕ) → has (is_end c) rs ≡ false
-        → reported_after c (is_reported rs c) x ≡ is_reported rs c → is_reported (rs ++ x ∷ []) c ≡ true → r ≡ 5
+        → reported_after c (is_reported rs c) x ≡ is_reported rs c → is_reported (rs ++ x ∷ []) c ≡ true
+        → r ≡ 5
     unreported x c r none same e =
-        absurd (let clash : false ≡ true = sym none ∙ reported_end rs c (sym (reported_behind rs x c ∙ same) ∙ e) in cc)
+        absurd (let clash : false ≡ true = sym none ∙ reported_end rs c
+        (sym (reported_behind rs x c ∙ same) ∙ e) in cc)
 
     opened_step : (k : ℕ) → boot_of rs < k → Stepped rs s (Opened k)
     opened_step k h = record {
@@ -374,7 +393,8 @@ module _ (place : Place) (coordinator : IsCoordinator place.role) where
       is = after_so rs s seen (in_log p (Opened k)) ∙ opens_so;
       seen = record {
         boot = ap Some (sym (boot_behind rs (Opened k)));
-        ranks = λ c is. no_less (rank_in s.ranks (xid_of p c)) (rank_of rs c) (rank_of (rs ++ Opened k ∷ []) c)
+        ranks = λ c is. no_less (rank_in s.ranks (xid_of p c)) (rank_of rs c)
+            (rank_of (rs ++ Opened k ∷ []) c)
             (seen.ranks c is) (rank_grows rs (Opened k) c);
         reported = λ c is e. seen.reported c is (sym (reported_behind rs (Opened k) c) ∙ e);
       };
@@ -386,14 +406,20 @@ module _ (place : Place) (coordinator : IsCoordinator place.role) where
         is_less : (a b : ℕ) → a < b → nat_lt a b ≡ true
         is_less a b f = grind arith
 
-        opens_so : opened s k ≡ Some (record { boot = Some k; before = Other; ranks = s.ranks; live = s.live })
+        opens_so : opened s k ≡ Some (record {
+          boot = Some k;
+          before = Other;
+          ranks = s.ranks;
+          live = s.live;
+        })
         opens_so = rw (seen.boot, is_less (boot_of rs) k h) refl
 
     step : (x : Record) → Fits rs x → Follows rs x → RecordNamed x → Stepped rs s x
     step (Opened k) f g n = opened_step k g
     step (CollectingRecord c ts) f g n =
         ranked_step (CollectingRecord c ts) c 0 1 (n c refl) (before_collecting rs c f.1.0 f.1.1.0 f.1.1.1)
-        (collected rs c (CollectingRecord c ts) (same_case-refl c)) (boot_behind rs (CollectingRecord c ts)) refl
+        (collected rs c (CollectingRecord c ts) (same_case-refl c))
+        (boot_behind rs (CollectingRecord c ts)) refl
         (unreported (CollectingRecord c ts) c 1 f.1.0.no_end refl) refl
     step (PrepareRecord c ts) f g n =
         ranked_step (PrepareRecord c ts) c 1 2 (n c refl) (before_promise rs c f.1.0 f.1.1)
@@ -413,11 +439,13 @@ module _ (place : Place) (coordinator : IsCoordinator place.role) where
     step (EndRecord c None) f g n =
         ranked_step (EndRecord c None) c 3 4 (n c refl) (before_end rs c g)
         (no_more 4 (rank_of (rs ++ EndRecord c None ∷ []) c) (omega arith)
-        (ended rs c (EndRecord c None) (same_case-refl c))) (boot_behind rs (EndRecord c None)) refl (λ e. absurd (plain e)) refl
+        (ended rs c (EndRecord c None) (same_case-refl c))) (boot_behind rs (EndRecord c None)) refl
+        (λ e. absurd (plain e)) refl
       where
         plain : is_reported (rs ++ EndRecord c None ∷ []) c ≡ true → ⊥
         plain e =
-            let now : is_reported (rs ++ EndRecord c None ∷ []) c ≡ false = reported_behind rs (EndRecord c None) c
+            let now : is_reported (rs ++ EndRecord c None ∷ []) c ≡ false =
+            reported_behind rs (EndRecord c None) c
             ∙ ap (λ z. if z then false else is_reported rs c) (same_case-refl c) in
             absurd (let clash : false ≡ true = sym now ∙ e in cc)
 
@@ -426,7 +454,8 @@ module _ (place : Place) (coordinator : IsCoordinator place.role) where
     step (EndRecord c (Some r)) f g n =
         ranked_step (EndRecord c (Some r)) c 3 5 (n c refl) (before_end rs c g)
         (no_more 5 (rank_of (rs ++ EndRecord c (Some r) ∷ []) c) (omega arith)
-        (ended rs c (EndRecord c (Some r)) (same_case-refl c))) (boot_behind rs (EndRecord c (Some r))) refl (λ e. refl) refl
+        (ended rs c (EndRecord c (Some r)) (same_case-refl c))) (boot_behind rs (EndRecord c (Some r))) refl
+        (λ e. refl) refl
       where
         no_more : (a b : ℕ) → a ≤ 6 → 6 ≤ b → a ≤ b
         no_more a b f g = omega arith
@@ -447,7 +476,8 @@ module _ (place : Place) (coordinator : IsCoordinator place.role) where
 
         seen_to : is_reported (rs ++ ClearedRecord c ∷ []) c ≡ true → ⊥
         seen_to e =
-            let now : is_reported (rs ++ ClearedRecord c ∷ []) c ≡ false = reported_behind rs (ClearedRecord c) c
+            let now : is_reported (rs ++ ClearedRecord c ∷ []) c ≡ false =
+            reported_behind rs (ClearedRecord c) c
             ∙ ap (λ z. if z then false else is_reported rs c) (same_case-refl c) in
             absurd (let clash : false ≡ true = sym now ∙ e in cc)
     step x f g n = absurd g
@@ -464,8 +494,13 @@ module _ (place : Place) (coordinator : IsCoordinator place.role) where
   whole : (rs : List Record) → Begins rs → AllFit [] rs → AllFollow [] rs → AllNamed rs → AreOrdered p rs
   unfolding seen_after after boot_of is_reported
   whole _ (opened_first k rs h) f g n =
-      follow_on (Opened k ∷ []) rs f.1 g.1 n.1 (record { boot = Some k; before = Other; ranks = []; live = [] })
-      (record { boot = refl; ranks = λ c is. least (rank_of (Opened k ∷ []) c); reported = λ c is e. absurd (cc) })
+      follow_on (Opened k ∷ []) rs f.1 g.1 n.1
+      (record { boot = Some k; before = Other; ranks = []; live = [] })
+      (record {
+        boot = refl;
+        ranks = λ c is. least (rank_of (Opened k ∷ []) c);
+        reported = λ c is e. absurd (cc);
+      })
     where
       least : (a : ℕ) → 0 ≤ a
       least a = omega arith
@@ -478,7 +513,8 @@ module _ (place : Place) (coordinator : IsCoordinator place.role) where
         all_named xs g.1 f.1,
       )
     where
-      by_case : (o : Option Case) → is_own_by place o ≡ true → NameFits p o → (c : Case) → o ≡ Some c → IsNamed c
+      by_case : (o : Option Case) → is_own_by place o ≡ true → NameFits p o → (c : Case) → o ≡ Some c
+          → IsNamed c
       by_case None g h c q = absurd (cc)
       by_case (Some d) g h c q =
           subst IsNamed (some_is d c q) (record { own = g; fits = h })

@@ -66,7 +66,8 @@ module _ (p : Option ProcessId) (c : Case) where
       first : (a b : Bool) → a ≡ true → (a || b) ≡ true
       first a b e = grind arith
 
-  now : (pre : List Record) (x : Record) → is_collecting c x ≡ true → has (is_collecting c) (pre ++ x ∷ []) ≡ true
+  now : (pre : List Record) (x : Record) → is_collecting c x ≡ true
+      → has (is_collecting c) (pre ++ x ∷ []) ≡ true
   now pre x e =
       has-append (is_collecting c) pre (x ∷ [])
       ∙ last (has (is_collecting c) pre) (has (is_collecting c) (x ∷ []))
@@ -79,7 +80,8 @@ module _ (p : Option ProcessId) (c : Case) where
       last a b e = grind arith
 
   -- a record that names nobody of the case
-  passes : (pre xs : List Record) (x : Record) → named_in c x ≡ [] → Names (pre ++ x ∷ []) xs → Names pre (x ∷ xs)
+  passes : (pre xs : List Record) (x : Record) → named_in c x ≡ [] → Names (pre ++ x ∷ []) xs
+      → Names pre (x ∷ xs)
   passes pre xs x e n = record {
     sound = subst AreSoundTickets (ap (λ ts. ts ++ flat_map (named_in c) xs) (sym e)) n.sound;
     once = λ h. ap (λ ts. ts ++ flat_map (named_in c) xs) e ∙ n.once (still pre x h);
@@ -115,7 +117,8 @@ module _ (p : Option ProcessId) (c : Case) where
       (ap (λ b. if b then ts else []) (first_is (is_abort c) (AbortRecord d ts) xs o.no_abort)) n
   names_one pre xs x o f s n = passes pre xs x refl n
 
-  names : (pre xs : List Record) → OnlyCollects c xs → AllFit pre xs → AllByRecursion (Stands p) xs → Names pre xs
+  names : (pre xs : List Record) → OnlyCollects c xs → AllFit pre xs → AllByRecursion (Stands p) xs
+      → Names pre xs
   names pre [] o f s = record { sound = nobody; once = λ h. refl }
   names pre (x ∷ xs) o f s =
       names_one pre xs x o f.0 s.0 (names (pre ++ x ∷ []) xs (rest_of x xs o) f.1 s.1)
@@ -157,7 +160,8 @@ all_stand : (p : Option ProcessId) (xs : List Record) → CanStand (map (in_log 
 all_stand p [] s = tt
 all_stand p (x ∷ xs) s = (s.0, all_stand p xs s.1)
 
-module _ (p : Option ProcessId) (rs : List Record) (fit : AllFit [] rs) (sound : CanStand (map (in_log p) rs)) where
+module _ (p : Option ProcessId) (rs : List Record) (fit : AllFit [] rs)
+    (sound : CanStand (map (in_log p) rs)) where
   abort_can : (c : Case) (s : Standing) → (recorded_view rs c).standing ≡ s
       → CanStand (map (in_log p) (restart_abort c (recorded_view rs c) s))
   unfolding named_by

@@ -39,17 +39,19 @@ AreOrdered p rs = is_some (seen_of (map (in_log p) rs)) ≡ true
 abbrev pub log_of : List TreeProcess → World → ProcessId → List LogRecord
 log_of tree w q = map (in_log (parent_of (role_of tree q))) (kept (w.at q))
 
--- as bytes after a header it reads as these records in the log of each coordinator, with any torn tail after them
+-- as bytes after a header it reads as these records in the log of each coordinator, with any torn tail after
+-- them
 abbrev pub IsReadWhole : List LogRecord → Type 0
 IsReadWhole ls = (q : ProcessId) (tail : List ℕ) → first_frame Second tail ≡ None
     → read_log (log_form q Coordinator) (header Second ++ (records_text (log_form q Coordinator) ls ++ tail))
     ≡ Whole ls (length tail)
 
--- each record can be in the log of a coordinator: its numbers are within their bounds, and it names 255 tickets at most,
--- an End that reports in each of its two lists
+-- each record can be in the log of a coordinator: its numbers are within their bounds, and it names 255
+-- tickets at most, an End that reports in each of its two lists
 abbrev pub CanStand : List LogRecord → Type 0
 CanStand ls = AllByRecursion (IsSound Coordinator) ls
 
 -- what a restart of a process appends to its log, where a crash leaves N of its unforced records
 abbrev pub appended : List TreeProcess → World → ProcessId → ℕ → List LogRecord
-appended tree w q k = map (in_log (parent_of (role_of tree q))) (reopens (role_of tree q) (left_of (w.at q) k))
+appended tree w q k = map (in_log (parent_of (role_of tree q)))
+    (reopens (role_of tree q) (left_of (w.at q) k))

@@ -119,7 +119,8 @@ found_push found t a o fs ts =
     ∙ ap (λ l. found_of found o ts ++ l) (append-nil (if same_outcome a o && in_list ts t then fs else []))
 
 -- an acknowledgement that disagrees brings nothing
-pub found_apart : (acks : List (Ticket × Outcome)) (found : List (Ticket × (Outcome × List Finding))) (t : Ticket)
+pub found_apart : (acks : List (Ticket × Outcome))
+    (found : List (Ticket × (Outcome × List Finding))) (t : Ticket)
     (a o : Outcome) (fs : List Finding) (ts : List Ticket) → same_outcome a o ≡ false
     → found_of (found ++ (if has_acked acks a t then [] else (t, (a, fs)) ∷ [])) o ts ≡ found_of found o ts
 found_apart acks found t a o fs ts d = by_test (has_acked acks a t)
@@ -144,7 +145,8 @@ still_there acks o t ts =
     is_same u e = elim (same_ticket_tells u t) [ inl k ↦ k.1 | inr k ↦ absurd (let z = k.0 in cc) ]
 
 -- an acknowledgement brings what it found where its ticket still owes it
-pub found_taken : (acks : List (Ticket × Outcome)) (found : List (Ticket × (Outcome × List Finding))) (t : Ticket)
+pub found_taken : (acks : List (Ticket × Outcome))
+    (found : List (Ticket × (Outcome × List Finding))) (t : Ticket)
     (o : Outcome) (fs : List Finding) (ts : List Ticket)
     → found_of (found ++ (if has_acked acks o t then [] else (t, (o, fs)) ∷ [])) o ts
     ≡ found_of found o ts ++ (if in_list (still_owed acks o ts) t then fs else [])
@@ -169,7 +171,8 @@ unfolding found_of in_list
 found_nobody [] o = refl
 found_nobody (a ∷ fs) o = by_test (same_outcome a.1.0 o) (found_nobody fs o)
   where
-    by_test : (b : Bool) → found_of fs o [] ≡ [] → ((if b && false then a.1.1 else []) ++ found_of fs o []) ≡ []
+    by_test : (b : Bool) → found_of fs o [] ≡ [] → ((if b && false then a.1.1 else []) ++ found_of fs o [])
+        ≡ []
     by_test true none = none
     by_test false none = none
 
@@ -182,7 +185,8 @@ pub acked_commit : (ver : Version) (s : Seat) (p : Presumption) (t : Ticket) (rs
     → let v = view_at Committing rs s.own m in
     let row = decided_ack ver s CommittedOutcome t (v.found ++ fs) v in
     let rs' = rs ++ entries_written row.written in
-    view_at (standing_with p rs' s.own (acked m t CommittedOutcome fs)) rs' s.own (acked m t CommittedOutcome fs)
+    view_at (standing_with p rs' s.own (acked m t CommittedOutcome fs)) rs' s.own
+    (acked m t CommittedOutcome fs)
     ≡ row.view
 acked_commit ver s p t rs m fs true true h there last = simp (pushed, there, last) refl
 acked_commit ver s p t rs m fs true false h there last =
@@ -226,7 +230,8 @@ pub owed_none : (acks : List (Ticket × Outcome)) (o : Outcome) → still_owed a
 unfolding still_owed
 owed_none acks o = refl
 
-pub refused_commit : (c : Case) (p : Presumption) (t : Ticket) (rs : List Record) (m : Memory) (fs : List Finding)
+pub refused_commit : (c : Case) (p : Presumption) (t : Ticket) (rs : List Record) (m : Memory)
+    (fs : List Finding)
     → standing_with p rs c m ≡ Committing
     → view_at (standing_with p (rs ++ []) c (acked m t AbortedOutcome fs)) (rs ++ []) c
     (acked m t AbortedOutcome fs) ≡ view_at Committing rs c m
@@ -234,10 +239,12 @@ refused_commit c p t rs m fs h =
     let same : still_owed (m.acks ++ (t, AbortedOutcome) ∷ []) CommittedOutcome (owing_by c rs)
     ≡ still_owed m.acks CommittedOutcome (owing_by c rs) =
     disagreeing m.acks t AbortedOutcome CommittedOutcome (owing_by c rs) (apart AbortedOutcome) in
-    let brings = found_apart m.acks m.found t AbortedOutcome CommittedOutcome fs (owing_by c rs) (apart AbortedOutcome) in
+    let brings = found_apart m.acks m.found t AbortedOutcome CommittedOutcome fs (owing_by c rs)
+    (apart AbortedOutcome) in
     simp (append-nil, h, same, brings) refl
 
-pub refused_abort : (c : Case) (p : Presumption) (t : Ticket) (rs : List Record) (m : Memory) (fs : List Finding)
+pub refused_abort : (c : Case) (p : Presumption) (t : Ticket) (rs : List Record) (m : Memory)
+    (fs : List Finding)
     → standing_with p rs c m ≡ Aborting
     → view_at (standing_with p (rs ++ []) c (acked m t CommittedOutcome fs)) (rs ++ []) c
     (acked m t CommittedOutcome fs) ≡ view_at Aborting rs c m
@@ -245,7 +252,8 @@ refused_abort c p t rs m fs h =
     let same : still_owed (m.acks ++ (t, CommittedOutcome) ∷ []) AbortedOutcome (owing_by c rs)
     ≡ still_owed m.acks AbortedOutcome (owing_by c rs) =
     disagreeing m.acks t CommittedOutcome AbortedOutcome (owing_by c rs) (apart CommittedOutcome) in
-    let brings = found_apart m.acks m.found t CommittedOutcome AbortedOutcome fs (owing_by c rs) (apart CommittedOutcome) in
+    let brings = found_apart m.acks m.found t CommittedOutcome AbortedOutcome fs (owing_by c rs)
+    (apart CommittedOutcome) in
     simp (append-nil, h, same, brings) refl
 
 -- one at a case that was not decided

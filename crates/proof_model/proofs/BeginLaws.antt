@@ -150,7 +150,8 @@ pub counted_pure : (rs : List Record) (c : Case) (m : Memory) (k : ℕ)
     (record m { begun = k }) ≡ view_at (coordinator_standing rs c m) rs c m
 counted_pure rs c m k = simp append-nil refl
 
-pub root_begins : (ver : Version) (me : ProcessId) (tree : List TreeProcess) (n : Node) (p : Presumption) (a : DataAnswer)
+pub root_begins : (ver : Version) (me : ProcessId) (tree : List TreeProcess) (n : Node) (p : Presumption)
+    (a : DataAnswer)
     → RootBegins ver me tree n p a
 unfolding coordinator_view
 root_begins ver me tree n p a =

@@ -521,7 +521,8 @@ committed_update_costs s =
           let Q : CoordinatorView → Type 0 = λ x. root_walk (record s { parent = None }) x votes acks
           ≡ record { cost = root_price s.own.txn.presumption (length v.accepted); view = unknown_view } in
           subst P (sym at_root) (subst Q (sym begun)
-          (paid s.me s.own v.accepted v.works v.promised v.named v.owed v.found takes s.own.txn.presumption refl votes
+          (paid s.me s.own v.accepted v.works v.promised v.named v.owed v.found takes
+          s.own.txn.presumption refl votes
           acks is is'));
       manager = λ l n ws v active done sound.
           let stands : v ≡ record { standing = ActiveStanding; done = n; spoiled = false; told = v.told } = rw

@@ -161,7 +161,8 @@ cascaded_noted me boot c m (ActInput (WorkAct d r op)) n =
     noted_if (same_case d c) m (sends_work m (ticket_of_child m.accepted r) m.phase) n
     (noted_work m (ticket_of_child m.accepted r) m.phase n)
 cascaded_noted me boot c m (ActInput a) n = n
-cascaded_noted me boot c m (MessageInput k (Join d)) n = noted_joins me boot c d m (active_ticket m.active d) n
+cascaded_noted me boot c m (MessageInput k (Join d)) n =
+    noted_joins me boot c d m (active_ticket m.active d) n
 cascaded_noted me boot c m (MessageInput k (Prepare d i)) n =
     noted_if (same_case d c) (retires m d) (asks_votes (retires m d) m.phase) n
     (noted_asks (retires m d) m.phase n)

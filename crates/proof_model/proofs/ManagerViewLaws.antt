@@ -213,7 +213,8 @@ commit_heard ver rs l m Open e = refl
 commit_heard ver rs l m Asked e = refl
 commit_heard ver rs l m Over e = refl
 
-commit_writes : (ver : Version) (rs : List Record) (l : Leaf) (m : Memory) (phase : Phase) → let v = heard_branch m phase in
+commit_writes : (ver : Version) (rs : List Record) (l : Leaf) (m : Memory) (phase : Phase)
+    → let v = heard_branch m phase in
     (ManagerRows.on_commit ver l rs v v.standing).written ≡ []
 commit_writes ver rs l m Idle = refl
 commit_writes ver rs l m Open = refl
@@ -224,7 +225,8 @@ commit_moves : (ver : Version) (rs : List Record) (l : Leaf) (m : Memory) (mark 
     → let v = marked_branch m mark in
     let row = ManagerRows.on_commit ver l rs v v.standing in
     marked_branch m (marks_of l mark row) ≡ row.view
-commit_moves ver rs l m Unmarked = rw (commit_writes ver rs l m m.phase) (commit_heard ver rs l m m.phase refl)
+commit_moves ver rs l m Unmarked = rw (commit_writes ver rs l m m.phase)
+    (commit_heard ver rs l m m.phase refl)
 commit_moves ver rs l m Promised = rw (same_branch-refl l.own) refl
 commit_moves ver rs l m Decided = rw (same_branch-refl l.own) refl
 commit_moves ver rs l m (ToldOf told) = told_again l m CommittedOutcome told
@@ -243,13 +245,18 @@ outcome_own l AbortedOutcome = record {
 
 heuristic_own : (l : Leaf) (o : Outcome) (fs : List Finding) (v : ManagerView) (told : Option Outcome)
     → IsOwn l (ManagerRows.heuristic_outcome l o fs v told)
-heuristic_own l o fs v None = record { boot = λ b. refl; others = λ c mark q. rw (other_branch l.own c q) refl }
+heuristic_own l o fs v None = record {
+  boot = λ b. refl;
+  others = λ c mark q. rw (other_branch l.own c q) refl;
+}
 heuristic_own l o fs v (Some told) = choice_own l _ _ (same_outcome told o) (quiet_own l _ refl)
     (quiet_own l _ refl)
 
-pub commit_own : (ver : Version) (rs : List Record) (l : Leaf) (v : ManagerView) (s : Standing) → IsOwn l (ManagerRows.on_commit ver l rs v s)
+pub commit_own : (ver : Version) (rs : List Record) (l : Leaf) (v : ManagerView) (s : Standing)
+    → IsOwn l (ManagerRows.on_commit ver l rs v s)
 commit_own ver rs l v Prepared = outcome_own l CommittedOutcome
-commit_own ver rs l v Heuristic = heuristic_own l CommittedOutcome (decided_findings ver rs l.own CommittedOutcome) v v.told
+commit_own ver rs l v Heuristic = heuristic_own l CommittedOutcome
+    (decided_findings ver rs l.own CommittedOutcome) v v.told
 commit_own ver rs l v Unknown = quiet_own l _ refl
 commit_own ver rs l v Active = quiet_own l _ refl
 commit_own ver rs l v Collecting = quiet_own l _ refl
@@ -276,9 +283,11 @@ abort_moves ver rs l m (ToldOf told) = told_again l (closes (retires m l.own) m.
     (decided_findings ver rs l.own AbortedOutcome) (same_outcome told AbortedOutcome)
 abort_moves ver rs l m Finished = refl
 
-pub abort_own : (ver : Version) (rs : List Record) (l : Leaf) (v : ManagerView) (s : Standing) → IsOwn l (ManagerRows.on_abort ver l rs v s)
+pub abort_own : (ver : Version) (rs : List Record) (l : Leaf) (v : ManagerView) (s : Standing)
+    → IsOwn l (ManagerRows.on_abort ver l rs v s)
 abort_own ver rs l v Prepared = outcome_own l AbortedOutcome
-abort_own ver rs l v Heuristic = heuristic_own l AbortedOutcome (decided_findings ver rs l.own AbortedOutcome) v v.told
+abort_own ver rs l v Heuristic = heuristic_own l AbortedOutcome
+    (decided_findings ver rs l.own AbortedOutcome) v v.told
 abort_own ver rs l v Unknown = quiet_own l _ refl
 abort_own ver rs l v Active = quiet_own l _ refl
 abort_own ver rs l v Collecting = quiet_own l _ refl
@@ -474,7 +483,8 @@ module _ (ver : Version) (me p : ProcessId) (tree : List TreeProcess) (n : Node)
       (λ c w o. rw o refl)
 
   pub prepare_views : (k i : ℕ) (a : DataAnswer) → let v = manager_view place n d in
-      MovesBranch place n (hears_message ver k (Prepare d i) a) d (ManagerRows.on_prepare own i a.holding v v.standing)
+      MovesBranch place n (hears_message ver k (Prepare d i) a) d
+      (ManagerRows.on_prepare own i a.holding v v.standing)
   unfolding manager_view
   prepare_views k i a =
       let m = memory_of place n d in
@@ -519,7 +529,8 @@ module _ (ver : Version) (me p : ProcessId) (tree : List TreeProcess) (n : Node)
       assembled place n _ own _ (record { boot = λ b. refl; others = λ c w q. rw (other_branch d c q) refl })
       (rw (same_branch-refl d) refl) (λ c w q. refl)
 
-  pub forget_views : (a : DataAnswer) → MovesBranch place n (hears_act ver (Forget d) a) d (heuristic_forget own)
+  pub forget_views : (a : DataAnswer) → MovesBranch place n (hears_act ver (Forget d) a) d
+      (heuristic_forget own)
   forget_views a =
       assembled place n _ own _ (record { boot = λ b. refl; others = λ c w q. rw (other_branch d c q) refl })
       (rw (same_branch-refl d) refl) (λ c w q. refl)
@@ -538,7 +549,8 @@ module _ (ver : Version) (me p : ProcessId) (tree : List TreeProcess) (n : Node)
   joins_quiet true = refl
   joins_quiet false = refl
 
-  pub join_views : (k : ℕ) (a : DataAnswer) → JoinsBranch place p n (hears_message ver k (Join d) a) d a.starts
+  pub join_views : (k : ℕ) (a : DataAnswer) → JoinsBranch place p n (hears_message ver k (Join d) a) d
+      a.starts
   unfolding manager_view
   join_views k a =
       record {

@@ -119,7 +119,19 @@ collecting_abort_pure me c PresumeAbort why none us rs m f owes acks found u =
 collecting_abort_pure me c PresumeCommit why true us rs m f owes acks found u =
     simp (pushed, f.no_end, f.no_commit, f.no_abort, f.no_prepare, owes, u) refl
 collecting_abort_pure me c PresumeCommit why false us rs m f owes acks found u =
-    simp (pushed, f.no_end, f.no_commit, f.no_abort, f.no_prepare, owes, u, acks, owed_by_all, found, found_empty) refl
+    simp (
+      pushed,
+      f.no_end,
+      f.no_commit,
+      f.no_abort,
+      f.no_prepare,
+      owes,
+      u,
+      acks,
+      owed_by_all,
+      found,
+      found_empty,
+    ) refl
 
 -- A vote of a case that collects votes.
 
@@ -151,6 +163,18 @@ pub root_commits_pure : (me : ProcessId) (c : Case) (p : Presumption) (ys : List
     let m' : Memory = record m { phase = Over } in
     view_at (standing_with p rs' c m') rs' c m' ≡ row.view
 root_commits_pure me c PresumeAbort ys rs m f owes acks found some =
-    simp (pushed, f.no_end, f.no_commit, f.no_abort, f.no_prepare, owes, some, acks, owed_by_all, found, found_empty) refl
+    simp (
+      pushed,
+      f.no_end,
+      f.no_commit,
+      f.no_abort,
+      f.no_prepare,
+      owes,
+      some,
+      acks,
+      owed_by_all,
+      found,
+      found_empty,
+    ) refl
 root_commits_pure me c PresumeCommit ys rs m f owes acks found some =
     simp (pushed, f.no_end, f.no_commit, f.no_abort, f.no_prepare, owes) refl

@@ -279,7 +279,8 @@ module _ (ver : Version) (me : ProcessId) (tree : List TreeProcess) (n : Node) (
   inquiry_views k a t =
       let v = coordinator_view place n c in
       let r = inquiry_row t v v.standing in
-      quiet_views (hears_message ver k (Inquire (child_case x t)) a) (on_inquiry seat t v v.standing) r.0 r.1 refl
+      quiet_views (hears_message ver k (Inquire (child_case x t)) a)
+      (on_inquiry seat t v v.standing) r.0 r.1 refl
       (λ y o. refl)
 
   -- work
@@ -380,7 +381,8 @@ module _ (ver : Version) (me : ProcessId) (tree : List TreeProcess) (n : Node) (
   joined_at k a t alike Heuristic h = joined_other k a t alike Heuristic h (λ e. cc)
 
   pub joined_views : (k : ℕ) (a : DataAnswer) (t : Ticket) → let v = coordinator_view place n c in
-      IsOpenAlike place n c → MovesTxn place n (hears_message ver k (Joined c t) a) x (on_joined t v v.standing)
+      IsOpenAlike place n c → MovesTxn place n (hears_message ver k (Joined c t) a) x
+      (on_joined t v v.standing)
   joined_views k a t alike = joined_at k a t alike (coordinator_view place n c).standing
       (stands_as (coordinator_view place n c).standing refl)
 
@@ -404,7 +406,8 @@ module _ (ver : Version) (me : ProcessId) (tree : List TreeProcess) (n : Node) (
   full_at : (b : Bool) (w : Memory) → none_of (yes_of w.accepted w.votes) ≡ b
       → CollectingFacts (has (is_end c) rs) (has (is_commit c) rs) (has (is_abort c) rs)
       (has (is_prepare c) rs)
-      → (x.presumption ≡ PresumeAbort → has (is_collecting c) rs ≡ false) → owing_by c rs ≡ [] → w.acks ≡ [] → w.found ≡ []
+      → (x.presumption ≡ PresumeAbort → has (is_collecting c) rs ≡ false) → owing_by c rs ≡ [] → w.acks ≡ []
+      → w.found ≡ []
       → let v = view_at Collecting rs c w in
       let ys = yes_of w.accepted w.votes in
       let row = if b then collecting_read_only seat else decides seat v ys None in
@@ -417,7 +420,8 @@ module _ (ver : Version) (me : ProcessId) (tree : List TreeProcess) (n : Node) (
   read_only_of PresumeAbort row h = quiet_of c row h
   read_only_of PresumeCommit row h = end_of c None row false h
 
-  commits_of : (v : CoordinatorView) (ys : List Ticket) (p : Presumption) → IsRowOfCase c (root_commits seat v ys p)
+  commits_of : (v : CoordinatorView) (ys : List Ticket) (p : Presumption)
+      → IsRowOfCase c (root_commits seat v ys p)
   commits_of v ys PresumeAbort = commit_of c ys _ true refl
   commits_of v ys PresumeCommit = commit_of c [] _ true refl
 
@@ -436,7 +440,8 @@ module _ (ver : Version) (me : ProcessId) (tree : List TreeProcess) (n : Node) (
 
   counted_consent : (t : Ticket) (w : Vote) (all : Bool) → standing_with x.presumption rs c m ≡ Collecting
       → m.phase ≡ Asked → Collects
-      → (x.presumption ≡ PresumeAbort → has (is_collecting c) rs ≡ false) → owing_by c rs ≡ [] → m.acks ≡ [] → m.found ≡ []
+      → (x.presumption ≡ PresumeAbort → has (is_collecting c) rs ≡ false) → owing_by c rs ≡ [] → m.acks ≡ []
+      → m.found ≡ []
       → let v = view_at Collecting rs c (with_one t w) in
       let row = if all then collecting_full seat v else quiet v in
       (IsRowOfCase c row) × (read_view (rs ++ entries_written row.written) c
@@ -454,7 +459,8 @@ module _ (ver : Version) (me : ProcessId) (tree : List TreeProcess) (n : Node) (
 
   counted_vote : (t : Ticket) (w : Vote) → standing_with x.presumption rs c m ≡ Collecting → m.phase ≡ Asked
       → Collects
-      → (x.presumption ≡ PresumeAbort → has (is_collecting c) rs ≡ false) → owing_by c rs ≡ [] → m.acks ≡ [] → m.found ≡ []
+      → (x.presumption ≡ PresumeAbort → has (is_collecting c) rs ≡ false) → owing_by c rs ≡ [] → m.acks ≡ []
+      → m.found ≡ []
       → let row = collecting_after seat (view_at Collecting rs c (with_one t w)) w in
       (IsRowOfCase c row) × (read_view (rs ++ entries_written row.written) c (with_vote m t w) ≡ row.view)
   counted_vote t VoteNo h asked f no_record owes acks none_found =
@@ -472,10 +478,12 @@ module _ (ver : Version) (me : ProcessId) (tree : List TreeProcess) (n : Node) (
 
   taken_vote : (t : Ticket) (w : Vote) (b : Bool) → standing_with x.presumption rs c m ≡ Collecting
       → m.phase ≡ Asked → Collects
-      → (x.presumption ≡ PresumeAbort → has (is_collecting c) rs ≡ false) → owing_by c rs ≡ [] → m.acks ≡ [] → m.found ≡ []
+      → (x.presumption ≡ PresumeAbort → has (is_collecting c) rs ≡ false) → owing_by c rs ≡ [] → m.acks ≡ []
+      → m.found ≡ []
       → let row = if b then record (collecting_after seat (view_at Collecting rs c (with_one t w)) w)
       { counts = (t, w) ∷ [] } else quiet (view_at Collecting rs c m) in
-      (IsRowOfCase c row) × (read_view (rs ++ entries_written row.written) c (if b then with_vote m t w else m)
+      (IsRowOfCase c row) × (read_view (rs ++ entries_written row.written) c
+      (if b then with_vote m t w else m)
       ≡ row.view)
   taken_vote t w true h asked f no_record owes acks none_found =
       let r = counted_vote t w h asked f no_record owes acks none_found in
@@ -567,7 +575,8 @@ module _ (ver : Version) (me : ProcessId) (tree : List TreeProcess) (n : Node) (
   ack_by : (k : ℕ) (a : DataAnswer) (t : Ticket) (o : Outcome) (fs : List Finding) (s : Standing)
       → standing_with x.presumption rs c m ≡ s
       → (s ≡ Active → ⊥) → (s ≡ Collecting → ⊥) → takes_ack m t o fs m.phase ≡ acked m t o fs
-      → MovesTxn place n (hears_message ver k (Ack (child_case x t) o fs) a) x (on_ack ver seat t o ((view_at s rs c m).found ++ fs) (view_at s rs c m) s)
+      → MovesTxn place n (hears_message ver k (Ack (child_case x t) o fs) a) x
+      (on_ack ver seat t o ((view_at s rs c m).found ++ fs) (view_at s rs c m) s)
   ack_by k a t CommittedOutcome fs Committing h na nc noted =
       let v = view_at Committing rs c m in
       ack_noted k a t CommittedOutcome fs (decided_ack ver seat CommittedOutcome t (v.found ++ fs) v) noted
@@ -606,7 +615,8 @@ module _ (ver : Version) (me : ProcessId) (tree : List TreeProcess) (n : Node) (
       (never_heuristic _ _ _ _ _ _ _ (phase_standing_known x.presumption m.phase) h)
 
   -- while children or votes can come, it does nothing
-  ack_unheard : (k : ℕ) (a : DataAnswer) (t : Ticket) (o : Outcome) (fs : List Finding) (row : Row) → takes_ack m t o fs m.phase ≡ m
+  ack_unheard : (k : ℕ) (a : DataAnswer) (t : Ticket) (o : Outcome) (fs : List Finding) (row : Row)
+      → takes_ack m t o fs m.phase ≡ m
       → row ≡ quiet (coordinator_view place n c)
       → MovesTxn place n (hears_message ver k (Ack (child_case x t) o fs) a) x row
   ack_unheard k a t o fs row unheard e =
@@ -625,7 +635,8 @@ module _ (ver : Version) (me : ProcessId) (tree : List TreeProcess) (n : Node) (
   on_ack_asked t CommittedOutcome gs v = refl
   on_ack_asked t AbortedOutcome gs v = refl
 
-  ack_closed : (k : ℕ) (a : DataAnswer) (t : Ticket) (o : Outcome) (fs : List Finding) → IsOpenAlike place n c → (s : Standing)
+  ack_closed : (k : ℕ) (a : DataAnswer) (t : Ticket) (o : Outcome) (fs : List Finding) → IsOpenAlike place n c
+      → (s : Standing)
       → standing_with x.presumption rs c m ≡ s
       → (m.phase ≡ Open → ⊥) → (m.phase ≡ Asked → ⊥) → takes_ack m t o fs m.phase ≡ acked m t o fs
       → MovesTxn place n (hears_message ver k (Ack (child_case x t) o fs) a) x
@@ -650,18 +661,21 @@ module _ (ver : Version) (me : ProcessId) (tree : List TreeProcess) (n : Node) (
   now_collecting alike s h e = sym h ∙ (sym (view_standing (coordinator_standing rs c m) rs c m)
       ∙ alike.asked_is_collecting e)
 
-  ack_phase : (k : ℕ) (a : DataAnswer) (t : Ticket) (o : Outcome) (fs : List Finding) → IsOpenAlike place n c → (ph : Phase)
+  ack_phase : (k : ℕ) (a : DataAnswer) (t : Ticket) (o : Outcome) (fs : List Finding) → IsOpenAlike place n c
+      → (ph : Phase)
       → m.phase ≡ ph → (s : Standing) → standing_with x.presumption rs c m ≡ s
       → MovesTxn place n (hears_message ver k (Ack (child_case x t) o fs) a) x
       (on_ack ver seat t o ((coordinator_view place n c).found ++ fs) (coordinator_view place n c) s)
   ack_phase k a t o fs alike Open e s h =
       let v = coordinator_view place n c in
       ack_unheard k a t o fs _ (ap (λ ph. takes_ack m t o fs ph) e)
-      (ap (λ q. on_ack ver seat t o (v.found ++ fs) v q) (now_active alike s h e) ∙ on_ack_open t o (v.found ++ fs) v)
+      (ap (λ q. on_ack ver seat t o (v.found ++ fs) v q) (now_active alike s h e)
+      ∙ on_ack_open t o (v.found ++ fs) v)
   ack_phase k a t o fs alike Asked e s h =
       let v = coordinator_view place n c in
       ack_unheard k a t o fs _ (ap (λ ph. takes_ack m t o fs ph) e)
-      (ap (λ q. on_ack ver seat t o (v.found ++ fs) v q) (now_collecting alike s h e) ∙ on_ack_asked t o (v.found ++ fs) v)
+      (ap (λ q. on_ack ver seat t o (v.found ++ fs) v q) (now_collecting alike s h e)
+      ∙ on_ack_asked t o (v.found ++ fs) v)
   ack_phase k a t o fs alike Idle e s h = ack_closed k a t o fs alike s h (λ q. not_idle (sym e ∙ q))
       (λ q. not_idle_asked (sym e ∙ q)) (ap (λ ph. takes_ack m t o fs ph) e)
     where
@@ -679,7 +693,8 @@ module _ (ver : Version) (me : ProcessId) (tree : List TreeProcess) (n : Node) (
       not_over_asked : Over ≡ Asked → ⊥
       not_over_asked q = cc
 
-  pub ack_views : (k : ℕ) (a : DataAnswer) (t : Ticket) (o : Outcome) (fs : List Finding) → let v = coordinator_view place n c in
+  pub ack_views : (k : ℕ) (a : DataAnswer) (t : Ticket) (o : Outcome) (fs : List Finding)
+      → let v = coordinator_view place n c in
       IsOpenAlike place n c → MovesTxn place n (hears_message ver k (Ack (child_case x t) o fs) a) x
       (on_ack ver seat t o (v.found ++ fs) v v.standing)
   ack_views k a t o fs alike = ack_phase k a t o fs alike m.phase refl (coordinator_view place n c).standing

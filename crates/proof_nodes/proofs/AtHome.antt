@@ -68,7 +68,8 @@ all_tickets f (t ∷ ts) each =
 
 -- each record of a list passes a test that each record passes which is in the list
 all_records : (f : Record → Bool) (rs : List Record)
-    → ((r : Record) → ((t : Record → Bool) → t r ≡ true → has t rs ≡ true) → f r ≡ true) → list_all f rs ≡ true
+    → ((r : Record) → ((t : Record → Bool) → t r ≡ true → has t rs ≡ true) → f r ≡ true)
+    → list_all f rs ≡ true
 all_records f [] each = refl
 all_records f (r ∷ rs) each =
     all_two (f r) (list_all f rs) (each r (λ t h. has-cons t r rs ∙ left _ _ h))
@@ -79,7 +80,8 @@ all_front : (f : LogRecord → Bool) (n : ℕ) (ls : List LogRecord) → list_al
 unfolding whole_within
 all_front f n [] h = refl
 all_front f n (l ∷ ls) h =
-    by_size (nat_le (record_size l) n) (all_front f (n - record_size l) ls (second_of (f l) (list_all f ls) h))
+    by_size (nat_le (record_size l) n) (all_front f (n - record_size l) ls
+    (second_of (f l) (list_all f ls) h))
   where
     by_size : (b : Bool) → list_all f (whole_within (n - record_size l) ls) ≡ true
         → list_all f (if b then l ∷ whole_within (n - record_size l) ls else []) ≡ true
@@ -90,15 +92,18 @@ all_both : (f : LogRecord → Bool) (ls ms : List LogRecord) → list_all f ls �
     → list_all f (ls ++ ms) ≡ true
 all_both f [] ms h k = k
 all_both f (l ∷ ls) ms h k =
-    all_two (f l) _ (first_of (f l) (list_all f ls) h) (all_both f ls ms (second_of (f l) (list_all f ls) h) k)
+    all_two (f l) _ (first_of (f l) (list_all f ls) h)
+    (all_both f ls ms (second_of (f l) (list_all f ls) h) k)
 
-all_of_first : (f : LogRecord → Bool) (ls ms : List LogRecord) → list_all f (ls ++ ms) ≡ true → list_all f ls ≡ true
+all_of_first : (f : LogRecord → Bool) (ls ms : List LogRecord) → list_all f (ls ++ ms) ≡ true
+    → list_all f ls ≡ true
 all_of_first f [] ms h = refl
 all_of_first f (l ∷ ls) ms h =
     all_two (f l) _ (first_of (f l) (list_all f (ls ++ ms)) h)
     (all_of_first f ls ms (second_of (f l) (list_all f (ls ++ ms)) h))
 
-all_of_second : (f : LogRecord → Bool) (ls ms : List LogRecord) → list_all f (ls ++ ms) ≡ true → list_all f ms ≡ true
+all_of_second : (f : LogRecord → Bool) (ls ms : List LogRecord) → list_all f (ls ++ ms) ≡ true
+    → list_all f ms ≡ true
 all_of_second f [] ms h = h
 all_of_second f (l ∷ ls) ms h = all_of_second f ls ms (second_of (f l) (list_all f (ls ++ ms)) h)
 
@@ -111,7 +116,8 @@ all_left f l keep h =
 
 -- as the log holds them
 all_logged : (f : LogRecord → Bool) (g k : Record → Bool) (p : Option ProcessId) (rs : List Record)
-    → ((r : Record) → g r ≡ true → k r ≡ true → f (in_log p r) ≡ true) → list_all g rs ≡ true → list_all k rs ≡ true
+    → ((r : Record) → g r ≡ true → k r ≡ true → f (in_log p r) ≡ true) → list_all g rs ≡ true
+    → list_all k rs ≡ true
     → list_all f (map (in_log p) rs) ≡ true
 all_logged f g k p [] each h j = refl
 all_logged f g k p (r ∷ rs) each h j =
@@ -122,7 +128,8 @@ all_logged f g k p (r ∷ rs) each h j =
 
 -- a case that is the process's own is so as a start looks at it
 ticket_so : (k : Kind) (o : Option ProcessId) (a b : Bool) (t : Option Ticket)
-    → (a && (b && (is_ticketed (role_by k o) t && same_parent (parent_of_role (role_by k o)) (parent_of_role (role_by k o))))) ≡ true
+    → (a && (b && (is_ticketed (role_by k o) t && same_parent (parent_of_role (role_by k o))
+    (parent_of_role (role_by k o))))) ≡ true
     → (a && (b && (is_ticketed (role_below o) t
     && same_parent (ticket_parent (parent_of_role (role_by k o)) t) (parent_of_role (role_below o))))) ≡ true
 ticket_so Coordinator None a b None h = h
@@ -141,10 +148,12 @@ module _ (tree : List TreeProcess) (e : TreeProcess) where
   abbrev above : Option ProcessId
   above = parent_of_role (role_by e.kind e.parent)
 
-  owns_so : (o : Option Case) → is_own_by seat o ≡ true → owns e.id e.parent tree (case_parent above o) o ≡ true
+  owns_so : (o : Option Case) → is_own_by seat o ≡ true
+      → owns e.id e.parent tree (case_parent above o) o ≡ true
   owns_so None h = refl
   owns_so (Some d) h =
-      ticket_so e.kind e.parent (same_process d.txn.root (root_of tree)) (same_process (process_of d) e.id) d.ticket h
+      ticket_so e.kind e.parent (same_process d.txn.root (root_of tree))
+      (same_process (process_of d) e.id) d.ticket h
 
   own_so : (r : Record) → is_own_here seat r ≡ true → names_children tree e.id r ≡ true
       → is_own_record e.id e.parent tree (in_log above r) ≡ true
@@ -160,14 +169,16 @@ naming_so d t ts h = (
   (rw (same_case-refl d, h) refl, (rw (same_case-refl d, h) refl, rw (same_case-refl d, h) refl)),
 )
 
-naming_is_coordinators : (c : Case) (t : Ticket) (r : Record) → is_naming c t r ≡ true → is_coordinators r ≡ true
+naming_is_coordinators : (c : Case) (t : Ticket) (r : Record) → is_naming c t r ≡ true
+    → is_coordinators r ≡ true
 naming_is_coordinators c t (Collecting d ts) e = refl
 naming_is_coordinators c t (Prepare d ts) e = refl
 naming_is_coordinators c t (Commit d ts) e = refl
 naming_is_coordinators c t (Abort d ts) e = refl
 naming_is_coordinators c t r e = absurd (cc)
 
-module _ (s : WorldState) (es : List Made) (w : World) (is_tree : IsTree s.tree) (f : FollowsBehindFaults es w s)
+module _ (s : WorldState) (es : List Made) (w : World) (is_tree : IsTree s.tree)
+    (f : FollowsBehindFaults es w s)
     (q : ProcessId) (c : CoreState) (there : s.node_at q ≡ Some c) where
   holds : WorldHolds s.tree w
   holds = the_world_holds s.tree is_tree es w f.follows.is_run
@@ -186,16 +197,20 @@ module _ (s : WorldState) (es : List Made) (w : World) (is_tree : IsTree s.tree)
   joined_by k d t h =
       let j = k.accepted_was_joined d t (k.named_accepted d t (was_written d t h)) in
       let pair = (joined_pair s.tree w holds d t j.1).0 in
-      has_parent s.tree t.child q (subst (λ (p : ProcessId). IsChildRole (role_of s.tree t.child) p) j.0 pair.child)
+      has_parent s.tree t.child q (subst (λ (p : ProcessId). IsChildRole (role_of s.tree t.child) p) j.0
+      pair.child)
 
   named : (r : Role) → role_of s.tree q ≡ r → (d : Case) (t : Ticket)
       → has (is_naming d t) (kept (w.at q)) ≡ true → is_of_child s.tree q t ≡ true
   named AtRoot e d t h =
-      joined_by (subst (λ (x : Role). RoleHolds x (place_of s.tree q) w.net (w.at q)) e (holds.nodes q listed).role).0 d t h
+      joined_by (subst (λ (x : Role). RoleHolds x (place_of s.tree q) w.net (w.at q)) e
+      (holds.nodes q listed).role).0 d t h
   named (Below p) e d t h =
-      joined_by (subst (λ (x : Role). RoleHolds x (place_of s.tree q) w.net (w.at q)) e (holds.nodes q listed).role).0 d t h
+      joined_by (subst (λ (x : Role). RoleHolds x (place_of s.tree q) w.net (w.at q)) e
+      (holds.nodes q listed).role).0 d t h
   named (AtLeaf p) e d t h =
-      absurd (no_decision s.tree es w f.follows.is_run q p e (is_naming d t) (λ j. refl) (naming_is_coordinators d t) h)
+      absurd (no_decision s.tree es w f.follows.is_run q p e (is_naming d t) (λ j. refl)
+      (naming_is_coordinators d t) h)
 
   children_so : (r : Record) → ((t : Record → Bool) → t r ≡ true → has t (kept (w.at q)) ≡ true)
       → names_children s.tree q r ≡ true
@@ -214,14 +229,16 @@ module _ (s : WorldState) (es : List Made) (w : World) (is_tree : IsTree s.tree)
 
 -- What was found.
 
-module _ (s : WorldState) (es : List Made) (w : World) (is_tree : IsTree s.tree) (f : FollowsBehindFaults es w s)
+module _ (s : WorldState) (es : List Made) (w : World) (is_tree : IsTree s.tree)
+    (f : FollowsBehindFaults es w s)
     (e : TreeProcess) (listed : find (λ x. same_process x.id e.id) s.tree ≡ Some e) (c : CoreState)
     (there : s.node_at e.id ≡ Some c) where
   abbrev test : LogRecord → Bool
   test = is_own_record e.id e.parent s.tree
 
   own_here : list_all (is_own_here (seat s.tree e)) (kept (w.at e.id)) ≡ true
-  own_here = subst (λ (p : Place). list_all (is_own_here p) (kept (w.at e.id)) ≡ true) (listed_place s.tree e listed)
+  own_here = subst (λ (p : Place). list_all (is_own_here p) (kept (w.at e.id)) ≡ true)
+      (listed_place s.tree e listed)
       (keeps_own s.tree es w is_tree f.follows.is_run e.id (sym (f.follows.listed e.id) ∙ ap is_some there))
 
   all_own : list_all (is_own_record e.id e.parent s.tree) (records_of c.log.kept) ≡ true
@@ -229,9 +246,11 @@ module _ (s : WorldState) (es : List Made) (w : World) (is_tree : IsTree s.tree)
       let h = f.follows.nodes e.id c there in
       let is : records_of c.log.kept ≡ map (in_log (above s.tree e)) (kept (w.at e.id)) =
       logged_are s w e.id c (record { place = h.place; stands = h.stands })
-      ∙ ap (λ (r : Role). map (in_log (parent_of_role r)) (kept (w.at e.id))) (listed_role s.tree e.id e listed) in
+      ∙ ap (λ (r : Role). map (in_log (parent_of_role r)) (kept (w.at e.id)))
+      (listed_role s.tree e.id e listed) in
       ap (list_all test) is
-      ∙ all_logged test (is_own_here (seat s.tree e)) (names_children s.tree e.id) (above s.tree e) (kept (w.at e.id))
+      ∙ all_logged test (is_own_here (seat s.tree e)) (names_children s.tree e.id) (above s.tree e)
+      (kept (w.at e.id))
       (own_so s.tree e) own_here (all_children s es w is_tree f e.id c there)
 
   at_home : (bytes : List ℕ) → FindsLog c bytes → NamesOthers s.tree e bytes → ⊥

@@ -22,18 +22,22 @@ use Rattle.proof_nodes.proofs.Finding.{begins, finds_kept}
 use Rattle.proof_nodes.proofs.Steps.{modelled_so}
 
 -- a file that holds all that its process keeps reads as that
-read_so : (s : WorldState) (es : List Made) (w : World) → IsTree s.tree → FollowsBehindFaults es w s → (e : TreeProcess)
-    → find (λ x. same_process x.id e.id) s.tree ≡ Some e → (bytes : List ℕ) → IsFoundWhole s e bytes → IsReadSo s e bytes
+read_so : (s : WorldState) (es : List Made) (w : World) → IsTree s.tree → FollowsBehindFaults es w s
+    → (e : TreeProcess)
+    → find (λ x. same_process x.id e.id) s.tree ≡ Some e → (bytes : List ℕ) → IsFoundWhole s e bytes
+    → IsReadSo s e bytes
 read_so s es w t f e found bytes h =
     let c = h.process in
     let keeps = finds_kept s es w t f e.id c h.there bytes h.finds in
     let mine : form_of c.place ≡ log_form e.id e.kind =
-    ap form_of (f.follows.nodes e.id c h.there).place ∙ ap (log_form e.id) (entry_log s.tree t e.id e found) in
+    ap form_of (f.follows.nodes e.id c h.there).place ∙ ap (log_form e.id) (entry_log s.tree t e.id e found)
+    in
     record {
       process = c;
       there = h.there;
       torn = keeps.torn;
-      read = ap (λ (p : LogForm). read_log p bytes) (second_form bytes e.id e.kind (begins c bytes h.finds) ∙ sym mine)
+      read = ap (λ (p : LogForm). read_log p bytes)
+          (second_form bytes e.id e.kind (begins c bytes h.finds) ∙ sym mine)
           ∙ (keeps.read ∙ ap (λ (ls : List LogRecord). Whole ls keeps.torn) h.all);
     }
 
@@ -43,6 +47,7 @@ nodes_are_audited_truly tree s t is_tree opened steps works =
     let k = keeps_headline t at in (
       k,
       λ logs found. audited_truly entered_of t k.run.moves k.run.world at.is_tree k.run.follows works logs
-          (λ e listed. read_so t k.run.moves k.run.world at.is_tree k.run.follows e listed (bytes_of logs e.id)
+          (λ e listed. read_so t k.run.moves k.run.world at.is_tree k.run.follows e listed
+          (bytes_of logs e.id)
           (found e listed)),
     )

@@ -113,10 +113,13 @@ module _ (s : WorldState) (es : List Made) (w : World) (t : IsTree s.tree) (f : 
       let mine : form_of c.place ≡ log_form q e.kind =
       ap (λ (p : Place). log_form p.me (kind_of_role c.place.role)) at.place
       ∙ ap (log_form q) (ap (λ (p : Place). kind_of_role p.role) at.place ∙ entry_log s.tree t q e found) in
-      let sound = subst (λ p. IsSoundLog p e.kind (bytes_of logs p)) here (sound_at logs s.tree q e none found) in
-      ap (λ o. own_records (place_of s.tree q) (whole_records (read_as q (entry_kind o) (bytes_of logs q)))) found
+      let sound = subst (λ p. IsSoundLog p e.kind (bytes_of logs p)) here
+      (sound_at logs s.tree q e none found) in
+      ap (λ o. own_records (place_of s.tree q) (whole_records (read_as q (entry_kind o) (bytes_of logs q))))
+      found
       ∙ ap (own_records (place_of s.tree q))
-      (sound_records (form_in (bytes_of logs q) q e.kind) (bytes_of logs q) sound.records sound.torn sound.read
+      (sound_records (form_in (bytes_of logs q) q e.kind) (bytes_of logs q) sound.records
+      sound.torn sound.read
       ∙ ap (λ bytes. records_in (form_in bytes q e.kind) 0 (body bytes)) (own_bytes q log)
       ∙ ap (λ g. records_in g 0 (body log)) (second_form log q e.kind spells.begins ∙ sym mine)
       ∙ spells.read)
@@ -132,7 +135,8 @@ module _ (s : WorldState) (es : List Made) (w : World) (t : IsTree s.tree) (f : 
     is_run = f.follows.is_run;
     all_up = up;
     kept_there = λ p here has.
-        subst (λ (r : ProcessId). kept_lists s.tree (own_logs q log) r ≡ kept (w.at r)) (own_alone q p log has) kept_is;
+        subst (λ (r : ProcessId). kept_lists s.tree (own_logs q log) r ≡ kept (w.at r))
+        (own_alone q p log has) kept_is;
   }
 
 -- What is told.
@@ -147,11 +151,13 @@ module _ (s : WorldState) (es : List Made) (w : World) (t : IsTree s.tree) (f : 
       subst (λ (tree : List TreeProcess). first_damage tree logs ≡ None) sits.tree is.0 in
       answers_true s.tree logs es w t (are_left s es w t f old.me old.core sits.core log spells none up) c
       (subst (λ (tree : List TreeProcess). IsCaseLeft tree logs w c) sits.tree left) trust o
-      (subst (λ (tree : List TreeProcess). (answer_of trust tree logs (kept_lists tree logs) c).word ≡ word_by o) sits.tree
+      (subst (λ (tree : List TreeProcess). (answer_of trust tree logs (kept_lists tree logs) c).word
+      ≡ word_by o) sits.tree
       (sym (ap (λ (x : BranchAnswer). x.word)
       (is.1 ∙ ap (naming_answer (answer_of trust old.tree logs (kept_lists old.tree logs))) named)) ∙ says))
 
-  by_answer : (h : Resolves old name text) (answer : Option BranchAnswer) → h.answer ≡ answer → TellsBranch old w name text
+  by_answer : (h : Resolves old name text) (answer : Option BranchAnswer) → h.answer ≡ answer
+      → TellsBranch old w name text
   by_answer h None is = inr (inl (h.told ∙ ap (name_text old.manner name) is))
   by_answer h (Some a) is = inl (record {
     of = h.of;
@@ -161,7 +167,8 @@ module _ (s : WorldState) (es : List Made) (w : World) (t : IsTree s.tree) (f : 
     told = h.told ∙ ap (name_text old.manner name) is;
     so = ends_so h.of (trust_of (is_root old) old.core h.of) a h.finds.log h.finds.spells
         (subst (λ (o : Option BranchAnswer).
-        IsBranchAnswer old.tree (own_logs old.me h.finds.log) (trust_of (is_root old) old.core h.of) h.of o) is h.finds.is_answer);
+        IsBranchAnswer old.tree (own_logs old.me h.finds.log) (trust_of (is_root old) old.core h.of) h.of o)
+        is h.finds.is_answer);
   })
 
   by_text : TellsName old name text → TellsBranch old w name text

@@ -28,9 +28,11 @@ pub form_is : (s : WorldState) (es : List Made) (w : World) → FollowsBehindFau
 form_is s es w f e listed c there =
     ap form_of ((f.follows.nodes e.id c there).place ∙ listed_place s.tree e listed) ∙ seat_form s.tree e
 
-module _ {L : Type 0} (bytes : L → List ℕ) (forced failures : L → ℕ) (tree : List TreeProcess) (e : TreeProcess)
+module _ {L : Type 0} (bytes : L → List ℕ) (forced failures : L → ℕ) (tree : List TreeProcess)
+    (e : TreeProcess)
     (c : CoreState) (store : L) (keep : ℕ) (k : KeepsFile (form_by e) c (bytes store) keep) where
-  read_so : (error : ProcessReopenError) → ProcessNotReopened bytes forced failures (form_by e) (place_by tree e) store error
+  read_so : (error : ProcessReopenError) → ProcessNotReopened bytes forced failures (form_by e)
+      (place_by tree e) store error
       → CallsItRead error
   read_so (Damaged place) h = elim h [
     | inl d ↦ (let clash : DamagedLog place ≡ Whole (left_by c.log keep) k.torn = sym d ∙ k.read in cc)

@@ -63,7 +63,8 @@ logged_are s w q c h =
     ∙ sym (map-append (in_log p) n.forced n.unforced)
     ∙ ap (λ (x : Place). map (in_log (parent_of x.role)) (kept n)) h.place
 
-module _ (s : WorldState) (es : List Made) (w : World) (is_tree : IsTree s.tree) (f : FollowsBehindFaults es w s)
+module _ (s : WorldState) (es : List Made) (w : World) (is_tree : IsTree s.tree)
+    (f : FollowsBehindFaults es w s)
     (q : ProcessId) (c : CoreState) (there : s.node_at q ≡ Some c) where
   at : StandsAt w s q c
   at = let h = f.follows.nodes q c there in record { place = h.place; stands = h.stands }
@@ -87,8 +88,10 @@ module _ (s : WorldState) (es : List Made) (w : World) (is_tree : IsTree s.tree)
   by_role : (r : Role) → role_of s.tree q ≡ r → FollowAt r (records_of c.log.kept)
       → AllByRecursion (IsSound (kind_of_role c.place.role)) (records_of c.log.kept)
       → is_some (seen_of (records_of c.log.kept)) ≡ true
-  by_role AtRoot e follow sound = coordinators_follow (subst IsCoordinator (sym e) tt) (ap kind_of_role e) sound
-  by_role (Below p) e follow sound = coordinators_follow (subst IsCoordinator (sym e) tt) (ap kind_of_role e) sound
+  by_role AtRoot e follow sound = coordinators_follow (subst IsCoordinator (sym e) tt)
+      (ap kind_of_role e) sound
+  by_role (Below p) e follow sound = coordinators_follow (subst IsCoordinator (sym e) tt)
+      (ap kind_of_role e) sound
   by_role (AtLeaf p) e follow sound = follow
 
 -- What was found.
@@ -106,14 +109,17 @@ module _ (c : CoreState) (bytes : List ℕ) (h : FindsLog c bytes) where
 
   -- what was found is a front of what stood in the store, with all that was forced
   is_front : bytes ≡ take (h.forced + keep) h.text
-  is_front = by_case ((file_kept h.number h.first h.others (drop h.forced h.text) h.file l.told l.short h.left).1
+  is_front = by_case ((file_kept h.number h.first h.others (drop h.forced h.text) h.file l.told
+      l.short h.left).1
       h.read_as bytes h.read_told h.held)
     where
-      by_case : (bytes ≡ concat (h.first ∷ h.others)) ⊎ (bytes ≡ concat (h.first ∷ h.others) ++ drop h.forced h.text)
+      by_case : (bytes ≡ concat (h.first ∷ h.others))
+          ⊎ (bytes ≡ concat (h.first ∷ h.others) ++ drop h.forced h.text)
           → bytes ≡ take (h.forced + keep) h.text
       by_case (inl e) =
           let is : bytes ≡ take h.forced h.text = e ∙ l.safe in
-          let size : length bytes ≡ h.forced = ap length is ∙ length-take-le h.forced h.text l.is_log.within in
+          let size : length bytes ≡ h.forced = ap length is ∙ length-take-le h.forced h.text l.is_log.within
+          in
           let none : h.forced ≡ h.forced + keep = omega (arith, size) in
           is ∙ ap (λ (n : ℕ). take n h.text) none
       by_case (inr e) =
@@ -137,13 +143,15 @@ module _ (c : CoreState) (bytes : List ℕ) (h : FindsLog c bytes) where
   records_are : records_in p 0 (take n (body h.text)) ≡ left_by c.log keep
   records_are =
       sym (ap (records_in p 0) (body_taken (h.forced + keep) h.text long))
-      ∙ left_records p h.text h.forced keep l.failures 0 c.log.failed refl l.is_log.header_forced l.is_log.within
+      ∙ left_records p h.text h.forced keep l.failures 0 c.log.failed refl
+      l.is_log.header_forced l.is_log.within
       ∙ ap (λ (x : LogSight). left_by x keep) l.log
 
   all_are : records_of c.log.kept ≡ records_in p 0 (body h.text)
   all_are = ap (λ (x : LogSight). records_of x.kept) (sym l.log) ∙ records_stand p h.text h.forced
 
-  follow : is_some (seen_of (records_of c.log.kept)) ≡ true → is_some (admitted nothing_seen (records_in p 0 (take n (body h.text)))) ≡ true
+  follow : is_some (seen_of (records_of c.log.kept)) ≡ true
+      → is_some (admitted nothing_seen (records_in p 0 (take n (body h.text)))) ≡ true
   follow order =
       let all : MayFollowInLog (records_in p 0 (body h.text)) =
       subst MayFollowInLog all_are (follow_so (records_of c.log.kept) order) in

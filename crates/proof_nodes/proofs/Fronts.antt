@@ -25,24 +25,27 @@ nothing_behind : (xs ys : List ℕ) → xs ++ ys ≡ [] → length ys ≡ 0
 nothing_behind xs ys e = omega (arith, length-append xs ys, ap length e)
 
 cut_frame : (f : LogFormat) (frame : List ℕ) (n : ℕ) (c : Cut) (o : Option Cut)
-    → first_frame f frame ≡ Some (c.0, c.1, []) → n < length frame → first_frame f (take n frame) ≡ o → o ≡ None
+    → first_frame f frame ≡ Some (c.0, c.1, []) → n < length frame → first_frame f (take n frame) ≡ o
+    → o ≡ None
 cut_frame f frame n c None e h g = refl
 cut_frame f frame n c (Some d) e h g =
     let more : first_frame f frame ≡ Some (d.0, d.1, d.2 ++ drop n frame) =
     ap (first_frame f) (sym (take-append-drop n frame)) ∙ frame_more f (take n frame) (drop n frame) d g in
-    let both : ◌≡◌ {A = Option Cut} (Some (d.0, d.1, d.2 ++ drop n frame)) (Some (c.0, c.1, [])) = sym more ∙ e in
+    let both : ◌≡◌ {A = Option Cut} (Some (d.0, d.1, d.2 ++ drop n frame)) (Some (c.0, c.1, [])) = sym more
+    ∙ e in
     let none : d.2 ++ drop n frame ≡ [] = ap (λ z. z.2) (some_is _ _ both) in
     absurd (omega (arith, nothing_behind d.2 (drop n frame) none, length-drop n frame))
 
--- Whole frames of records, of which N bytes stand, are read as the records that stand whole among them, and as a torn
--- tail after these.
+-- Whole frames of records, of which N bytes stand, are read as the records that stand whole among them, and
+-- as a torn tail after these.
 abbrev pub FrontIsRead : LogForm → ℕ → List ℕ → Type 0
 FrontIsRead p n xs = (place : ℕ) (s : SeenLog) → is_whole p 0 xs ≡ true
     → is_some (admitted s (records_in p 0 (take n xs))) ≡ true
     → (torn : ℕ) × (read_frames p place s 0 (take n xs) ≡ Whole (records_in p 0 (take n xs)) torn)
 
 -- with which no frame begins
-torn_front : (p : LogForm) (n : ℕ) (xs : List ℕ) → first_frame p.format (take n xs) ≡ None → FrontIsRead p n xs
+torn_front : (p : LogForm) (n : ℕ) (xs : List ℕ) → first_frame p.format (take n xs) ≡ None
+    → FrontIsRead p n xs
 torn_front p n xs none place s whole follow = (
   length (take n xs),
   torn_read p place s (take n xs) none
@@ -78,17 +81,20 @@ module _ (p : LogForm) (n : ℕ) (xs : List ℕ) (c : Cut) (first : first_frame 
       ∙ cut_frame p.format a.frame n c (first_frame p.format (take n a.frame)) a.alone less refl
 
   -- the frame stands whole
-  cut_behind : length a.frame ≤ n → first_frame p.format (take n xs) ≡ Some (c.0, c.1, take (n - length a.frame) c.2)
+  cut_behind : length a.frame ≤ n → first_frame p.format (take n xs)
+      ≡ Some (c.0, c.1, take (n - length a.frame) c.2)
   cut_behind more =
       let m = n - length a.frame in
       let sum : n ≡ length a.frame + m = omega (arith, more) in
-      let cut : take n xs ≡ a.frame ++ take m c.2 = ap (take n) a.split ∙ ap (λ k. take k (a.frame ++ c.2)) sum
+      let cut : take n xs ≡ a.frame ++ take m c.2 = ap (take n) a.split
+      ∙ ap (λ k. take k (a.frame ++ c.2)) sum
       ∙ take-append-add a.frame c.2 m in
       ap (first_frame p.format) cut ∙ frame_more p.format a.frame (take m c.2) (c.0, c.1, []) a.alone
 
 -- one frame, and what is after it
 module _ (p : LogForm) (n m : ℕ) (xs : List ℕ) (c : Cut) (first : first_frame p.format xs ≡ Some c)
-    (front : first_frame p.format (take n xs) ≡ Some (c.0, c.1, take m c.2)) (more : FrontIsRead p m c.2) where
+    (front : first_frame p.format (take n xs) ≡ Some (c.0, c.1, take m c.2))
+    (more : FrontIsRead p m c.2) where
   seen_on : (l : LogRecord) (o : Option SeenLog) (place next : ℕ) → is_whole p 0 c.2 ≡ true
       → is_some (and_then o (λ t. admitted t (records_in p 0 (take m c.2)))) ≡ true
       → (torn : ℕ) × (seen_by place l o (λ t. read_frames p next t 0 (take m c.2))
@@ -107,7 +113,8 @@ module _ (p : LogForm) (n m : ℕ) (xs : List ℕ) (c : Cut) (first : first_fram
 
   frame_on : FrontIsRead p n xs
   frame_on place s whole follow =
-      let records : records_in p 0 (take n xs) ≡ and_records (read_record p c.0 c.1) (records_in p 0 (take m c.2)) =
+      let records : records_in p 0 (take n xs) ≡ and_records (read_record p c.0 c.1)
+      (records_in p 0 (take m c.2)) =
       step p (take n xs) (c.0, c.1, take m c.2) front in
       let r = record_on (read_record p c.0 c.1) place _ s (sym (step_whole p xs c first) ∙ whole)
       (sym (ap (λ (ls : List LogRecord). is_some (admitted s ls)) records) ∙ follow) in (
@@ -129,7 +136,8 @@ by_first : (p : LogForm) (n : ℕ) (xs : List ℕ) (o : Option Cut) → first_fr
 by_first p n xs None none more = λ place s whole follow.
     torn_front p n xs (no_bytes_torn p n xs none (not_whole p xs none whole)) place s whole follow
 by_first p n xs (Some c) first more =
-    by_size p n xs c first (nat_le (length (a p n xs c first).frame) n) refl (more c (shorter p.format xs c first))
+    by_size p n xs c first (nat_le (length (a p n xs c first).frame) n) refl
+    (more c (shorter p.format xs c first))
 
 read_within : (p : LogForm) (most n : ℕ) (xs : List ℕ) → length xs < most → FrontIsRead p n xs
 read_within p zero n xs h = absurd (omega (arith, h))

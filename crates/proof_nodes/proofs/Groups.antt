@@ -21,7 +21,8 @@ no_block : (number place : ℕ) → (first_block number place [] ≡ None) × (i
 no_block number place =
     tails number place 0 [] (omega arith) (omega (arith, block_size number place []))
 
-clean_holds : (number : ℕ) (first : List ℕ) (others : List (List ℕ)) (bytes : List ℕ) → bytes ≡ concat (first ∷ others)
+clean_holds : (number : ℕ) (first : List ℕ) (others : List (List ℕ)) (bytes : List ℕ)
+    → bytes ≡ concat (first ∷ others)
     → Holds (file_text number (first ∷ others)) number bytes
 clean_holds number first others bytes e =
     let nothing = no_block number (behind_all 48 (first ∷ others)) in
@@ -48,7 +49,8 @@ clean_left number first others p = record {
 }
 
 -- what was on the disk is found
-clean_found : (c : CoreState) (text : List ℕ) (forced number : ℕ) (first : List ℕ) (others : List (List ℕ)) (bytes : List ℕ)
+clean_found : (c : CoreState) (text : List ℕ) (forced number : ℕ) (first : List ℕ) (others : List (List ℕ))
+    (bytes : List ℕ)
     → LeavesFile c text forced number first others → bytes ≡ concat (first ∷ others) → FindsLog c bytes
 clean_found c text forced number first others bytes leaves e = record {
   text = text;
@@ -65,7 +67,8 @@ clean_found c text forced number first others bytes leaves e = record {
 }
 
 -- so is a file that has the name, read under whatever number
-whole_found : (c : CoreState) (text : List ℕ) (forced number : ℕ) (first : List ℕ) (others : List (List ℕ)) (bytes : List ℕ)
+whole_found : (c : CoreState) (text : List ℕ) (forced number : ℕ) (first : List ℕ) (others : List (List ℕ))
+    (bytes : List ℕ)
     → LeavesFile c text forced number first others → (read_as : ℕ) → read_as < 2 ^ 64
     → Holds (file_text number (first ∷ others)) read_as bytes → FindsLog c bytes
 whole_found c text forced number first others bytes leaves read_as told holds = record {
@@ -82,9 +85,11 @@ whole_found c text forced number first others bytes leaves read_as told holds = 
   held = holds;
 }
 
-found_between : (a b : CoreState) (bytes : List ℕ) → FindsBetween a b bytes → FindsLog a bytes ⊎ FindsLog b bytes
+found_between : (a b : CoreState) (bytes : List ℕ) → FindsBetween a b bytes → FindsLog a bytes
+    ⊎ FindsLog b bytes
 found_between a b bytes
-    (in_a_force text later forced later_forced number first others added before after short file left read_as told holds) =
+    (in_a_force text later forced later_forced number first others added before after short file left
+    read_as told holds) =
     by_case ((kept number first others added file before.told short left).1 read_as bytes told holds)
   where
     by_case : (bytes ≡ concat (first ∷ others)) ⊎ (bytes ≡ concat (first ∷ others) ++ added)

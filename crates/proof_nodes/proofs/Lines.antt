@@ -37,9 +37,11 @@ first_of true b h = refl
 first_of false b h = absurd (cc)
 
 pub same_here : (q p : ProcessId) → same_process q p ≡ true → q ≡ p
-same_here q p e = elim (same_process_tells q p) [ inl t ↦ t.1 | inr z ↦ absurd (let clash : true ≡ false = sym e ∙ z.0 in cc) ]
+same_here q p e = elim (same_process_tells q p)
+    [ inl t ↦ t.1 | inr z ↦ absurd (let clash : true ≡ false = sym e ∙ z.0 in cc) ]
 
-module _ (s t : WorldState) (old new : NodeState) (was : Sits s old) (same : new.me ≡ old.me) (is : Sits t new)
+module _ (s t : WorldState) (old new : NodeState) (was : Sits s old) (same : new.me ≡ old.me)
+    (is : Sits t new)
     (alone : MovesAlone s t old.me) where
   is_here : t.node_at old.me ≡ Some new.core
   is_here = ap (λ p. t.node_at p) (sym same) ∙ is.core
@@ -112,7 +114,8 @@ module _ (s t : WorldState) (old new : NodeState) (was : Sits s old) (same : new
       behind = new.core;
       moves = moves;
       answer = h.answer;
-      answers = subst (λ d. AnswersData old.core.place.role d old.core h.answer i) (sym was.holdings) h.answers;
+      answers = subst (λ d. AnswersData old.core.place.role d old.core h.answer i)
+          (sym was.holdings) h.answers;
       broken = h.not_made;
       net = quiet.net;
       delivered = quiet.delivered;
@@ -127,13 +130,15 @@ module _ (s t : WorldState) (old new : NodeState) (was : Sits s old) (same : new
     not_made NoSuch h quiet = unmoved quiet h.not_made.same (h.keeps (λ e. absurd (cc)))
     not_made Exhausted h quiet = unmoved quiet h.not_made.same (h.keeps (λ e. absurd (cc)))
 
-    took : (r : Result Reaction StepError) → Took old new i r → EntersEnd s t old.me (Handles i) r → LifeStep s t
+    took : (r : Result Reaction StepError) → Took old new i r → EntersEnd s t old.me (Handles i) r
+        → LifeStep s t
     took (Ok reaction) h enters = made reaction h enters
     took (Err e) h enters = not_made e h enters
 
   -- Trims.
 
-  not_trimmed : (e : StepError) → NoTrim old.core new.core old.holdings new.holdings e → Silent s t → LifeStep s t
+  not_trimmed : (e : StepError) → NoTrim old.core new.core old.holdings new.holdings e → Silent s t
+      → LifeStep s t
   not_trimmed Memory h quiet = unmoved quiet h.0 h.1
   not_trimmed Device h quiet = Lives.trim_breaks old.me (record {
     before = old.core;
@@ -232,7 +237,8 @@ module _ (s t : WorldState) (old new : NodeState) (was : Sits s old) (same : new
       → EntersTaken s t old new a why h → LifeStep s t
   taken_so asked.Nothing why h sent enters = still enters h.0
   taken_so (asked.Act a) why h sent enters =
-      taken_input (same_process (process_of_act (root_of old.tree) a) old.me) (ActInput a) why (λ mine. tt) h enters
+      taken_input (same_process (process_of_act (root_of old.tree) a) old.me) (ActInput a) why
+      (λ mine. tt) h enters
   taken_so (asked.Message n e) why h sent enters =
       taken_input (hears old e) (MessageInput n e.message) why (stands_there n e sent) h enters
   taken_so asked.Trim why h sent enters = trimmed h.end h.took enters
@@ -249,7 +255,8 @@ module _ (s t : WorldState) (old new : NodeState) (was : Sits s old) (same : new
   taken_so asked.NoText why h sent enters = still enters h.0
 
 pub answered : (s t : WorldState) → Answered s t → LifeStep s t
-answered s t h = answered_so s t h.old h.new h.was h.same h.is h.alone h.answers.asked h.text h.answers.answers
+answered s t h = answered_so s t h.old h.new h.was h.same h.is h.alone h.answers.asked h.text
+    h.answers.answers
     h.sent h.entered
 
 pub unanswered : (s t : WorldState) → Unanswered s t → LifeStep s t

@@ -21,11 +21,14 @@ use Rattle.proof_nodes.proofs.Files.{form_is}
 use Rattle.proof_nodes.proofs.Finding.{finds_kept}
 use Rattle.proof_nodes.proofs.Steps.{modelled_so}
 
--- why a start fails over bytes that read as records which are at home, and unfit only where numbers are used up
-module _ {L : Type 0} (bytes : L → List ℕ) (forced failures : L → ℕ) (tree : List TreeProcess) (e : TreeProcess)
+-- why a start fails over bytes that read as records which are at home, and unfit only where numbers are used
+-- up
+module _ {L : Type 0} (bytes : L → List ℕ) (forced failures : L → ℕ) (tree : List TreeProcess)
+    (e : TreeProcess)
     (store : L) (ls : List LogRecord) (torn : ℕ) (read : read_log (form_by e) (bytes store) ≡ Whole ls torn)
     (at_home : NamesOthers tree e (bytes store) → ⊥)
-    (fit : ProcessNotReopened bytes forced failures (form_by e) (place_by tree e) store Unfit → AreUsedUp (form_by e).kind ls)
+    (fit : ProcessNotReopened bytes forced failures (form_by e) (place_by tree e) store Unfit
+    → AreUsedUp (form_by e).kind ls)
   where
     may_fail : (error : StartError) → NoStart bytes forced failures tree e store error
         → MayFail failures (form_by e).kind ls store error
@@ -70,7 +73,8 @@ own_files_are_taken_up bytes forced failures s es w is_tree f e listed c there s
     (finds_kept s es w is_tree f e.id c there (bytes store) h) in
     may_fail bytes forced failures s.tree e store (left_by c.log keep) keeps.torn keeps.read
     (own_files_are_at_home s es w is_tree f e listed c there (bytes store) h)
-    (own_logs_are_fit bytes forced failures s es w is_tree f e listed c there h.leaves.is_log.stands keep keeps.torn
+    (own_logs_are_fit bytes forced failures s es w is_tree f e listed c there
+    h.leaves.is_log.stands keep keeps.torn
     store keeps.read)
 
 -- Whichever nodes end and start.
@@ -79,4 +83,5 @@ pub nodes_are_never_refused : {L : Type 0} (bytes : L → List ℕ) (forced fail
     → NodesAreNeverRefused bytes forced failures
 nodes_are_never_refused bytes forced failures tree s t is_tree opened steps e listed =
     let at = modelled_so tree s t is_tree opened steps in
-    own_files_are_taken_up bytes forced failures t at.run.moves at.run.world at.is_tree at.run.follows e listed
+    own_files_are_taken_up bytes forced failures t at.run.moves at.run.world at.is_tree
+    at.run.follows e listed

@@ -57,7 +57,8 @@ use Rattle.proof_nodes.proofs.Sending.{AreAmong, IsUndecided, Sent, all_more, at
 -- Rows.
 
 -- nothing ended or decided a case that stands so
-undecided_by : (E C A K P N : Bool) (heard s : Standing) → standing_by E C A K P N heard ≡ s → (Unknown ≡ s → ⊥)
+undecided_by : (E C A K P N : Bool) (heard s : Standing) → standing_by E C A K P N heard ≡ s
+    → (Unknown ≡ s → ⊥)
     → (Committing ≡ s → ⊥) → (Aborting ≡ s → ⊥) → (E ≡ false) × (C ≡ false) × (A ≡ false)
 undecided_by true C A K P N heard s e u c a = absurd (u e)
 undecided_by false true A K P true heard s e u c a = absurd (u e)
@@ -67,7 +68,8 @@ undecided_by false false true K P false heard s e u c a = absurd (a e)
 undecided_by false false false K P N heard s e u c a = (refl, refl, refl)
 
 module _ (place : Place) (parent : Option ProcessId) (n : Node) (h : Heard) (c : Case) where
-  undecided : (s : Standing) → (coordinator_view place n c).standing ≡ s → (Unknown ≡ s → ⊥) → (Committing ≡ s → ⊥)
+  undecided : (s : Standing) → (coordinator_view place n c).standing ≡ s → (Unknown ≡ s → ⊥)
+      → (Committing ≡ s → ⊥)
       → (Aborting ≡ s → ⊥) → IsUndecided (kept n) c
   undecided s e u k a =
       let r = undecided_by (has (is_end c) (kept n)) (has (is_commit c) (kept n)) (has (is_abort c) (kept n))
@@ -98,16 +100,19 @@ module _ (place : Place) (parent : Option ProcessId) (n : Node) (h : Heard) (c :
         → AreAmong (net ++ (front ++ map (telling place.me c o) ts)) (map (telling place.me c o) ts)
     told o front ts =
         subst (λ (es : List Envelope). AreAmong es (map (telling place.me c o) ts))
-        (append_assoc net front (map (telling place.me c o) ts)) (at_end (net ++ front) (map (telling place.me c o) ts))
+        (append_assoc net front (map (telling place.me c o) ts))
+        (at_end (net ++ front) (map (telling place.me c o) ts))
 
     commit_told : (front : List Envelope) (ts : List Ticket) → IsUndecided (kept n) c
         → Then (front ++ each (seat_of place parent c) Commit ts) (CommitRecord c ts ∷ [])
-    commit_told front ts u = commit_sent (net ++ (front ++ each (seat_of place parent c) Commit ts)) place.me (kept n) c ts u
+    commit_told front ts u = commit_sent (net ++ (front ++ each (seat_of place parent c) Commit ts))
+        place.me (kept n) c ts u
         (told CommittedOutcome front ts) d (more (front ++ each (seat_of place parent c) Commit ts))
 
     abort_told : (front : List Envelope) (ts : List Ticket) → IsUndecided (kept n) c
         → Then (front ++ each (seat_of place parent c) Abort ts) (AbortRecord c ts ∷ [])
-    abort_told front ts u = abort_sent (net ++ (front ++ each (seat_of place parent c) Abort ts)) place.me (kept n) c ts u
+    abort_told front ts u = abort_sent (net ++ (front ++ each (seat_of place parent c) Abort ts))
+        place.me (kept n) c ts u
         (told AbortedOutcome front ts) d (more (front ++ each (seat_of place parent c) Abort ts))
 
     commit_alone : (es : List Envelope) → IsUndecided (kept n) c → Then es (CommitRecord c [] ∷ [])
@@ -116,7 +121,8 @@ module _ (place : Place) (parent : Option ProcessId) (n : Node) (h : Heard) (c :
     abort_alone : (es : List Envelope) → IsUndecided (kept n) c → Then es (AbortRecord c [] ∷ [])
     abort_alone es u = abort_sent (net ++ es) place.me (kept n) c [] u tt d (more es)
 
-    turn_sent : (row : Row) → CaseTurn place parent n h c row → Then row.messages (entries_written row.written)
+    turn_sent : (row : Row) → CaseTurn place parent n h c row
+        → Then row.messages (entries_written row.written)
     turn_sent _ (asks_for_votes PresumeAbort i e f g) = still _
     turn_sent _ (asks_for_votes PresumeCommit i e f g) =
         quiet_sent _ place.me (kept n) _ d refl refl refl refl (more _)
@@ -177,19 +183,25 @@ effect_at (AtLeaf p) i place n h e t net before d = absurd i
 
 -- Restarts and trims.
 
-restart_at : (role : Role) → IsCoordinator role → (me : ProcessId) (net : List Envelope) (rs : List Record) (d : Case)
+restart_at : (role : Role) → IsCoordinator role → (me : ProcessId) (net : List Envelope) (rs : List Record)
+    (d : Case)
     → Sent (net ++ resumes role me rs) me rs d
 restart_at AtRoot i me net rs d = restart_sends net me None rs d
 restart_at (Below p) i me net rs d = restart_sends net me (Some p) rs d
 restart_at (AtLeaf p) i me net rs d = absurd i
 
-trim_at : (role : Role) → IsCoordinator role → (net : List Envelope) (me : ProcessId) (rs : List Record) (d : Case)
+trim_at : (role : Role) → IsCoordinator role → (net : List Envelope) (me : ProcessId) (rs : List Record)
+    (d : Case)
     → Sent net me rs d → Sent net me (trimmed role rs) d
 unfolding trimmed
-trim_at AtRoot i net me rs d h = subst (λ (xs : List Record). Sent net me xs d) (sym (append-nil (Opened (boot_of rs) ∷ staying AtRoot rs rs)))
-    (behind_opened AtRoot i rs d net me (boot_of rs) (staying AtRoot rs rs) (staying_sent AtRoot i rs d net me h))
-trim_at (Below p) i net me rs d h = subst (λ (xs : List Record). Sent net me xs d) (sym (append-nil (Opened (boot_of rs) ∷ staying (Below p) rs rs)))
-    (behind_opened (Below p) i rs d net me (boot_of rs) (staying (Below p) rs rs) (staying_sent (Below p) i rs d net me h))
+trim_at AtRoot i net me rs d h = subst (λ (xs : List Record). Sent net me xs d)
+    (sym (append-nil (Opened (boot_of rs) ∷ staying AtRoot rs rs)))
+    (behind_opened AtRoot i rs d net me (boot_of rs) (staying AtRoot rs rs)
+    (staying_sent AtRoot i rs d net me h))
+trim_at (Below p) i net me rs d h = subst (λ (xs : List Record). Sent net me xs d)
+    (sym (append-nil (Opened (boot_of rs) ∷ staying (Below p) rs rs)))
+    (behind_opened (Below p) i rs d net me (boot_of rs) (staying (Below p) rs rs)
+    (staying_sent (Below p) i rs d net me h))
 trim_at (AtLeaf p) i net me rs d h = absurd i
 
 -- Steps.
@@ -202,8 +214,10 @@ module _ (place : Place) (i : IsCoordinator place.role) (n : Node) (net : List E
   step_sent : (m : Move) (e : Effect) (k : Node) → StepOf place n m e k → k.failed ≡ false → (d : Case)
       → Sent (net ++ e.messages) place.me (kept k) d
   step_sent m _ _ (handled input g hp np r) up d =
-      subst (λ (rs : List Record). Sent (net ++ g.messages) place.me rs d) (sym (kept-after n (heard_in m input) g))
-      (effect_at place.role i place n (heard_in m input) g (coordinator_turn_of place n (heard_in m input) g r) net
+      subst (λ (rs : List Record). Sent (net ++ g.messages) place.me rs d)
+      (sym (kept-after n (heard_in m input) g))
+      (effect_at place.role i place n (heard_in m input) g
+      (coordinator_turn_of place n (heard_in m input) g r) net
       (before (turn_of place n (heard_in m input) g r).up) d)
   step_sent m _ _ (failed_in input f g fl hp np r) up d = failed_is_not up
   step_sent m _ _ (passed input hp r) up d =
@@ -212,7 +226,8 @@ module _ (place : Place) (i : IsCoordinator place.role) (n : Node) (net : List E
   step_sent m _ _ (reopened j hp) up d =
       let rs = n.forced ++ take j n.unforced in
       let all = rs ++ reopens place.role rs in
-      subst (λ (xs : List Record). Sent (net ++ resumes place.role place.me all) place.me xs d) (sym (append-nil all))
+      subst (λ (xs : List Record). Sent (net ++ resumes place.role place.me all) place.me xs d)
+      (sym (append-nil all))
       (restart_at place.role i place.me net all d)
   step_sent m _ _ (failed_reopening j f fl hp) up d = failed_is_not up
   step_sent m _ _ (trims_log hp ok) up d =
@@ -238,7 +253,8 @@ world_sent tree _ _ (makes es w m e w' run stands step) p i up d =
     λ x k. IsCoordinator (role_of tree x) → k.failed ≡ false → Sent (w.net ++ e.messages) x (kept k) d in
     subst (λ (x : World). (x.at p).failed ≡ false → Sent x.net p (kept (x.at p)) d) (sym at.world)
     (put P q p at.node w.at
-    (λ c ok. step_sent (place_of tree q) c (w.at q) w.net (λ u x. world_sent tree es w run q c u x) m e at.node s ok d)
+    (λ c ok. step_sent (place_of tree q) c (w.at q) w.net (λ u x. world_sent tree es w run q c u x) m
+    e at.node s ok d)
     (λ c ok. sent_more w.net p e.messages (kept (w.at p)) d (world_sent tree es w run p c ok d)) i) up
 
 -- Managers.
@@ -251,7 +267,8 @@ no_decision tree es w run q p e t none is there =
     let lasts = all_last tree es w run q in
     let manages = subst (λ (r : Role). RoleLasts r (logs_of (w.at q))) e lasts.by_role in
     let written = lasts.nested.kept_was_written t none there in
-    let clash : true ≡ false = sym (has_other t is_coordinators (w.at q).life is written) ∙ manages.no_coordinators_record in
+    let clash : true ≡ false = sym (has_other t is_coordinators (w.at q).life is written)
+    ∙ manages.no_coordinators_record in
     absurd (cc)
 
 commit_is_coordinators : (c : Case) (r : Record) → is_commit c r ≡ true → is_coordinators r ≡ true
@@ -312,7 +329,8 @@ seat_is [] q i = refl
 seat_is (x ∷ xs) q i = by_test (same_process x.id q) (seat_is xs q) i
   where
     by_test : (b : Bool)
-        → (IsCoordinator (role_of xs q) → role_below (entry_parent (find (λ y. same_process y.id q) xs)) ≡ role_of xs q)
+        → (IsCoordinator (role_of xs q) → role_below
+        (entry_parent (find (λ y. same_process y.id q) xs)) ≡ role_of xs q)
         → IsCoordinator (if b then role_by x.kind x.parent else role_of xs q)
         → role_below (entry_parent (cond b (Some x) (find (λ y. same_process y.id q) xs)))
         ≡ (if b then role_by x.kind x.parent else role_of xs q)
@@ -323,7 +341,8 @@ below_coordinates : (o : Option ProcessId) → IsCoordinator (role_below o)
 below_coordinates None = tt
 below_coordinates (Some p) = tt
 
-module _ (s : WorldState) (es : List Made) (w : World) (is_tree : IsTree s.tree) (f : FollowsBehindFaults es w s)
+module _ (s : WorldState) (es : List Made) (w : World) (is_tree : IsTree s.tree)
+    (f : FollowsBehindFaults es w s)
     (q : ProcessId) (c : CoreState) (there : s.node_at q ≡ Some c) (works : c.log.failed ≡ false) where
   up : (w.at q).failed ≡ false
   up = sym (f.follows.nodes q c there).stands.failed ∙ works
@@ -332,24 +351,30 @@ module _ (s : WorldState) (es : List Made) (w : World) (is_tree : IsTree s.tree)
   listed = sym (f.follows.listed q) ∙ ap is_some there
 
   logged : records_of c.log.kept ≡ log_of s.tree w q
-  logged = let h = f.follows.nodes q c there in logged_are s w q c (record { place = h.place; stands = h.stands })
+  logged =
+      let h = f.follows.nodes q c there in logged_are s w q c (record { place = h.place; stands = h.stands })
 
   abbrev place : Place
   place = place_below q (parent_of s.tree q) s.tree
 
-  coordinator_sent : IsCoordinator (role_of s.tree q) → (d : Case) → Sent w.net q (own_records place (records_of c.log.kept)) d
+  coordinator_sent : IsCoordinator (role_of s.tree q) → (d : Case)
+      → Sent w.net q (own_records place (records_of c.log.kept)) d
   coordinator_sent i d =
       let is : own_records place (records_of c.log.kept) ≡ kept (w.at q) =
-      ap (λ (r : Role). own_records (record { me = q; role = r; tree = s.tree }) (records_of c.log.kept)) (seat_is s.tree q i)
+      ap (λ (r : Role). own_records (record { me = q; role = r; tree = s.tree }) (records_of c.log.kept))
+      (seat_is s.tree q i)
       ∙ ap (own_records (place_of s.tree q)) logged
-      ∙ reads_back (place_of s.tree q) (kept (w.at q)) (keeps_own s.tree es w is_tree f.follows.is_run q listed) in
-      subst (λ (rs : List Record). Sent w.net q rs d) (sym is) (world_sent s.tree es w f.follows.is_run q i up d)
+      ∙ reads_back (place_of s.tree q) (kept (w.at q))
+      (keeps_own s.tree es w is_tree f.follows.is_run q listed) in
+      subst (λ (rs : List Record). Sent w.net q rs d) (sym is)
+      (world_sent s.tree es w f.follows.is_run q i up d)
 
   manager_sent : (p : ProcessId) → role_of s.tree q ≡ AtLeaf p → (d : Case)
       → Sent w.net q (own_records place (records_of c.log.kept)) d
   manager_sent p e d =
       let read = λ (t : Record → Bool) (h : has t (own_records place (records_of c.log.kept)) ≡ true).
-      all_read place (below_coordinates (parent_of s.tree q)) t (parent_of_role (role_of s.tree q)) (kept (w.at q))
+      all_read place (below_coordinates (parent_of s.tree q)) t
+      (parent_of_role (role_of s.tree q)) (kept (w.at q))
       (sym (ap (λ (ls : List LogRecord). has t (own_records place ls)) logged) ∙ h) in
       record {
         committed = λ n k. absurd (no_decision s.tree es w f.follows.is_run q p e (is_commit d) (λ j. refl)
@@ -358,7 +383,8 @@ module _ (s : WorldState) (es : List Made) (w : World) (is_tree : IsTree s.tree)
             (abort_is_coordinators d) (read (is_abort d) a));
       }
 
-  by_role : (r : Role) → role_of s.tree q ≡ r → (d : Case) → Sent w.net q (own_records place (records_of c.log.kept)) d
+  by_role : (r : Role) → role_of s.tree q ≡ r → (d : Case)
+      → Sent w.net q (own_records place (records_of c.log.kept)) d
   by_role AtRoot e d = coordinator_sent (subst IsCoordinator (sym e) tt) d
   by_role (Below p) e d = coordinator_sent (subst IsCoordinator (sym e) tt) d
   by_role (AtLeaf p) e d = manager_sent p e d
@@ -376,7 +402,8 @@ filtered_among net f p (t ∷ ts) h = by_test (p t) (filtered_among net f p ts h
     by_test false rest = rest
 
 module _ (me : ProcessId) (c : Case) (owed : List Ticket) (v : CoordinatorView) (net ms : List Envelope) where
-  by_outcome : (o : Option Outcome) → ((es : List Envelope) → tellings_for me c v o ≡ Some es → AreAmong net es)
+  by_outcome : (o : Option Outcome) → ((es : List Envelope) → tellings_for me c v o ≡ Some es
+      → AreAmong net es)
       → tellings_for me c (still_owing owed v) o ≡ Some ms → AreAmong net ms
   by_outcome None all e = absurd (cc)
   by_outcome (Some o) all e = subst (AreAmong net) (some_are _ _ e)
@@ -399,5 +426,6 @@ repeats_were_sent s es w is_tree f old sits works c ms e =
     subst (λ (tree : List TreeProcess). owed_at (record old { tree = tree }) c ≡ Some ms) sits.tree e in
     subst (λ (net : List Envelope). WereSent net ms) (sym f.follows.net)
     (all_stand w.net ms (still_sent q c (old.core.view_of c).owed
-    (recorded_view (own_records (place_below q (parent_of s.tree q) s.tree) (records_of old.core.log.kept)) c) w.net ms _
+    (recorded_view (own_records (place_below q (parent_of s.tree q) s.tree) (records_of old.core.log.kept)) c)
+    w.net ms _
     (resent_was_sent q c w.net _ sent) is))

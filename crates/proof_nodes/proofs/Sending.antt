@@ -46,8 +46,13 @@ at_front : (front rest : List Envelope) (e : Envelope) → slice_get (front ++ e
 at_front [] rest e = refl
 at_front (x ∷ front) rest e = at_front front rest e
 
-pub stands_in : (e : Envelope) (net : List Envelope) → Among e net → (place : ℕ) × (slice_get net place ≡ Some e)
-stands_in e net h = (length h.front, ap (λ (xs : List Envelope). slice_get xs (length h.front)) h.parts ∙ at_front h.front h.rest e)
+pub stands_in : (e : Envelope) (net : List Envelope) → Among e net → (place : ℕ)
+    × (slice_get net place ≡ Some e)
+stands_in e net h = (
+  length h.front,
+  ap (λ (xs : List Envelope). slice_get xs (length h.front)) h.parts
+      ∙ at_front h.front h.rest e,
+)
 
 among_more : (net more : List Envelope) (e : Envelope) → Among e net → Among e (net ++ more)
 among_more net more e h = record {
@@ -71,7 +76,8 @@ between front (e ∷ es) rest = (
 
 -- they are at its end
 pub at_end : (front es : List Envelope) → AreAmong (front ++ es) es
-at_end front es = subst (λ (xs : List Envelope). AreAmong (front ++ xs) es) (append-nil es) (between front es [])
+at_end front es = subst (λ (xs : List Envelope). AreAmong (front ++ xs) es) (append-nil es)
+    (between front es [])
 
 -- What was sent of a case's decision.
 
@@ -90,7 +96,8 @@ pub record Alike (xs ys : List Record) (c : Case) : Type 0 where
   pub owing : owing_by c xs ≡ owing_by c ys
 
 module _ (net : List Envelope) (me : ProcessId) where
-  pub sent_more : (more : List Envelope) (rs : List Record) (c : Case) → Sent net me rs c → Sent (net ++ more) me rs c
+  pub sent_more : (more : List Envelope) (rs : List Record) (c : Case) → Sent net me rs c
+      → Sent (net ++ more) me rs c
   sent_more more rs c h = record {
     committed = λ e k. all_more net more _ (h.committed e k);
     aborted = λ e k a. all_more net more _ (h.aborted e k a);
@@ -98,9 +105,11 @@ module _ (net : List Envelope) (me : ProcessId) where
 
   pub sent_alike : (xs ys : List Record) (c : Case) → Alike xs ys c → Sent net me ys c → Sent net me xs c
   sent_alike xs ys c a h = record {
-    committed = λ e k. subst (λ (ts : List Ticket). AreAmong net (map (telling me c CommittedOutcome) ts)) (sym a.owing)
+    committed = λ e k. subst (λ (ts : List Ticket). AreAmong net (map (telling me c CommittedOutcome) ts))
+        (sym a.owing)
         (h.committed (sym a.ended ∙ e) (sym a.committed ∙ k));
-    aborted = λ e k b. subst (λ (ts : List Ticket). AreAmong net (map (telling me c AbortedOutcome) ts)) (sym a.owing)
+    aborted = λ e k b. subst (λ (ts : List Ticket). AreAmong net (map (telling me c AbortedOutcome) ts))
+        (sym a.owing)
         (h.aborted (sym a.ended ∙ e) (sym a.committed ∙ k) (sym a.aborted ∙ b));
   }
 
@@ -130,24 +139,29 @@ module _ (me : ProcessId) (c : Case) where
   by_standing standing.Prepared rs = refl
   by_standing standing.Heuristic rs = refl
   by_standing standing.Committing rs =
-      ap (λ (ts : List Ticket). Some (map (telling me c CommittedOutcome) ts)) (all_owed CommittedOutcome (owing_by c rs))
+      ap (λ (ts : List Ticket). Some (map (telling me c CommittedOutcome) ts))
+      (all_owed CommittedOutcome (owing_by c rs))
   by_standing standing.Aborting rs =
-      ap (λ (ts : List Ticket). Some (map (telling me c AbortedOutcome) ts)) (all_owed AbortedOutcome (owing_by c rs))
+      ap (λ (ts : List Ticket). Some (map (telling me c AbortedOutcome) ts))
+      (all_owed AbortedOutcome (owing_by c rs))
 
   resent_is : (rs : List Record)
       → resent rs ≡ resent_to (owing_by c rs) (decided_by (coordinator_standing rs c fresh_memory))
   unfolding recorded_view
   resent_is rs = by_standing (coordinator_standing rs c fresh_memory) rs
 
-  by_flags : (net : List Envelope) (E C A K P N : Bool) (s : Standing) (ts : List Ticket) → decided_by s ≡ None
+  by_flags : (net : List Envelope) (E C A K P N : Bool) (s : Standing) (ts : List Ticket)
+      → decided_by s ≡ None
       → (E ≡ false → C ≡ true → AreAmong net (map (telling me c CommittedOutcome) ts))
       → (E ≡ false → C ≡ false → A ≡ true → AreAmong net (map (telling me c AbortedOutcome) ts))
-      → (es : List Envelope) → resent_to ts (decided_by (standing_by E C A K P N s)) ≡ Some es → AreAmong net es
+      → (es : List Envelope) → resent_to ts (decided_by (standing_by E C A K P N s)) ≡ Some es
+      → AreAmong net es
   by_flags net true C A K P N s ts q f g es e = absurd (cc)
   by_flags net false true A K P true s ts q f g es e = absurd (cc)
   by_flags net false true A K P false s ts q f g es e = subst (AreAmong net) (some_are _ _ e) (f refl refl)
   by_flags net false false true K P true s ts q f g es e = absurd (cc)
-  by_flags net false false true K P false s ts q f g es e = subst (AreAmong net) (some_are _ _ e) (g refl refl refl)
+  by_flags net false false true K P false s ts q f g es e =
+      subst (AreAmong net) (some_are _ _ e) (g refl refl refl)
   by_flags net false false false true P N s ts q f g es e = absurd (cc)
   by_flags net false false false false true N s ts q f g es e = absurd (cc)
   by_flags net false false false false false N s ts q f g es e =
@@ -158,7 +172,8 @@ module _ (me : ProcessId) (c : Case) where
       → resent rs ≡ Some es → AreAmong net es
   resent_was_sent net rs h es e =
       by_flags net (has (is_end c) rs) (has (is_commit c) rs) (has (is_abort c) rs) (has (is_prepare c) rs)
-      (has (is_collecting c) rs) (none_of (owing_by c rs)) (phase_standing c.txn.presumption Idle) (owing_by c rs)
+      (has (is_collecting c) rs) (none_of (owing_by c rs))
+      (phase_standing c.txn.presumption Idle) (owing_by c rs)
       (idle_decides c.txn.presumption) h.committed h.aborted es (sym (resent_is rs) ∙ e)
 
   -- A restart sends the decision again.
@@ -172,16 +187,19 @@ module _ (me : ProcessId) (c : Case) where
     resumed_to ts (Some o) es = map (telling me c o) ts
 
     resumes_at : (s : Standing) (rs : List Record) → let v = view_at s rs c fresh_memory in
-        resumes_by seat v v.standing ≡ resumed_to (owing_by c rs) (decided_by s) (resumes_by seat v v.standing)
+        resumes_by seat v v.standing ≡ resumed_to (owing_by c rs) (decided_by s)
+        (resumes_by seat v v.standing)
     resumes_at standing.Unknown rs = refl
     resumes_at standing.Active rs = refl
     resumes_at standing.Collecting rs = refl
     resumes_at standing.Prepared rs = refl
     resumes_at standing.Heuristic rs = refl
     resumes_at standing.Committing rs =
-        ap (λ (ts : List Ticket). map (telling me c CommittedOutcome) ts) (all_owed CommittedOutcome (owing_by c rs))
+        ap (λ (ts : List Ticket). map (telling me c CommittedOutcome) ts)
+        (all_owed CommittedOutcome (owing_by c rs))
     resumes_at standing.Aborting rs =
-        ap (λ (ts : List Ticket). map (telling me c AbortedOutcome) ts) (all_owed AbortedOutcome (owing_by c rs))
+        ap (λ (ts : List Ticket). map (telling me c AbortedOutcome) ts)
+        (all_owed AbortedOutcome (owing_by c rs))
 
     resumes_so : (rs : List Record) (o : Outcome)
         → decided_by (coordinator_standing rs c fresh_memory) ≡ Some o
@@ -189,7 +207,9 @@ module _ (me : ProcessId) (c : Case) where
     unfolding recorded_view
     resumes_so rs o e =
         resumes_at (coordinator_standing rs c fresh_memory) rs
-        ∙ ap (λ (d : Option Outcome). resumed_to (owing_by c rs) d (let v = view_at (coordinator_standing rs c fresh_memory) rs c fresh_memory in resumes_by seat v v.standing)) e
+        ∙ ap (λ (d : Option Outcome). resumed_to (owing_by c rs) d
+        (let v = view_at (coordinator_standing rs c fresh_memory) rs c fresh_memory
+        in resumes_by seat v v.standing)) e
 
 none_named : (ts : List Ticket) → none_of ts ≡ true → ts ≡ []
 unfolding none_of
@@ -226,12 +246,14 @@ abort_is_of : (c : Case) (r : Record) → is_abort c r ≡ true → is_record_of
 abort_is_of c (AbortRecord d ts) e = e
 abort_is_of c r e = absurd (cc)
 
-module _ (net : List Envelope) (me : ProcessId) (parent : Option ProcessId) (rs : List Record) (c : Case) where
+module _ (net : List Envelope) (me : ProcessId) (parent : Option ProcessId) (rs : List Record)
+    (c : Case) where
   abbrev sent_again : List Envelope
   sent_again = flat_map (coordinator_resumes me parent rs) (cases_in rs)
 
   -- what is resumed of the case is among what a restart sends
-  resumed_among : has (is_record_of c) rs ≡ true → AreAmong (net ++ sent_again) (coordinator_resumes me parent rs c)
+  resumed_among : has (is_record_of c) rs ≡ true → AreAmong (net ++ sent_again)
+      (coordinator_resumes me parent rs c)
   resumed_among there =
       let r = in_flat (coordinator_resumes me parent rs) (cases_in rs) c (recorded_listed rs c there) in
       let es = coordinator_resumes me parent rs c in
@@ -244,7 +266,8 @@ module _ (net : List Envelope) (me : ProcessId) (parent : Option ProcessId) (rs 
       → AreAmong (net ++ sent_again) (map (telling me c o) (owing_by c rs))
   decided_resumes o there stands = by_none (none_of (owing_by c rs)) refl
     where
-      by_none : (b : Bool) → none_of (owing_by c rs) ≡ b → AreAmong (net ++ sent_again) (map (telling me c o) (owing_by c rs))
+      by_none : (b : Bool) → none_of (owing_by c rs) ≡ b
+          → AreAmong (net ++ sent_again) (map (telling me c o) (owing_by c rs))
       by_none true e =
           subst (λ (ts : List Ticket). AreAmong (net ++ sent_again) (map (telling me c o) ts))
           (sym (none_named (owing_by c rs) e)) tt
@@ -253,11 +276,15 @@ module _ (net : List Envelope) (me : ProcessId) (parent : Option ProcessId) (rs 
 
   pub restart_sends : Sent (net ++ sent_again) me rs c
   restart_sends = record {
-    committed = λ e k. decided_resumes CommittedOutcome (has_other (is_commit c) (is_record_of c) rs (commit_is_of c) k)
-        (λ n. commits_by (has (is_end c) rs) (has (is_commit c) rs) (has (is_abort c) rs) (has (is_prepare c) rs)
+    committed = λ e k. decided_resumes CommittedOutcome
+        (has_other (is_commit c) (is_record_of c) rs (commit_is_of c) k)
+        (λ n. commits_by (has (is_end c) rs) (has (is_commit c) rs) (has (is_abort c) rs)
+        (has (is_prepare c) rs)
         (has (is_collecting c) rs) (none_of (owing_by c rs)) (phase_standing c.txn.presumption Idle) e k n);
-    aborted = λ e k a. decided_resumes AbortedOutcome (has_other (is_abort c) (is_record_of c) rs (abort_is_of c) a)
-        (λ n. aborts_by (has (is_end c) rs) (has (is_commit c) rs) (has (is_abort c) rs) (has (is_prepare c) rs)
+    aborted = λ e k a. decided_resumes AbortedOutcome
+        (has_other (is_abort c) (is_record_of c) rs (abort_is_of c) a)
+        (λ n. aborts_by (has (is_end c) rs) (has (is_commit c) rs) (has (is_abort c) rs)
+        (has (is_prepare c) rs)
         (has (is_collecting c) rs) (none_of (owing_by c rs)) (phase_standing c.txn.presumption Idle) e k a n);
   }
 
@@ -269,18 +296,21 @@ or_false false = refl
 
 one_more : (q : Record → Bool) (rs : List Record) (r : Record) → has q (rs ++ r ∷ []) ≡ (has q rs || q r)
 one_more q rs r =
-    has-append q rs (r ∷ []) ∙ ap (λ (b : Bool). has q rs || b) (has-cons q r [] ∙ ap (λ (b : Bool). q r || b) (has-nil q) ∙ or_false (q r))
+    has-append q rs (r ∷ []) ∙ ap (λ (b : Bool). has q rs || b)
+    (has-cons q r [] ∙ ap (λ (b : Bool). q r || b) (has-nil q) ∙ or_false (q r))
 
 not_said : (q : Record → Bool) (rs : List Record) (r : Record) → q r ≡ false → has q (rs ++ r ∷ []) ≡ has q rs
 not_said q rs r e = one_more q rs r ∙ (ap (λ (b : Bool). has q rs || b) e ∙ or_false (has q rs))
 
-owing_more : (c : Case) (rs : List Record) (r : Record) → owing_by c (rs ++ r ∷ []) ≡ owing_by c rs ++ owing_in c r
+owing_more : (c : Case) (rs : List Record) (r : Record)
+    → owing_by c (rs ++ r ∷ []) ≡ owing_by c rs ++ owing_in c r
 unfolding owing_by
 owing_more c rs r =
     flat_map-append (owing_in c) rs (r ∷ [])
     ∙ ap (λ (ts : List Ticket). flat_map (owing_in c) rs ++ ts) (append-nil (owing_in c r))
 
-alike_more : (rs : List Record) (r : Record) (c : Case) → is_end c r ≡ false → is_commit c r ≡ false → is_abort c r ≡ false
+alike_more : (rs : List Record) (r : Record) (c : Case) → is_end c r ≡ false → is_commit c r ≡ false
+    → is_abort c r ≡ false
     → owing_in c r ≡ [] → Alike (rs ++ r ∷ []) rs c
 alike_more rs r c e k a o = record {
   ended = not_said (is_end c) rs r e;
@@ -296,8 +326,10 @@ unfolding owing_by has
 none_owed c [] k a = refl
 none_owed c (r ∷ rs) k a =
     ap (λ (ts : List Ticket). ts ++ flat_map (owing_in c) rs)
-    (by_record r (first_false (is_commit c r) (has (is_commit c) rs) k) (first_false (is_abort c r) (has (is_abort c) rs) a))
-    ∙ none_owed c rs (second_false (is_commit c r) (has (is_commit c) rs) k) (second_false (is_abort c r) (has (is_abort c) rs) a)
+    (by_record r (first_false (is_commit c r) (has (is_commit c) rs) k)
+    (first_false (is_abort c r) (has (is_abort c) rs) a))
+    ∙ none_owed c rs (second_false (is_commit c r) (has (is_commit c) rs) k)
+    (second_false (is_abort c r) (has (is_abort c) rs) a)
   where
     by_record : (x : Record) → is_commit c x ≡ false → is_abort c x ≡ false → owing_in c x ≡ []
     by_record (CommitRecord d ts) e f = ap (λ (b : Bool). if b then ts else []) e
@@ -316,7 +348,8 @@ true_is_not b e f = absurd (let clash : true ≡ false = sym e ∙ f in cc)
 module _ (net : List Envelope) (me : ProcessId) (rs : List Record) (c : Case) (ts : List Ticket) where
   own_owing : (o : Record) → owing_in c o ≡ ts → IsUndecided rs c → owing_by c (rs ++ o ∷ []) ≡ ts
   own_owing o e u =
-      owing_more c rs o ∙ (ap (λ (us : List Ticket). us ++ owing_in c o) (none_owed c rs u.committed u.aborted) ∙ e)
+      owing_more c rs o ∙ (ap (λ (us : List Ticket). us ++ owing_in c o)
+      (none_owed c rs u.committed u.aborted) ∙ e)
 
   named : (b : Bool) → b ≡ true → (if b then ts else []) ≡ ts
   named b e = ap (λ (x : Bool). if x then ts else []) e
@@ -361,7 +394,8 @@ module _ (net : List Envelope) (me : ProcessId) (rs : List Record) (c : Case) (t
       by_case false e = sent_alike net me (rs ++ x ∷ []) rs d
           (alike_more rs x d refl refl e (ap (λ (b : Bool). if b then ts else []) e)) h
 
-pub end_sent : (net : List Envelope) (me : ProcessId) (rs : List Record) (c : Case) (found : Option Reports) (d : Case)
+pub end_sent : (net : List Envelope) (me : ProcessId) (rs : List Record) (c : Case)
+    (found : Option Reports) (d : Case)
     → Sent net me rs d → Sent net me (rs ++ EndRecord c found ∷ []) d
 end_sent net me rs c found d h = by_case (same_case c d) refl
   where
@@ -379,14 +413,17 @@ end_sent net me rs c found d h = by_case (same_case c d) refl
     by_case false e = sent_alike net me (rs ++ x ∷ []) rs d (alike_more rs x d e refl refl refl) h
 
 -- a record that neither ends nor decides its case
-pub quiet_sent : (net : List Envelope) (me : ProcessId) (rs : List Record) (r : Record) (d : Case) → is_end d r ≡ false
-    → is_commit d r ≡ false → is_abort d r ≡ false → owing_in d r ≡ [] → Sent net me rs d → Sent net me (rs ++ r ∷ []) d
+pub quiet_sent : (net : List Envelope) (me : ProcessId) (rs : List Record) (r : Record) (d : Case)
+    → is_end d r ≡ false
+    → is_commit d r ≡ false → is_abort d r ≡ false → owing_in d r ≡ [] → Sent net me rs d
+    → Sent net me (rs ++ r ∷ []) d
 quiet_sent net me rs r d e k a o h = sent_alike net me (rs ++ r ∷ []) rs d (alike_more rs r d e k a o) h
 
 -- A trim.
 
 module _ (role : Role) (coordinator : IsCoordinator role) (whole : List Record) (d : Case) where
-  stays_as : (behind : List Record) (x : Record) → stays role whole behind x ≡ case_stays whole (record_case x)
+  stays_as : (behind : List Record) (x : Record) → stays role whole behind x
+      ≡ case_stays whole (record_case x)
   stays_as behind x = by_role role coordinator
     where
       by_role : (r : Role) → IsCoordinator r → stays r whole behind x ≡ case_stays whole (record_case x)
@@ -411,7 +448,8 @@ module _ (role : Role) (coordinator : IsCoordinator role) (whole : List Record) 
   none_owing (AbortRecord c ts) e = ap (λ (b : Bool). if b then ts else []) e
   none_owing r e = refl
 
-  same_head : (q : Record → Bool) (r : Record) (xs ys : List Record) → has q xs ≡ has q ys → has q (r ∷ xs) ≡ has q (r ∷ ys)
+  same_head : (q : Record → Bool) (r : Record) (xs ys : List Record) → has q xs ≡ has q ys
+      → has q (r ∷ xs) ≡ has q (r ∷ ys)
   same_head q r xs ys e = has-cons q r xs ∙ (ap (λ (b : Bool). q r || b) e ∙ sym (has-cons q r ys))
 
   other_head : (q : Record → Bool) (r : Record) (xs ys : List Record) → q r ≡ false → has q xs ≡ has q ys
@@ -427,7 +465,8 @@ module _ (role : Role) (coordinator : IsCoordinator role) (whole : List Record) 
     owing = ap (λ (ts : List Ticket). owing_in d r ++ ts) h.owing;
   }
 
-  one_has : (r : Record) (xs ys : List Record) → is_record_of d r ≡ false → Alike xs ys d → Alike xs (r ∷ ys) d
+  one_has : (r : Record) (xs ys : List Record) → is_record_of d r ≡ false → Alike xs ys d
+      → Alike xs (r ∷ ys) d
   unfolding owing_by
   one_has r xs ys n h = record {
     ended = other_head (is_end d) r xs ys (no_end r n) h.ended;
@@ -437,7 +476,8 @@ module _ (role : Role) (coordinator : IsCoordinator role) (whole : List Record) 
   }
 
   -- a record that goes is of another case than one that stays
-  goes_apart : case_stays whole (Some d) ≡ true → (o : Option Case) → case_stays whole o ≡ false → is_of d o ≡ false
+  goes_apart : case_stays whole (Some d) ≡ true → (o : Option Case) → case_stays whole o ≡ false
+      → is_of d o ≡ false
   goes_apart k None e = refl
   goes_apart k (Some c) e = by_same (same_case c d) refl
     where
@@ -447,7 +487,8 @@ module _ (role : Role) (coordinator : IsCoordinator role) (whole : List Record) 
           (ap (λ (x : Case). case_stays whole (Some x)) (sym (case_is c d f)) ∙ e)
 
   -- one that stays is of another case than one that goes
-  stays_apart : case_stays whole (Some d) ≡ false → (o : Option Case) → case_stays whole o ≡ true → is_of d o ≡ false
+  stays_apart : case_stays whole (Some d) ≡ false → (o : Option Case) → case_stays whole o ≡ true
+      → is_of d o ≡ false
   stays_apart k None e = refl
   stays_apart k (Some c) e = by_same (same_case c d) refl
     where
@@ -463,7 +504,8 @@ module _ (role : Role) (coordinator : IsCoordinator role) (whole : List Record) 
       by_test : (b : Bool) → stays role whole rs r ≡ b → Alike (staying role whole rs) rs d
           → Alike (if b then r ∷ staying role whole rs else staying role whole rs) (r ∷ rs) d
       by_test true e h = both_have r (staying role whole rs) rs h
-      by_test false e h = one_has r (staying role whole rs) rs (goes_apart k (record_case r) (sym (stays_as rs r) ∙ e)) h
+      by_test false e h = one_has r (staying role whole rs) rs
+          (goes_apart k (record_case r) (sym (stays_as rs r) ∙ e)) h
 
   none_stays : case_stays whole (Some d) ≡ false → (rs : List Record) → Alike [] (staying role whole rs) d
   none_stays k [] = record { ended = refl; committed = refl; aborted = refl; owing = refl }
@@ -471,7 +513,8 @@ module _ (role : Role) (coordinator : IsCoordinator role) (whole : List Record) 
     where
       by_test : (b : Bool) → stays role whole rs r ≡ b → Alike [] (staying role whole rs) d
           → Alike [] (if b then r ∷ staying role whole rs else staying role whole rs) d
-      by_test true e h = one_has r [] (staying role whole rs) (stays_apart k (record_case r) (sym (stays_as rs r) ∙ e)) h
+      by_test true e h = one_has r [] (staying role whole rs)
+          (stays_apart k (record_case r) (sym (stays_as rs r) ∙ e)) h
       by_test false e h = h
 
   nothing_sent : (net : List Envelope) (me : ProcessId) → Sent net me [] d
@@ -494,10 +537,12 @@ module _ (role : Role) (coordinator : IsCoordinator role) (whole : List Record) 
     where
       by_test : (b : Bool) → case_stays whole (Some d) ≡ b → Sent net me (staying role whole whole) d
       by_test true k = sent_alike net me (staying role whole whole) whole d (all_stay k whole) h
-      by_test false k = sent_alike net me (staying role whole whole) [] d (back [] (staying role whole whole) (none_stays k whole))
+      by_test false k = sent_alike net me (staying role whole whole) [] d
+          (back [] (staying role whole whole) (none_stays k whole))
           (nothing_sent net me)
 
   pub behind_opened : (net : List Envelope) (me : ProcessId) (k : ℕ) (rs : List Record) → Sent net me rs d
       → Sent net me (Opened k ∷ rs) d
-  behind_opened net me k rs h = sent_alike net me (Opened k ∷ rs) rs d (back rs (Opened k ∷ rs) (one_has (Opened k) rs rs refl
+  behind_opened net me k rs h = sent_alike net me (Opened k ∷ rs) rs d
+      (back rs (Opened k ∷ rs) (one_has (Opened k) rs rs refl
       (record { ended = refl; committed = refl; aborted = refl; owing = refl }))) h

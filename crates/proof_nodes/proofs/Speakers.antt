@@ -27,7 +27,8 @@ here p q e = subst (λ (r : ProcessId). same_process p r ≡ true) e (same_proce
 both : (a b : Bool) → a ≡ true → b ≡ true → (a && b) ≡ true
 both a b h k = rw (h, k) refl
 
-by_role : (k : Kind) (o : Option ProcessId) (p : ProcessId) → IsChildRole (role_by k o) p → is_parent p o ≡ true
+by_role : (k : Kind) (o : Option ProcessId) (p : ProcessId) → IsChildRole (role_by k o) p
+    → is_parent p o ≡ true
 by_role Coordinator None p h = absurd h
 by_role Coordinator (Some q) p h = here q p h
 by_role Manager None p h = absurd h
@@ -41,7 +42,8 @@ has_parent [] q p h = absurd h
 has_parent (x ∷ xs) q p h = by_test (same_process x.id q) (has_parent xs q p) h
   where
     by_test : (b : Bool)
-        → (IsChildRole (role_of xs q) p → is_parent p (entry_parent (find (λ y. same_process y.id q) xs)) ≡ true)
+        → (IsChildRole (role_of xs q) p → is_parent p
+        (entry_parent (find (λ y. same_process y.id q) xs)) ≡ true)
         → IsChildRole (if b then role_by x.kind x.parent else role_of xs q) p
         → is_parent p (entry_parent (cond b (Some x) (find (λ y. same_process y.id q) xs))) ≡ true
     by_test true behind g = by_role x.kind x.parent p g

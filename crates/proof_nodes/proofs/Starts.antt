@@ -56,7 +56,8 @@ listed_role (x ∷ xs) q e h = by_test (same_process x.id q) (λ found. listed_r
 abbrev seat : List TreeProcess → TreeProcess → Place
 seat tree e = record { me = e.id; role = role_by e.kind e.parent; tree = tree }
 
-pub listed_place : (tree : List TreeProcess) (e : TreeProcess) → find (λ x. same_process x.id e.id) tree ≡ Some e
+pub listed_place : (tree : List TreeProcess) (e : TreeProcess)
+    → find (λ x. same_process x.id e.id) tree ≡ Some e
     → place_of tree e.id ≡ seat tree e
 listed_place tree e h =
     ap (λ (r : Role). record { me = e.id; role = r; tree = tree }) (listed_role tree e.id e h)
@@ -79,14 +80,16 @@ counted_others : (q : ProcessId) (n : ℕ) (s : WorldState) (p : ProcessId) → 
     → (counted_at q n s).node_at p ≡ s.node_at p
 counted_others q n s p away = rw away refl
 
-anew_is : (q : ProcessId) (n : ℕ) (said : Case → Option Outcome) (spent : Bool) (s : WorldState) (c : CoreState)
+anew_is : (q : ProcessId) (n : ℕ) (said : Case → Option Outcome) (spent : Bool)
+    (s : WorldState) (c : CoreState)
     → s.node_at q ≡ Some c → (anew_at q n said spent s).node_at q ≡ Some (saying (counted c n) said spent)
 anew_is q n said spent s c stood = elim (same_process_tells q q) [
   | inl t ↦ rw (t.0, stood) refl
   | inr z ↦ absurd (z.1 refl)
 ]
 
-anew_others : (q : ProcessId) (n : ℕ) (said : Case → Option Outcome) (spent : Bool) (s : WorldState) (p : ProcessId)
+anew_others : (q : ProcessId) (n : ℕ) (said : Case → Option Outcome) (spent : Bool)
+    (s : WorldState) (p : ProcessId)
     → same_process q p ≡ false → (anew_at q n said spent s).node_at p ≡ s.node_at p
 anew_others q n said spent s p away = rw away refl
 
@@ -107,7 +110,8 @@ IsPlaced s = (q : ProcessId) (c : CoreState) → s.node_at q ≡ Some c → c.pl
 pub seat_form : (tree : List TreeProcess) (e : TreeProcess) → form_of (seat tree e) ≡ form_by e
 seat_form tree e = by_kind e.kind e.parent
   where
-    by_kind : (k : Kind) (o : Option ProcessId) → log_form e.id (kind_of_role (role_by k o)) ≡ log_form e.id (kind_by k o)
+    by_kind : (k : Kind) (o : Option ProcessId) → log_form e.id (kind_of_role (role_by k o))
+        ≡ log_form e.id (kind_by k o)
     by_kind Coordinator None = refl
     by_kind Coordinator (Some p) = refl
     by_kind Manager None = refl
@@ -124,7 +128,8 @@ started s t placed found h =
     let keep = length h.bytes - h.finds.forced in
     let r = h.reopens in
     let before = counted h.before h.failures in
-    let at : h.before.place ≡ seat s.tree h.entry = placed q h.before h.was ∙ listed_place s.tree h.entry h.listed in
+    let at : h.before.place ≡ seat s.tree h.entry = placed q h.before h.was
+    ∙ listed_place s.tree h.entry h.listed in
     let form : form_of h.before.place ≡ form_by h.entry = ap form_of at ∙ seat_form s.tree h.entry in
     let keeps = found q h.before h.was h.bytes h.finds in
     let read : read_log (form_by h.entry) h.bytes ≡ Whole (left_by h.before.log keep) keeps.torn =
@@ -179,7 +184,8 @@ module _ (old new : CoreState) (none : left_by old.log 0 ≡ []) where
       ∙ ap (λ (rs : List Record). logged old rs) (reopens_none old.place.role))
 
   read_none : read_of old (restarted_log old 0) ≡ Opened 1 ∷ []
-  read_none = ap (λ (ls : List LogRecord). read_of old ls) log_none ∙ reads_back old.place (Opened 1 ∷ []) refl
+  read_none = ap (λ (ls : List LogRecord). read_of old ls) log_none
+      ∙ reads_back old.place (Opened 1 ∷ []) refl
 
 alike : (v w u : CoordinatorView) → SameView v u → SameView w u → SameView v w
 alike v w u h k = record {
@@ -196,7 +202,8 @@ alike v w u h k = record {
 -- two processes that have opened and heard nothing are the same, but for the counts of failures, for what
 -- is said of branches that no operator decided, and for whether they have met a limit of their own
 module _ (c d : CoreState) (m n : ℕ) (place : Place) where
-  same_opened : IsOpenedProcess c place m → IsOpenedProcess d place n → SameCore (saying (counted c n) d.decided_of d.spent) d
+  same_opened : IsOpenedProcess c place m → IsOpenedProcess d place n
+      → SameCore (saying (counted c n) d.decided_of d.spent) d
   same_opened h k =
       let at : d.place ≡ c.place = k.place_is ∙ sym h.place_is in
       record {
@@ -212,7 +219,8 @@ module _ (c d : CoreState) (m n : ℕ) (place : Place) where
               (k.read.views x))
               (h.read.views x);
           branches = λ x. k.read.branches x
-              ∙ (ap (λ (p : Place). recorded_branch_at p.role (Opened 1 ∷ []) x) at ∙ sym (h.read.branches x));
+              ∙ (ap (λ (p : Place). recorded_branch_at p.role (Opened 1 ∷ []) x) at
+              ∙ sym (h.read.branches x));
           decided = λ x. refl;
           spent = refl;
         };
@@ -236,10 +244,12 @@ nobody c n = record c { log = forced_sight (form_of c.place) [] n }
 
 -- what goes on over a log without a record has opened and heard nothing
 opens_again : (old new : CoreState) (place : Place) (n : ℕ) (reaction : Reaction) → old.place ≡ place
-    → old.log.failures ≡ n → left_by old.log 0 ≡ [] → ProcessRestarts old 0 new reaction → IsOpenedProcess new place n
+    → old.log.failures ≡ n → left_by old.log 0 ≡ [] → ProcessRestarts old 0 new reaction
+    → IsOpenedProcess new place n
 opens_again old new place n reaction at count none r = record {
   place_is = r.place ∙ at;
-  log = r.log ∙ (ap (λ (ls : List LogRecord). forced_sight (form_of old.place) ls old.log.failures) (log_none old new none)
+  log = r.log ∙ (ap (λ (ls : List LogRecord). forced_sight (form_of old.place) ls old.log.failures)
+      (log_none old new none)
       ∙ ap (λ (k : ℕ). forced_sight (form_of old.place) (first_opened ∷ []) k) count
       ∙ ap (λ (t : Place). forced_sight (form_of t) (first_opened ∷ []) n) at);
   read = subst (λ (rs : List Record). ReadOff new rs) (read_none old new none) r.read;
@@ -254,7 +264,8 @@ started_first s t h =
     let at : h.before.place ≡ seat s.tree h.entry =
     h.heard_nothing.place_is ∙ listed_place s.tree h.entry h.listed in
     let none : left_by old.log 0 ≡ [] = all_left (form_of h.before.place) [] n in
-    let empty : [] ≡ records_of r.log.sight.kept = same_records _ _ h.torn r.opens.torn (sym h.empty ∙ r.opens.read) in
+    let empty : [] ≡ records_of r.log.sight.kept = same_records _ _ h.torn r.opens.torn
+    (sym h.empty ∙ r.opens.read) in
     let restarts : ProcessRestarts old 0 h.new.core h.opening =
     r.restarts old (record { place_is = at; failures_are = refl }) 0 (none ∙ empty) in
     let opened : IsOpenedProcess h.new.core (place_of s.tree q) n =

@@ -52,7 +52,8 @@ pub steps_so : StepsGoOn
 steps_so s t es w is_tree f step = (node_on s.tree is_tree s t es w refl f step).goes_on_so
 
 -- it is a tree whose state stands for a run
-pub modelled_so : (tree : List TreeProcess) (s t : WorldState) → IsTree tree → IsOpenedTree s tree → NodeSteps s t
+pub modelled_so : (tree : List TreeProcess) (s t : WorldState) → IsTree tree → IsOpenedTree s tree
+    → NodeSteps s t
     → IsModelledTree t
 modelled_so tree s t is_tree opened steps =
     let start = opened_behind_faults tree s opened in

@@ -14,7 +14,8 @@ use Rattle.proof_audits.specs.Audits.{AllWork, AreAuditedTruly}
 use Rattle.proof_nodes.specs.Files.{FindsLog}
 use Rattle.proof_nodes.specs.Nodes.{NodeSteps}
 
--- What was found in the file of this entry's process is all that it keeps, as after an end in order, which forces all.
+-- What was found in the file of this entry's process is all that it keeps, as after an end in order, which
+-- forces all.
 pub record IsFoundWhole (s : WorldState) (e : TreeProcess) (bytes : List ℕ) : Type 0 where
   pub process : CoreState
   pub there : s.node_at e.id ≡ Some process
@@ -26,9 +27,11 @@ abbrev pub AreFoundWhole : WorldState → List ProcessLog → Type 0
 AreFoundWhole s logs = (e : TreeProcess) → find (λ x. same_process x.id e.id) s.tree ≡ Some e
     → IsFoundWhole s e (bytes_of logs e.id)
 
--- Whichever nodes of a tree end and start, the tree makes a run of which the headline holds; and where no process is
--- failed at last, and its file holds all that it keeps, the audit of the files is true of that run.
+-- Whichever nodes of a tree end and start, the tree makes a run of which the headline holds; and where no
+-- process is failed at last, and its file holds all that it keeps, the audit of the files is true of that
+-- run.
 abbrev pub NodesAreAuditedTruly : Type 0
-NodesAreAuditedTruly = (tree : List TreeProcess) (s t : WorldState) → IsTree tree → IsOpenedTree s tree → NodeSteps s t
+NodesAreAuditedTruly = (tree : List TreeProcess) (s t : WorldState) → IsTree tree → IsOpenedTree s tree
+    → NodeSteps s t
     → AllWork t → (k : KeepsHeadline t)
     × ((logs : List ProcessLog) → AreFoundWhole t logs → AreAuditedTruly t.tree k.run.world logs)

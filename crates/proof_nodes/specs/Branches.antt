@@ -22,10 +22,11 @@ use Rattle.node_engine.specs.Answers.{AnswersLine, NodeState}
 use Rattle.node_engine.specs.Branches.{name_text, own_logs}
 use Rattle.proof_nodes.specs.Nodes.{Sits}
 
--- The answer says commit or rollback as the transaction ends of the case that the name is of; of a case of which an audit of
--- this world tells, and that is in doubt there, if it is not the node's own.
+-- The answer says commit or rollback as the transaction ends of the case that the name is of; of a case of
+-- which an audit of this world tells, and that is in doubt there, if it is not the node's own.
 abbrev pub EndsSo : NodeState → World → List ℕ → Naming → BranchAnswer → Type 0
-EndsSo n w log of a = (c : Case) → of ≡ naming.Case c → IsCaseLeft n.tree (own_logs n.me log) w c → (o : Outcome)
+EndsSo n w log of a = (c : Case) → of ≡ naming.Case c → IsCaseLeft n.tree (own_logs n.me log) w c
+    → (o : Outcome)
     → a.word ≡ word_by o → outcome_of w c.txn ≡ o
 
 -- the text tells an answer to the name, and that is so
@@ -42,9 +43,10 @@ abbrev pub TellsBranch : NodeState → World → List ℕ → List ℕ → Type 
 TellsBranch n w name text =
     TellsTruly n w name text ⊎ ((text ≡ refused_text n.manner NoSuch) ⊎ (text ≡ error_text n.manner NoText))
 
--- Where the state of a tree stands for a run in which no process is failed now, what a node answers to `resolve` is how the
--- transaction ends.
+-- Where the state of a tree stands for a run in which no process is failed now, what a node answers to
+-- `resolve` is how the transaction ends.
 abbrev pub BranchesAreTold : Type 0
 BranchesAreTold = (s : WorldState) (es : List Made) (w : World) → IsTree s.tree → FollowsBehindFaults es w s
-    → AllUp s.tree w → (old new : NodeState) → Sits s old → (line text name : List ℕ) (h : AnswersLine line old new text)
+    → AllUp s.tree w → (old new : NodeState) → Sits s old
+    → (line text name : List ℕ) (h : AnswersLine line old new text)
     → h.asked ≡ asked.Resolve name → TellsBranch old w name text

@@ -15,8 +15,8 @@ use Rattle.log_file.specs.declared.store.FileStore.{FileStore}
 use Rattle.log_file.specs.Disks.{OnDisk, unforced}
 use Rattle.log_file.specs.Stores.{file_bytes, file_failures, file_forced}
 
--- What is known of the bytes under a process's log: they are a header and whole records, which can be there, and the
--- header is forced.
+-- What is known of the bytes under a process's log: they are a header and whole records, which can be there,
+-- and the header is forced.
 pub record IsLogOf (c : CoreState) (text : List ℕ) (forced : ℕ) : Type 0 where
   pub begins : take 5 text ≡ header Second
   pub whole : is_whole (form_of c.place) 0 (body text) ≡ true
@@ -24,8 +24,9 @@ pub record IsLogOf (c : CoreState) (text : List ℕ) (forced : ℕ) : Type 0 whe
   pub within : forced ≤ length text
   pub stands : LogStands c
 
--- A node that ended left its log so in its file: in its store stood these bytes, N of them forced, which are the log
--- that the process keeps; and of the file of this number these blocks are on the disk, which hold the forced bytes.
+-- A node that ended left its log so in its file: in its store stood these bytes, N of them forced, which are
+-- the log that the process keeps; and of the file of this number these blocks are on the disk, which hold the
+-- forced bytes.
 pub record LeavesFile (c : CoreState) (text : List ℕ) (forced number : ℕ) (first : List ℕ)
     (others : List (List ℕ)) : Type 0 where
   pub failures : ℕ
@@ -35,8 +36,8 @@ pub record LeavesFile (c : CoreState) (text : List ℕ) (forced number : ℕ) (f
   pub told : number < 2 ^ 64
   pub short : length (file_text number (first ∷ (others ++ drop forced text ∷ []))) < 2 ^ 64
 
--- The next node found these bytes: such a file held them after a crash, which left of it what is on the disk, and any front
--- of a block that was being written, with what was not forced.
+-- The next node found these bytes: such a file held them after a crash, which left of it what is on the disk,
+-- and any front of a block that was being written, with what was not forced.
 pub record FindsLog (c : CoreState) (bytes : List ℕ) : Type 0 where
   pub text : List ℕ
   pub forced : ℕ
@@ -50,8 +51,8 @@ pub record FindsLog (c : CoreState) (bytes : List ℕ) : Type 0 where
   pub read_told : read_as < 2 ^ 64
   pub held : Holds file read_as bytes
 
--- The bytes are what a process left of its log: its forced records, and of the others those that stand whole within N
--- bytes more. After them may stand a torn tail.
+-- The bytes are what a process left of its log: its forced records, and of the others those that stand whole
+-- within N bytes more. After them may stand a torn tail.
 pub record KeepsFile (p : LogForm) (c : CoreState) (bytes : List ℕ) (keep : ℕ) : Type 0 where
   pub torn : ℕ
   pub read : read_log p bytes ≡ Whole (left_by c.log keep) torn

@@ -62,8 +62,8 @@ pub record Silent (s t : WorldState) : Type 0 where
 
 -- Lines.
 
--- The net alters and invents nothing: a message that a node hears is one that was sent, whatever number it has.
--- It may come late, again, or never.
+-- The net alters and invents nothing: a message that a node hears is one that was sent, whatever number it
+-- has. It may come late, again, or never.
 abbrev pub WasSent : List Envelope → NodeLine → Type 0
 WasSent net (asked.Message n e) = (place : ℕ) × (slice_get net place ≡ Some e)
 WasSent net _ = ⊤
@@ -146,7 +146,8 @@ pub record Answered (s t : WorldState) : Type 0 where
   pub sent : WasSent s.net answers.asked
   pub entered : EntersAnswered s t old new answers.asked text answers.answers
 
--- A node made a line or not, and ended before it answered, as `run_node` says; what it would have sent is lost.
+-- A node made a line or not, and ended before it answered, as `run_node` says; what it would have sent is
+-- lost.
 pub record Unanswered (s t : WorldState) : Type 0 where
   pub old : NodeState
   pub new : NodeState
@@ -162,8 +163,8 @@ pub record Unanswered (s t : WorldState) : Type 0 where
 
 -- Starts.
 
--- A node started over what it found in the file that one before it left, as `start` says. Its restart is entered with so
--- many bytes as were found after those that were forced.
+-- A node started over what it found in the file that one before it left, as `start` says. Its restart is
+-- entered with so many bytes as were found after those that were forced.
 pub record Started (s t : WorldState) : Type 0 where
   pub entry : TreeProcess
   pub listed : find (λ e. same_process e.id entry.id) s.tree ≡ Some entry
@@ -204,8 +205,9 @@ pub record StartedFirst (s t : WorldState) : Type 0 where
 
 -- Steps.
 
--- A step of one of the nodes. One that ends within a line, within a trim or within its start leaves what a failure of
--- the device there leaves, as far as its file goes: a front of what it appended, of which some is forced.
+-- A step of one of the nodes. One that ends within a line, within a trim or within its start leaves what a
+-- failure of the device there leaves, as far as its file goes: a front of what it appended, of which some is
+-- forced.
 pub data NodeStep (s t : WorldState) : Type 0 where
   answers : Answered s t → NodeStep s t
   ends_unanswered : Unanswered s t → NodeStep s t
@@ -228,15 +230,16 @@ abbrev pub StepsGoOn : Type 0
 StepsGoOn = (s t : WorldState) (es : List Made) (w : World) → IsTree s.tree → FollowsBehindFaults es w s
     → NodeStep s t → GoesOnBehindFaults es w t
 
--- What the nodes of a tree come to, whichever end and start, and whatever the net loses, repeats and reorders, is a
--- run of the model, of which the headline holds, and in which mismatches are reported. A process whose node was not
--- started yet has opened and heard nothing.
+-- What the nodes of a tree come to, whichever end and start, and whatever the net loses, repeats and
+-- reorders, is a run of the model, of which the headline holds, and in which mismatches are reported. A
+-- process whose node was not started yet has opened and heard nothing.
 abbrev pub NodesAreRuns : Type 0
-NodesAreRuns = (tree : List TreeProcess) (s t : WorldState) → IsTree tree → IsOpenedTree s tree → NodeSteps s t
+NodesAreRuns = (tree : List TreeProcess) (s t : WorldState) → IsTree tree → IsOpenedTree s tree
+    → NodeSteps s t
     → KeepsHeadline t
 
--- Where the state of a tree stands for a run, a message that was sent comes from one who may send it: no node refuses
--- it for its sender.
+-- Where the state of a tree stands for a run, a message that was sent comes from one who may send it: no node
+-- refuses it for its sender.
 abbrev pub SentMaySpeak : Type 0
 SentMaySpeak = (s : WorldState) (es : List Made) (w : World) → IsTree s.tree → FollowsBehindFaults es w s
     → (n : ℕ) (e : Envelope) → WasSent s.net (asked.Message n e) → may_speak s.tree e ≡ true
@@ -245,8 +248,8 @@ SentMaySpeak = (s : WorldState) (es : List Made) (w : World) → IsTree s.tree �
 abbrev pub WereSent : List Envelope → List Envelope → Type 0
 WereSent net ms = AllByRecursion (λ m. (place : ℕ) × (slice_get net place ≡ Some m)) ms
 
--- Where the state of a tree stands for a run, what a node whose device works tells once more (`again`) are messages that
--- were sent before: the net may repeat them as it likes.
+-- Where the state of a tree stands for a run, what a node whose device works tells once more (`again`) are
+-- messages that were sent before: the net may repeat them as it likes.
 abbrev pub RepeatsWereSent : Type 0
 RepeatsWereSent = (s : WorldState) (es : List Made) (w : World) → IsTree s.tree → FollowsBehindFaults es w s
     → (old : NodeState) → Sits s old → old.core.log.failed ≡ false → (c : Case) (ms : List Envelope)
@@ -262,8 +265,8 @@ pub record TellsSo (w : World) (x : Txn) (text : List ℕ) : Type 0 where
 abbrev pub TellsEnd : NodeState → World → Txn → List ℕ → Type 0
 TellsEnd n w x text = TellsSo w x text ⊎ (text ≡ refused_text n.manner NoSuch)
 
--- Where the state of a tree stands for a run, what a node whose device works answers to `outcome` is the outcome of that
--- transaction; or it refuses to tell, as it is not its root.
+-- Where the state of a tree stands for a run, what a node whose device works answers to `outcome` is the
+-- outcome of that transaction; or it refuses to tell, as it is not its root.
 abbrev pub OutcomesAreTold : Type 0
 OutcomesAreTold = (s : WorldState) (es : List Made) (w : World) → FollowsBehindFaults es w s
     → (old new : NodeState) → Sits s old → old.core.log.failed ≡ false
@@ -276,25 +279,30 @@ CallsItRead (Damaged place) = ⊥
 CallsItRead OldFormat = ⊥
 CallsItRead e = ⊤
 
--- Where the state of a tree stands for a run, what the next node finds of a process's log is what that left of it: the
--- forced records, and of the others those that stand whole within the bytes found after the forced ones.
+-- Where the state of a tree stands for a run, what the next node finds of a process's log is what that left
+-- of it: the forced records, and of the others those that stand whole within the bytes found after the forced
+-- ones.
 abbrev pub NodesFindTheirLogs : Type 0
-NodesFindTheirLogs = (s : WorldState) (es : List Made) (w : World) → IsTree s.tree → FollowsBehindFaults es w s
+NodesFindTheirLogs = (s : WorldState) (es : List Made) (w : World) → IsTree s.tree
+    → FollowsBehindFaults es w s
     → (q : ProcessId) (c : CoreState) → s.node_at q ≡ Some c → (bytes : List ℕ) (h : FindsLog c bytes)
     → KeepsFile (form_of c.place) c bytes (length bytes - h.forced)
 
--- What was found of a process's own log names nobody else: at its next start no node calls it the log of another process or
--- of another tree.
+-- What was found of a process's own log names nobody else: at its next start no node calls it the log of
+-- another process or of another tree.
 abbrev pub OwnFilesAreAtHome : Type 0
 OwnFilesAreAtHome = (s : WorldState) (es : List Made) (w : World) → IsTree s.tree → FollowsBehindFaults es w s
     → (e : TreeProcess) → find (λ x. same_process x.id e.id) s.tree ≡ Some e
-    → (c : CoreState) → s.node_at e.id ≡ Some c → (bytes : List ℕ) → FindsLog c bytes → NamesOthers s.tree e bytes → ⊥
+    → (c : CoreState) → s.node_at e.id ≡ Some c → (bytes : List ℕ) → FindsLog c bytes
+    → NamesOthers s.tree e bytes → ⊥
 
--- What was found of a process's own log is whole: at its next start no node calls it damaged, nor a log of the first format.
+-- What was found of a process's own log is whole: at its next start no node calls it damaged, nor a log of
+-- the first format.
 module _ {L : Type 0} (bytes : L → List ℕ) (forced failures : L → ℕ) where
   abbrev pub OwnFilesAreRead : Type 0
   OwnFilesAreRead = (s : WorldState) (es : List Made) (w : World) → IsTree s.tree → FollowsBehindFaults es w s
       → (e : TreeProcess) → find (λ x. same_process x.id e.id) s.tree ≡ Some e
       → (c : CoreState) → s.node_at e.id ≡ Some c → (store : L) → FindsLog c (bytes store)
-      → (error : ProcessReopenError) → ProcessNotReopened bytes forced failures (form_by e) (place_by s.tree e) store error
+      → (error : ProcessReopenError) → ProcessNotReopened bytes forced failures (form_by e)
+      (place_by s.tree e) store error
       → CallsItRead error

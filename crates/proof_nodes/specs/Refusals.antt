@@ -21,8 +21,9 @@ use Rattle.node_engine.specs.Starts.{NoStart}
 use Rattle.proof_nodes.specs.Files.{FindsLog}
 use Rattle.proof_nodes.specs.Nodes.{NodeSteps}
 
--- A start may fail so over the file of the process itself, in which these records stand: memory was refused, the device
--- failed, or numbers are used up. It is not damaged, of the first format, another process's, or unfit otherwise.
+-- A start may fail so over the file of the process itself, in which these records stand: memory was refused,
+-- the device failed, or numbers are used up. It is not damaged, of the first format, another process's, or
+-- unfit otherwise.
 abbrev pub MayFail : {L : Type 0} → (L → ℕ) → Kind → List LogRecord → L → StartError → Type 0
 MayFail failures kind ls store (Reopen Memory) = ⊤
 MayFail failures kind ls store (Reopen Device) = FailsOver failures store
@@ -30,8 +31,8 @@ MayFail failures kind ls store (Reopen Unfit) = AreUsedUp kind ls
 MayFail failures kind ls store error = ⊥
 
 module _ {L : Type 0} (bytes : L → List ℕ) (forced failures : L → ℕ) where
-  -- The next node of a process, over what was found of the log that the one before it left, fails to start for no other
-  -- reason.
+  -- The next node of a process, over what was found of the log that the one before it left, fails to start
+  -- for no other reason.
   abbrev pub IsTakenUp : WorldState → TreeProcess → Type 0
   IsTakenUp s e = (c : CoreState) → s.node_at e.id ≡ Some c → (store : L) (h : FindsLog c (bytes store))
       → (error : StartError) → NoStart bytes forced failures s.tree e store error
@@ -39,16 +40,18 @@ module _ {L : Type 0} (bytes : L → List ℕ) (forced failures : L → ℕ) whe
 
   -- Where the state of a tree stands for a run, each process's own file is taken up at its next start.
   abbrev pub OwnFilesAreTakenUp : Type 0
-  OwnFilesAreTakenUp = (s : WorldState) (es : List Made) (w : World) → IsTree s.tree → FollowsBehindFaults es w s
+  OwnFilesAreTakenUp = (s : WorldState) (es : List Made) (w : World) → IsTree s.tree
+      → FollowsBehindFaults es w s
       → (e : TreeProcess) → find (λ x. same_process x.id e.id) s.tree ≡ Some e → IsTakenUp s e
 
   -- Whichever nodes of a tree end and start, each process's own file is taken up at its next start.
   abbrev pub NodesAreNeverRefused : Type 0
-  NodesAreNeverRefused = (tree : List TreeProcess) (s t : WorldState) → IsTree tree → IsOpenedTree s tree → NodeSteps s t
+  NodesAreNeverRefused = (tree : List TreeProcess) (s t : WorldState) → IsTree tree → IsOpenedTree s tree
+      → NodeSteps s t
       → (e : TreeProcess) → find (λ x. same_process x.id e.id) t.tree ≡ Some e → IsTakenUp t e
 
-  -- A file that holds no record, as one that was just made, is taken up at the first start: in no tree is it refused but
-  -- for memory and a failed device.
+  -- A file that holds no record, as one that was just made, is taken up at the first start: in no tree is it
+  -- refused but for memory and a failed device.
   abbrev pub NewFilesAreTakenUp : Type 0
   NewFilesAreTakenUp = (tree : List TreeProcess) (e : TreeProcess) (store : L) (torn : ℕ)
       → read_log (form_by e) (bytes store) ≡ Whole [] torn → (error : StartError)

@@ -124,7 +124,8 @@ enters old new (Trim q) h made asks = record {
 }
 
 -- events that are made lengthen the journal
-longer : (xs : List JournalEntry) (old new : WorldState) (es : List Event) → AskForAll xs es → EventsLeadOn old es new
+longer : (xs : List JournalEntry) (old new : WorldState) (es : List Event) → AskForAll xs es
+    → EventsLeadOn old es new
     → (more : List JournalEntry) × (new.entries ≡ old.entries ++ more)
 longer [] old new [] asks leads = ([], leads.entries ∙ nothing old.entries)
   where
@@ -154,7 +155,8 @@ same_first x y xs ys h = cc
 
 module _ (s s' t t' : WorldState) (q : ProcessId) (level : IsLevel s) (alike : AlikeTrees s t) where
   -- the same of what was asked
-  event_again : (e f : Event) (h : Happening) (made : Applies s e s') → AsksFor e h → IsIts e (record { process = q; happening = h; fault = None })
+  event_again : (e f : Event) (h : Happening) (made : Applies s e s') → AsksFor e h
+      → IsIts e (record { process = q; happening = h; fault = None })
       → Shows s s' e made h → AsksAgain t q h f → Applies t f t' → AlikeTrees s' t'
   event_again (ActOf a) f h made asks its shows again k =
       let is = subst (λ (x : Happening). AsksAgain t q x f) asks again in
@@ -167,7 +169,8 @@ module _ (s s' t t' : WorldState) (q : ProcessId) (level : IsLevel s) (alike : A
       let is = subst (λ (x : Happening). AsksAgain t q x f) shows again in
       let here = subst (λ (x : Event). Applies t x t') is k in
       restart_again s s' t t' p bytes level alike made
-      (subst (λ (r : ProcessId). Applies t (Restart r (Some (bytes_of_first (records_kept made.before made.keep)
+      (subst (λ (r : ProcessId). Applies t (Restart r
+      (Some (bytes_of_first (records_kept made.before made.keep)
       (unforced_in (t.node_at r))))) t') its here)
   event_again (Trim p) f h made asks its shows again k =
       let is = subst (λ (x : Happening). AsksAgain t q x f) asks again in
@@ -175,8 +178,10 @@ module _ (s s' t t' : WorldState) (q : ProcessId) (level : IsLevel s) (alike : A
       (subst (λ (r : ProcessId). Applies t (Trim r) t') its (subst (λ (x : Event). Applies t x t') is k))
 
   -- and is not refused for itself
-  not_refused : (e f : Event) (h : Happening) (why : StepError) (made : Applies s e s') → ForItself why → AsksFor e h
-      → IsIts e (record { process = q; happening = h; fault = None }) → AsksAgain t q h f → Stops t f why t' → ⊥
+  not_refused : (e f : Event) (h : Happening) (why : StepError) (made : Applies s e s') → ForItself why
+      → AsksFor e h
+      → IsIts e (record { process = q; happening = h; fault = None }) → AsksAgain t q h f → Stops t f why t'
+      → ⊥
   not_refused (ActOf a) f h why made itself asks its again stops =
       let is = subst (λ (z : Happening). AsksAgain t q z f) asks again in
       act_made s t alike s' t' a why itself made (subst (λ (z : Event). Stops t z why t') is stops)
@@ -188,12 +193,14 @@ module _ (s s' t t' : WorldState) (q : ProcessId) (level : IsLevel s) (alike : A
       let is = subst (λ (z : Happening). AsksAgain t q z f) asks.1 again in
       let here = subst (λ (z : Event). Stops t z why t') is stops in
       restart_made s t alike s' t' p bytes _ why itself made
-      (subst (λ (r : ProcessId). Stops t (Restart r (Some (bytes_of_first asks.0 (unforced_in (t.node_at r))))) why t')
+      (subst (λ (r : ProcessId). Stops t (Restart r
+      (Some (bytes_of_first asks.0 (unforced_in (t.node_at r))))) why t')
       its here)
   not_refused (Trim p) f h why made itself asks its again stops =
       let is = subst (λ (z : Happening). AsksAgain t q z f) asks again in
       trim_made s t alike s' t' p why itself made
-      (subst (λ (r : ProcessId). Stops t (Trim r) why t') its (subst (λ (z : Event). Stops t z why t') is stops))
+      (subst (λ (r : ProcessId). Stops t (Trim r) why t') its
+      (subst (λ (z : Event). Stops t z why t') is stops))
 
 -- On the way.
 
@@ -208,7 +215,8 @@ record Walk (end : WorldState) (done rest : List JournalEntry) (w : WorldState) 
   leads : EventsLeadOn here events end
 
 -- what comes next of the first
-record Next (end : WorldState) (done : List JournalEntry) (x : JournalEntry) (rest : List JournalEntry) (w : WorldState) : Type 0 where
+record Next (end : WorldState) (done : List JournalEntry) (x : JournalEntry) (rest : List JournalEntry)
+    (w : WorldState) : Type 0 where
   before : WorldState
   behind : WorldState
   event : Event
@@ -231,11 +239,13 @@ its_alone Settle x h = tt
 its_alone (Restart p bytes) x h = h
 its_alone (Trim p) x h = h
 
-next : (end : WorldState) (done : List JournalEntry) (x : JournalEntry) (rest : List JournalEntry) (w : WorldState)
+next : (end : WorldState) (done : List JournalEntry) (x : JournalEntry) (rest : List JournalEntry)
+    (w : WorldState)
     → end.entries ≡ done ++ x ∷ rest → (walk : Walk end done (x ∷ rest) w) → Next end done x rest w
 next end done x rest w all walk = by_events walk.events walk.ask walk.leads
   where
-    by_events : (es : List Event) → AskForAll (x ∷ rest) es → EventsLeadOn walk.here es end → Next end done x rest w
+    by_events : (es : List Event) → AskForAll (x ∷ rest) es → EventsLeadOn walk.here es end
+        → Next end done x rest w
     by_events [] asks leads = absurd asks
     by_events (e ∷ es) asks leads =
         let before = leads.0 in
@@ -245,7 +255,8 @@ next end done x rest w all walk = by_events walk.events walk.ask walk.leads
         let entered : behind.entries ≡ done ++ one.entry ∷ [] =
         one.enters ∙ ap (λ ys. ys ++ one.entry ∷ []) (leads.2.entries ∙ walk.done_is) in
         let whole : done ++ one.entry ∷ more.0 ≡ done ++ x ∷ rest =
-        sym (append_assoc done (one.entry ∷ []) more.0) ∙ ap (λ ys. ys ++ more.0) (sym entered) ∙ sym more.1 ∙ all in
+        sym (append_assoc done (one.entry ∷ []) more.0) ∙ ap (λ ys. ys ++ more.0) (sym entered) ∙ sym more.1
+        ∙ all in
         let is : one.entry ≡ x =
         same_first one.entry x more.0 rest (same_front done (one.entry ∷ more.0) (x ∷ rest) whole) in
         record {
@@ -264,7 +275,8 @@ next end done x rest w all walk = by_events walk.events walk.ask walk.leads
           leads = leads.4;
         }
 
-walked : (tree : List TreeProcess) (start end again w : WorldState) (events : List Event) (done rest : List JournalEntry)
+walked : (tree : List TreeProcess) (start end again w : WorldState) (events : List Event)
+    (done rest : List JournalEntry)
     → IsTree tree → IsOpenedTree start tree → AskForAll (done ++ rest) events → EventsLeadOn start events end
     → end.entries ≡ done ++ rest → IsOpenedTree again tree → Again again done w → Walk end done rest w
 walked tree start end again _ events _ rest is_tree opens ask leads all opens_again none_again = record {
@@ -285,7 +297,8 @@ walked tree start end again w events _ rest is_tree opens ask leads all opens_ag
     record {
       here = n.behind;
       events = n.events;
-      alike = event_again n.before n.behind mid w x.step.process n.level n.alike n.event e x.step.happening n.made
+      alike = event_again n.before n.behind mid w x.step.process n.level n.alike n.event e
+          x.step.happening n.made
           n.asks n.its n.shows asks applies;
       level = event_level n.before n.behind n.event x.step.happening n.asks n.level n.made;
       done_is = n.done_is;
@@ -295,7 +308,8 @@ walked tree start end again w events _ rest is_tree opens ask leads all opens_ag
 
 -- The law.
 
-have_same : (s t : WorldState) (alike : AlikeTrees s t) (q : ProcessId) (o p : Option CoreState) → s.node_at q ≡ o
+have_same : (s t : WorldState) (alike : AlikeTrees s t) (q : ProcessId) (o p : Option CoreState)
+    → s.node_at q ≡ o
     → t.node_at q ≡ p → is_some p ≡ is_some o → HaveSame o p
 have_same s t alike q None None at there is = tt
 have_same s t alike q None (Some d) at there is = absurd (cc)
@@ -306,12 +320,14 @@ have_same s t alike q (Some c) (Some d) at there is =
     ap (λ (ls : List LogRecord). ls ++ d.log.kept.unforced) both.0
     ∙ ap (λ (ls : List LogRecord). c.log.kept.forced ++ ls) both.1
 
-both_there : (s t : WorldState) (alike : AlikeTrees s t) (q : ProcessId) → is_some (t.node_at q) ≡ is_some (s.node_at q)
+both_there : (s t : WorldState) (alike : AlikeTrees s t) (q : ProcessId)
+    → is_some (t.node_at q) ≡ is_some (s.node_at q)
 both_there s t alike q =
     alike.there.follows.listed q ∙ ap (λ (z : List TreeProcess). is_listed z q) alike.tree
     ∙ sym (alike.here.follows.listed q)
 
-comes_to : (rest done : List JournalEntry) (end w : WorldState) → end.entries ≡ done ++ rest → Walk end done rest w
+comes_to : (rest done : List JournalEntry) (end w : WorldState) → end.entries ≡ done ++ rest
+    → Walk end done rest w
     → ComesTo rest end w
 comes_to [] done end w all walk = λ q.
     let alike = same_alike walk.here end w walk.alike (at_the_end walk.events walk.ask walk.leads) in

@@ -95,7 +95,8 @@ module _ (s t : WorldState) (alike : AlikeTrees s t) where
   input_made s' q i marked e stands h why =
       let step = step_follows journal_of whole_shows as_the_model alike.moves alike.world s s' q i marked
       alike.is_tree alike.here stands h in
-      not_both s.tree alike.world (input_move q i None h.handles.answer) (step.moved.effect, step.moved.world) e
+      not_both s.tree alike.world (input_move q i None h.handles.answer)
+      (step.moved.effect, step.moved.world) e
       step.moved.makes
       (in_tree (input_move q i None h.handles.answer) (Some e)
       (refused_so alike.moves alike.world t q i e follows_there why h.handles.answer))
@@ -106,7 +107,8 @@ module _ (s t : WorldState) (alike : AlikeTrees s t) where
   act_made s' t' a e itself h k =
       let why = not_acted t t' (process_of_act (root_of t.tree) a) a e itself k in
       input_made s' (process_of_act (root_of s.tree) a) (ActInput a) s.delivered e tt h
-      (subst (λ (z : List TreeProcess). RefusesAt (t.node_at (process_of_act (root_of z) a)) (ActInput a) e) alike.tree
+      (subst (λ (z : List TreeProcess). RefusesAt (t.node_at (process_of_act (root_of z) a)) (ActInput a) e)
+      alike.tree
       why.1)
 
   pub delivery_made : (s' t' : WorldState) (k : ℕ) (e : StepError) → ForItself e → Delivers s s' k
@@ -119,11 +121,13 @@ module _ (s t : WorldState) (alike : AlikeTrees s t) where
       (subst (λ (o : Option Envelope). RefusesMessage t k o e)
       (ap (λ (ls : List Envelope). sent_as ls k) one_net ∙ h.sent) why.1)
 
-  pub restart_made : (s' t' : WorldState) (q : ProcessId) (bytes other : Option ℕ) (e : StepError) → ForItself e
+  pub restart_made : (s' t' : WorldState) (q : ProcessId) (bytes other : Option ℕ) (e : StepError)
+      → ForItself e
       → RestartsAt s s' q bytes → Stops t (Restart q other) e t' → ⊥
   restart_made s' t' q bytes other e itself h k =
       let why = not_restarted t t' q other e itself k in
-      let step = restart_follows journal_of whole_shows alike.moves alike.world s s' alike.here q alike.is_tree
+      let step = restart_follows journal_of whole_shows alike.moves alike.world s s'
+      alike.here q alike.is_tree
       bytes h in
       let kept = records_kept h.before h.keep in
       not_both s.tree alike.world (quiet_move q (Restarting kept) None) (step.moved.effect, step.moved.world)
@@ -135,7 +139,8 @@ module _ (s t : WorldState) (alike : AlikeTrees s t) where
       → Stops t (Trim q) e t' → ⊥
   trim_made s' t' q e itself h k =
       let why = not_trimmed alike.moves alike.world t t' q e follows_there itself k in
-      let step = trim_follows journal_of whole_shows alike.moves alike.world s s' alike.here q alike.is_tree h in
+      let step = trim_follows journal_of whole_shows alike.moves alike.world s s' alike.here q alike.is_tree h
+      in
       not_both s.tree alike.world (quiet_move q Trimming None) (step.moved.effect, step.moved.world) e
       step.moved.makes (in_tree (quiet_move q Trimming None) (Some e) why.1)
 
@@ -152,13 +157,16 @@ restarted_at (AtLeaf p) ls ks d e is h k =
 restarted_at AtRoot ls ks d e is h k = tt
 restarted_at (Below p) ls ks d e is h k = tt
 
-module _ (s s' t t' : WorldState) (q : ProcessId) (bytes : Option ℕ) (level : IsLevel s) (alike : AlikeTrees s t)
+module _ (s s' t t' : WorldState) (q : ProcessId) (bytes : Option ℕ) (level : IsLevel s)
+    (alike : AlikeTrees s t)
     (h : RestartsAt s s' q bytes)
-    (k : RestartsAt t t' q (Some (bytes_of_first (records_kept h.before h.keep) (unforced_in (t.node_at q))))) where
+    (k : RestartsAt t t' q (Some (bytes_of_first (records_kept h.before h.keep)
+    (unforced_in (t.node_at q))))) where
   abbrev n : ℕ
   n = records_kept h.before h.keep
 
-  both : (k.before.log.kept.forced ≡ h.before.log.kept.forced) × (k.before.log.kept.unforced ≡ h.before.log.kept.unforced)
+  both : (k.before.log.kept.forced ≡ h.before.log.kept.forced)
+      × (k.before.log.kept.unforced ≡ h.before.log.kept.unforced)
   both = logs_alike (alike.world.at q) h.before k.before
       (one_place s t alike q h.before k.before h.moves.stood k.moves.stood)
       (alike.here.follows.nodes q h.before h.moves.stood).stands
@@ -186,22 +194,27 @@ module _ (s s' t t' : WorldState) (q : ProcessId) (bytes : Option ℕ) (level : 
   kept : (records_kept k.before k.keep ≡ n) × (left_by k.before.log k.keep ≡ left_by h.before.log h.keep)
   kept = (
     ap (λ (ls : List LogRecord). length ls) whole_same,
-    ap (λ (ls : List LogRecord). ls ++ whole_within (k.before.log.behind + k.keep) k.before.log.kept.unforced) both.0
+    ap (λ (ls : List LogRecord). ls ++ whole_within (k.before.log.behind + k.keep) k.before.log.kept.unforced)
+        both.0
         ∙ ap (λ (ls : List LogRecord). h.before.log.kept.forced ++ ls) whole_same,
   )
 
   pub restart_again : AlikeTrees s' t'
   restart_again =
       let one : restart_of k.before k.keep ≡ restart_of h.before h.keep = ap Restarting kept.0 in
-      let here = restart_follows journal_of whole_shows alike.moves alike.world s s' alike.here q alike.is_tree
+      let here = restart_follows journal_of whole_shows alike.moves alike.world s s'
+      alike.here q alike.is_tree
       bytes h in
-      let there = subst (λ (x : Happening). EntersBy journal_of alike.moves alike.world t t' (quiet_move q x None)
+      let there = subst (λ (x : Happening). EntersBy journal_of alike.moves alike.world t t'
+      (quiet_move q x None)
       k.reaction) one
       (restart_follows journal_of whole_shows alike.moves alike.world t t' alike.there q
       (subst IsTree (sym alike.tree) alike.is_tree) _ k) in
-      move_alike s s' t t' alike q (quiet_move q (restart_of h.before h.keep) None) h.reaction k.reaction here there
+      move_alike s s' t t' alike q (quiet_move q (restart_of h.before h.keep) None) h.reaction
+      k.reaction here there
       (restart_of h.before h.keep) h.before h.behind k.before k.behind s.delivered t.delivered h.moves k.moves
-      h.enters (subst (λ (x : Happening). Enters t t' q x k.reaction t.delivered) one k.enters) alike.delivered
+      h.enters (subst (λ (x : Happening). Enters t t' q x k.reaction t.delivered) one k.enters)
+      alike.delivered
       (restarted_at (place_of s.tree q).role (left_by h.before.log h.keep) (left_by k.before.log k.keep)
       (s'.data_at q) (t'.data_at q) kept.1
       (subst (λ p. RestartsData p.role (left_by h.before.log h.keep) (s'.data_at q))
@@ -243,6 +256,7 @@ event_level s s' (Deliver k) h asks level made =
     input_level s s' made.envelope.to (MessageInput k made.envelope.message) _ level made.steps
 event_level s s' Settle h asks level made = absurd asks
 event_level s s' (Restart q bytes) h asks level made =
-    one_level s s' q made.before made.behind level made.moves (ap (λ (l : LogSight). l.behind) made.restarts.log)
+    one_level s s' q made.before made.behind level made.moves
+    (ap (λ (l : LogSight). l.behind) made.restarts.log)
 event_level s s' (Trim q) h asks level made =
     one_level s s' q made.before made.behind level made.moves (ap (λ (l : LogSight). l.behind) made.trims.log)

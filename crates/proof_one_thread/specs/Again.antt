@@ -29,8 +29,8 @@ abbrev pub unforced_in : Option CoreState → List LogRecord
 unforced_in None = []
 unforced_in (Some s) = s.log.kept.unforced
 
--- the event that makes what happened at a process again, in a tree that stands so: a restart keeps the bytes of as many
--- records as it kept
+-- the event that makes what happened at a process again, in a tree that stands so: a restart keeps the bytes
+-- of as many records as it kept
 abbrev pub AsksAgain : WorldState → ProcessId → Happening → Event → Type 0
 AsksAgain w q (Handles (ActInput a)) e = e ≡ event.Act a
 AsksAgain w q (Handles (MessageInput k m)) e = e ≡ event.Deliver k
@@ -40,7 +40,8 @@ AsksAgain w q Trim e = e ≡ event.Trim q
 -- the events of these entries were made again, from the first state to the second
 pub data Again (start : WorldState) : List JournalEntry → WorldState → Type 0 where
   none_again : Again start [] start
-  one_again : (xs : List JournalEntry) (x : JournalEntry) (e : Event) (mid new : WorldState) → Again start xs mid
+  one_again : (xs : List JournalEntry) (x : JournalEntry) (e : Event) (mid new : WorldState)
+      → Again start xs mid
       → AsksAgain mid x.step.process x.step.happening e → Applies mid e new → Again start (xs ++ x ∷ []) new
 
 -- why an event is refused that was made before: memory, a failed device, or numbers that are used up
@@ -53,17 +54,19 @@ HaveSame None None = Unit {0}
 HaveSame (Some c) (Some d) = records_of d.log.kept ≡ records_of c.log.kept
 HaveSame _ _ = ⊥
 
--- Of a tree that made what was before these entries: the first of them is refused for nothing else; where there are
--- none, each process's log has the records that it has at the end.
+-- Of a tree that made what was before these entries: the first of them is refused for nothing else; where
+-- there are none, each process's log has the records that it has at the end.
 abbrev pub ComesTo : List JournalEntry → WorldState → WorldState → Type 0
 ComesTo [] end w = (q : ProcessId) → HaveSame (end.node_at q) (w.node_at q)
 ComesTo (x ∷ xs) end w = (e : Event) (why : StepError) (left : WorldState)
     → AsksAgain w x.step.process x.step.happening e → Stops w e why left → IsExcused why
 
--- A tree opened, and made the events of these entries, which are its journal, if nothing was otherwise in between.
--- Another that has opened makes the first of them again.
+-- A tree opened, and made the events of these entries, which are its journal, if nothing was otherwise in
+-- between. Another that has opened makes the first of them again.
 abbrev pub JournalsAreMadeAgain : Type 0
-JournalsAreMadeAgain = (tree : List TreeProcess) (front rest : List JournalEntry) (start end again w : WorldState)
+JournalsAreMadeAgain = (tree : List TreeProcess) (front rest : List JournalEntry)
+    (start end again w : WorldState)
     (events : List Event) → IsTree tree → IsOpenedTree start tree → AskForAll (front ++ rest) events
-    → EventsLeadOn start events end → end.entries ≡ front ++ rest → IsOpenedTree again tree → Again again front w
+    → EventsLeadOn start events end → end.entries ≡ front ++ rest → IsOpenedTree again tree
+    → Again again front w
     → ComesTo rest end w

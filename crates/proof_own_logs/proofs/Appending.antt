@@ -62,15 +62,18 @@ module _ (p : Option ProcessId) (c : Case) where
     no_abort = rest_is (is_abort c) x xs o.no_abort;
   }
 
-  now : (pre : List Record) (x : Record) → is_collecting c x ≡ true → has (is_collecting c) (pre ++ x ∷ []) ≡ true
+  now : (pre : List Record) (x : Record) → is_collecting c x ≡ true
+      → has (is_collecting c) (pre ++ x ∷ []) ≡ true
   now pre x e = in_second (is_collecting c) pre (x ∷ [])
       (has-cons (is_collecting c) x [] ∙ left (is_collecting c x) (has (is_collecting c) []) e)
 
   -- a record that names nobody of the case
-  passes : (pre xs : List Record) (x : Record) → named_in c x ≡ [] → Names (pre ++ x ∷ []) xs → Names pre (x ∷ xs)
+  passes : (pre xs : List Record) (x : Record) → named_in c x ≡ [] → Names (pre ++ x ∷ []) xs
+      → Names pre (x ∷ xs)
   passes pre xs x e n = record {
     sound = subst AreSoundTickets (ap (λ ts. ts ++ flat_map (named_in c) xs) (sym e)) n.sound;
-    once = λ h. ap (λ ts. ts ++ flat_map (named_in c) xs) e ∙ n.once (in_first (is_collecting c) pre (x ∷ []) h);
+    once = λ h. ap (λ ts. ts ++ flat_map (named_in c) xs) e
+        ∙ n.once (in_first (is_collecting c) pre (x ∷ []) h);
   }
 
   names_one : (pre xs : List Record) (x : Record) → OnlyCollects c (x ∷ xs) → Fits pre x → Stands p x
@@ -100,7 +103,8 @@ module _ (p : Option ProcessId) (c : Case) where
       (ap (λ b. if b then ts else []) (first_is (is_abort c) (AbortRecord d ts) xs o.no_abort)) n
   names_one pre xs x o f s n = passes pre xs x refl n
 
-  names : (pre xs : List Record) → OnlyCollects c xs → AllFit pre xs → AllByRecursion (Stands p) xs → Names pre xs
+  names : (pre xs : List Record) → OnlyCollects c xs → AllFit pre xs → AllByRecursion (Stands p) xs
+      → Names pre xs
   names pre [] o f s = record { sound = nobody; once = λ h. refl }
   names pre (x ∷ xs) o f s =
       names_one pre xs x o f.0 s.0 (names (pre ++ x ∷ []) xs (rest_of x xs o) f.1 s.1)
@@ -142,7 +146,8 @@ logged_stand : (p : Option ProcessId) (rs : List Record) → AllStand p rs
 logged_stand p [] h = tt
 logged_stand p (r ∷ rs) h = (h.0, logged_stand p rs h.1)
 
-both_stand : (p : Option ProcessId) (xs ys : List Record) → AllStand p xs → AllStand p ys → AllStand p (xs ++ ys)
+both_stand : (p : Option ProcessId) (xs ys : List Record) → AllStand p xs → AllStand p ys
+    → AllStand p (xs ++ ys)
 both_stand p [] ys f g = g
 both_stand p (x ∷ xs) ys f g = (f.0, both_stand p xs ys f.1 g)
 
@@ -205,8 +210,8 @@ under_parent (Below p) (Some t) q h = parent_so q p h
 under_parent (AtLeaf p) None q h = absurd (cc)
 under_parent (AtLeaf p) (Some t) q h = parent_so q p h
 
--- a record is read as it is, and a coordinator writes it again under the same name; or it is left out, and says nothing
--- of a boot
+-- a record is read as it is, and a coordinator writes it again under the same name; or it is left out, and
+-- says nothing of a boot
 abbrev Reads : Place → LogRecord → Type 0
 Reads place l =
     ((own_by place l (record_case l.entry) ≡ l.entry ∷ [])
@@ -230,10 +235,12 @@ module _ (place : Place) where
       → ((p : ProcessId) → foreign_to (AtLeaf p) q c r ≡ r ∷ []) → Reads place (at q r)
   read_named q c r of silent stays = by_own (is_own place q c) refl
     where
-      read : own_by place (at q r) (record_case r) ≡ (if is_own place q c then r ∷ [] else foreign_to place.role q c r)
+      read : own_by place (at q r) (record_case r)
+          ≡ (if is_own place q c then r ∷ [] else foreign_to place.role q c r)
       read = ap (own_by place (at q r)) of
 
-      by_role : (role : Role) → place.role ≡ role → own_by place (at q r) (record_case r) ≡ foreign_to place.role q c r
+      by_role : (role : Role) → place.role ≡ role → own_by place (at q r) (record_case r)
+          ≡ foreign_to place.role q c r
           → Reads place (at q r)
       by_role AtRoot e h = inr ((h ∙ ap (λ (x : Role). foreign_to x q c r) e, silent))
       by_role (Below p) e h = inr ((h ∙ ap (λ (x : Role). foreign_to x q c r) e, silent))
@@ -248,7 +255,8 @@ module _ (place : Place) where
         λ i. ap (case_parent (parent_of place.role)) of ∙ own_under c q e,
       ))
       by_own false e =
-          by_role place.role refl (read ∙ ap (λ (b : Bool). if b then r ∷ [] else foreign_to place.role q c r) e)
+          by_role place.role refl (read ∙ ap (λ (b : Bool). if b then r ∷ [] else foreign_to place.role q c r)
+          e)
 
   read_entry : (q : Option ProcessId) (r : Record) → IsSoundEntry Coordinator q r → Reads place (at q r)
   read_entry q (Opened n) h = inl ((refl, λ i. sym h.0))
@@ -271,7 +279,8 @@ module _ (place : Place) where
   boots_from (l ∷ ls) s n = elim (read_so l s.0) [
     | inl y ↦ ap (λ (xs : List Record). fold boot_after n (xs ++ own_records place ls)) y.0
         ∙ boots_from ls s.1 (boot_after n l.entry)
-    | inr z ↦ ap (λ (xs : List Record). fold boot_after n (xs ++ own_records place ls)) z.0 ∙ boots_from ls s.1 n
+    | inr z ↦ ap (λ (xs : List Record). fold boot_after n (xs ++ own_records place ls)) z.0
+        ∙ boots_from ls s.1 n
         ∙ ap (λ (k : ℕ). fold boot_after k (entries_of ls)) (sym (z.1 n))
   ]
 
@@ -286,11 +295,13 @@ module _ (place : Place) where
   unfolding own_records
   stand_again i [] s = tt
   stand_again i (l ∷ ls) s = elim (read_so l s.0) [
-    | inl y ↦ subst (λ (xs : List Record). AllStand (parent_of place.role) (xs ++ own_records place ls)) (sym y.0) (
-      subst (λ (q : Option ProcessId). IsSoundEntry Coordinator q l.entry) (sym (y.1 i)) s.0,
-      stand_again i ls s.1,
-    )
-    | inr z ↦ subst (λ (xs : List Record). AllStand (parent_of place.role) (xs ++ own_records place ls)) (sym z.0)
+    | inl y ↦ subst (λ (xs : List Record). AllStand (parent_of place.role) (xs ++ own_records place ls))
+        (sym y.0) (
+          subst (λ (q : Option ProcessId). IsSoundEntry Coordinator q l.entry) (sym (y.1 i)) s.0,
+          stand_again i ls s.1,
+        )
+    | inr z ↦ subst (λ (xs : List Record). AllStand (parent_of place.role) (xs ++ own_records place ls))
+        (sym z.0)
         (stand_again i ls s.1)
   ]
 
@@ -359,10 +370,12 @@ module _ (place : Place) (ls : List LogRecord) (sound : AllByRecursion (IsSound 
   by_role : (r : Role) → place.role ≡ r
       → AllByRecursion (IsSound (kind_of_role r)) (map (in_log (parent_of r)) (reopens r own))
   by_role AtRoot e =
-      subst (λ (r : Role). AllByRecursion (IsSound Coordinator) (map (in_log (parent_of r)) (coordinator_reopens own))) e
+      subst (λ (r : Role). AllByRecursion (IsSound Coordinator)
+      (map (in_log (parent_of r)) (coordinator_reopens own))) e
       (coordinator_can (subst IsCoordinator (sym e) tt))
   by_role (Below p) e =
-      subst (λ (r : Role). AllByRecursion (IsSound Coordinator) (map (in_log (parent_of r)) (coordinator_reopens own))) e
+      subst (λ (r : Role). AllByRecursion (IsSound Coordinator)
+      (map (in_log (parent_of r)) (coordinator_reopens own))) e
       (coordinator_can (subst IsCoordinator (sym e) tt))
   by_role (AtLeaf p) e = ((refl, own_next), tt)
 

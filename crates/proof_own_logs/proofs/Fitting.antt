@@ -49,8 +49,8 @@ use Rattle.proof_own_logs.proofs.Reaching.{left_fit}
 
 -- Records that are fit.
 
--- Records that a coordinator wrote: each can be in its log, and fits after those before it. Or that a manager wrote:
--- they may follow one another, and a subordinate which sits there can have written them.
+-- Records that a coordinator wrote: each can be in its log, and fits after those before it. Or that a manager
+-- wrote: they may follow one another, and a subordinate which sits there can have written them.
 abbrev AreGood : Kind → Place → List LogRecord → Type 0
 AreGood Coordinator place ls = AllByRecursion (IsSound Coordinator) ls × AllFit [] (entries_of ls)
 AreGood Manager place ls = (are_ordered ls ≡ true) × AreFit place ls
@@ -67,9 +67,11 @@ at_bound n bound not = by_test (nat_lt n bound) refl
     by_test false e = grind (arith, nat_tests, e)
 
 -- a coordinator restarts over its own records while a boot is left
-no_restart : (log : LogSight) (ls : List LogRecord) → records_of log.kept ≡ ls → AllByRecursion (IsSound Coordinator) ls
+no_restart : (log : LogSight) (ls : List LogRecord) → records_of log.kept ≡ ls
+    → AllByRecursion (IsSound Coordinator) ls
     → AllFit [] (entries_of ls) → HoldsNoRestart log → HaveNoBoot ls
-no_restart log ls is sound fit h = at_bound (boot_of (entries_of ls) + 1) (2 ^ 63) (λ next. h.beyond (can next))
+no_restart log ls is sound fit h = at_bound (boot_of (entries_of ls) + 1) (2 ^ 63)
+    (λ next. h.beyond (can next))
   where
     place : Place
     place = h.process.place
@@ -97,13 +99,15 @@ module _ (tree : List TreeProcess) (e : TreeProcess) (bytes : List ℕ) (ls : Li
         → LeavesNone k (form_by e) bytes forced failures
         ⊎ ((k ≡ Manager) × NoneWrote (form_by e) (place_by tree e) bytes forced failures) → AreUsedUp k ls
     unfit_so forced failures Coordinator good (inl h) =
-        no_restart h.log.sight ls (same_records _ _ h.opens.torn torn (sym h.opens.read ∙ read)) good.0 good.1 h.why
+        no_restart h.log.sight ls (same_records _ _ h.opens.torn torn (sym h.opens.read ∙ read))
+        good.0 good.1 h.why
     unfit_so forced failures Coordinator good (inr h) = absurd (let clash : Coordinator ≡ Manager = h.0 in cc)
     unfit_so forced failures Manager good (inl h) =
         let is : records_of h.log.sight.kept ≡ ls =
         same_records _ _ h.opens.torn torn (sym h.opens.read ∙ read) in
         no_manager ls good.0 good.1.sound
-        (subst (λ (ks : List LogRecord). KvNotRebuilt ks restarts.Unfit ⊎ KvNotRebuilt ks restarts.Exhausted) is h.why)
+        (subst (λ (ks : List LogRecord). KvNotRebuilt ks restarts.Unfit ⊎ KvNotRebuilt ks restarts.Exhausted)
+        is h.why)
     unfit_so forced failures Manager good (inr h) =
         let is : records_of h.1.log.sight.kept ≡ ls =
         same_records _ _ h.1.opens.torn torn (sym h.1.opens.read ∙ read) in
@@ -123,7 +127,8 @@ none_good : (k : Kind) (place : Place) → AreGood k place []
 none_good Coordinator place = (tt, tt)
 none_good Manager place = (none_ordered, record { sound = tt; ordered = none_in_order; reached = tt })
 
-pub new_logs_are_fit : {L : Type 0} (bytes : L → List ℕ) (forced failures : L → ℕ) → NewLogsAreFit bytes forced failures
+pub new_logs_are_fit : {L : Type 0} (bytes : L → List ℕ) (forced failures : L → ℕ)
+    → NewLogsAreFit bytes forced failures
 new_logs_are_fit bytes forced failures tree e store torn read =
     unfit_so tree e (bytes store) [] torn read (forced store) (failures store) (form_by e).kind
     (none_good (form_by e).kind (place_by tree e))
@@ -147,7 +152,8 @@ entries_kept : (p : Option ProcessId) (rs : List Record) → entries_of (map (in
 entries_kept p [] = refl
 entries_kept p (r ∷ rs) = ap (λ (xs : List Record). r ∷ xs) (entries_kept p rs)
 
-module _ (s : WorldState) (es : List Made) (w : World) (is_tree : IsTree s.tree) (f : FollowsBehindFaults es w s)
+module _ (s : WorldState) (es : List Made) (w : World) (is_tree : IsTree s.tree)
+    (f : FollowsBehindFaults es w s)
     (e : TreeProcess) (listed : find (λ x. same_process x.id e.id) s.tree ≡ Some e) (c : CoreState)
     (there : s.node_at e.id ≡ Some c) (stands : LogStands c) (keep : ℕ)
   where
@@ -167,25 +173,30 @@ module _ (s : WorldState) (es : List Made) (w : World) (is_tree : IsTree s.tree)
     records : records_of c.log.kept ≡ log_of s.tree w q
     records =
         ap (λ (ls : List LogRecord). ls ++ c.log.kept.unforced) at.stands.forced
-        ∙ ap (λ (ls : List LogRecord). map (in_log (parent_of c.place.role)) (w.at q).forced ++ ls) at.stands.unforced
+        ∙ ap (λ (ls : List LogRecord). map (in_log (parent_of c.place.role)) (w.at q).forced ++ ls)
+        at.stands.unforced
         ∙ sym (map-append (in_log (parent_of c.place.role)) (w.at q).forced (w.at q).unforced)
         ∙ ap (λ (x : Place). map (in_log (parent_of x.role)) (kept (w.at q))) at.place
 
-    of_coordinator : IsCoordinator (role_of s.tree q) → AllByRecursion (IsSound Coordinator) (records_of c.log.kept)
+    of_coordinator : IsCoordinator (role_of s.tree q)
+        → AllByRecursion (IsSound Coordinator) (records_of c.log.kept)
         → AreGood Coordinator (place_by s.tree e) (left_by c.log keep)
     of_coordinator i sound =
         let rest = left_rest c.log keep in
         let all : AllFit [] (entries_of (records_of c.log.kept)) =
-        subst (AllFit []) (sym (ap entries_of records ∙ entries_kept (parent_of (role_of s.tree q)) (kept (w.at q))))
+        subst (AllFit []) (sym (ap entries_of records ∙ entries_kept (parent_of (role_of s.tree q))
+        (kept (w.at q))))
         (all_fit s.tree es w f.follows.is_run q i) in
-        let parts : entries_of (records_of c.log.kept) ≡ entries_of (left_by c.log keep) ++ entries_of rest.0 =
+        let parts : entries_of (records_of c.log.kept) ≡ entries_of (left_by c.log keep)
+        ++ entries_of rest.0 =
         ap entries_of (sym rest.1) ∙ map-append (λ (l : LogRecord). l.entry) (left_by c.log keep) rest.0 in (
           each_left (IsSound Coordinator) c.log keep sound,
           fit_front [] (entries_of (left_by c.log keep)) (entries_of rest.0) (subst (AllFit []) parts all),
         )
 
     of_manager : (p : ProcessId) → c.place.role ≡ AtLeaf p
-        → AllByRecursion (IsSound Manager) (records_of c.log.kept) → are_ordered (records_of c.log.kept) ≡ true
+        → AllByRecursion (IsSound Manager) (records_of c.log.kept)
+        → are_ordered (records_of c.log.kept) ≡ true
         → AreGood Manager (place_by s.tree e) (left_by c.log keep)
     of_manager p is sound ordered =
         let role : role_of s.tree q ≡ AtLeaf p = sits (AtLeaf p) is in
@@ -193,7 +204,8 @@ module _ (s : WorldState) (es : List Made) (w : World) (is_tree : IsTree s.tree)
         ap (λ (r : Role). record { me = q; role = r; tree = s.tree }) role in
         let holds = (the_world_holds s.tree is_tree es w f.follows.is_run).nodes q
         (sym (f.follows.listed q) ∙ ap is_some there) in
-        let issues : Issues (leaf_place q p s.tree) w.net (w.at q) = subst (λ (x : Place). Issues x w.net (w.at q)) place
+        let issues : Issues (leaf_place q p s.tree) w.net (w.at q) =
+        subst (λ (x : Place). Issues x w.net (w.at q)) place
         (subst (λ (r : Role). RoleHolds r (place_of s.tree q) w.net (w.at q)) role holds.role).1 in
         let forced : c.log.kept.forced ≡ map (in_log (Some p)) (w.at q).forced =
         at.stands.forced ∙ ap (λ (r : Role). map (in_log (parent_of r)) (w.at q).forced) is in
@@ -206,10 +218,12 @@ module _ (s : WorldState) (es : List Made) (w : World) (is_tree : IsTree s.tree)
         )
 
     by_role : (r : Role) → c.place.role ≡ r
-        → AllByRecursion (IsSound (kind_of_role r)) (records_of c.log.kept) → FollowAt r (records_of c.log.kept)
+        → AllByRecursion (IsSound (kind_of_role r)) (records_of c.log.kept)
+        → FollowAt r (records_of c.log.kept)
         → AreGood (kind_of_role r) (place_by s.tree e) (left_by c.log keep)
     by_role AtRoot is sound follow = of_coordinator (subst IsCoordinator (sym (sits AtRoot is)) tt) sound
-    by_role (Below p) is sound follow = of_coordinator (subst IsCoordinator (sym (sits (Below p) is)) tt) sound
+    by_role (Below p) is sound follow = of_coordinator
+        (subst IsCoordinator (sym (sits (Below p) is)) tt) sound
     by_role (AtLeaf p) is sound follow = of_manager p is sound follow
 
     good : AreGood (form_by e).kind (place_by s.tree e) (left_by c.log keep)
@@ -217,7 +231,9 @@ module _ (s : WorldState) (es : List Made) (w : World) (is_tree : IsTree s.tree)
         (ap (λ (x : Place). kind_of_role x.role) seat ∙ seat_kind e.kind e.parent)
         (by_role c.place.role refl stands.sound stands.follow)
 
-pub own_logs_are_fit : {L : Type 0} (bytes : L → List ℕ) (forced failures : L → ℕ) → OwnLogsAreFit bytes forced failures
+pub own_logs_are_fit : {L : Type 0} (bytes : L → List ℕ) (forced failures : L → ℕ)
+    → OwnLogsAreFit bytes forced failures
 own_logs_are_fit bytes forced failures s es w is_tree f e listed c there stands keep torn store read =
-    unfit_so s.tree e (bytes store) (left_by c.log keep) torn read (forced store) (failures store) (form_by e).kind
+    unfit_so s.tree e (bytes store) (left_by c.log keep) torn read (forced store) (failures store)
+    (form_by e).kind
     (good s es w is_tree f e listed c there stands keep)

@@ -1,5 +1,5 @@
--- The log of a manager has reached the boots of the tickets by which its own cases promised, and so has what a crash
--- leaves of it.
+-- The log of a manager has reached the boots of the tickets by which its own cases promised, and so has what
+-- a crash leaves of it.
 use Rattle.std.proofs.Common.{◌≡◌, ◌≤◌, ◌+◌, ◌∙◌, ℕ, Bool, true, false, if◌then◌else◌, Option, Some, None, List, [], ◌∷◌, ◌++◌, append_assoc, fold, map, refl, sym, ap, subst, arith}
 use Rattle.std.proofs.lemmas.Grind.{fold-append}
 use Rattle.std.proofs.lemmas.List.{append-nil, map-append}
@@ -60,7 +60,8 @@ regroup : (front : List LogRecord) (l : LogRecord) (rest : List LogRecord)
     → front ++ l ∷ rest ≡ (front ++ l ∷ []) ++ rest
 regroup front l rest = sym (append_assoc front (l ∷ []) rest)
 
-boots_rise : (front rest : List LogRecord) → AreInOrder (front ++ rest) → boot_in front ≤ boot_in (front ++ rest)
+boots_rise : (front rest : List LogRecord) → AreInOrder (front ++ rest)
+    → boot_in front ≤ boot_in (front ++ rest)
 boots_rise front [] h = subst (λ ls. boot_in front ≤ boot_in ls) (sym (append-nil front)) (omega arith)
 boots_rise front (l ∷ rest) h =
     let step : boot_in front ≤ boot_in (front ++ l ∷ []) =
@@ -73,7 +74,8 @@ boots_rise front (l ∷ rest) h =
 
 -- Cases that a process gave.
 
-module _ (place : Place) (net : List Envelope) (n : Node) (nested : Nested (logs_of n)) (issues : Issues place net n)
+module _ (place : Place) (net : List Envelope) (n : Node) (nested : Nested (logs_of n))
+    (issues : Issues place net n)
   where
     -- each case of which a record stands has a ticket of a boot that is forced
     given_by : (d : Case) → has (is_record_of d) (kept n) ≡ true → IsGivenBy (boot_of n.forced) d
@@ -117,11 +119,13 @@ entries_logged : (p : Option ProcessId) (rs : List Record) → entries_of (map (
 entries_logged p [] = refl
 entries_logged p (r ∷ rs) = ap (λ xs. r ∷ xs) (entries_logged p rs)
 
-module _ (me p : ProcessId) (tree : List TreeProcess) (net : List Envelope) (n : Node) (nested : Nested (logs_of n))
+module _ (me p : ProcessId) (tree : List TreeProcess) (net : List Envelope) (n : Node)
+    (nested : Nested (logs_of n))
     (issues : Issues (leaf_place me p tree) net n) (log : LogSight)
     (forced : log.kept.forced ≡ map (in_log (Some p)) n.forced)
     (records : records_of log.kept ≡ map (in_log (Some p)) (kept n))
-    (sound : AllByRecursion (IsSound Manager) (records_of log.kept)) (ordered : are_ordered (records_of log.kept) ≡ true)
+    (sound : AllByRecursion (IsSound Manager) (records_of log.kept))
+    (ordered : are_ordered (records_of log.kept) ≡ true)
     (keep : ℕ)
   where
     abbrev place : Place
@@ -139,7 +143,8 @@ module _ (me p : ProcessId) (tree : List TreeProcess) (net : List Envelope) (n :
         ap boot_in forced ∙ ap boot_of (entries_logged (Some p) n.forced) in
         let more : boot_in log.kept.forced ≤ boot_in left_logs =
         boots_rise log.kept.forced (whole_within (log.behind + keep) log.kept.unforced) still in
-        let read : boot_of (own_records place left_logs) ≡ boot_in left_logs = boots_alike me p tree left_logs in
+        let read : boot_of (own_records place left_logs) ≡ boot_in left_logs = boots_alike me p tree left_logs
+        in
         omega (arith, is, more, read)
 
     -- a subordinate can have written it
@@ -147,7 +152,8 @@ module _ (me p : ProcessId) (tree : List TreeProcess) (net : List Envelope) (n :
     left_fit = record {
       sound = each_left (IsSound Manager) log keep sound;
       ordered = still;
-      reached = reached_later place (boot_of n.forced) (boot_of (own_records place left_logs)) left_logs boot_left
+      reached = reached_later place (boot_of n.forced) (boot_of (own_records place left_logs))
+          left_logs boot_left
           (each_left (IsReached place (boot_of n.forced)) log keep
           (subst (AllByRecursion (IsReached place (boot_of n.forced))) (sym records)
           (reached_each place (boot_of n.forced) (Some p) (kept n) (given_by place net n nested issues))));

@@ -28,8 +28,8 @@ AreUsedUp Coordinator ls = HaveNoBoot ls
 AreUsedUp Manager ls = HaveNoBoot ls ⊎ CountTooFar ls
 
 module _ {L : Type 0} (bytes : L → List ℕ) (forced failures : L → ℕ) where
-  -- Where the state of a tree stands for a run, and these bytes read as what a crash leaves of the log of one of its
-  -- processes, they are called unfit for no other reason.
+  -- Where the state of a tree stands for a run, and these bytes read as what a crash leaves of the log of one
+  -- of its processes, they are called unfit for no other reason.
   abbrev pub OwnLogsAreFit : Type 0
   OwnLogsAreFit = (s : WorldState) (es : List Made) (w : World) → IsTree s.tree → FollowsBehindFaults es w s
       → (e : TreeProcess) → find (λ x. same_process x.id e.id) s.tree ≡ Some e → (c : CoreState)
@@ -42,4 +42,5 @@ module _ {L : Type 0} (bytes : L → List ℕ) (forced failures : L → ℕ) whe
   abbrev pub NewLogsAreFit : Type 0
   NewLogsAreFit = (tree : List TreeProcess) (e : TreeProcess) (store : L) (torn : ℕ)
       → read_log (form_by e) (bytes store) ≡ Whole [] torn
-      → ProcessNotReopened bytes forced failures (form_by e) (place_by tree e) store Unfit → AreUsedUp (form_by e).kind []
+      → ProcessNotReopened bytes forced failures (form_by e) (place_by tree e) store Unfit
+      → AreUsedUp (form_by e).kind []

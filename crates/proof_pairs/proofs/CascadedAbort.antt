@@ -22,7 +22,8 @@ promises r h g = grind arith
 pub reads_up : KeepsInvariant PresumedAbort CascadedMoves.MayReadUp CascadedMoves.reads_up
 reads_up r h g = grind arith
 
-pub passes_commit : KeepsInvariant PresumedAbort CascadedMoves.MayPassCommit CascadedMoves.passes_commit_forced
+pub passes_commit : KeepsInvariant PresumedAbort CascadedMoves.MayPassCommit
+    CascadedMoves.passes_commit_forced
 passes_commit r h g = grind arith
 
 pub passes_abort : KeepsInvariant PresumedAbort CascadedMoves.MayPassAbort CascadedMoves.passes_abort

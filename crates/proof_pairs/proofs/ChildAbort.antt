@@ -28,7 +28,8 @@ refuses r h g = grind arith
 pub asks : KeepsInvariant PresumedAbort ChildMoves.MayAsk ChildMoves.asks
 asks r h g = grind arith
 
-pub decides_alone : (commit : Bool) → KeepsInvariant PresumedAbort ChildMoves.MayDecideAlone (ChildMoves.decides_alone commit)
+pub decides_alone : (commit : Bool) → KeepsInvariant PresumedAbort ChildMoves.MayDecideAlone
+    (ChildMoves.decides_alone commit)
 decides_alone commit r h g = grind arith
 
 pub forgets : KeepsInvariant PresumedAbort ChildMoves.MayForget ChildMoves.forgets

@@ -28,7 +28,8 @@ refuses r h g = grind arith
 pub asks : KeepsInvariant PresumedCommit ChildMoves.MayAsk ChildMoves.asks
 asks r h g = grind arith
 
-pub decides_alone : (commit : Bool) → KeepsInvariant PresumedCommit ChildMoves.MayDecideAlone (ChildMoves.decides_alone commit)
+pub decides_alone : (commit : Bool) → KeepsInvariant PresumedCommit ChildMoves.MayDecideAlone
+    (ChildMoves.decides_alone commit)
 decides_alone commit r h g = grind arith
 
 pub forgets : KeepsInvariant PresumedCommit ChildMoves.MayForget ChildMoves.forgets
@@ -65,7 +66,8 @@ rolls_back r h g = grind arith
 pub acknowledges : KeepsInvariant PresumedCommit ChildMoves.MayAcknowledgeAbort ChildMoves.acknowledges
 acknowledges r h g = grind arith
 
-pub drops_and_acknowledges : KeepsInvariant PresumedCommit ChildMoves.MayDropAndAcknowledge ChildMoves.drops_and_acknowledges
+pub drops_and_acknowledges : KeepsInvariant PresumedCommit ChildMoves.MayDropAndAcknowledge
+    ChildMoves.drops_and_acknowledges
 drops_and_acknowledges r h g = grind arith
 
 pub learns_abort : KeepsInvariant PresumedCommit ChildMoves.MayLearnAbort ChildMoves.learns_abort_forced

@@ -15,7 +15,8 @@ fails_to_promise r h g = grind arith
 pub fails_to_commit : KeepsInvariant PresumedCommit ChildCrash.MayFailToLearnCommit ChildCrash.fails_to_commit
 fails_to_commit r h g = grind arith
 
-pub fails_to_roll_back : KeepsInvariant PresumedCommit ChildCrash.MayFailToLearnAbort ChildCrash.fails_to_roll_back
+pub fails_to_roll_back : KeepsInvariant PresumedCommit ChildCrash.MayFailToLearnAbort
+    ChildCrash.fails_to_roll_back
 fails_to_roll_back r h g = grind arith
 
 pub fails_to_decide_alone : (commit : Bool)
@@ -26,7 +27,8 @@ pub fails_to_forget : KeepsInvariant PresumedCommit ChildCrash.MayFailToForget C
 fails_to_forget r h g = grind arith
 
 pub hardens_failed_child : (front : ChildFront)
-    → KeepsInvariant PresumedCommit (ChildCrash.MayHardenFailedChild front) (ChildCrash.hardens_failed_child front)
+    → KeepsInvariant PresumedCommit (ChildCrash.MayHardenFailedChild front)
+    (ChildCrash.hardens_failed_child front)
 hardens_failed_child front r h g = record {
   invariant = record {
     common = grind arith;
@@ -45,7 +47,8 @@ hardens_failed_child front r h g = record {
   later = grind arith;
 }
 
-pub child_loses : (front : ChildFront) → KeepsInvariant PresumedCommit (ChildCrash.IsChildFront front) (ChildCrash.child_loses front)
+pub child_loses : (front : ChildFront) → KeepsInvariant PresumedCommit (ChildCrash.IsChildFront front)
+    (ChildCrash.child_loses front)
 child_loses front r h g = grind arith
 
 pub child_reopens : KeepsInvariant PresumedCommit ChildCrash.MayReopenChild ChildCrash.child_reopens

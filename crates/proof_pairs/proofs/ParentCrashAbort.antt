@@ -18,11 +18,13 @@ fails_to_hear_no r h g = grind arith
 pub fails_at_no : KeepsInvariant PresumedAbort ParentMoves.MayHearNo ParentCrash.fails_at_no
 fails_at_no r h g = grind arith
 
-pub fails_to_promise_up : KeepsInvariant PresumedAbort CascadedMoves.MayPromise ParentCrash.fails_to_promise_up
+pub fails_to_promise_up : KeepsInvariant PresumedAbort CascadedMoves.MayPromise
+    ParentCrash.fails_to_promise_up
 fails_to_promise_up r h g = grind arith
 
 pub hardens_failed_parent : (front : ParentFront)
-    → KeepsInvariant PresumedAbort (ParentCrash.MayHardenFailedParent front) (ParentCrash.hardens_failed_parent front)
+    → KeepsInvariant PresumedAbort (ParentCrash.MayHardenFailedParent front)
+    (ParentCrash.hardens_failed_parent front)
 hardens_failed_parent front r h g = record {
   invariant = record {
     common = grind arith;
@@ -40,7 +42,8 @@ hardens_failed_parent front r h g = record {
   later = grind arith;
 }
 
-pub parent_loses : (front : ParentFront) → KeepsInvariant PresumedAbort (ParentCrash.IsParentFront front) (ParentCrash.parent_loses front)
+pub parent_loses : (front : ParentFront) → KeepsInvariant PresumedAbort (ParentCrash.IsParentFront front)
+    (ParentCrash.parent_loses front)
 parent_loses front r h g = record {
   invariant = record {
     common = record {
@@ -132,13 +135,16 @@ fails_to_abort r h g = grind arith
 pub fails_to_decide : KeepsInvariant PresumedAbort RootMoves.MayDecide ParentCrash.fails_to_decide_naming
 fails_to_decide r h g = grind arith
 
-pub fails_to_pass_commit : KeepsInvariant PresumedAbort CascadedMoves.MayPassCommit ParentCrash.fails_to_pass_commit_naming
+pub fails_to_pass_commit : KeepsInvariant PresumedAbort CascadedMoves.MayPassCommit
+    ParentCrash.fails_to_pass_commit_naming
 fails_to_pass_commit r h g = grind arith
 
-pub fails_to_pass_abort : KeepsInvariant PresumedAbort CascadedMoves.MayPassAbort ParentCrash.fails_to_pass_abort
+pub fails_to_pass_abort : KeepsInvariant PresumedAbort CascadedMoves.MayPassAbort
+    ParentCrash.fails_to_pass_abort
 fails_to_pass_abort r h g = grind arith
 
-pub parent_reopens : KeepsInvariant PresumedAbort ParentCrash.MayReopenParent ParentCrash.parent_reopens_naming
+pub parent_reopens : KeepsInvariant PresumedAbort ParentCrash.MayReopenParent
+    ParentCrash.parent_reopens_naming
 parent_reopens r h g = record {
   invariant = record {
     common = grind arith;
@@ -157,7 +163,8 @@ parent_reopens r h g = record {
 }
 
 pub parent_restarts : (front : ParentFront)
-    → KeepsInvariant PresumedAbort (ParentCrash.IsParentFront front) (ParentCrash.parent_restarts_naming front)
+    → KeepsInvariant PresumedAbort (ParentCrash.IsParentFront front)
+    (ParentCrash.parent_restarts_naming front)
 parent_restarts front r h g =
     let lost = parent_loses front r h g in
     let back = parent_reopens (ParentCrash.parent_loses front r) lost.invariant (record { failed = refl }) in

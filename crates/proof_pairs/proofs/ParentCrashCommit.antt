@@ -18,11 +18,13 @@ fails_to_hear_no r h g = grind arith
 pub fails_at_no : KeepsInvariant PresumedCommit ParentMoves.MayHearNo ParentCrash.fails_at_no
 fails_at_no r h g = grind arith
 
-pub fails_to_promise_up : KeepsInvariant PresumedCommit CascadedMoves.MayPromise ParentCrash.fails_to_promise_up
+pub fails_to_promise_up : KeepsInvariant PresumedCommit CascadedMoves.MayPromise
+    ParentCrash.fails_to_promise_up
 fails_to_promise_up r h g = grind arith
 
 pub hardens_failed_parent : (front : ParentFront)
-    → KeepsInvariant PresumedCommit (ParentCrash.MayHardenFailedParent front) (ParentCrash.hardens_failed_parent front)
+    → KeepsInvariant PresumedCommit (ParentCrash.MayHardenFailedParent front)
+    (ParentCrash.hardens_failed_parent front)
 hardens_failed_parent front r h g = record {
   invariant = record {
     common = grind arith;
@@ -41,7 +43,8 @@ hardens_failed_parent front r h g = record {
   later = grind arith;
 }
 
-pub parent_loses : (front : ParentFront) → KeepsInvariant PresumedCommit (ParentCrash.IsParentFront front) (ParentCrash.parent_loses front)
+pub parent_loses : (front : ParentFront) → KeepsInvariant PresumedCommit (ParentCrash.IsParentFront front)
+    (ParentCrash.parent_loses front)
 parent_loses front r h g = record {
   invariant = record {
     common = record {
@@ -134,19 +137,23 @@ fails_to_collect r h g = grind arith
 pub fails_to_abort : KeepsInvariant PresumedCommit ParentMoves.MayAbort ParentCrash.fails_to_abort_naming
 fails_to_abort r h g = grind arith
 
-pub fails_to_end_read_only : KeepsInvariant PresumedCommit ParentCrash.MayFailToEndReadOnly ParentCrash.fails_to_end_read_only
+pub fails_to_end_read_only : KeepsInvariant PresumedCommit ParentCrash.MayFailToEndReadOnly
+    ParentCrash.fails_to_end_read_only
 fails_to_end_read_only r h g = grind arith
 
 pub fails_to_decide : KeepsInvariant PresumedCommit RootMoves.MayDecide ParentCrash.fails_to_decide
 fails_to_decide r h g = grind arith
 
-pub fails_to_pass_commit : KeepsInvariant PresumedCommit CascadedMoves.MayPassCommit ParentCrash.fails_to_pass_commit
+pub fails_to_pass_commit : KeepsInvariant PresumedCommit CascadedMoves.MayPassCommit
+    ParentCrash.fails_to_pass_commit
 fails_to_pass_commit r h g = grind arith
 
-pub fails_to_pass_abort : KeepsInvariant PresumedCommit CascadedMoves.MayPassAbort ParentCrash.fails_to_pass_abort_naming
+pub fails_to_pass_abort : KeepsInvariant PresumedCommit CascadedMoves.MayPassAbort
+    ParentCrash.fails_to_pass_abort_naming
 fails_to_pass_abort r h g = grind arith
 
-pub fails_to_abort_at_restart : KeepsInvariant PresumedCommit ParentCrash.MayAbortAtRestart ParentCrash.fails_to_abort_at_restart
+pub fails_to_abort_at_restart : KeepsInvariant PresumedCommit ParentCrash.MayAbortAtRestart
+    ParentCrash.fails_to_abort_at_restart
 fails_to_abort_at_restart r h g = record {
   invariant = record {
     common = grind arith;

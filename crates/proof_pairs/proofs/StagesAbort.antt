@@ -26,7 +26,8 @@ lem_flat_commit_begun =
     let g : RootMoves.MayBegin (opened true true) = grind arith in
     (h, g, refl, (RootAbort.begins (opened true true) h g).invariant)
 
-pub lem_flat_commit_joined : Reaches PresumedAbort ChildMoves.MayIssue ChildMoves.issues StagesAbort.flat_commit_begun
+pub lem_flat_commit_joined : Reaches PresumedAbort ChildMoves.MayIssue ChildMoves.issues
+    StagesAbort.flat_commit_begun
     StagesAbort.flat_commit_joined
 lem_flat_commit_joined =
     let h : PresumedAbort StagesAbort.flat_commit_begun = lem_flat_commit_begun.3 in
@@ -47,7 +48,8 @@ lem_flat_commit_asked =
     let g : ParentMoves.MayAskForVotes StagesAbort.flat_commit_accepted = grind arith in
     (h, g, refl, (ParentAbort.asks_for_votes StagesAbort.flat_commit_accepted h g).invariant)
 
-pub lem_flat_commit_voted : Reaches PresumedAbort ChildMoves.MayVote ChildMoves.votes_yes StagesAbort.flat_commit_asked
+pub lem_flat_commit_voted : Reaches PresumedAbort ChildMoves.MayVote ChildMoves.votes_yes
+    StagesAbort.flat_commit_asked
     StagesAbort.flat_commit_voted
 lem_flat_commit_voted =
     let h : PresumedAbort StagesAbort.flat_commit_asked = lem_flat_commit_asked.3 in
@@ -82,7 +84,8 @@ lem_flat_commit_acked =
     let g : ParentMoves.MayHearAck StagesAbort.flat_commit_obeyed = grind arith in
     (h, g, refl, (ParentAbort.hears_ack StagesAbort.flat_commit_obeyed h g).invariant)
 
-pub lem_flat_commit_ended : Reaches PresumedAbort ParentMoves.MayEndCommit ParentMoves.ends StagesAbort.flat_commit_acked
+pub lem_flat_commit_ended : Reaches PresumedAbort ParentMoves.MayEndCommit ParentMoves.ends
+    StagesAbort.flat_commit_acked
     StagesAbort.flat_commit_ended
 lem_flat_commit_ended =
     let h : PresumedAbort StagesAbort.flat_commit_acked = lem_flat_commit_acked.3 in
@@ -103,7 +106,8 @@ lem_flat_commit_trimmed_below =
     let g : ChildMoves.MayTrimChild StagesAbort.flat_commit_trimmed = grind arith in
     (h, g, refl, (ChildAbort.trims_child StagesAbort.flat_commit_trimmed h g).invariant)
 
-pub lem_flat_abort_aborted : Reaches PresumedAbort ParentMoves.MayAbort ParentMoves.aborts StagesAbort.flat_commit_voted
+pub lem_flat_abort_aborted : Reaches PresumedAbort ParentMoves.MayAbort ParentMoves.aborts
+    StagesAbort.flat_commit_voted
     StagesAbort.flat_abort_aborted
 lem_flat_abort_aborted =
     let h : PresumedAbort StagesAbort.flat_commit_voted = (lem_flat_commit_voted).3 in
@@ -169,7 +173,8 @@ lem_flat_abort_obeyed_again =
     let g : ChildMoves.MayLearnAbort StagesAbort.flat_abort_answered = grind arith in
     (h, g, refl, (ChildAbort.rolls_back StagesAbort.flat_abort_answered h g).invariant)
 
-pub lem_operator_decided_alone : Reaches PresumedAbort ChildMoves.MayDecideAlone (ChildMoves.decides_alone false)
+pub lem_operator_decided_alone : Reaches PresumedAbort ChildMoves.MayDecideAlone
+    (ChildMoves.decides_alone false)
     StagesAbort.flat_commit_voted StagesAbort.operator_decided_alone
 lem_operator_decided_alone =
     let h : PresumedAbort StagesAbort.flat_commit_voted = (lem_flat_commit_voted).3 in
@@ -183,7 +188,8 @@ lem_operator_heard =
     let g : ParentMoves.MayHearYes StagesAbort.operator_decided_alone = grind arith in
     (h, g, refl, (ParentAbort.hears_yes StagesAbort.operator_decided_alone h g).invariant)
 
-pub lem_operator_decided : Reaches PresumedAbort RootMoves.MayDecide RootMoves.decides_naming StagesAbort.operator_heard
+pub lem_operator_decided : Reaches PresumedAbort RootMoves.MayDecide RootMoves.decides_naming
+    StagesAbort.operator_heard
     StagesAbort.operator_decided
 lem_operator_decided =
     let h : PresumedAbort StagesAbort.operator_heard = lem_operator_heard.3 in
@@ -197,7 +203,8 @@ lem_operator_told =
     let g : ChildMoves.MayLearnCommit StagesAbort.operator_decided = grind arith in
     (h, g, refl, (ChildAbort.commits StagesAbort.operator_decided h g).invariant)
 
-pub lem_operator_forgotten : Reaches PresumedAbort ChildMoves.MayForget ChildMoves.forgets StagesAbort.operator_told
+pub lem_operator_forgotten : Reaches PresumedAbort ChildMoves.MayForget ChildMoves.forgets
+    StagesAbort.operator_told
     StagesAbort.operator_forgotten
 lem_operator_forgotten =
     let h : PresumedAbort StagesAbort.operator_told = lem_operator_told.3 in
@@ -261,16 +268,19 @@ lem_cascaded_commit_promised =
     (h, g, refl, (CascadedAbort.promises StagesAbort.cascaded_commit_heard h g).invariant)
 
 pub lem_cascaded_commit_committed_above : Reaches PresumedAbort CascadedMoves.MayCommitAbove
-    CascadedMoves.commits_above StagesAbort.cascaded_commit_promised StagesAbort.cascaded_commit_committed_above
+    CascadedMoves.commits_above StagesAbort.cascaded_commit_promised
+    StagesAbort.cascaded_commit_committed_above
 lem_cascaded_commit_committed_above =
     let h : PresumedAbort StagesAbort.cascaded_commit_promised = lem_cascaded_commit_promised.3 in
     let g : CascadedMoves.MayCommitAbove StagesAbort.cascaded_commit_promised = grind arith in
     (h, g, refl, (CascadedAbort.commits_above StagesAbort.cascaded_commit_promised h g).invariant)
 
-pub lem_cascaded_commit_passed : Reaches PresumedAbort CascadedMoves.MayPassCommit CascadedMoves.passes_commit_forced
+pub lem_cascaded_commit_passed : Reaches PresumedAbort CascadedMoves.MayPassCommit
+    CascadedMoves.passes_commit_forced
     StagesAbort.cascaded_commit_committed_above StagesAbort.cascaded_commit_passed
 lem_cascaded_commit_passed =
-    let h : PresumedAbort StagesAbort.cascaded_commit_committed_above = lem_cascaded_commit_committed_above.3 in
+    let h : PresumedAbort StagesAbort.cascaded_commit_committed_above = lem_cascaded_commit_committed_above.3
+    in
     let g : CascadedMoves.MayPassCommit StagesAbort.cascaded_commit_committed_above = grind arith in
     (h, g, refl, (CascadedAbort.passes_commit StagesAbort.cascaded_commit_committed_above h g).invariant)
 
@@ -302,7 +312,8 @@ lem_cascaded_abort_born =
     let g : CascadedMoves.MayBeBorn (opened false false) = grind arith in
     (h, g, refl, (CascadedAbort.is_born (opened false false) h g).invariant)
 
-pub lem_cascaded_abort_joined : Reaches PresumedAbort ChildMoves.MayIssue ChildMoves.issues StagesAbort.cascaded_abort_born
+pub lem_cascaded_abort_joined : Reaches PresumedAbort ChildMoves.MayIssue ChildMoves.issues
+    StagesAbort.cascaded_abort_born
     StagesAbort.cascaded_abort_joined
 lem_cascaded_abort_joined =
     let h : PresumedAbort StagesAbort.cascaded_abort_born = lem_cascaded_abort_born.3 in

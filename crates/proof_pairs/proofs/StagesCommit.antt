@@ -26,7 +26,8 @@ lem_flat_commit_begun =
     let g : RootMoves.MayBegin (opened true true) = grind arith in
     (h, g, refl, (RootCommit.begins (opened true true) h g).invariant)
 
-pub lem_flat_commit_joined : Reaches PresumedCommit ChildMoves.MayIssue ChildMoves.issues StagesCommit.flat_commit_begun
+pub lem_flat_commit_joined : Reaches PresumedCommit ChildMoves.MayIssue ChildMoves.issues
+    StagesCommit.flat_commit_begun
     StagesCommit.flat_commit_joined
 lem_flat_commit_joined =
     let h : PresumedCommit StagesCommit.flat_commit_begun = lem_flat_commit_begun.3 in
@@ -47,7 +48,8 @@ lem_flat_commit_asked =
     let g : ParentMoves.MayAskForVotes StagesCommit.flat_commit_accepted = grind arith in
     (h, g, refl, (ParentCommit.asks_for_votes StagesCommit.flat_commit_accepted h g).invariant)
 
-pub lem_flat_commit_voted : Reaches PresumedCommit ChildMoves.MayVote ChildMoves.votes_yes StagesCommit.flat_commit_asked
+pub lem_flat_commit_voted : Reaches PresumedCommit ChildMoves.MayVote ChildMoves.votes_yes
+    StagesCommit.flat_commit_asked
     StagesCommit.flat_commit_voted
 lem_flat_commit_voted =
     let h : PresumedCommit StagesCommit.flat_commit_asked = lem_flat_commit_asked.3 in
@@ -61,7 +63,8 @@ lem_flat_commit_heard =
     let g : ParentMoves.MayHearYes StagesCommit.flat_commit_voted = grind arith in
     (h, g, refl, (ParentCommit.hears_yes StagesCommit.flat_commit_voted h g).invariant)
 
-pub lem_flat_commit_decided : Reaches PresumedCommit RootMoves.MayDecide RootMoves.decides StagesCommit.flat_commit_heard
+pub lem_flat_commit_decided : Reaches PresumedCommit RootMoves.MayDecide RootMoves.decides
+    StagesCommit.flat_commit_heard
     StagesCommit.flat_commit_decided
 lem_flat_commit_decided =
     let h : PresumedCommit StagesCommit.flat_commit_heard = lem_flat_commit_heard.3 in
@@ -183,7 +186,8 @@ lem_flat_abort_acked =
     let g : ParentMoves.MayHearAck StagesCommit.flat_abort_obeyed = grind arith in
     (h, g, refl, (ParentCommit.hears_ack StagesCommit.flat_abort_obeyed h g).invariant)
 
-pub lem_flat_abort_ended : Reaches PresumedCommit ParentMoves.MayEndAbort ParentMoves.ends StagesCommit.flat_abort_acked
+pub lem_flat_abort_ended : Reaches PresumedCommit ParentMoves.MayEndAbort ParentMoves.ends
+    StagesCommit.flat_abort_acked
     StagesCommit.flat_abort_ended
 lem_flat_abort_ended =
     let h : PresumedCommit StagesCommit.flat_abort_acked = lem_flat_abort_acked.3 in
@@ -254,16 +258,19 @@ lem_cascaded_commit_promised =
     (h, g, refl, (CascadedCommit.promises StagesCommit.cascaded_commit_heard h g).invariant)
 
 pub lem_cascaded_commit_committed_above : Reaches PresumedCommit CascadedMoves.MayCommitAbove
-    CascadedMoves.commits_above StagesCommit.cascaded_commit_promised StagesCommit.cascaded_commit_committed_above
+    CascadedMoves.commits_above StagesCommit.cascaded_commit_promised
+    StagesCommit.cascaded_commit_committed_above
 lem_cascaded_commit_committed_above =
     let h : PresumedCommit StagesCommit.cascaded_commit_promised = lem_cascaded_commit_promised.3 in
     let g : CascadedMoves.MayCommitAbove StagesCommit.cascaded_commit_promised = grind arith in
     (h, g, refl, (CascadedCommit.commits_above StagesCommit.cascaded_commit_promised h g).invariant)
 
-pub lem_cascaded_commit_passed : Reaches PresumedCommit CascadedMoves.MayPassCommit CascadedMoves.passes_commit
+pub lem_cascaded_commit_passed : Reaches PresumedCommit CascadedMoves.MayPassCommit
+    CascadedMoves.passes_commit
     StagesCommit.cascaded_commit_committed_above StagesCommit.cascaded_commit_passed
 lem_cascaded_commit_passed =
-    let h : PresumedCommit StagesCommit.cascaded_commit_committed_above = lem_cascaded_commit_committed_above.3 in
+    let h : PresumedCommit StagesCommit.cascaded_commit_committed_above =
+    lem_cascaded_commit_committed_above.3 in
     let g : CascadedMoves.MayPassCommit StagesCommit.cascaded_commit_committed_above = grind arith in
     (h, g, refl, (CascadedCommit.passes_commit StagesCommit.cascaded_commit_committed_above h g).invariant)
 
@@ -274,7 +281,8 @@ lem_cascaded_commit_obeyed =
     let g : ChildMoves.MayLearnCommit StagesCommit.cascaded_commit_passed = grind arith in
     (h, g, refl, (ChildCommit.commits StagesCommit.cascaded_commit_passed h g).invariant)
 
-pub lem_cascaded_abort_passed : Reaches PresumedCommit CascadedMoves.MayPassAbort CascadedMoves.passes_abort_forced
+pub lem_cascaded_abort_passed : Reaches PresumedCommit CascadedMoves.MayPassAbort
+    CascadedMoves.passes_abort_forced
     StagesCommit.cascaded_commit_promised StagesCommit.cascaded_abort_passed
 lem_cascaded_abort_passed =
     let h : PresumedCommit StagesCommit.cascaded_commit_promised = (lem_cascaded_commit_promised).3 in
@@ -302,14 +310,16 @@ lem_cascaded_abort_ended =
     let g : ParentMoves.MayEndAbort StagesCommit.cascaded_abort_acked = grind arith in
     (h, g, refl, (ParentCommit.ends StagesCommit.cascaded_abort_acked h g).invariant)
 
-pub lem_read_only_read : Reaches PresumedCommit ChildMoves.MayVote ChildMoves.votes_read StagesCommit.cascaded_commit_asked
+pub lem_read_only_read : Reaches PresumedCommit ChildMoves.MayVote ChildMoves.votes_read
+    StagesCommit.cascaded_commit_asked
     StagesCommit.read_only_read
 lem_read_only_read =
     let h : PresumedCommit StagesCommit.cascaded_commit_asked = (lem_cascaded_commit_asked).3 in
     let g : ChildMoves.MayVote StagesCommit.cascaded_commit_asked = grind arith in
     (h, g, refl, (ChildCommit.votes_read StagesCommit.cascaded_commit_asked h g).invariant)
 
-pub lem_read_only_heard : Reaches PresumedCommit ParentMoves.MayHearRead ParentMoves.hears_read StagesCommit.read_only_read
+pub lem_read_only_heard : Reaches PresumedCommit ParentMoves.MayHearRead ParentMoves.hears_read
+    StagesCommit.read_only_read
     StagesCommit.read_only_heard
 lem_read_only_heard =
     let h : PresumedCommit StagesCommit.read_only_read = lem_read_only_read.3 in
@@ -358,7 +368,8 @@ lem_read_only_restarted =
       }) StagesCommit.read_only_read_up h g).invariant,
     )
 
-pub lem_read_only_committed_above : Reaches PresumedCommit CascadedMoves.MayCommitAbove CascadedMoves.commits_above
+pub lem_read_only_committed_above : Reaches PresumedCommit CascadedMoves.MayCommitAbove
+    CascadedMoves.commits_above
     StagesCommit.read_only_restarted StagesCommit.read_only_committed_above
 lem_read_only_committed_above =
     let h : PresumedCommit StagesCommit.read_only_restarted = lem_read_only_restarted.3 in

@@ -76,25 +76,29 @@ reads_collected a b h k i g = grind arith
 pub hears_no : Together (λ a b. ParentMoves.MayHearNo b) ChildMoves.votes_no ParentMoves.hears_no
 hears_no a b h k i g = grind arith
 
-pub hears_no_forced : Together (λ a b. ParentMoves.MayHearNo b) ChildMoves.votes_no ParentMoves.hears_no_forced
+pub hears_no_forced : Together (λ a b. ParentMoves.MayHearNo b) ChildMoves.votes_no
+    ParentMoves.hears_no_forced
 hears_no_forced a b h k i g = grind arith
 
 pub aborts_by_no : Together (λ a b. ParentMoves.MayAbort b) ChildMoves.votes_no ParentMoves.aborts
 aborts_by_no a b h k i g = grind arith
 
-pub aborts_by_no_forced : Together (λ a b. ParentMoves.MayAbort b) ChildMoves.votes_no ParentMoves.aborts_forced
+pub aborts_by_no_forced : Together (λ a b. ParentMoves.MayAbort b) ChildMoves.votes_no
+    ParentMoves.aborts_forced
 aborts_by_no_forced a b h k i g = grind arith
 
 pub aborts : Together (λ a b. ParentMoves.MayAbort b) ChildMoves.drops ParentMoves.aborts
 aborts a b h k i g = grind arith
 
-pub aborts_forced : Together (λ a b. ParentMoves.MayAbort b) ChildMoves.drops_and_acknowledges ParentMoves.aborts_forced
+pub aborts_forced : Together (λ a b. ParentMoves.MayAbort b) ChildMoves.drops_and_acknowledges
+    ParentMoves.aborts_forced
 aborts_forced a b h k i g = grind arith
 
 pub gives_up : Together (λ a b. Unit {0}) ChildMoves.drops ParentMoves.gives_up
 gives_up a b h k i g = grind arith
 
-pub gives_up_and_acknowledges : Together (λ a b. Unit {0}) ChildMoves.drops_and_acknowledges ParentMoves.gives_up
+pub gives_up_and_acknowledges : Together (λ a b. Unit {0}) ChildMoves.drops_and_acknowledges
+    ParentMoves.gives_up
 gives_up_and_acknowledges a b h k i g = grind arith
 
 pub passes_commit_forced : Together (λ a b. cascaded.MayPassCommit b) ChildMoves.commits_forced
@@ -141,7 +145,8 @@ pub fails_to_collect : Together (λ a b. ParentCrash.MayFailToCollect b) ChildCr
     ParentCrash.fails_to_collect
 fails_to_collect a b h k i g = grind arith
 
-pub fails_to_abort : Together (λ a b. ParentMoves.MayAbort b) ChildCrash.child_fails ParentCrash.fails_to_abort
+pub fails_to_abort : Together (λ a b. ParentMoves.MayAbort b) ChildCrash.child_fails
+    ParentCrash.fails_to_abort
 fails_to_abort a b h k i g = grind arith
 
 pub fails_to_promise : Together (λ a b. cascaded.MayPromise b) ChildCrash.fails_to_promise

@@ -129,7 +129,8 @@ pub record MayAcknowledgeAbort (r : Reading) : Type 0 where
 abbrev pub acknowledges : Reading → Reading
 acknowledges r = record r { sent_ack = true }
 
--- A coordinator's own record of the outcome is forced, and its ACK waits for its children: of a commit, under Presumed Abort.
+-- A coordinator's own record of the outcome is forced, and its ACK waits for its children: of a commit, under
+-- Presumed Abort.
 abbrev pub learns_commit_forced : Reading → Reading
 learns_commit_forced r = record r {
   learnt_commit_kept = true;
@@ -139,7 +140,11 @@ learns_commit_forced r = record r {
 
 -- And of an abort, under Presumed Commit.
 abbrev pub learns_abort_forced : Reading → Reading
-learns_abort_forced r = record r { child_refused = true; learnt_abort_kept = true; learnt_abort_forced = true }
+learns_abort_forced r = record r {
+  child_refused = true;
+  learnt_abort_kept = true;
+  learnt_abort_forced = true;
+}
 
 -- The ticket is settled: an ACK of it is true at any time.
 pub record MayAcknowledge (r : Reading) : Type 0 where

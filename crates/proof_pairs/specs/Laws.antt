@@ -36,7 +36,8 @@ pub record ChildRowsUnderCommit : Type 0 where
   pub votes_no : KeepsInvariant PresumedCommit ChildMoves.MayVote ChildMoves.votes_no
   pub votes_read : KeepsInvariant PresumedCommit ChildMoves.MayVote ChildMoves.votes_read
   pub drops : KeepsInvariant PresumedCommit ChildMoves.MayDrop ChildMoves.drops
-  pub drops_and_acknowledges : KeepsInvariant PresumedCommit ChildMoves.MayDropAndAcknowledge ChildMoves.drops_and_acknowledges
+  pub drops_and_acknowledges : KeepsInvariant PresumedCommit ChildMoves.MayDropAndAcknowledge
+      ChildMoves.drops_and_acknowledges
   pub repeats_yes : KeepsInvariant PresumedCommit ChildMoves.MayRepeatYes ChildMoves.repeats_yes
   pub refuses : KeepsInvariant PresumedCommit ChildMoves.MayRefuse ChildMoves.refuses
   pub commits : KeepsInvariant PresumedCommit ChildMoves.MayLearnCommit ChildMoves.commits
@@ -63,14 +64,16 @@ pub record HeuristicRowsUnderCommit : Type 0 where
       → KeepsInvariant PresumedCommit ChildMoves.MayDecideAlone (ChildMoves.decides_alone commit)
   pub forgets : KeepsInvariant PresumedCommit ChildMoves.MayForget ChildMoves.forgets
   pub fails_to_decide_alone : (commit : Bool)
-      → KeepsInvariant PresumedCommit ChildCrash.MayFailToDecideAlone (ChildCrash.fails_to_decide_alone commit)
+      → KeepsInvariant PresumedCommit ChildCrash.MayFailToDecideAlone
+      (ChildCrash.fails_to_decide_alone commit)
   pub fails_to_forget : KeepsInvariant PresumedCommit ChildCrash.MayFailToForget ChildCrash.fails_to_forget
 
 -- Each fault at the child keeps the invariant, and each restart of it, under Presumed Abort.
 pub record ChildCrashesUnderAbort : Type 0 where
   pub child_fails : KeepsInvariant PresumedAbort ChildCrash.MayFailChild ChildCrash.child_fails
   pub fails_to_promise : KeepsInvariant PresumedAbort ChildCrash.MayFailToPromise ChildCrash.fails_to_promise
-  pub fails_to_commit : KeepsInvariant PresumedAbort ChildCrash.MayFailToLearnCommit ChildCrash.fails_to_commit
+  pub fails_to_commit : KeepsInvariant PresumedAbort ChildCrash.MayFailToLearnCommit
+      ChildCrash.fails_to_commit
   pub fails_to_roll_back : KeepsInvariant PresumedAbort ChildCrash.MayFailToLearnAbort
       ChildCrash.fails_to_roll_back
   pub hardens_failed_child : (front : ChildFront)
@@ -86,7 +89,8 @@ pub record ChildCrashesUnderAbort : Type 0 where
 pub record ChildCrashesUnderCommit : Type 0 where
   pub child_fails : KeepsInvariant PresumedCommit ChildCrash.MayFailChild ChildCrash.child_fails
   pub fails_to_promise : KeepsInvariant PresumedCommit ChildCrash.MayFailToPromise ChildCrash.fails_to_promise
-  pub fails_to_commit : KeepsInvariant PresumedCommit ChildCrash.MayFailToLearnCommit ChildCrash.fails_to_commit
+  pub fails_to_commit : KeepsInvariant PresumedCommit ChildCrash.MayFailToLearnCommit
+      ChildCrash.fails_to_commit
   pub fails_to_roll_back : KeepsInvariant PresumedCommit ChildCrash.MayFailToLearnAbort
       ChildCrash.fails_to_roll_back
   pub hardens_failed_child : (front : ChildFront)
@@ -137,7 +141,8 @@ pub record RootRowsUnderAbort : Type 0 where
 pub record RootRowsUnderCommit : Type 0 where
   pub begins : KeepsInvariant PresumedCommit RootMoves.MayBegin RootMoves.begins
   pub ends_empty : KeepsInvariant PresumedCommit RootMoves.MayEndEmpty RootMoves.ends_empty
-  pub ends_read_only : KeepsInvariant PresumedCommit RootMoves.MayEndReadOnly RootMoves.ends_read_only_collected
+  pub ends_read_only : KeepsInvariant PresumedCommit RootMoves.MayEndReadOnly
+      RootMoves.ends_read_only_collected
   pub decides : KeepsInvariant PresumedCommit RootMoves.MayDecide RootMoves.decides
 
 -- Each row of a cascaded coordinator alone keeps the invariant, and what becomes true above it, under
@@ -149,7 +154,8 @@ pub record CascadedRowsUnderAbort : Type 0 where
   pub reads_empty : KeepsInvariant PresumedAbort CascadedMoves.MayReadEmpty CascadedMoves.reads_empty
   pub reads_up : KeepsInvariant PresumedAbort CascadedMoves.MayReadUp CascadedMoves.reads_up
   pub promises : KeepsInvariant PresumedAbort CascadedMoves.MayPromise CascadedMoves.promises
-  pub passes_commit : KeepsInvariant PresumedAbort CascadedMoves.MayPassCommit CascadedMoves.passes_commit_forced
+  pub passes_commit : KeepsInvariant PresumedAbort CascadedMoves.MayPassCommit
+      CascadedMoves.passes_commit_forced
   pub passes_abort : KeepsInvariant PresumedAbort CascadedMoves.MayPassAbort CascadedMoves.passes_abort
 
 -- Each row of a cascaded coordinator alone keeps the invariant, and what becomes true above it, under
@@ -162,7 +168,8 @@ pub record CascadedRowsUnderCommit : Type 0 where
   pub reads_up : KeepsInvariant PresumedCommit CascadedMoves.MayReadUp CascadedMoves.reads_up_collected
   pub promises : KeepsInvariant PresumedCommit CascadedMoves.MayPromise CascadedMoves.promises
   pub passes_commit : KeepsInvariant PresumedCommit CascadedMoves.MayPassCommit CascadedMoves.passes_commit
-  pub passes_abort : KeepsInvariant PresumedCommit CascadedMoves.MayPassAbort CascadedMoves.passes_abort_forced
+  pub passes_abort : KeepsInvariant PresumedCommit CascadedMoves.MayPassAbort
+      CascadedMoves.passes_abort_forced
 
 -- Each fault at the parent keeps the invariant, and each restart of it, under Presumed Abort.
 pub record ParentCrashesUnderAbort : Type 0 where
@@ -171,24 +178,29 @@ pub record ParentCrashesUnderAbort : Type 0 where
   pub fails_at_no : KeepsInvariant PresumedAbort ParentMoves.MayHearNo ParentCrash.fails_at_no
   pub fails_to_abort : KeepsInvariant PresumedAbort ParentMoves.MayAbort ParentCrash.fails_to_abort
   pub fails_to_decide : KeepsInvariant PresumedAbort RootMoves.MayDecide ParentCrash.fails_to_decide_naming
-  pub fails_to_promise_up : KeepsInvariant PresumedAbort CascadedMoves.MayPromise ParentCrash.fails_to_promise_up
+  pub fails_to_promise_up : KeepsInvariant PresumedAbort CascadedMoves.MayPromise
+      ParentCrash.fails_to_promise_up
   pub fails_to_pass_commit : KeepsInvariant PresumedAbort CascadedMoves.MayPassCommit
       ParentCrash.fails_to_pass_commit_naming
-  pub fails_to_pass_abort : KeepsInvariant PresumedAbort CascadedMoves.MayPassAbort ParentCrash.fails_to_pass_abort
+  pub fails_to_pass_abort : KeepsInvariant PresumedAbort CascadedMoves.MayPassAbort
+      ParentCrash.fails_to_pass_abort
   pub fails_to_end : KeepsInvariant PresumedAbort ParentMoves.MayEndCommit ParentCrash.fails_to_end
   pub hardens_failed_parent : (front : ParentFront)
       → KeepsInvariant PresumedAbort (ParentCrash.MayHardenFailedParent front)
       (ParentCrash.hardens_failed_parent front)
   pub parent_loses : (front : ParentFront)
       → KeepsInvariant PresumedAbort (ParentCrash.IsParentFront front) (ParentCrash.parent_loses front)
-  pub parent_reopens : KeepsInvariant PresumedAbort ParentCrash.MayReopenParent ParentCrash.parent_reopens_naming
+  pub parent_reopens : KeepsInvariant PresumedAbort ParentCrash.MayReopenParent
+      ParentCrash.parent_reopens_naming
   pub parent_restarts : (front : ParentFront)
-      → KeepsInvariant PresumedAbort (ParentCrash.IsParentFront front) (ParentCrash.parent_restarts_naming front)
+      → KeepsInvariant PresumedAbort (ParentCrash.IsParentFront front)
+      (ParentCrash.parent_restarts_naming front)
 
 -- Each fault at the parent keeps the invariant, and each restart of it, under Presumed Commit.
 pub record ParentCrashesUnderCommit : Type 0 where
   pub parent_fails : KeepsInvariant PresumedCommit ParentCrash.MayFailParent ParentCrash.parent_fails
-  pub fails_to_collect : KeepsInvariant PresumedCommit ParentCrash.MayFailToCollect ParentCrash.fails_to_collect
+  pub fails_to_collect : KeepsInvariant PresumedCommit ParentCrash.MayFailToCollect
+      ParentCrash.fails_to_collect
   pub fails_to_hear_no : KeepsInvariant PresumedCommit ParentMoves.MayHearNo ParentCrash.fails_to_hear_no
   pub fails_at_no : KeepsInvariant PresumedCommit ParentMoves.MayHearNo ParentCrash.fails_at_no
   pub fails_to_abort : KeepsInvariant PresumedCommit ParentMoves.MayAbort ParentCrash.fails_to_abort_naming
@@ -197,8 +209,10 @@ pub record ParentCrashesUnderCommit : Type 0 where
   pub fails_to_end_read_only : KeepsInvariant PresumedCommit ParentCrash.MayFailToEndReadOnly
       ParentCrash.fails_to_end_read_only
   pub fails_to_decide : KeepsInvariant PresumedCommit RootMoves.MayDecide ParentCrash.fails_to_decide
-  pub fails_to_promise_up : KeepsInvariant PresumedCommit CascadedMoves.MayPromise ParentCrash.fails_to_promise_up
-  pub fails_to_pass_commit : KeepsInvariant PresumedCommit CascadedMoves.MayPassCommit ParentCrash.fails_to_pass_commit
+  pub fails_to_promise_up : KeepsInvariant PresumedCommit CascadedMoves.MayPromise
+      ParentCrash.fails_to_promise_up
+  pub fails_to_pass_commit : KeepsInvariant PresumedCommit CascadedMoves.MayPassCommit
+      ParentCrash.fails_to_pass_commit
   pub fails_to_pass_abort : KeepsInvariant PresumedCommit CascadedMoves.MayPassAbort
       ParentCrash.fails_to_pass_abort_naming
   pub fails_to_end : KeepsInvariant PresumedCommit ParentMoves.MayEndAbort ParentCrash.fails_to_end

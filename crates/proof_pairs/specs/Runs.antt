@@ -18,7 +18,8 @@ pub record RunsUnderAbort : Type 0 where
   -- A committed run of a root and a manager.
   pub flat_commit_begun : Reaches PresumedAbort RootMoves.MayBegin RootMoves.begins (opened true true)
       StagesAbort.flat_commit_begun
-  pub flat_commit_joined : Reaches PresumedAbort ChildMoves.MayIssue ChildMoves.issues StagesAbort.flat_commit_begun
+  pub flat_commit_joined : Reaches PresumedAbort ChildMoves.MayIssue ChildMoves.issues
+      StagesAbort.flat_commit_begun
       StagesAbort.flat_commit_joined
   pub flat_commit_accepted : Reaches PresumedAbort ParentMoves.MayAccept ParentMoves.accepts
       StagesAbort.flat_commit_joined StagesAbort.flat_commit_accepted
@@ -66,7 +67,8 @@ pub record RunsUnderAbort : Type 0 where
   pub flat_abort_obeyed_again : Reaches PresumedAbort ChildMoves.MayLearnAbort ChildMoves.rolls_back
       StagesAbort.flat_abort_answered StagesAbort.flat_abort_obeyed_again
   -- A manager's operator rolls back a branch that is then committed, and forgets it.
-  pub operator_decided_alone : Reaches PresumedAbort ChildMoves.MayDecideAlone (ChildMoves.decides_alone false)
+  pub operator_decided_alone : Reaches PresumedAbort ChildMoves.MayDecideAlone
+      (ChildMoves.decides_alone false)
       StagesAbort.flat_commit_voted StagesAbort.operator_decided_alone
   pub operator_heard : Reaches PresumedAbort ParentMoves.MayHearYes ParentMoves.hears_yes
       StagesAbort.operator_decided_alone StagesAbort.operator_heard
@@ -74,10 +76,12 @@ pub record RunsUnderAbort : Type 0 where
       StagesAbort.operator_heard StagesAbort.operator_decided
   pub operator_told : Reaches PresumedAbort ChildMoves.MayLearnCommit ChildMoves.commits_forced
       StagesAbort.operator_decided StagesAbort.operator_told
-  pub operator_forgotten : Reaches PresumedAbort ChildMoves.MayForget ChildMoves.forgets StagesAbort.operator_told
+  pub operator_forgotten : Reaches PresumedAbort ChildMoves.MayForget ChildMoves.forgets
+      StagesAbort.operator_told
       StagesAbort.operator_forgotten
   -- A committed run of a cascaded coordinator and a manager below it.
-  pub cascaded_commit_born : Reaches PresumedAbort CascadedMoves.MayBeBorn CascadedMoves.is_born (opened false true)
+  pub cascaded_commit_born : Reaches PresumedAbort CascadedMoves.MayBeBorn CascadedMoves.is_born
+      (opened false true)
       StagesAbort.cascaded_commit_born
   pub cascaded_commit_joined : Reaches PresumedAbort ChildMoves.MayIssue ChildMoves.issues
       StagesAbort.cascaded_commit_born StagesAbort.cascaded_commit_joined
@@ -96,7 +100,8 @@ pub record RunsUnderAbort : Type 0 where
   pub cascaded_commit_committed_above : Reaches PresumedAbort CascadedMoves.MayCommitAbove
       CascadedMoves.commits_above StagesAbort.cascaded_commit_promised
       StagesAbort.cascaded_commit_committed_above
-  pub cascaded_commit_passed : Reaches PresumedAbort CascadedMoves.MayPassCommit CascadedMoves.passes_commit_forced
+  pub cascaded_commit_passed : Reaches PresumedAbort CascadedMoves.MayPassCommit
+      CascadedMoves.passes_commit_forced
       StagesAbort.cascaded_commit_committed_above StagesAbort.cascaded_commit_passed
   pub cascaded_commit_obeyed : Reaches PresumedAbort ChildMoves.MayLearnCommit ChildMoves.commits_forced
       StagesAbort.cascaded_commit_passed StagesAbort.cascaded_commit_obeyed
@@ -106,7 +111,8 @@ pub record RunsUnderAbort : Type 0 where
       StagesAbort.cascaded_commit_acked StagesAbort.cascaded_commit_ended
   -- An aborted run of a cascaded coordinator and another below it: it restarts while it waits for votes,
   -- and its child asks.
-  pub cascaded_abort_born : Reaches PresumedAbort CascadedMoves.MayBeBorn CascadedMoves.is_born (opened false false)
+  pub cascaded_abort_born : Reaches PresumedAbort CascadedMoves.MayBeBorn CascadedMoves.is_born
+      (opened false false)
       StagesAbort.cascaded_abort_born
   pub cascaded_abort_joined : Reaches PresumedAbort ChildMoves.MayIssue ChildMoves.issues
       StagesAbort.cascaded_abort_born StagesAbort.cascaded_abort_joined
@@ -204,7 +210,8 @@ pub record RunsUnderCommit : Type 0 where
   pub flat_abort_trimmed : Reaches PresumedCommit Standing.IsUnknownUnderCommit ParentMoves.trims_parent
       StagesCommit.flat_abort_ended StagesCommit.flat_abort_trimmed
   -- A committed run of a cascaded coordinator and a manager below it.
-  pub cascaded_commit_born : Reaches PresumedCommit CascadedMoves.MayBeBorn CascadedMoves.is_born (opened false true)
+  pub cascaded_commit_born : Reaches PresumedCommit CascadedMoves.MayBeBorn CascadedMoves.is_born
+      (opened false true)
       StagesCommit.cascaded_commit_born
   pub cascaded_commit_joined : Reaches PresumedCommit ChildMoves.MayIssue ChildMoves.issues
       StagesCommit.cascaded_commit_born StagesCommit.cascaded_commit_joined
@@ -228,7 +235,8 @@ pub record RunsUnderCommit : Type 0 where
   pub cascaded_commit_obeyed : Reaches PresumedCommit ChildMoves.MayLearnCommit ChildMoves.commits
       StagesCommit.cascaded_commit_passed StagesCommit.cascaded_commit_obeyed
   -- An aborted run of a cascaded coordinator and a manager below it.
-  pub cascaded_abort_passed : Reaches PresumedCommit CascadedMoves.MayPassAbort CascadedMoves.passes_abort_forced
+  pub cascaded_abort_passed : Reaches PresumedCommit CascadedMoves.MayPassAbort
+      CascadedMoves.passes_abort_forced
       StagesCommit.cascaded_commit_promised StagesCommit.cascaded_abort_passed
   pub cascaded_abort_obeyed : Reaches PresumedCommit ChildMoves.MayLearnAbort ChildMoves.rolls_back_forced
       StagesCommit.cascaded_abort_passed StagesCommit.cascaded_abort_obeyed
@@ -257,5 +265,6 @@ pub record RunsUnderCommit : Type 0 where
     abort = false;
     end = false;
   })) StagesCommit.read_only_read_up StagesCommit.read_only_restarted
-  pub read_only_committed_above : Reaches PresumedCommit CascadedMoves.MayCommitAbove CascadedMoves.commits_above
+  pub read_only_committed_above : Reaches PresumedCommit CascadedMoves.MayCommitAbove
+      CascadedMoves.commits_above
       StagesCommit.read_only_restarted StagesCommit.read_only_committed_above

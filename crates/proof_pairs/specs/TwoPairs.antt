@@ -35,7 +35,8 @@ pub record OneStep : Type 0 where
   -- A JOIN makes the case.
   pub join_makes_a_case : Together (λ a b. ChildMoves.MayIssue a) ChildMoves.issues CascadedMoves.is_born
   -- Accepted by a case that takes part: the child takes part.
-  pub joins_a_participant : Together (λ a b. a.took_part_up ≡ true) ParentMoves.accepts CascadedMoves.takes_part
+  pub joins_a_participant : Together (λ a b. a.took_part_up ≡ true) ParentMoves.accepts
+      CascadedMoves.takes_part
   -- Accepted by one that does not: nothing changes below yet.
   pub joins_a_bystander : Together (λ a b. a.took_part_up ≡ false) ParentMoves.accepts same
   -- The case above becomes a participant, and with it each child that it accepted.
@@ -64,34 +65,42 @@ pub record OneStep : Type 0 where
   -- A child voted NO: NO.
   pub hears_no : Together (λ a b. ParentMoves.MayHearNo b) ChildMoves.votes_no ParentMoves.hears_no
   -- The same, with its Abort forced.
-  pub hears_no_forced : Together (λ a b. ParentMoves.MayHearNo b) ChildMoves.votes_no ParentMoves.hears_no_forced
+  pub hears_no_forced : Together (λ a b. ParentMoves.MayHearNo b) ChildMoves.votes_no
+      ParentMoves.hears_no_forced
   -- Another child voted NO: NO.
   pub aborts_by_no : Together (λ a b. ParentMoves.MayAbort b) ChildMoves.votes_no ParentMoves.aborts
   -- The same, with its Abort forced.
-  pub aborts_by_no_forced : Together (λ a b. ParentMoves.MayAbort b) ChildMoves.votes_no ParentMoves.aborts_forced
+  pub aborts_by_no_forced : Together (λ a b. ParentMoves.MayAbort b) ChildMoves.votes_no
+      ParentMoves.aborts_forced
   -- ABORT while it waits for votes.
   pub aborts : Together (λ a b. ParentMoves.MayAbort b) ChildMoves.drops ParentMoves.aborts
   -- The same, with its Abort forced, and an ACK.
-  pub aborts_forced : Together (λ a b. ParentMoves.MayAbort b) ChildMoves.drops_and_acknowledges ParentMoves.aborts_forced
+  pub aborts_forced : Together (λ a b. ParentMoves.MayAbort b) ChildMoves.drops_and_acknowledges
+      ParentMoves.aborts_forced
   -- ABORT while it is Active.
   pub gives_up : Together (λ a b. Unit {0}) ChildMoves.drops ParentMoves.gives_up
   -- The same, with an ACK.
-  pub gives_up_and_acknowledges : Together (λ a b. Unit {0}) ChildMoves.drops_and_acknowledges ParentMoves.gives_up
+  pub gives_up_and_acknowledges : Together (λ a b. Unit {0}) ChildMoves.drops_and_acknowledges
+      ParentMoves.gives_up
   -- COMMIT finds it Prepared; Commit is forced.
   pub passes_commit_forced : Together (λ a b. CascadedMoves.MayPassCommit b) ChildMoves.commits_forced
       CascadedMoves.passes_commit_forced
   -- The same, with Commit unforced.
-  pub passes_commit : Together (λ a b. CascadedMoves.MayPassCommit b) ChildMoves.commits CascadedMoves.passes_commit
+  pub passes_commit : Together (λ a b. CascadedMoves.MayPassCommit b) ChildMoves.commits
+      CascadedMoves.passes_commit
   -- ABORT finds it Prepared; Abort is unforced.
-  pub passes_abort : Together (λ a b. CascadedMoves.MayPassAbort b) ChildMoves.rolls_back CascadedMoves.passes_abort
+  pub passes_abort : Together (λ a b. CascadedMoves.MayPassAbort b) ChildMoves.rolls_back
+      CascadedMoves.passes_abort
   -- The same, with Abort forced.
   pub passes_abort_forced : Together (λ a b. CascadedMoves.MayPassAbort b) ChildMoves.rolls_back_forced
       CascadedMoves.passes_abort_forced
-  -- The second version: COMMIT, or ABORT, finds it Prepared, and its ACK waits; ABORT finds it waiting for votes; the last ACK
-  -- that is owed to it came, and its own goes up.
-  pub waits_to_acknowledge_commit : Together (λ a b. CascadedMoves.MayPassCommit b) ChildMoves.learns_commit_forced
+  -- The second version: COMMIT, or ABORT, finds it Prepared, and its ACK waits; ABORT finds it waiting for
+  -- votes; the last ACK that is owed to it came, and its own goes up.
+  pub waits_to_acknowledge_commit : Together (λ a b. CascadedMoves.MayPassCommit b)
+      ChildMoves.learns_commit_forced
       CascadedMoves.passes_commit_forced
-  pub waits_to_acknowledge_abort : Together (λ a b. CascadedMoves.MayPassAbort b) ChildMoves.learns_abort_forced
+  pub waits_to_acknowledge_abort : Together (λ a b. CascadedMoves.MayPassAbort b)
+      ChildMoves.learns_abort_forced
       CascadedMoves.passes_abort_forced
   pub aborts_silently : Together (λ a b. ParentMoves.MayAbort b) ChildMoves.drops ParentMoves.aborts_forced
   pub ends_commit : Together (λ a b. ParentMoves.MayEndCommit b) ChildMoves.acknowledges ParentMoves.ends

@@ -115,7 +115,8 @@ module _ (me p : ProcessId) (tree : List TreeProcess) (net : List Envelope) (n :
 
     written_given : (d : Case) → has (is_record_of d) new ≡ true → IsGiven me net d
     written_given d f =
-        effect_writes place (Some p) n h (λ c. IsGiven me net c) (known_given up) (λ c f g. absurd (cc)) e turn d f
+        effect_writes place (Some p) n h (λ c. IsGiven me net c) (known_given up)
+        (λ c f g. absurd (cc)) e turn d f
 
     asked_by : (d : Case) → IsToCommit (Some p) h d → IsGiven me net d
         → sent (is_prepare_message d) net ≡ true
@@ -170,7 +171,8 @@ module _ (me p : ProcessId) (tree : List TreeProcess) (net : List Envelope) (n :
           (boot_written n h e (turn_none (Below p) place n h e t.turn))
 
       -- JOIN gave it
-      opened_given : (d : Case) (i : Input) → h.input ≡ i → OpensMemory (Some p) me (boot_of (kept n)) d (m d) i
+      opened_given : (d : Case) (i : Input) → h.input ≡ i
+          → OpensMemory (Some p) me (boot_of (kept n)) d (m d) i
           → IsGiven me (net ++ e.messages) d
       opened_given d _ i (by_begin x top g) = absurd (cc)
       opened_given d _ i (by_join q j x below none g) =
@@ -199,7 +201,8 @@ module _ (me p : ProcessId) (tree : List TreeProcess) (net : List Envelope) (n :
           was : (m d).phase ≢ Idle → IsGiven me (net ++ e.messages) d
           was g = given_still me net e.messages d (known.remembered_is_given up d g)
 
-          by_move : {x : Memory} → MovesMemory (Some p) me (boot_of (kept n)) d (m d) h.input x → x.phase ≢ Idle
+          by_move : {x : Memory} → MovesMemory (Some p) me (boot_of (kept n)) d (m d) h.input x
+              → x.phase ≢ Idle
               → IsGiven me (net ++ e.messages) d
           by_move (keeps v s l) g = was (λ idle. g (s ∙ idle))
           by_move (asks a o s l) g = was (not_idle _ Open o (λ y. cc))
@@ -217,7 +220,8 @@ module _ (me p : ProcessId) (tree : List TreeProcess) (net : List Envelope) (n :
               was_sent (is_prepare_message d) net me h.input j (Prepare d l) stands i (same_case-refl d)
           asked_for _ i (by_commit x top g) = absurd (cc)
 
-          by_move : {x : Memory} → MovesMemory (Some p) me (boot_of (kept n)) d (m d) h.input x → x.phase ≡ Asked
+          by_move : {x : Memory} → MovesMemory (Some p) me (boot_of (kept n)) d (m d) h.input x
+              → x.phase ≡ Asked
               → sent (is_prepare_message d) net ≡ true
           by_move (keeps v s l) g = known.asked_was_prepared up d (sym s ∙ g)
           by_move (asks a o s l) g = asked_for h.input refl a

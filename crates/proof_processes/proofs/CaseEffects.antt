@@ -138,7 +138,8 @@ module _ (me : ProcessId) (parent : Option ProcessId) (tree : List TreeProcess) 
         (remembers_at parent me (boot_of (kept n)) c
         (memory_of (coordinator_place me parent tree) n c) h.input)
         → Silent c e → CaseStep c e
-    begun : OpensMemory parent me (boot_of (kept n)) c (memory_of (coordinator_place me parent tree) n c) h.input
+    begun : OpensMemory parent me (boot_of (kept n)) c
+        (memory_of (coordinator_place me parent tree) n c) h.input
         → (remembers_at parent me (boot_of (kept n)) c (memory_of (coordinator_place me parent tree) n c)
         h.input).phase ≡ Open
         → (remembers_at parent me (boot_of (kept n)) c (memory_of (coordinator_place me parent tree) n c)

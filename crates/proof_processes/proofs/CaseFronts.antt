@@ -46,11 +46,13 @@ module _ (c : Case) (xs ys : List Record) (fit : AllFit [] (xs ++ ys)) where
 
   pub promise_behind_collecting : has (is_prepare c) xs ≡ true → has (is_collecting c) (xs ++ ys) ≡ true
       → has (is_collecting c) xs ≡ true
-  promise_behind_collecting = stands_before (is_collecting c) (is_prepare c) (CaseOrders.collecting_bars_promise c)
+  promise_behind_collecting = stands_before (is_collecting c) (is_prepare c)
+      (CaseOrders.collecting_bars_promise c)
 
   pub commit_behind_collecting : has (is_commit c) xs ≡ true → has (is_collecting c) (xs ++ ys) ≡ true
       → has (is_collecting c) xs ≡ true
-  commit_behind_collecting = stands_before (is_collecting c) (is_commit c) (CaseOrders.collecting_bars_commit c)
+  commit_behind_collecting = stands_before (is_collecting c) (is_commit c)
+      (CaseOrders.collecting_bars_commit c)
 
   pub commit_behind_promise : has (is_commit c) xs ≡ true → has (is_prepare c) (xs ++ ys) ≡ true
       → has (is_prepare c) xs ≡ true

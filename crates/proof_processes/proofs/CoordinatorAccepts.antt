@@ -121,7 +121,8 @@ module _ (me : ProcessId) (parent : Option ProcessId) (tree : List TreeProcess) 
           → took c t (e.accepts ++ n.accepted) ≡ true
       kept_one f = took_before c t e.accepts n.accepted (old.remembered_accepted c t f)
 
-      by_move : (k : Memory) → MovesMemory parent me (boot_of (kept n)) c m h.input k → in_list k.accepted t ≡ true
+      by_move : (k : Memory) → MovesMemory parent me (boot_of (kept n)) c m h.input k
+          → in_list k.accepted t ≡ true
           → took c t (e.accepts ++ n.accepted) ≡ true
       by_move k (keeps v p l) f = kept_one (ap (λ ts. in_list ts t) (sym l.accepted) ∙ f)
       by_move k (asks a o p l) f = kept_one (ap (λ ts. in_list ts t) (sym l.accepted) ∙ f)

@@ -402,7 +402,8 @@ all_fit tree _ _ (makes es w m e w' run stands step) p i =
     (coordinator_turn_of (place_of tree q) (w.at q) h g r) old) m e at.node s)
     (all_fit tree es w run p)) i
 
-pub cases_in_order : (tree : List TreeProcess) (es : List Made) (w : World) → IsRun tree es w → (p : ProcessId)
+pub cases_in_order : (tree : List TreeProcess) (es : List Made) (w : World) → IsRun tree es w
+    → (p : ProcessId)
     → IsCoordinator (role_of tree p) → (c : Case) → CaseInOrder c (kept (w.at p))
 cases_in_order tree es w run p i c =
     let f = all_fit tree es w run p i in

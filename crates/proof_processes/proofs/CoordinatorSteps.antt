@@ -47,7 +47,8 @@ pub record Premises (me : ProcessId) (parent : Option ProcessId) (tree : List Tr
   pub alone : Alone me parent tree n
   pub listed : Listed me parent tree n
   pub new : n.failed ≡ false → (c : Case) (i : Input)
-      → OpensMemory parent me (boot_of (kept n)) c (memory_of (coordinator_place me parent tree) n c) i → IsNew n c
+      → OpensMemory parent me (boot_of (kept n)) c (memory_of (coordinator_place me parent tree) n c) i
+      → IsNew n c
   pub top : n.failed ≡ false → (c : Case)
       → ((coordinator_view (coordinator_place me parent tree) n c).standing ≡ Unknown → ⊥)
       → (x : Txn) → c ≡ root_case x → parent ≡ None
@@ -136,7 +137,8 @@ module _ (me : ProcessId) (parent : Option ProcessId) (tree : List TreeProcess) 
             was : (ph : Phase) → (m c).phase ≡ ph → IsLive ph → has (is_commit c) n.life ≡ false
             was ph f l = old.uncommitted t.up c (subst IsLive (sym f) l)
 
-            by_move : {k : Memory} → MovesMemory parent me (boot_of (kept n)) c (m c) h.input k → IsLive k.phase
+            by_move : {k : Memory} → MovesMemory parent me (boot_of (kept n)) c (m c) h.input k
+                → IsLive k.phase
                 → has (is_commit c) n.life ≡ false
             by_move (keeps f p l) g = old.uncommitted t.up c (subst IsLive p g)
             by_move (asks a o p l) g = was Open o tt

@@ -133,7 +133,8 @@ module _ (me : ProcessId) (parent : Option ProcessId) (tree : List TreeProcess) 
         λ o. g (sym (stands_as s e) ∙ old.asked_is_collecting o),
       )
 
-      decided_closed : (o : Outcome) (s : Standing) → HasDecided o s → v.standing ≡ s → Closed (kept n) c m.phase
+      decided_closed : (o : Outcome) (s : Standing) → HasDecided o s → v.standing ≡ s
+          → Closed (kept n) c m.phase
       decided_closed _ _ by_commit e = closed_at Committing e (λ f. cc) (λ f. cc)
       decided_closed _ _ by_abort e = closed_at Aborting e (λ f. cc) (λ f. cc)
 
@@ -247,7 +248,8 @@ module _ (me : ProcessId) (parent : Option ProcessId) (tree : List TreeProcess) 
           left (prepare_comes_late j i (closed_at Prepared e (λ k. cc) (λ k. cc)).0)
       own_together _ (asks i e) = left (ask_left me parent tree n h c c i)
       own_together _ (refuses j i e) = left (prepare_comes_late j i (refuses_closed v.standing e refl).0)
-      own_together _ (acknowledges o fs i e) = left (acknowledged_left h.version o c.txn.presumption v.standing fs refl e i)
+      own_together _ (acknowledges o fs i e) =
+          left (acknowledged_left h.version o c.txn.presumption v.standing fs refl e i)
       own_together _ (waits_for_acks t o fs i e f g) =
           left (ack_left me parent tree n h c t o fs i.txn i.hears.0 i.hears.1)
       own_together _ (ends t o fs i e f g) =

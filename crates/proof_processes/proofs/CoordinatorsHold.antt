@@ -55,7 +55,8 @@ use Rattle.proof_processes.proofs.Worlds.{all_last, put}
 
 -- A ticket belongs to one case, since JOINED gives it to one.
 
-module _ (me : ProcessId) (parent : Option ProcessId) (tree : List TreeProcess) (net : List Envelope) (n : Node)
+module _ (me : ProcessId) (parent : Option ProcessId) (tree : List TreeProcess)
+    (net : List Envelope) (n : Node)
     (nested : Nested (logs_of n)) (old : Coordinated (coordinator_place me parent tree) n)
     (joined : (c : Case) (t : Ticket) → has_accepted n c t ≡ true → sent (is_joined_message c t) net ≡ true)
     (once : JoinedOnce net)
@@ -112,7 +113,8 @@ module _ (me : ProcessId) (tree : List TreeProcess) (n : Node)
         untaken t false f = f
 
     root_new : n.failed ≡ false → (c : Case) (i : Input)
-        → OpensMemory None me (boot_of (kept n)) c (memory_of (coordinator_place me None tree) n c) i → IsNew n c
+        → OpensMemory None me (boot_of (kept n)) c (memory_of (coordinator_place me None tree) n c) i
+        → IsNew n c
     root_new up c _ (by_join q j d below none g) = absurd (cc)
     root_new up c _ (by_begin p top g) =
         subst (λ (d : Case). IsNew n d) g

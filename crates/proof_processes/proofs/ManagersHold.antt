@@ -104,7 +104,8 @@ opened_remembered place = record {
   accepts_none = refl;
 }
 
-pub all_remembered : (tree : List TreeProcess) (es : List Made) (w : World) → IsRun tree es w → (p : ProcessId)
+pub all_remembered : (tree : List TreeProcess) (es : List Made) (w : World) → IsRun tree es w
+    → (p : ProcessId)
     → RememberedBy tree w.net p (w.at p)
 all_remembered tree _ _ opens p = λ q leaf. opened_remembered
     (record { me = p; role = AtLeaf q; tree = tree })
@@ -177,7 +178,8 @@ manager_holds me p tree net n last booted numbers known = record {
 }
 
 -- each manager
-pub managers_hold : (tree : List TreeProcess) (es : List Made) (w : World) → IsRun tree es w → (q p : ProcessId)
+pub managers_hold : (tree : List TreeProcess) (es : List Made) (w : World) → IsRun tree es w
+    → (q p : ProcessId)
     → role_of tree q ≡ AtLeaf p → NodeHolds (place_of tree q) w.net (w.at q)
 managers_hold tree es w run q p leaf =
     let at : (r : Role) → Place = λ r. record { me = q; role = r; tree = tree } in

@@ -97,7 +97,8 @@ txn_is : (x y : Txn) → same_txn x y ≡ true → x ≡ y
 txn_is x y e = elim (same_txn_tells x y) [ inl t ↦ t.1 | inr f ↦ absurd (let g = f.0 in cc) ]
 
 -- the coordinator's cases of a transaction are of it
-own_txn : (me : ProcessId) (parent : Option ProcessId) (tree : List TreeProcess) (n : Node) (y : Txn) (c : Case)
+own_txn : (me : ProcessId) (parent : Option ProcessId) (tree : List TreeProcess) (n : Node)
+    (y : Txn) (c : Case)
     → has_case (own_cases (role_below parent) (coordinator_place me parent tree) n y) c ≡ true → c.txn ≡ y
 own_txn me None tree n y c e = ap (λ (x : Case). x.txn) (sym (one_case (root_case y) c e))
 own_txn me (Some p) tree n y c e = txn_is c.txn y (filtered_passes (λ d. same_txn d.txn y) _ c e)

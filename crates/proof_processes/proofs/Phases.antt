@@ -166,7 +166,8 @@ module _ (rs : List Record) (c : Case) where
   abbrev pub Closed : Phase → Type 0
   Closed ph = (ph ≡ Open → ⊥) × (ph ≡ Asked → ⊥)
 
-  pub ends_together : (rep : Option Reports) (ph : Phase) → Closed ph → Together (rs ++ EndRecord c rep ∷ []) c ph
+  pub ends_together : (rep : Option Reports) (ph : Phase) → Closed ph
+      → Together (rs ++ EndRecord c rep ∷ []) c ph
   ends_together rep ph k =
       over_together ph (standing_at (rs ++ EndRecord c rep ∷ []) c ph) k.0 k.1
       (λ e. not_both (is_end c) (has (is_end c) (rs ++ EndRecord c rep ∷ []))

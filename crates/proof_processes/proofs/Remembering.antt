@@ -42,7 +42,8 @@ pub data OpensMemory (parent : Option ProcessId) (me : ProcessId) (boot : ℕ) (
   by_begin : (p : Presumption) → parent ≡ None → root_case (next_txn me boot m p) ≡ c
       → OpensMemory parent me boot c m (ActInput (Begin p))
   by_join : (p : ProcessId) (j : ℕ) (d : Case) → parent ≡ Some p → active_ticket m.active d ≡ None
-      → child_case d.txn (next_ticket me boot m) ≡ c → OpensMemory parent me boot c m (MessageInput j (Join d))
+      → child_case d.txn (next_ticket me boot m) ≡ c → OpensMemory parent me boot c m
+      (MessageInput j (Join d))
 
 -- the case is to collect its votes
 pub data Asks (parent : Option ProcessId) (c : Case) : Input → Type 0 where
@@ -70,7 +71,8 @@ pub record SameLists (m k : Memory) : Type 0 where
 
 -- What an input makes of a memory: it stays as far as it goes with records; or votes are asked for, or it
 -- ends; or one ticket is taken, or one vote counted; or the case begins.
-pub data MovesMemory (parent : Option ProcessId) (me : ProcessId) (boot : ℕ) (c : Case) (m : Memory) (i : Input)
+pub data MovesMemory (parent : Option ProcessId) (me : ProcessId) (boot : ℕ) (c : Case)
+    (m : Memory) (i : Input)
     (k : Memory) : Type 0 where
   keeps : ((t : Ticket) (w : Vote) → CountedVote c m i t w → ⊥) → k.phase ≡ m.phase → SameLists m k
       → MovesMemory parent me boot c m i k
@@ -80,7 +82,8 @@ pub data MovesMemory (parent : Option ProcessId) (me : ProcessId) (boot : ℕ) (
       → MovesMemory parent me boot c m i k
   takes : (j : ℕ) (u : Ticket) → i ≡ MessageInput j (Joined c u) → m.phase ≡ Open
       → has_child m.accepted u.child ≡ false
-      → k.phase ≡ Open → k.accepted ≡ m.accepted ++ u ∷ [] → k.votes ≡ m.votes → MovesMemory parent me boot c m i k
+      → k.phase ≡ Open → k.accepted ≡ m.accepted ++ u ∷ [] → k.votes ≡ m.votes
+      → MovesMemory parent me boot c m i k
   counts : (t : Ticket) (w : Vote) → CountedVote c m i t w
       → k.phase ≡ phase_after w (all_voted m.accepted (m.votes ++ (t, w) ∷ []))
       → k.accepted ≡ m.accepted → k.votes ≡ m.votes ++ (t, w) ∷ [] → MovesMemory parent me boot c m i k

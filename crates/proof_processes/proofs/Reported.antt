@@ -61,5 +61,6 @@ end_recorded c (r ∷ rs) e = elim (either (is_end c r) (has (is_end c) rs) e) [
     of_it r f = grind arith
 
 -- so the log has a record of it
-pub reported_recorded : (rs : List Record) (c : Case) → is_reported rs c ≡ true → has (is_record_of c) rs ≡ true
+pub reported_recorded : (rs : List Record) (c : Case) → is_reported rs c ≡ true
+    → has (is_record_of c) rs ≡ true
 reported_recorded rs c e = end_recorded c rs (reported_end rs c e)

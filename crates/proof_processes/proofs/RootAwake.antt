@@ -43,7 +43,8 @@ module _ (me : ProcessId) (boot : ℕ) (c : Case) (m : Memory) where
   vote_begun VoteRead true = refl
   vote_begun VoteRead false = refl
 
-  by_move : (i : Input) (k : Memory) → MovesMemory None me boot c m i k → (is_begun k.phase ≡ is_begun m.phase)
+  by_move : (i : Input) (k : Memory) → MovesMemory None me boot c m i k
+      → (is_begun k.phase ≡ is_begun m.phase)
       ⊎ IsNext i
   by_move i k (keeps v p l) = inl (ap is_begun p)
   by_move i k (asks a o p l) =

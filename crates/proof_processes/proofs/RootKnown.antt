@@ -191,7 +191,8 @@ pub effect_roots : (place : Place) (n : Node) (h : Heard) (me : ProcessId) (b k 
     → ((c : Case) → is_reported (kept n) c ≡ true → IsRoots me b k c)
     → (e : Effect) → CoordinatorTurn place None n h e → AllRoots me b k (entries_written e.written)
 effect_roots place n h me b k own reported _ (does_nothing i) = tt
-effect_roots place n h me b k own reported _ (of_case c row t) = turn_roots place n h c me b k (own c) (reported c) row t
+effect_roots place n h me b k own reported _ (of_case c row t) =
+    turn_roots place n h c me b k (own c) (reported c) row t
 effect_roots place n h me b k own reported _ (begins p e i) = tt
 effect_roots place n h me b k own reported _ (gives_again p d t e i a) = tt
 effect_roots place n h me b k own reported _ (gives_fresh p d e i a) = tt

@@ -161,7 +161,8 @@ module _ (me : ProcessId) (tree : List TreeProcess) (n : Node) (nested : Nested 
                 (ap (λ (y : Case). next_txn me (boot_of (kept n)) (m y) p) g)
                 (subst (InHistory n) (sym g) (ended_history n c d))
 
-            by_move : {k : Memory} → MovesMemory None me (boot_of (kept n)) c (m c) h.input k → IsLive k.phase → ⊥
+            by_move : {k : Memory} → MovesMemory None me (boot_of (kept n)) c (m c) h.input k → IsLive k.phase
+                → ⊥
             by_move (keeps f p l) live = (old.dead c d).closed t.up (subst IsLive p live)
             by_move (asks a o p l) live = shut Open o tt
             by_move (closes a o p l) live = subst IsLive p live

@@ -145,7 +145,8 @@ module _ (me : ProcessId) (tree : List TreeProcess) where
         added_now c x =
             effect_new me tree n i (λ d known. old_now d (known_roots me tree n t.up nested h d known))
             (λ d reported. old_now d (h.begun_now t.up d (recorded
-            (nested.kept_was_written (is_record_of d) (λ k. refl) (reported_recorded (kept n) d reported))))) e
+            (nested.kept_was_written (is_record_of d) (λ k. refl) (reported_recorded (kept n) d reported)))))
+            e
             (coordinator_turn_of place n i e r) c x
 
         appended : Booted (logs_of (after n i e)) → Holds (after n i e)
@@ -307,7 +308,8 @@ pub at_root : (tree : List TreeProcess) (q : ProcessId) → role_of tree q ≡ A
     → place_of tree q ≡ root_place q tree
 at_root tree q e = ap (λ (r : Role). record { me = q; role = r; tree = tree }) e
 
-pub all_root_cases : (tree : List TreeProcess) (es : List Made) (w : World) → IsRun tree es w → (p : ProcessId)
+pub all_root_cases : (tree : List TreeProcess) (es : List Made) (w : World) → IsRun tree es w
+    → (p : ProcessId)
     → role_of tree p ≡ AtRoot → RootCases (root_place p tree) (w.at p)
 all_root_cases tree _ _ opens p role = opened_root (root_place p tree)
 all_root_cases tree _ _ (makes es w m e w' run stands step) p at_top =
@@ -324,7 +326,8 @@ all_root_cases tree _ _ (makes es w m e w' run stands step) p at_top =
     (still_booted (place_of tree q) (w.at q) (all_booted tree es w run q) m e at.node s))
     (all_root_cases tree es w run p)) at_top
 
-pub root_cases_hold : (tree : List TreeProcess) (es : List Made) (w : World) → IsRun tree es w → (p : ProcessId)
+pub root_cases_hold : (tree : List TreeProcess) (es : List Made) (w : World) → IsRun tree es w
+    → (p : ProcessId)
     → role_of tree p ≡ AtRoot → RootCases (place_of tree p) (w.at p)
 root_cases_hold tree es w run p e =
     subst (λ (x : Place). RootCases x (w.at p)) (sym (at_root tree p e)) (all_root_cases tree es w run p e)

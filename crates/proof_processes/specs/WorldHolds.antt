@@ -121,8 +121,8 @@ is_of c (Some d) = same_case d c
 abbrev pub is_record_of : Case → Record → Bool
 is_record_of c r = is_of c (record_case r)
 
--- the boot of all that a process keeps, its last Opened's, is no less than that of its forced front, and the same
--- where the process is up
+-- the boot of all that a process keeps, its last Opened's, is no less than that of its forced front, and the
+-- same where the process is up
 pub record Boots (n : Node) : Type 0 where
   pub boot_is_forced : n.failed ≡ false → boot_of (kept n) ≡ boot_of n.forced
   pub boot_only_rises : boot_of n.forced ≤ boot_of (kept n)

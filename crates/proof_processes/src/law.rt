@@ -31,8 +31,8 @@ pub fn promises_are_forced()
     ensures { (tree : List TreeProcess) (es : List Made) (w : World) → IsRun tree es w → YesIsForced tree es }
 {}
 
-/// In every run of every tree, the boot of all that a process keeps, its last Opened's, is no less than that of its
-/// forced front, and the same where the process is up.
+/// In every run of every tree, the boot of all that a process keeps, its last Opened's, is no less than that
+/// of its forced front, and the same where the process is up.
 pub fn boots_rise()
     ensures { (tree : List TreeProcess) (es : List Made) (w : World) → IsRun tree es w → (p : ProcessId)
         → Boots (w.at p) }

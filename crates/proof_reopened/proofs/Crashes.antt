@@ -1,4 +1,5 @@
--- After any run every process of a tree can go down by a crash, which leaves of each log what a restart would find.
+-- After any run every process of a tree can go down by a crash, which leaves of each log what a restart would
+-- find.
 use Rattle.std.proofs.Common.{◌≡◌, ◌∙◌, ◌||◌, ap, sym, subst, refl, ℕ, zero, suc, Bool, true, false, inl, inr, Some, List, [], ◌∷◌, ◌++◌, take, drop}
 use Rattle.std.proofs.Math.Seq.{take-nil}
 use Rattle.std.proofs.lemmas.List.{append-nil}
@@ -111,7 +112,8 @@ neither_second : (a b : Bool) → (a || b) ≡ false → b ≡ false
 neither_second false b h = h
 neither_second true b h = absurd (cc)
 
-module _ (tree : List TreeProcess) (es : List Made) (w : World) (run : IsRun tree es w) (keep : ProcessId → ℕ) where
+module _ (tree : List TreeProcess) (es : List Made) (w : World) (run : IsRun tree es w)
+    (keep : ProcessId → ℕ) where
   none_down : AllDown tree es w keep []
   none_down = record {
     moves = [];
@@ -122,7 +124,8 @@ module _ (tree : List TreeProcess) (es : List Made) (w : World) (run : IsRun tre
     rest = λ q h. refl;
   }
 
-  one_down : (e : TreeProcess) (done : List TreeProcess) → is_listed tree e.id ≡ true → AllDown tree es w keep done
+  one_down : (e : TreeProcess) (done : List TreeProcess) → is_listed tree e.id ≡ true
+      → AllDown tree es w keep done
       → AllDown tree es w keep (e ∷ done)
   one_down e done listed d =
       let q = e.id in
@@ -135,13 +138,17 @@ module _ (tree : List TreeProcess) (es : List Made) (w : World) (run : IsRun tre
         moves = record { move = crash_move q k; effect = g } ∷ d.moves;
         world = world_after d.world q n g;
         leads = goes_on d.moves d.world (crash_move q k) g (world_after d.world q n g) d.leads tt step;
-        is_run = makes (d.moves ++ es) d.world (crash_move q k) g (world_after d.world q n g) d.is_run tt step;
+        is_run = makes (d.moves ++ es) d.world (crash_move q k) g (world_after d.world q n g)
+            d.is_run tt step;
         down = λ p h. elim (same_process_tells e.id p) [
-          | inl t ↦ subst (λ (r : ProcessId). IsDownWith ((world_after d.world q n g).at r) (left_of (w.at r) (keep r))) t.1
+          | inl t ↦ subst (λ (r : ProcessId). IsDownWith ((world_after d.world q n g).at r)
+              (left_of (w.at r) (keep r))) t.1
               (subst (λ (m : Node). IsDownWith m (left_of (w.at q) k)) (sym (put_here q n d.world.at))
               (here (is_listed done e.id) refl))
-          | inr z ↦ subst (λ (m : Node). IsDownWith m (left_of (w.at p) (keep p))) (sym (put_there q p n d.world.at z.0))
-              (d.down p (either_true (same_process e.id p) (is_listed done p) z.0 (sym (listed_first e done p) ∙ h)))
+          | inr z ↦ subst (λ (m : Node). IsDownWith m (left_of (w.at p) (keep p)))
+              (sym (put_there q p n d.world.at z.0))
+              (d.down p (either_true (same_process e.id p) (is_listed done p) z.0
+              (sym (listed_first e done p) ∙ h)))
         ];
         rest = λ p h.
             let both = sym (listed_first e done p) ∙ h in
@@ -150,18 +157,23 @@ module _ (tree : List TreeProcess) (es : List Made) (w : World) (run : IsRun tre
       }
     where
       here : (b : Bool) → is_listed done e.id ≡ b
-          → IsDownWith (crash_node (place_of tree e.id) (d.world.at e.id) (keep e.id)) (left_of (w.at e.id) (keep e.id))
-      here true is = down_again (place_of tree e.id) (d.world.at e.id) (left_of (w.at e.id) (keep e.id)) (keep e.id) (d.down e.id is)
+          → IsDownWith (crash_node (place_of tree e.id) (d.world.at e.id) (keep e.id))
+          (left_of (w.at e.id) (keep e.id))
+      here true is = down_again (place_of tree e.id) (d.world.at e.id) (left_of (w.at e.id) (keep e.id))
+          (keep e.id) (d.down e.id is)
       here false is = subst
-          (λ (m : Node). IsDownWith (crash_node (place_of tree e.id) (d.world.at e.id) (keep e.id)) (left_of m (keep e.id)))
+          (λ (m : Node). IsDownWith (crash_node (place_of tree e.id) (d.world.at e.id) (keep e.id))
+          (left_of m (keep e.id)))
           (d.rest e.id is) (crash_downs (place_of tree e.id) (d.world.at e.id) (keep e.id))
 
   all_down : (done : List TreeProcess) → ((q : ProcessId) → is_listed done q ≡ true → is_listed tree q ≡ true)
       → AllDown tree es w keep done
   all_down [] within = none_down
   all_down (e ∷ done) within =
-      one_down e done (within e.id (listed_first e done e.id ∙ first (same_process e.id e.id) (is_listed done e.id) (itself e.id)))
-      (all_down done (λ q h. within q (listed_first e done q ∙ second (same_process e.id q) (is_listed done q) h)))
+      one_down e done (within e.id (listed_first e done e.id
+      ∙ first (same_process e.id e.id) (is_listed done e.id) (itself e.id)))
+      (all_down done (λ q h. within q (listed_first e done q
+      ∙ second (same_process e.id q) (is_listed done q) h)))
     where
       first : (a b : Bool) → a ≡ true → (a || b) ≡ true
       first true b h = refl

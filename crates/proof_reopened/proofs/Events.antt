@@ -29,7 +29,8 @@ continues_on tree w0 w1 first before _ _ (goes_on es w m e w' later stands step)
     goes_on (es ++ first) w m e w' (continues_on tree w0 w1 first before es w later) stands step
 
 -- a state that goes on, of the same tree
-pub record GoesIn (o : Earlier) (tree : List TreeProcess) (es : List Made) (w : World) (s : WorldState) : Type 0 where
+pub record GoesIn (o : Earlier) (tree : List TreeProcess) (es : List Made) (w : World)
+    (s : WorldState) : Type 0 where
   pub goes_on_so : GoesOnSince o es w s
   pub tree_stays : s.tree ≡ tree
 
@@ -38,8 +39,10 @@ module _ (o : Earlier) where
       → s.tree ≡ tree → GoesIn o tree es w s
   waits tree es w s f is = record { goes_on_so = waits_since o es w s f; tree_stays = is }
 
-  pub then_on : (tree : List TreeProcess) (es : List Made) (w : World) (s t : WorldState) → GoesIn o tree es w s
-      → ((es' : List Made) (w' : World) → FollowsSince o es' w' s → GoesIn o tree es' w' t) → GoesIn o tree es w t
+  pub then_on : (tree : List TreeProcess) (es : List Made) (w : World) (s t : WorldState)
+      → GoesIn o tree es w s
+      → ((es' : List Made) (w' : World) → FollowsSince o es' w' s → GoesIn o tree es' w' t)
+      → GoesIn o tree es w t
   then_on tree es w s t first next =
       let one = first.goes_on_so in
       let two = next (one.later ++ es) one.world one.follows in
@@ -93,7 +96,8 @@ module _ (past : Earlier) (tree : List TreeProcess) (is_tree : IsTree tree) wher
   pub applied_on : (s t : WorldState) (event : Event) (es : List Made) (w : World) → s.tree ≡ tree
       → FollowsSince past es w s → Applies s event t → GoesIn past tree es w t
   applied_on s t (ActOf a) es w is f made = record {
-    goes_on_so = input_since past es w s t (subst IsTree (sym is) is_tree) f (process_of_act (root_of s.tree) a)
+    goes_on_so = input_since past es w s t (subst IsTree (sym is) is_tree) f
+        (process_of_act (root_of s.tree) a)
         (ActInput a) s.delivered tt made;
     tree_stays = made.moves.tree ∙ is;
   }
@@ -125,7 +129,8 @@ module _ (past : Earlier) (tree : List TreeProcess) (is_tree : IsTree tree) wher
           → GoesIn past tree es w t
       by_message None sent failed = absurd failed
       by_message (Some l) sent failed = record {
-        goes_on_so = input_fails_since past es w s t f l.to (MessageInput k l.message) (sent_stands s.net k l sent) failed;
+        goes_on_so = input_fails_since past es w s t f l.to (MessageInput k l.message)
+            (sent_stands s.net k l sent) failed;
         tree_stays = failed.moves.tree ∙ is;
       }
   undelivered_on s t k step_error.UnknownTxn es w is f h = same_on s t es w is f h.0
@@ -155,7 +160,8 @@ module _ (past : Earlier) (tree : List TreeProcess) (is_tree : IsTree tree) wher
   unacted_on s t q a step_error.Exhausted es w is f h = same_on s t es w is f h.0
 
   unrestarted_on : (s t : WorldState) (q : ProcessId) (bytes : Option ℕ) (e : StepError) (es : List Made)
-      (w : World) → s.tree ≡ tree → FollowsSince past es w s → NotRestartedAt s t q bytes e → GoesIn past tree es w t
+      (w : World) → s.tree ≡ tree → FollowsSince past es w s → NotRestartedAt s t q bytes e
+      → GoesIn past tree es w t
   unrestarted_on s t q bytes step_error.Memory es w is f h = same_on s t es w is f h
   unrestarted_on s t q bytes step_error.Device es w is f h = record {
     goes_on_so = restart_fails_since past es w s t f q (subst IsTree (sym is) is_tree) bytes h;

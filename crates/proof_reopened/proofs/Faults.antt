@@ -52,7 +52,8 @@ same_effect a b m n h = cc
 unsent : (d e : Effect) (m n : Node) → Makes d m ≡ Makes e n → d.messages ≡ [] → e.messages ≡ []
 unsent d e m n same none = ap (λ (x : Effect). x.messages) (sym (same_effect d e m n same)) ∙ none
 
-module _ (place : Place) (n : Node) (q : ProcessId) (f : Fault) (a : DataAnswer) (e : Effect) (left : Node) where
+module _ (place : Place) (n : Node) (q : ProcessId) (f : Fault) (a : DataAnswer) (e : Effect)
+    (left : Node) where
   input_unsent : (i : Input) (b : Bool) (r : Reacts)
       → (if b then passes_over n (Some f) else input_makes n (heard_now a i) (Some f) r) ≡ Makes e left
       → e.messages ≡ []
@@ -65,10 +66,13 @@ module _ (place : Place) (n : Node) (q : ProcessId) (f : Fault) (a : DataAnswer)
   trim_unsent true h = absurd (cc)
   trim_unsent false h = unsent (fault_effect (trim_effect place n) 0) e _ left h refl
 
-  nothing_sent : (h : Happening) → node_makes place n (move_with q h (Some f) a) ≡ Makes e left → e.messages ≡ []
+  nothing_sent : (h : Happening) → node_makes place n (move_with q h (Some f) a) ≡ Makes e left
+      → e.messages ≡ []
   unfolding node_makes
-  nothing_sent (Handles i) made = input_unsent i (is_passed_over place n i) (reacts place n (heard_now a i)) made
-  nothing_sent (Restarting k) made = unsent (fault_effect (restart_effect place n k) f.appended) e _ left made refl
+  nothing_sent (Handles i) made = input_unsent i (is_passed_over place n i)
+      (reacts place n (heard_now a i)) made
+  nothing_sent (Restarting k) made = unsent (fault_effect (restart_effect place n k) f.appended) e
+      _ left made refl
   nothing_sent Trimming made = trim_unsent n.failed made
 
 -- what a case in doubt asks
@@ -77,7 +81,8 @@ asked n me p tree c =
     row_effect c (prepared_ask (seat_of (record { me = me; role = Below p; tree = tree }) (Some p) c)
     (coordinator_view (record { me = me; role = Below p; tree = tree }) n c))
 
-module _ (o : Earlier) (es : List Made) (w : World) (s s' : WorldState) (f : FollowsSince o es w s) (q : ProcessId) where
+module _ (o : Earlier) (es : List Made) (w : World) (s s' : WorldState) (f : FollowsSince o es w s)
+    (q : ProcessId) where
   run : IsRun s.tree (es ++ o.moves) w
   run = run_of o es w s f
 
@@ -89,7 +94,8 @@ module _ (o : Earlier) (es : List Made) (w : World) (s s' : WorldState) (f : Fol
   fault_since h a before behind happens moves net entries place fault e n step stands =
       let at = makes_at s.tree w (move_with q h (Some fault) a) e (world_after w q n e) step in
       let none = nothing_sent (place_of s.tree q) (w.at q) q fault a e at.node h at.made in
-      move_since o es w s s' f q h a before behind happens (moves_one s s' q before behind moves) (Some fault) e n step
+      move_since o es w s s' f q h a before behind happens (moves_one s s' q before behind moves)
+      (Some fault) e n step
       (net ∙ sym (ap (λ xs. s.net ++ xs) none ∙ append-nil s.net))
       (entered_hides es q h fault a e ∙ f.shown ∙ sym entries)
       (place ∙ (f.nodes q before moves.stood).place) stands

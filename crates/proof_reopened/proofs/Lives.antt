@@ -1,4 +1,5 @@
--- What a step of one of the programs of a tree comes to stands for a run that goes on since the tree was opened.
+-- What a step of one of the programs of a tree comes to stands for a run that goes on since the tree was
+-- opened.
 use Rattle.std.proofs.Common.{◌≡◌, ◌≢◌, ◌∙◌, ◌⊎◌, subst, refl, inl, inr, ℕ, Bool, true, false, if◌then◌else◌, Option, Some, None, option_map, is_some, List}
 use Rattle.protocol.specs.declared.names.Case.{Case}
 use Rattle.protocol.specs.declared.names.Outcome.{Outcome}
@@ -57,7 +58,8 @@ changed_is_some true None g = refl
 changed_is_some true (Some d) g = refl
 changed_is_some false o g = refl
 
-module _ (past : Earlier) (q : ProcessId) (g : CoreState → CoreState) (es : List Made) (w : World) (s : WorldState)
+module _ (past : Earlier) (q : ProcessId) (g : CoreState → CoreState) (es : List Made) (w : World)
+    (s : WorldState)
     (fits : (p : ProcessId) (c : CoreState) → same_process q p ≡ true → s.node_at p ≡ Some c
     → StandsAt w s p c → StandsAt w (changed q g s) p (g c)) where
   changed_stands : (p : ProcessId) (d c : CoreState) → s.node_at p ≡ Some d → StandsAt w s p d
@@ -84,12 +86,14 @@ pub counts_since : (past : Earlier) (q : ProcessId) (n : ℕ) (es : List Made) (
 counts_since past q n es w s f = changes_alike past q (λ c. counted c n) es w s
     (λ p c is there h. record { place = h.place; stands = stands_counted (w.at p) c n h.stands }) f
 
-anew_since : (past : Earlier) (q : ProcessId) (n : ℕ) (said : Case → Option Outcome) (spent : Bool) (es : List Made)
+anew_since : (past : Earlier) (q : ProcessId) (n : ℕ) (said : Case → Option Outcome) (spent : Bool)
+    (es : List Made)
     (w : World) (s : WorldState)
     → ((p : ProcessId) (c : CoreState) → same_process q p ≡ true → s.node_at p ≡ Some c
     → (d : Case) → (c.branch_of d).standing ≢ Heuristic)
     → FollowsSince past es w s → FollowsSince past es w (anew_at q n said spent s)
-anew_since past q n said spent es w s undecided f = changes_alike past q (λ c. saying (counted c n) said spent) es w s
+anew_since past q n said spent es w s undecided f =
+    changes_alike past q (λ c. saying (counted c n) said spent) es w s
     (λ p c is there h. record {
       place = h.place;
       stands = stands_saying (w.at p) (counted c n) said spent (undecided p c is there)
@@ -98,14 +102,16 @@ anew_since past q n said spent es w s undecided f = changes_alike past q (λ c. 
 
 pub life_steps : LifeStepsGoOn
 life_steps past s t es w is_tree f (rests same) = waits_since past es w t (same_since past es w s t f same)
-life_steps past s t es w is_tree f (makes q i marked sent h) = input_since past es w s t is_tree f q i marked sent h
+life_steps past s t es w is_tree f (makes q i marked sent h) =
+    input_since past es w s t is_tree f q i marked sent h
 life_steps past s t es w is_tree f (breaks q i sent h) = input_fails_since past es w s t f q i sent h
 life_steps past s t es w is_tree f (trims q h) = trim_since past es w s t is_tree f q h
 life_steps past s t es w is_tree f (trim_breaks q h) = trim_fails_since past es w s t f q is_tree h
 life_steps past s t es w is_tree f (begins q n keep h) =
     restart_since past es w (counted_at q n s) t is_tree (counts_since past q n es w s f) q (Some keep) h
 life_steps past s t es w is_tree f (begin_breaks q n keep h) =
-    restart_fails_since past es w (counted_at q n s) t (counts_since past q n es w s f) q is_tree (Some keep) h
+    restart_fails_since past es w (counted_at q n s) t (counts_since past q n es w s f) q
+    is_tree (Some keep) h
 life_steps past s t es w is_tree f (begins_anew q n h) =
     let u : WorldState = record t { data_at = s.data_at } in
     let there = same_since past es w (anew_at q n h.said h.spent s) u
@@ -113,7 +119,10 @@ life_steps past s t es w is_tree f (begins_anew q n h) =
     (record {
       tree = h.tree;
       nodes = h.nodes;
-      holdings = λ p. record { keeps = record { writes = λ x. refl; holders = λ k. refl }; known = λ x. refl };
+      holdings = λ p. record {
+        keeps = record { writes = λ x. refl; holders = λ k. refl };
+        known = λ x. refl;
+      };
       net = h.net;
       delivered = h.delivered;
       entries = h.entries;

@@ -51,7 +51,8 @@ put_there q p n at h = rw h refl
 some_one : (a b : CoreState) → Some a ≡ Some b → a ≡ b
 some_one a b h = cc
 
-module _ (w : World) (s s' : WorldState) (q : ProcessId) (n : Node) (e : Effect) (tree : s'.tree ≡ s.tree) where
+module _ (w : World) (s s' : WorldState) (q : ProcessId) (n : Node) (e : Effect)
+    (tree : s'.tree ≡ s.tree) where
   stays_at : (p : ProcessId) (c : CoreState) → same_process q p ≡ false → StandsAt w s p c
       → StandsAt (world_after w q n e) s' p c
   stays_at p c away h = record {
@@ -93,7 +94,8 @@ listed_after s s' q before behind tree stood left others listed p = elim (same_p
 
 -- A move of the world.
 
-module _ (o : Earlier) (es : List Made) (w : World) (s s' : WorldState) (f : FollowsSince o es w s) (q : ProcessId)
+module _ (o : Earlier) (es : List Made) (w : World) (s s' : WorldState)
+    (f : FollowsSince o es w s) (q : ProcessId)
     (h : Happening) (a : DataAnswer) (before behind : CoreState) (happens : MayHappen s.net q h)
     (moves : MovesOne s s' q before behind) where
   pub move_since : (fault : Option Fault) (e : Effect) (n : Node)
@@ -114,15 +116,18 @@ module _ (o : Earlier) (es : List Made) (w : World) (s s' : WorldState) (f : Fol
               (subst (λ (net : List Envelope). IsSince s.tree o (m ∷ es) net w') (sym net)
               (then_makes es s.net w m.move e w' f.since refl happens step));
           shown = shown;
-          nodes = nodes_after w s s' q n e moves.tree before behind moves.stands moves.others f.nodes place stands;
-          listed = listed_after s s' q before behind moves.tree moves.stood moves.stands moves.others f.listed;
+          nodes = nodes_after w s s' q n e moves.tree before behind moves.stands moves.others
+              f.nodes place stands;
+          listed = listed_after s s' q before behind moves.tree moves.stood moves.stands
+              moves.others f.listed;
         };
       }
 
   -- one in which no device failed, and which is entered
   pub entered_since : (reaction : Reaction) (marked : List Bool) → Enters s s' q h reaction marked
       → (e : Effect) (n : Node) → world_makes s.tree w (move_with q h None a) ≡ Some (e, world_after w q n e)
-      → reaction ≡ reaction_of e → behind.place ≡ place_of s.tree q → StandsFor n behind → GoesOnSince o es w s'
+      → reaction ≡ reaction_of e → behind.place ≡ place_of s.tree q → StandsFor n behind
+      → GoesOnSince o es w s'
   entered_since reaction marked enters e n step shown place stands =
       move_since None e n step
       (enters.net ∙ ap (λ (y : Reaction). s.net ++ y.messages) shown)

@@ -48,7 +48,8 @@ none_counted p (x ∷ es) z =
     by_test true z rest = absurd (omega (arith, z))
     by_test false z rest = rest (omega (arith, z))
 
-none_before : (before here behind all : ℕ) → nat_lt 1 all ≡ false → all ≡ before + here → here ≡ (0 + 1) + behind
+none_before : (before here behind all : ℕ) → nat_lt 1 all ≡ false → all ≡ before + here
+    → here ≡ (0 + 1) + behind
     → before ≡ 0
 none_before before here behind all once whole first = grind (arith, nat_tests)
 
@@ -61,7 +62,8 @@ itself q = elim (same_process_tells q q) [ inl t ↦ t.0 | inr z ↦ absurd (z.1
 
 any_at : (p : TreeProcess → Bool) (done rest : List TreeProcess) (e : TreeProcess) → p e ≡ true
     → list_any p (done ++ e ∷ rest) ≡ true
-any_at p done rest e h = list_any-append p done (e ∷ rest) ∙ second (list_any p done) (p e) (list_any p rest) h
+any_at p done rest e h = list_any-append p done (e ∷ rest)
+    ∙ second (list_any p done) (p e) (list_any p rest) h
   where
     second : (a b c : Bool) → b ≡ true → (a || (b || c)) ≡ true
     second true b c h = refl
@@ -77,19 +79,24 @@ new_there tree done rest e t is =
     (λ twice. sym (ap (list_any (λ x. nat_lt 1 (times_listed tree x.id))) is
     ∙ any_at (λ x. nat_lt 1 (times_listed tree x.id)) done rest e twice) ∙ t.listed_once) in
     none_counted test done
-    (none_before (count_by test done) (count_by test (e ∷ rest)) (count_by test rest) (count_by test tree) once
+    (none_before (count_by test done) (count_by test (e ∷ rest)) (count_by test rest)
+    (count_by test tree) once
     (ap (count_by test) is ∙ sum_by-append (λ y. cond (test y) 1 0) done (e ∷ rest))
-    (sum_by-append (λ y. cond (test y) 1 0) (e ∷ []) rest ∙ ap (λ b. (0 + cond b 1 0) + count_by test rest) (itself e.id)))
+    (sum_by-append (λ y. cond (test y) 1 0) (e ∷ []) rest
+    ∙ ap (λ b. (0 + cond b 1 0) + count_by test rest) (itself e.id)))
 
-listed_there : (tree done rest : List TreeProcess) (e : TreeProcess) → tree ≡ done ++ e ∷ rest → is_listed tree e.id ≡ true
+listed_there : (tree done rest : List TreeProcess) (e : TreeProcess) → tree ≡ done ++ e ∷ rest
+    → is_listed tree e.id ≡ true
 unfolding is_listed
 listed_there tree done rest e is =
-    ap (list_any (λ y. same_process y.id e.id)) is ∙ any_at (λ y. same_process y.id e.id) done rest e (itself e.id)
+    ap (list_any (λ y. same_process y.id e.id)) is ∙ any_at (λ y. same_process y.id e.id) done rest e
+    (itself e.id)
 
 listed_more : (done : List TreeProcess) (e : TreeProcess) (p : ProcessId)
     → is_listed (done ++ e ∷ []) p ≡ (is_listed done p || same_process e.id p)
 unfolding is_listed
-listed_more done e p = list_any-append (λ y. same_process y.id p) done (e ∷ []) ∙ last (list_any (λ y. same_process y.id p) done) (same_process e.id p)
+listed_more done e p = list_any-append (λ y. same_process y.id p) done (e ∷ [])
+    ∙ last (list_any (λ y. same_process y.id p) done) (same_process e.id p)
   where
     last : (a b : Bool) → (a || (b || false)) ≡ (a || b)
     last true b = refl
@@ -116,8 +123,10 @@ down_core tree q ls failures = record {
   spent = false;
 }
 
-down_stands : (tree : List TreeProcess) (q : ProcessId) (n : Node) (left : List Record) (ls : List LogRecord) (failures : ℕ)
-    → IsDownWith n left → ls ≡ map (in_log (parent_of (role_of tree q))) left → StandsFor n (down_core tree q ls failures)
+down_stands : (tree : List TreeProcess) (q : ProcessId) (n : Node) (left : List Record)
+    (ls : List LogRecord) (failures : ℕ)
+    → IsDownWith n left → ls ≡ map (in_log (parent_of (role_of tree q))) left
+    → StandsFor n (down_core tree q ls failures)
 down_stands tree q n left ls failures d is = record {
   forced = is ∙ ap (map (in_log (parent_of (role_of tree q)))) (sym d.forced);
   unforced = sym (ap (map (in_log (parent_of (role_of tree q)))) d.unforced);
@@ -135,9 +144,11 @@ some_of : (o : Option CoreState) → is_some o ≡ true → (c : CoreState) × (
 some_of None h = absurd (cc)
 some_of (Some c) h = (c, refl)
 
-module _ (tree : List TreeProcess) (is_tree : IsTree tree) (logs : ProcessId → List LogRecord) (s : WorldState)
+module _ (tree : List TreeProcess) (is_tree : IsTree tree) (logs : ProcessId → List LogRecord)
+    (s : WorldState)
     (r : IsReopened tree logs s) (past : Earlier) (before : IsEarlier tree past)
-    (stand : (q : ProcessId) → is_listed tree q ≡ true → StandsFor (past.world.at q) (down_core tree q (logs q) (r.failures q)))
+    (stand : (q : ProcessId) → is_listed tree q ≡ true
+    → StandsFor (past.world.at q) (down_core tree q (logs q) (r.failures q)))
   where
     down_at : Bool → ProcessId → Option CoreState
     down_at b q = if b then Some (down_core tree q (logs q) (r.failures q)) else None
@@ -195,40 +206,48 @@ module _ (tree : List TreeProcess) (is_tree : IsTree tree) (logs : ProcessId →
 
       left : (half (done ++ e ∷ [])).node_at e.id ≡ Some here.0
       unfolding half node_by
-      left = ap (λ b. node_by b e.id) (listed_more done e e.id ∙ last (is_listed done e.id) (same_process e.id e.id) (itself e.id))
+      left = ap (λ b. node_by b e.id) (listed_more done e e.id
+          ∙ last (is_listed done e.id) (same_process e.id e.id) (itself e.id))
           ∙ here.1
         where
           last : (a b : Bool) → b ≡ true → (a || b) ≡ true
           last true b h = refl
           last false b h = h
 
-      others : (p : ProcessId) → same_process e.id p ≡ false → (half (done ++ e ∷ [])).node_at p ≡ (half done).node_at p
+      others : (p : ProcessId) → same_process e.id p ≡ false
+          → (half (done ++ e ∷ [])).node_at p ≡ (half done).node_at p
       unfolding half
-      others p away = ap (λ b. node_by b p) (listed_more done e p ∙ none (is_listed done p) (same_process e.id p) away)
+      others p away = ap (λ b. node_by b p) (listed_more done e p
+          ∙ none (is_listed done p) (same_process e.id p) away)
         where
           none : (a b : Bool) → b ≡ false → (a || b) ≡ a
           none true b h = refl
           none false b h = h
 
-      moves : MovesOne (half done) (half (done ++ e ∷ [])) e.id (down_core tree e.id (logs e.id) (r.failures e.id)) here.0
+      moves : MovesOne (half done) (half (done ++ e ∷ [])) e.id
+          (down_core tree e.id (logs e.id) (r.failures e.id)) here.0
       unfolding half
       moves = record { tree = refl; stood = stood; stands = left; others = others }
 
       one_more : (xs : List Envelope) → xs ++ [] ≡ xs
       one_more xs = append-nil xs
 
-      enters : Enters (half done) (half (done ++ e ∷ [])) e.id (Restart 0) (r.opening e.id) (half done).delivered
+      enters : Enters (half done) (half (done ++ e ∷ [])) e.id (Restart 0) (r.opening e.id)
+          (half done).delivered
       unfolding half
       enters =
           let net : flat_map (λ (x : TreeProcess). (r.opening x.id).messages) (done ++ e ∷ [])
           ≡ flat_map (λ (x : TreeProcess). (r.opening x.id).messages) done ++ (r.opening e.id).messages =
           flat_map-append (λ (x : TreeProcess). (r.opening x.id).messages) done (e ∷ [])
-          ∙ ap (λ xs. flat_map (λ (x : TreeProcess). (r.opening x.id).messages) done ++ xs) (append-nil (r.opening e.id).messages) in
+          ∙ ap (λ xs. flat_map (λ (x : TreeProcess). (r.opening x.id).messages) done ++ xs)
+          (append-nil (r.opening e.id).messages) in
           record {
             net = net;
             delivered = ap undelivered net
-                ∙ map-append (λ l. false) (flat_map (λ (x : TreeProcess). (r.opening x.id).messages) done) (r.opening e.id).messages;
-            entries = map-append (λ (x : TreeProcess). step_entry x.id (Restart 0) (r.opening x.id)) done (e ∷ []);
+                ∙ map-append (λ l. false) (flat_map (λ (x : TreeProcess). (r.opening x.id).messages) done)
+                (r.opening e.id).messages;
+            entries = map-append (λ (x : TreeProcess). step_entry x.id (Restart 0) (r.opening x.id)) done
+                (e ∷ []);
           }
 
       one_restarts : (es : List Made) (w : World) → FollowsSince past es w (half done)
@@ -241,12 +260,17 @@ module _ (tree : List TreeProcess) (is_tree : IsTree tree) (logs : ProcessId →
           let at = f.nodes q old stood in
           let over = r.nodes q here.0 here.1 in
           let made = restarts_move tree w q old here.0 refl at.stands listed
-          (keeps_own tree (es ++ past.moves) w is_tree (run_of past es w (half done) f) q listed) 0 (r.opening q)
-          (over.restarts old (record { place_is = refl; failures_are = refl }) 0 (down_left tree q ls (r.failures q))) in
+          (keeps_own tree (es ++ past.moves) w is_tree (run_of past es w (half done) f) q listed) 0
+          (r.opening q)
+          (over.restarts old (record { place_is = refl; failures_are = refl }) 0
+          (down_left tree q ls (r.failures q))) in
           let restarts : ProcessRestarts old 0 here.0 (r.opening q) =
-          over.restarts old (record { place_is = refl; failures_are = refl }) 0 (down_left tree q ls (r.failures q)) in
-          entered_since past es w (half done) (half (done ++ e ∷ [])) f q (Restart 0) no_answer old here.0 tt moves
-          (r.opening q) (half done).delivered enters made.effect made.left made.makes made.shown restarts.place made.stands
+          over.restarts old (record { place_is = refl; failures_are = refl }) 0
+          (down_left tree q ls (r.failures q)) in
+          entered_since past es w (half done) (half (done ++ e ∷ [])) f q (Restart 0) no_answer
+          old here.0 tt moves
+          (r.opening q) (half done).delivered enters made.effect made.left made.makes made.shown
+          restarts.place made.stands
 
     record Come (done : List TreeProcess) : Type 0 where
       moves : List Made
@@ -291,14 +315,19 @@ module _ (tree : List TreeProcess) (is_tree : IsTree tree) (logs : ProcessId →
         at_end q true h = ap (λ b. node_by b q) h
         at_end q false h = ap (λ b. node_by b q) h ∙ (ap (λ b. down_at b q) h ∙ sym (none_at q h))
 
-        stands_here : (q : ProcessId) (c : CoreState) → FollowsSince past all_come.moves all_come.world (half tree)
+        stands_here : (q : ProcessId) (c : CoreState) → FollowsSince past all_come.moves all_come.world
+            (half tree)
             → StandsAt all_come.world (half tree) q c → StandsAt all_come.world s q c
-        stands_here q c f h = record { place = h.place ∙ ap (λ t. place_of t q) (sym r.tree_is); stands = h.stands }
+        stands_here q c f h = record {
+          place = h.place ∙ ap (λ t. place_of t q) (sym r.tree_is);
+          stands = h.stands;
+        }
 
         same_run : FollowsSince past all_come.moves all_come.world (half tree)
             → IsSince s.tree past all_come.moves s.net all_come.world
         same_run f = subst (λ t. IsSince t past all_come.moves s.net all_come.world) (sym r.tree_is)
-            (subst (λ (net : List Envelope). IsSince tree past all_come.moves net all_come.world) (sym r.net) f.since)
+            (subst (λ (net : List Envelope). IsSince tree past all_come.moves net all_come.world)
+            (sym r.net) f.since)
 
 pub reopened_on : ReopenedTreesGoOn
 reopened_on tree logs s es w is_tree r run left =
@@ -306,7 +335,8 @@ reopened_on tree logs s es w is_tree r run left =
     let past : Earlier = record { moves = d.moves ++ es; world = d.world } in
     let before : IsEarlier tree past = record { is_run = d.is_run; down = λ q h. (d.down q h).failed } in
     let end = reached tree is_tree logs s r past before
-    (λ q h. down_stands tree q (d.world.at q) (left_of (w.at q) (left.keep q)) (logs q) (r.failures q) (d.down q h)
+    (λ q h. down_stands tree q (d.world.at q) (left_of (w.at q) (left.keep q)) (logs q)
+    (r.failures q) (d.down q h)
     (left.left q h)) in
     record {
       crashes = d.moves;

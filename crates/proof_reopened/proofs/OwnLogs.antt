@@ -36,7 +36,8 @@ left_so n c keep h =
     let k = records_kept c keep in
     ap (λ xs. xs ++ whole_within (c.log.behind + keep) c.log.kept.unforced) h.forced
     ∙ (ap (λ xs. map (in_log q) n.forced ++ xs)
-    (within_is_front (c.log.behind + keep) c.log.kept.unforced ∙ (ap (take k) h.unforced ∙ take-map (in_log q) k n.unforced))
+    (within_is_front (c.log.behind + keep) c.log.kept.unforced
+    ∙ (ap (take k) h.unforced ∙ take-map (in_log q) k n.unforced))
     ∙ sym (map-append (in_log q) n.forced (take k n.unforced)))
 
 module _ (s : WorldState) (w : World) (keep : ProcessId → ℕ) (logs : ProcessId → List LogRecord)
@@ -53,7 +54,8 @@ module _ (s : WorldState) (w : World) (keep : ProcessId → ℕ) (logs : Process
   left_at q (Some c) is there =
       let h = nodes q c is in
       cut q c is ∙ (left_so (w.at q) c (keep q) h.stands
-      ∙ ap (λ (p : Place). map (in_log (parent_of p.role)) (left_of (w.at q) (records_kept c (keep q)))) h.place)
+      ∙ ap (λ (p : Place). map (in_log (parent_of p.role)) (left_of (w.at q) (records_kept c (keep q))))
+      h.place)
 
   pub are_left : AreLogsLeft s.tree w logs
   are_left = record {
@@ -64,7 +66,8 @@ module _ (s : WorldState) (w : World) (keep : ProcessId → ℕ) (logs : Process
 pub own_logs_left : OwnLogsAreLeft
 own_logs_left s keep logs es w f cut =
     are_left s w keep logs
-    (λ q c there. let h = f.follows.nodes q c there in record { place = h.place; stands = h.stands }) f.follows.listed cut
+    (λ q c there.
+    let h = f.follows.nodes q c there in record { place = h.place; stands = h.stands }) f.follows.listed cut
 
 pub own_logs_since_left : OwnLogsSinceAreLeft
 own_logs_since_left o s keep logs es w f cut = are_left s w keep logs f.nodes f.listed cut

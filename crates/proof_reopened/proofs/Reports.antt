@@ -27,7 +27,8 @@ input_among : (sent : List Envelope) (q : ProcessId) (i : Input) → InputStands
 input_among sent q (ActInput a) s = tt
 input_among sent q (MessageInput k m) s = among_at sent s.place _ s.stands
 
-arrives_among : (sent : List Envelope) (q : ProcessId) (h : Happening) → MayHappen sent q h → (i : Input) → h ≡ Handles i
+arrives_among : (sent : List Envelope) (q : ProcessId) (h : Happening) → MayHappen sent q h → (i : Input)
+    → h ≡ Handles i
     → InputAmong sent i
 arrives_among sent q h s i hp = input_among sent q i (subst (λ (x : Happening). MayHappen sent q x) hp s)
 
@@ -46,7 +47,8 @@ module _ (tree : List TreeProcess) (is_tree : IsTree tree) (o : Earlier) (past :
   among_net es sent w since x i =
       subst (λ zs. IsAmong x zs) (sym (net_since tree o es sent w since)) (among_second x o.world.net sent i)
 
-  since_holds : (es : List Made) (sent : List Envelope) (w : World) → IsSince tree o es sent w → SinceOpened tree sent w
+  since_holds : (es : List Made) (sent : List Envelope) (w : World) → IsSince tree o es sent w
+      → SinceOpened tree sent w
   since_holds _ _ _ opens_over = record {
     heard = down_heard;
     managers = λ x t p leaf o fs i clean. absurd i;
@@ -62,7 +64,8 @@ module _ (tree : List TreeProcess) (is_tree : IsTree tree) (o : Earlier) (past :
       → SinceReported tree o es sent w since
   since_reported _ _ _ opens_over = tt
   since_reported _ _ _ (then_makes es sent w m e w' since by stands made) = (
-    λ j c r top there. end_reports_truly tree is_tree (es ++ o.moves) w (whole_run tree o past.is_run es sent w since)
+    λ j c r top there. end_reports_truly tree is_tree (es ++ o.moves) w
+        (whole_run tree o past.is_run es sent w since)
         sent (among_net es sent w since) (since_holds es sent w since) m e w' by
         (arrives_among sent m.step.process m.step.happening stands)
         (happens_in tree o es sent w since m.step.process m.step.happening stands) made top c r j there,

@@ -72,7 +72,8 @@ module _ (o : Earlier) (es : List Made) (w : World) (s t : WorldState) (is_tree 
   input_since i marked stands h =
       let here = f.nodes q h.before h.moves.stood in
       let listed = listed_since o es w s q h.before f h.moves.stood in
-      let made = as_the_model s.tree is_tree (es ++ o.moves) w q h.before h.behind h.handles.answer i h.reaction
+      let made = as_the_model s.tree is_tree (es ++ o.moves) w q h.before h.behind
+      h.handles.answer i h.reaction
       (run_of o es w s f) listed (happens_in s.tree o es s.net w f.since q (Handles i) stands)
       here.place here.stands h.handles.makes in
       entered_since o es w s t f q (Handles i) h.handles.answer h.before h.behind stands
@@ -85,9 +86,11 @@ module _ (o : Earlier) (es : List Made) (w : World) (s t : WorldState) (is_tree 
       let here = f.nodes q h.before h.moves.stood in
       let listed = listed_since o es w s q h.before f h.moves.stood in
       let made = restarts_move s.tree w q h.before h.behind here.place here.stands listed
-      (keeps_own s.tree (es ++ o.moves) w is_tree (run_of o es w s f) q listed) h.keep h.reaction h.restarts in
+      (keeps_own s.tree (es ++ o.moves) w is_tree (run_of o es w s f) q listed) h.keep h.reaction h.restarts
+      in
       entered_since o es w s t f q (restart_of h.before h.keep) no_answer h.before h.behind tt
-      (moves_one s t q h.before h.behind h.moves) h.reaction s.delivered h.enters made.effect made.left made.makes
+      (moves_one s t q h.before h.behind h.moves) h.reaction s.delivered h.enters made.effect
+      made.left made.makes
       made.shown (h.restarts.place ∙ here.place) made.stands
 
   pub trim_since : TrimsAt s t q → GoesOnSince o es w t
@@ -100,5 +103,6 @@ module _ (o : Earlier) (es : List Made) (w : World) (s t : WorldState) (is_tree 
       (all_opened s.tree (es ++ o.moves) w (run_of o es w s f) q) h.sound
       (open_fits s.tree (es ++ o.moves) w (run_of o es w s f) q up) h.remain h.trims in
       entered_since o es w s t f q Trimming no_answer h.before h.behind tt
-      (moves_one s t q h.before h.behind h.moves) (trim_reaction h.remain) s.delivered h.enters made.effect made.left
+      (moves_one s t q h.before h.behind h.moves) (trim_reaction h.remain) s.delivered h.enters
+      made.effect made.left
       made.makes made.shown (h.trims.rest.place ∙ here.place) made.stands

@@ -46,7 +46,8 @@ undelivered_stays s t k step_error.Failed h = h.0.tree
 undelivered_stays s t k step_error.NoSuch h = h.0.tree
 undelivered_stays s t k step_error.Exhausted h = h.0.tree
 
-unacted_stays : (s t : WorldState) (q : ProcessId) (a : Act) (e : StepError) → NotActed s t q a e → t.tree ≡ s.tree
+unacted_stays : (s t : WorldState) (q : ProcessId) (a : Act) (e : StepError) → NotActed s t q a e
+    → t.tree ≡ s.tree
 unacted_stays s t q a step_error.Memory h = h.tree
 unacted_stays s t q a step_error.Device h = h.moves.tree
 unacted_stays s t q a step_error.UnknownTxn h = h.0.tree
@@ -90,7 +91,8 @@ none_stays s t e (Some k) h = undelivered_stays s t k e h
 pub stopped_stays : (s t : WorldState) (event : Event) (e : StepError) → Stops s event e t → t.tree ≡ s.tree
 stopped_stays s t (ActOf a) e h = unacted_stays s t (process_of_act (root_of s.tree) a) a e h
 stopped_stays s t (Deliver k) e h = undelivered_stays s t k e h
-stopped_stays s t Settle e h = none_stays h.before t e (least_open 1 h.before.delivered) h.stops ∙ settles_stay h.count s h.before h.settles
+stopped_stays s t Settle e h = none_stays h.before t e (least_open 1 h.before.delivered) h.stops
+    ∙ settles_stay h.count s h.before h.settles
 stopped_stays s t (Restart q bytes) e h = unrestarted_stays s t q bytes e h
 stopped_stays s t (Trim q) e h = untrimmed_stays s t q e h
 
@@ -98,7 +100,8 @@ pub led_stays : (s t : WorldState) (events : List Event) → EventsLead s events
 led_stays s t [] h = ap (λ (w : WorldState). w.tree) h
 led_stays s t (e ∷ events) h = led_stays h.0 t events h.2 ∙ applied_stays s h.0 e h.1
 
-pub led_until_stays : (s t : WorldState) (events : List Event) (n : ℕ) (e : StepError) → LeadsUntil s events n e t
+pub led_until_stays : (s t : WorldState) (events : List Event) (n : ℕ) (e : StepError)
+    → LeadsUntil s events n e t
     → t.tree ≡ s.tree
 led_until_stays s t events n e h =
     stopped_stays h.before t h.event e h.stops ∙ led_stays s h.before (take n events) h.leads

@@ -43,13 +43,15 @@ pub net_since : (tree : List TreeProcess) (o : Earlier) (es : List Made) (sent :
 net_since tree o _ _ _ opens_over = sym (append-nil o.world.net)
 net_since tree o _ _ _ (then_makes es sent w m e w' since by stands made) =
     ap (λ (y : World). y.net) (makes_at tree w m e w' made).world
-    ∙ (ap (λ xs. xs ++ e.messages) (net_since tree o es sent w since) ∙ append_assoc o.world.net sent e.messages)
+    ∙ (ap (λ xs. xs ++ e.messages) (net_since tree o es sent w since)
+    ∙ append_assoc o.world.net sent e.messages)
 
 -- what was sent since was sent
 pub happens_in : (tree : List TreeProcess) (o : Earlier) (es : List Made) (sent : List Envelope) (w : World)
     → IsSince tree o es sent w → (q : ProcessId) (h : Happening) → MayHappen sent q h → MayHappen w.net q h
 happens_in tree o es sent w since q h s =
-    subst (λ net. MayHappen net q h) (sym (net_since tree o es sent w since)) (stands_behind o.world.net sent q h s)
+    subst (λ net. MayHappen net q h) (sym (net_since tree o es sent w since))
+    (stands_behind o.world.net sent q h s)
 
 pub whole_run : (tree : List TreeProcess) (o : Earlier) → IsRun tree o.moves o.world → (es : List Made)
     (sent : List Envelope) (w : World) → IsSince tree o es sent w → IsRun tree (es ++ o.moves) w

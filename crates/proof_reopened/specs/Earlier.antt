@@ -7,7 +7,8 @@ use Rattle.protocol.specs.World.{IsDown, IsRun, Made, Move, MayHappen, World, wo
 use Rattle.proof_reports.specs.Mismatches.{EndsReportTruly}
 use Rattle.process_state.specs.Turns.{this_version}
 
--- the moves of the earlier run, the newest first, whichever version made each, and the world that they came to
+-- the moves of the earlier run, the newest first, whichever version made each, and the world that they came
+-- to
 pub record Earlier : Type 0 where
   pub moves : List Made
   pub world : World
@@ -17,8 +18,9 @@ pub record IsEarlier (tree : List TreeProcess) (o : Earlier) : Type 0 where
   pub is_run : IsRun tree o.moves o.world
   pub down : IsDown tree o.world
 
--- The moves that were made since, the newest first, and the messages that were sent in them. Each was made by the
--- version that processes have now, and each message that was delivered was sent since, under whatever number.
+-- The moves that were made since, the newest first, and the messages that were sent in them. Each was made by
+-- the version that processes have now, and each message that was delivered was sent since, under whatever
+-- number.
 pub data IsSince (tree : List TreeProcess) (o : Earlier) : List Made → List Envelope → World → Type 0 where
   opens_over : IsSince tree o [] [] o.world
   then_makes : (es : List Made) (sent : List Envelope) (w : World) (m : Move) (e : Effect) (w' : World)
@@ -29,7 +31,8 @@ pub data IsSince (tree : List TreeProcess) (o : Earlier) : List Made → List En
       → IsSince tree o (record { move = m; effect = e } ∷ es) (sent ++ e.messages) w'
 
 -- each End that the root appended in one of them reports truly, in the world that its move left
-abbrev pub SinceReported : (tree : List TreeProcess) (o : Earlier) (es : List Made) (sent : List Envelope) (w : World)
+abbrev pub SinceReported : (tree : List TreeProcess) (o : Earlier) (es : List Made)
+    (sent : List Envelope) (w : World)
     → IsSince tree o es sent w → Type 0
 SinceReported tree o _ _ _ opens_over = Unit {0}
 SinceReported tree o _ _ _ (then_makes es sent w m e w' since by stands made) =

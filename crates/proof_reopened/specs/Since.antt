@@ -1,4 +1,5 @@
--- When the state of a tree that was opened over the logs of an earlier run stands for that run and what was made since.
+-- When the state of a tree that was opened over the logs of an earlier run stands for that run and what was
+-- made since.
 use Rattle.std.specs.Prelude.{◌≡◌, is_some, Some, List, ◌++◌}
 use Rattle.protocol.specs.declared.names.ProcessId.{ProcessId}
 use Rattle.protocol.specs.Nodes.{is_listed}
@@ -9,9 +10,9 @@ use Rattle.tree_state.specs.Worlds.{WorldState}
 use Rattle.proof_runs.specs.worlds.Follows.{StandsAt, entered_of}
 use Rattle.proof_reopened.specs.Earlier.{Earlier, IsEarlier, IsSince, SinceReported}
 
--- The state stands for the earlier run and these moves after it, in which devices may have failed: its messages are
--- those that were sent since, its journal has the moves made since but for those in which a device failed, and each
--- process stands for the model's.
+-- The state stands for the earlier run and these moves after it, in which devices may have failed: its
+-- messages are those that were sent since, its journal has the moves made since but for those in which a
+-- device failed, and each process stands for the model's.
 pub record FollowsSince (o : Earlier) (es : List Made) (w : World) (s : WorldState) : Type 0 where
   pub earlier : IsEarlier s.tree o
   pub since : IsSince s.tree o es s.net w
@@ -26,8 +27,10 @@ pub record GoesOnSince (o : Earlier) (es : List Made) (w : World) (s : WorldStat
   pub leads : Continues s.tree w later world
   pub follows : FollowsSince o (later ++ es) world s
 
--- Both parts are one run, the headline holds of it, and each End of the root in the later part reports mismatches truly.
-pub record KeepsBoth (o : Earlier) (es : List Made) (w : World) (s : WorldState) (f : FollowsSince o es w s) : Type 0 where
+-- Both parts are one run, the headline holds of it, and each End of the root in the later part reports
+-- mismatches truly.
+pub record KeepsBoth (o : Earlier) (es : List Made) (w : World) (s : WorldState)
+    (f : FollowsSince o es w s) : Type 0 where
   pub is_run : IsRun s.tree (es ++ o.moves) w
   pub headline : Headline s.tree (es ++ o.moves) w
   pub mismatches_are_reported : SinceReported s.tree o es s.net w f.since

@@ -35,7 +35,8 @@ pub data_same : (parent : Option ProcessId) (rs : List Record) → data_records 
 data_same None rs = refl
 data_same (Some p) rs = refl
 
-trimmed_same : (parent : Option ProcessId) (rs : List Record) → trimmed (role_below parent) rs ≡ trimmed AtRoot rs
+trimmed_same : (parent : Option ProcessId) (rs : List Record)
+    → trimmed (role_below parent) rs ≡ trimmed AtRoot rs
 unfolding trimmed
 trimmed_same parent rs =
     ap (λ xs. (Opened (boot_of rs) ∷ xs) ++ data_records (role_below parent) rs) (staying_same parent rs rs)
@@ -46,7 +47,8 @@ abbrev pub Grows : List Record → List Record → Type 0
 Grows xs ys = (q : Record → Bool) → has q xs ≡ true → has q ys ≡ true
 
 -- the node after a step: by an input's records, or at rest, or restarted, or trimmed
-pub data Became (me : ProcessId) (parent : Option ProcessId) (tree : List TreeProcess) (n k : Node) : Type 0 where
+pub data Became (me : ProcessId) (parent : Option ProcessId) (tree : List TreeProcess)
+    (n k : Node) : Type 0 where
   by_turn : (h : Heard) (g : Effect) (new : List Record) → n.failed ≡ false
       → CoordinatorTurn (coordinator_place me parent tree) parent n h g
       → Grows new (entries_written g.written)
@@ -77,7 +79,8 @@ trim_kept rs q none e = elim (trim_left q none AtRoot rs e) [
 pub life_after : (n : Node) (ws : List Written) → (appends n ws).life ≡ reverse (entries_written ws) ++ n.life
 life_after n ws = by_force (is_any_forced ws) refl
   where
-    by_force : (b : Bool) → is_any_forced ws ≡ b → (appends n ws).life ≡ reverse (entries_written ws) ++ n.life
+    by_force : (b : Bool) → is_any_forced ws ≡ b → (appends n ws).life
+        ≡ reverse (entries_written ws) ++ n.life
     by_force true f = rw f refl
     by_force false f = rw f refl
 
@@ -130,7 +133,8 @@ module _ (me : ProcessId) (parent : Option ProcessId) (tree : List TreeProcess) 
       by_restart j (take f.appended (reopens (role_below parent) (left_of n j)))
       (λ q e. ap (has q) (sym (reopens_same parent (left_of n j)))
       ∙ in_front q f.appended (reopens (role_below parent) (left_of n j)) e)
-      (breaks_keeps (loses (logs_of n) j) (reopens (role_below parent) (left_of n j)) f.appended f.forced) refl
+      (breaks_keeps (loses (logs_of n) j) (reopens (role_below parent) (left_of n j)) f.appended f.forced)
+      refl
       (λ q e. in_first q n.forced _ e)
   became _ _ (trims_log hp up) = trims_so (trims place n) refl refl refl
   became _ _ (failed_trimming f fl hp up) = trim_failed f.appended

@@ -30,7 +30,8 @@ CommitsForced n = n.failed ≡ false → NoCommitUnforced n
 abbrev Uncommitted : List Written → Type 0
 Uncommitted ws = is_any_forced ws ≡ false → (c : Case) → has (is_commit c) (entries_written ws) ≡ false
 
-appended : (n : Node) (ws : List Written) → NoCommitUnforced n → Uncommitted ws → NoCommitUnforced (appends n ws)
+appended : (n : Node) (ws : List Written) → NoCommitUnforced n → Uncommitted ws
+    → NoCommitUnforced (appends n ws)
 appended n ws old none c = by_force (is_any_forced ws) refl
   where
     by_force : (b : Bool) → is_any_forced ws ≡ b → has (is_commit c) (appends n ws).unforced ≡ false
@@ -97,7 +98,8 @@ module _ (me : ProcessId) (tree : List TreeProcess) (m : Move) where
   abbrev here : Place
   here = coordinator_place me None tree
 
-  pub commits_forced : (n : Node) (e : Effect) (k : Node) → StepOf here n m e k → CommitsForced n → CommitsForced k
+  pub commits_forced : (n : Node) (e : Effect) (k : Node) → StepOf here n m e k → CommitsForced n
+      → CommitsForced k
   commits_forced n _ _ (handled i g hp np r) old up =
       appended n g.written (old (turn_of here n (heard_in m i) g r).up)
       (turn_uncommitted me tree n (heard_in m i) g (coordinator_turn_of here n (heard_in m i) g r))

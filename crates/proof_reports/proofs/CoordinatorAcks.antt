@@ -99,9 +99,10 @@ module _ (d : Case) (o : Outcome) (fs : List Finding) where
       (λ c i. resumed_none (record { me = me; parent = parent; own = c }) (recorded_view rs c)
       (recorded_view rs c).standing i) cs
 
--- How a case comes to acknowledge: nothing is known of it; or it gives up while it is open, or with nobody to wait for;
--- or the last acknowledgement has come.
-pub data AcksBy (place : Place) (parent : Option ProcessId) (n : Node) (h : Heard) (c : Case) (ws : List Written)
+-- How a case comes to acknowledge: nothing is known of it; or it gives up while it is open, or with nobody to
+-- wait for; or the last acknowledgement has come.
+pub data AcksBy (place : Place) (parent : Option ProcessId) (n : Node) (h : Heard) (c : Case)
+    (ws : List Written)
     (o : Outcome) (fs : List Finding) : Type 0 where
   unknown_acks : unknown_findings Second c ≡ fs → AcksBy place parent n h c ws o fs
   open_acks : ws ≡ [] → (coordinator_view place n c).standing ≡ Active → AcksBy place parent n h c ws o fs
@@ -126,7 +127,8 @@ module _ (place : Place) (parent : Option ProcessId) (n : Node) (h : Heard) (sec
     abort_up : (s : Seat) (p : Presumption) → AmongThem (acknowledges_abort s p) → s.own ≡ d
     abort_up s PresumeAbort i = absurd i
     abort_up s PresumeCommit i =
-        (same d o fs s.own AbortedOutcome [] (one_up d o fs s.me s.parent (Ack s.own AbortedOutcome []) i)).case_so
+        (same d o fs s.own AbortedOutcome [] (one_up d o fs s.me s.parent
+        (Ack s.own AbortedOutcome []) i)).case_so
 
     answered : (s : Seat) (v : Version) → v ≡ Second → (us : List Ticket) → AmongThem (abort_answered s v us)
         → (none_of us ≡ true) × AmongThem (acknowledges_abort s s.own.txn.presumption)
@@ -161,10 +163,12 @@ module _ (place : Place) (parent : Option ProcessId) (n : Node) (h : Heard) (sec
         → (AmongThem ys → A) → A
     either_way xs ys i f g = elim (among_either (Ack d o fs) xs ys i) [ inl a ↦ f a | inr b ↦ g b ]
 
-    each_none : {A : Type 0} (c : Case) (ts : List Ticket) → AmongThem (each (seat_of place parent c) Abort ts) → A
+    each_none : {A : Type 0} (c : Case) (ts : List Ticket)
+        → AmongThem (each (seat_of place parent c) Abort ts) → A
     each_none c ts i = never_each d o fs (seat_of place parent c) Abort (no_abort d o fs) ts i
 
-    commits_none : {A : Type 0} (c : Case) (ts : List Ticket) → AmongThem (each (seat_of place parent c) Commit ts) → A
+    commits_none : {A : Type 0} (c : Case) (ts : List Ticket)
+        → AmongThem (each (seat_of place parent c) Commit ts) → A
     commits_none c ts i = never_each d o fs (seat_of place parent c) Commit (no_commit d o fs) ts i
 
     up_none : {A : Type 0} (m : Message) → (m ≡ Ack d o fs → ⊥) → AmongThem (posted_up place.me parent m) → A
@@ -184,14 +188,16 @@ module _ (place : Place) (parent : Option ProcessId) (n : Node) (h : Heard) (sec
         let a = answered (seat_of place parent c) h.version second us i in
         absurd (subst (λ (p : Presumption). AmongThem (acknowledges_abort (seat_of place parent c) p)) f a.1)
 
-    at_last : (c : Case) (t : Ticket) (p : Outcome) (gs : List Finding) → HearsChild place n h c t (λ x. Ack x p gs)
+    at_last : (c : Case) (t : Ticket) (p : Outcome) (gs : List Finding)
+        → HearsChild place n h c t (λ x. Ack x p gs)
         → HasDecided p (coordinator_view place n c).standing
         → none_of (other_tickets t (coordinator_view place n c).owed) ≡ true → (r : Option Reports) (b : Bool)
         → Same d o fs c p (in_order (found_below place n c p gs))
         → By c (record { entry = EndRecord c r; is_forced = b } ∷ [])
     at_last c t p gs hears from last r b k = (
       k.case_so,
-      subst (λ (q : Outcome). AcksBy place parent n h c (record { entry = EndRecord c r; is_forced = b } ∷ []) q fs)
+      subst (λ (q : Outcome). AcksBy place parent n h c
+          (record { entry = EndRecord c r; is_forced = b } ∷ []) q fs)
           k.outcome_so (acks_so p (from) hears k.found_so),
     )
       where
@@ -232,17 +238,20 @@ module _ (place : Place) (parent : Option ProcessId) (n : Node) (h : Heard) (sec
     case_acks c _ (aborts _ us PresumeAbort (abort_act x e e') s f g) i = each_none c us i
     case_acks c _ (aborts _ us PresumeCommit (abort_act x e e') s f g) i = each_none c us i
     case_acks c _ (aborts _ us PresumeAbort (abort_comes q e e') s f g) i =
-        either_way (abort_answered (seat_of place parent c) h.version us) (each (seat_of place parent c) Abort us) i
+        either_way (abort_answered (seat_of place parent c) h.version us)
+        (each (seat_of place parent c) Abort us) i
         (λ j. never_alone c us g j) (λ j. each_none c us j)
     case_acks c _ (aborts _ us PresumeCommit (abort_comes q e e') s f g) i =
-        either_way (abort_answered (seat_of place parent c) h.version us) (each (seat_of place parent c) Abort us) i
+        either_way (abort_answered (seat_of place parent c) h.version us)
+        (each (seat_of place parent c) Abort us) i
         (λ j. alone c us s j) (λ j. each_none c us j)
     case_acks c _ (passes_commit PresumeAbort e s f) i =
         either_way (acknowledges_at_once h.version (seat_of place parent c) CommittedOutcome)
         (each (seat_of place parent c) Commit (coordinator_view place n c).promised) i
         (λ j. once_none h.version second (seat_of place parent c) CommittedOutcome j)
         (λ j. commits_none c (coordinator_view place n c).promised j)
-    case_acks c _ (passes_commit PresumeCommit e s f) i = commits_none c (coordinator_view place n c).promised i
+    case_acks c _ (passes_commit PresumeCommit e s f) i =
+        commits_none c (coordinator_view place n c).promised i
     case_acks c _ (passes_abort PresumeAbort e s f) i = each_none c (coordinator_view place n c).promised i
     case_acks c _ (passes_abort PresumeCommit e s f) i =
         either_way (acknowledges_at_once h.version (seat_of place parent c) AbortedOutcome)
@@ -255,7 +264,8 @@ module _ (place : Place) (parent : Option ProcessId) (n : Node) (h : Heard) (sec
     case_acks c _ (acknowledges p gs e a) i =
         let k = same d o fs c p gs (one_up d o fs place.me parent (Ack c p gs) i) in (
           k.case_so,
-          unknown_acks (unknown_is h.version second c p c.txn.presumption (coordinator_view place n c).standing gs a
+          unknown_acks (unknown_is h.version second c p c.txn.presumption
+              (coordinator_view place n c).standing gs a
               ∙ k.found_so),
         )
     case_acks c _ (waits_for_acks t p gs e f g j) i = absurd i
@@ -277,5 +287,6 @@ module _ (place : Place) (parent : Option ProcessId) (n : Node) (h : Heard) (sec
     turn_acks _ (gives_again p x t a e f) (inr i) = absurd i
     turn_acks _ (gives_fresh p x a e f) (inl i) = absurd (cc)
     turn_acks _ (gives_fresh p x a e f) (inr i) = absurd i
-    turn_acks _ (presumes x t e f) (inl i) = absurd (tells_no_ack d o fs (presumed x.presumption) (child_case x t) i)
+    turn_acks _ (presumes x t e f) (inl i) =
+        absurd (tells_no_ack d o fs (presumed x.presumption) (child_case x t) i)
     turn_acks _ (presumes x t e f) (inr i) = absurd i

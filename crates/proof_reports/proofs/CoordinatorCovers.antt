@@ -1,4 +1,5 @@
--- After a cascaded coordinator's acknowledgement that is clear, each ticket that its case ever named has acknowledged.
+-- After a cascaded coordinator's acknowledgement that is clear, each ticket that its case ever named has
+-- acknowledged.
 use Rattle.std.proofs.Common.{◌≡◌, ◌∙◌, ◌||◌, ◌⊎◌, inl, inr, ℕ, Bool, true, false, Some, List, [], ◌∷◌, ◌++◌, refl, sym, ap, subst, arith}
 use Rattle.std.specs.Prelude.{reverse}
 use Rattle.protocol.specs.declared.names.Case.{Case}
@@ -90,10 +91,12 @@ module _ (me p : ProcessId) (tree : List TreeProcess) (n : Node) (nested : Neste
       not_prepared e =
           let f = prepared_facts place n d e in
           elim over.decided [
-            | inl none ↦ never _ (has_other (is_prepare d) (is_promise d) (kept n) (prepare_is d) f.promise) none
+            | inl none ↦ never _ (has_other (is_prepare d) (is_promise d) (kept n) (prepare_is d) f.promise)
+                none
             | inr some ↦ elim some [
               | inl commit ↦ elim (either _ _ (sym (has_or (is_commit d) is_managers (kept n))
-                  ∙ front_kept _ (has_other (is_learnt_commit d) (λ r. is_commit d r || is_managers r) n.forced
+                  ∙ front_kept _ (has_other (is_learnt_commit d)
+                  (λ r. is_commit d r || is_managers r) n.forced
                   (learnt_is d) commit))) [
                     | inl own ↦ never _ own f.no_commit
                     | inr other ↦ never_managers other
@@ -101,7 +104,8 @@ module _ (me p : ProcessId) (tree : List TreeProcess) (n : Node) (nested : Neste
               | inr rest ↦ elim rest [
                 | inl abort ↦ elim (either _ _ abort) [
                   | inl other ↦ never_managers
-                      (front_kept _ (has_other (is_learnt_abort d) is_managers n.forced (abort_learnt_is d) other))
+                      (front_kept _ (has_other (is_learnt_abort d) is_managers n.forced
+                      (abort_learnt_is d) other))
                   | inr own ↦ never _ (front_kept (is_abort d) (both _ _ own).0) f.no_abort
                 ]
                 | inr forgot ↦ never_managers
@@ -115,7 +119,8 @@ module _ (me p : ProcessId) (tree : List TreeProcess) (n : Node) (nested : Neste
       module _ (up : n.failed ≡ false) where
         from_nowhere : (c : Case) (ts : List Ticket) → DecidesFrom place n c ts → c ≡ d → ⊥
         from_nowhere c _ (from_votes ts at) same =
-            not_collecting up (subst (λ (y : Case). (coordinator_view place n y).standing ≡ Collecting) same at)
+            not_collecting up (subst (λ (y : Case). (coordinator_view place n y).standing ≡ Collecting) same
+            at)
         from_nowhere c _ (from_promise at) same =
             not_prepared (subst (λ (y : Case). (coordinator_view place n y).standing ≡ Prepared) same at)
         from_nowhere c _ (for_nobody at) same =
@@ -129,7 +134,8 @@ module _ (me p : ProcessId) (tree : List TreeProcess) (n : Node) (nested : Neste
         writes_none c _ (cleared b) u e =
             never false (one_has (is_decision_naming d u) (ClearedRecord c) e) refl
         writes_none c _ (collected b at) u e =
-            never false (one_has (is_decision_naming d u) (CollectingRecord c (coordinator_view place n c).accepted) e) refl
+            never false (one_has (is_decision_naming d u)
+            (CollectingRecord c (coordinator_view place n c).accepted) e) refl
         writes_none c _ (promised ys b at) u e =
             never false (one_has (is_decision_naming d u) (PrepareRecord c ys) e) refl
         writes_none c _ (decided o ts b from f) u e =
@@ -140,10 +146,12 @@ module _ (me p : ProcessId) (tree : List TreeProcess) (n : Node) (nested : Neste
             → has (is_collecting d) (entries_written ws) ≡ true → ⊥
         writes_uncollected c _ nothing e = never _ e (has-nil (is_collecting d))
         writes_uncollected c _ (ended r b) e = never false (one_has (is_collecting d) (EndRecord c r) e) refl
-        writes_uncollected c _ (cleared b) e = never false (one_has (is_collecting d) (ClearedRecord c) e) refl
+        writes_uncollected c _ (cleared b) e = never false
+            (one_has (is_collecting d) (ClearedRecord c) e) refl
         writes_uncollected c _ (collected b at) e =
             not_active up (subst (λ (y : Case). (coordinator_view place n y).standing ≡ Active)
-            (case_is c d (one_has (is_collecting d) (CollectingRecord c (coordinator_view place n c).accepted) e)) at)
+            (case_is c d (one_has (is_collecting d)
+            (CollectingRecord c (coordinator_view place n c).accepted) e)) at)
         writes_uncollected c _ (promised ys b at) e =
             never false (one_has (is_collecting d) (PrepareRecord c ys) e) refl
         writes_uncollected c _ (decided CommittedOutcome ts b from f) e =
@@ -151,7 +159,8 @@ module _ (me p : ProcessId) (tree : List TreeProcess) (n : Node) (nested : Neste
         writes_uncollected c _ (decided AbortedOutcome ts b from f) e =
             never false (one_has (is_collecting d) (decision AbortedOutcome c ts) e) refl
 
-        module _ (h : Heard) (g : Effect) (turn : CoordinatorTurn (coordinator_place me (Some p) tree) (Some p) n h g) where
+        module _ (h : Heard) (g : Effect) (turn : CoordinatorTurn (coordinator_place me (Some p) tree)
+            (Some p) n h g) where
           turn_undecided : (u : Ticket) → has (is_decision_naming d u) (entries_written g.written) ≡ true → ⊥
           turn_undecided u e = elim (turn_writes place (Some p) n h g turn) [
             | inl none ↦ never _ (ap (λ ws. has (is_decision_naming d u) (entries_written ws)) (sym none) ∙ e)
@@ -174,12 +183,15 @@ module _ (me p : ProcessId) (tree : List TreeProcess) (n : Node) (nested : Neste
         abbrev d : Case
         d = child_case x t
 
-        restart_none : (j : ℕ) (u : Ticket) → has (is_decision_naming d u) (reopens AtRoot (left_of n j)) ≡ true → ⊥
+        restart_none : (j : ℕ) (u : Ticket) → has (is_decision_naming d u)
+            (reopens AtRoot (left_of n j)) ≡ true → ⊥
         restart_none j u e =
             let rs = left_of n j in
             let s = stood d rs (reopened_stood d rs
-            (has_other (is_decision_naming d u) (is_record_of d) (reopens AtRoot rs) (naming_recorded d u) e)) in
-            never _ (in_first (is_decision d) n.forced _ (old.collecting_is_decided (left_kept n j (is_collecting d) s.collecting)))
+            (has_other (is_decision_naming d u) (is_record_of d) (reopens AtRoot rs) (naming_recorded d u) e))
+            in
+            never _ (in_first (is_decision d) n.forced _
+            (old.collecting_is_decided (left_kept n j (is_collecting d) s.collecting)))
             s.no_decision
 
         named_then : (k : Node) → Became me (Some p) tree n k → (u : Ticket)
@@ -191,7 +203,8 @@ module _ (me p : ProcessId) (tree : List TreeProcess) (n : Node) (nested : Neste
                   (front (is_decision_naming d u) (sym (has-reverse (is_decision_naming d u) new) ∙ now)))
               | inr before ↦ old.named u before
             ]
-        named_then k (at_rest keeps life grows) u e = old.named u (ap (has (is_decision_naming d u)) (sym life) ∙ e)
+        named_then k (at_rest keeps life grows) u e =
+            old.named u (ap (has (is_decision_naming d u)) (sym life) ∙ e)
         named_then k (by_restart j new front keeps life grows) u e =
             elim (in_either (is_decision_naming d u) (reverse new) n.life
             (ap (has (is_decision_naming d u)) (sym life) ∙ e)) [
@@ -199,7 +212,8 @@ module _ (me p : ProcessId) (tree : List TreeProcess) (n : Node) (nested : Neste
                   (front (is_decision_naming d u) (sym (has-reverse (is_decision_naming d u) new) ∙ now)))
               | inr before ↦ old.named u before
             ]
-        named_then k (by_trim keeps life whole) u e = old.named u (ap (has (is_decision_naming d u)) (sym life) ∙ e)
+        named_then k (by_trim keeps life whole) u e =
+            old.named u (ap (has (is_decision_naming d u)) (sym life) ∙ e)
 
         trim_decided : has (is_collecting d) (trimmed AtRoot (kept n)) ≡ true
             → has (is_decision d) (trimmed AtRoot (kept n)) ≡ true
@@ -224,7 +238,8 @@ module _ (me p : ProcessId) (tree : List TreeProcess) (n : Node) (nested : Neste
             grows (is_decision d) (old.collecting_is_decided (ap (has (is_collecting d)) (sym keeps) ∙ e))
         decided_then k (by_restart j new front keeps life grows) e =
             elim (in_either (is_collecting d) (left_of n j) new (ap (has (is_collecting d)) (sym keeps) ∙ e)) [
-              | inl before ↦ grows (is_decision d) (old.collecting_is_decided (left_kept n j (is_collecting d) before))
+              | inl before ↦ grows (is_decision d) (old.collecting_is_decided
+                  (left_kept n j (is_collecting d) before))
               | inr now ↦ absurd (never _ (front (is_collecting d) now)
                   (reopens_none (is_collecting d) (λ c ts. refl) (λ k. refl) AtRoot (left_of n j)))
             ]
@@ -240,7 +255,8 @@ module _ (me p : ProcessId) (tree : List TreeProcess) (n : Node) (nested : Neste
         (heard : AllHeardAmong ls n.heard) (now : InputAmong ls h.input)
         (lasts : CoordinatorLasts (coordinator_place me (Some p) tree) n)
         (names : NamesBy x.presumption (child_case x t) (kept n)) (up : n.failed ≡ false)
-        (undecided : ((coordinator_view (coordinator_place me (Some p) tree) n (child_case x t)).standing ≡ Active)
+        (undecided : ((coordinator_view (coordinator_place me (Some p) tree) n (child_case x t)).standing
+        ≡ Active)
         ⊎ ((coordinator_view (coordinator_place me (Some p) tree) n (child_case x t)).standing ≡ Collecting)
         → has (is_decision (child_case x t)) n.life ≡ false)
         (clear : in_list (unreported_of fs) t ≡ false) (k : Node) (g : Effect)
@@ -262,26 +278,34 @@ module _ (me p : ProcessId) (tree : List TreeProcess) (n : Node) (nested : Neste
               | inr b ↦ inr b
             ]
 
-        one_named : (u : Ticket) (r : Record) (b : Bool) → g.written ≡ record { entry = r; is_forced = b } ∷ []
-            → has (is_decision_naming own u) (entries_written g.written) ≡ true → is_decision_naming own u r ≡ true
+        one_named : (u : Ticket) (r : Record) (b : Bool) → g.written
+            ≡ record { entry = r; is_forced = b } ∷ []
+            → has (is_decision_naming own u) (entries_written g.written) ≡ true
+            → is_decision_naming own u r ≡ true
         one_named u r b e f =
-            one_has (is_decision_naming own u) r (ap (λ ws. has (is_decision_naming own u) (entries_written ws)) (sym e) ∙ f)
+            one_has (is_decision_naming own u) r (ap
+            (λ ws. has (is_decision_naming own u) (entries_written ws)) (sym e) ∙ f)
 
-        pub covers_now : AcksBy (coordinator_place me (Some p) tree) (Some p) n h (child_case x t) g.written o fs
+        pub covers_now : AcksBy (coordinator_place me (Some p) tree) (Some p) n h
+            (child_case x t) g.written o fs
             → Covers ls k x t o fs
         covers_now (unknown_acks e) =
             absurd (never _ (ap (λ gs. in_list (unreported_of gs) t) (sym e) ∙ unreported_one t) clear)
         covers_now (open_acks none at) = record {
           named = λ u e. elim (named_either u e) [
-            | inl a ↦ absurd (never _ (ap (λ ws. has (is_decision_naming own u) (entries_written ws)) (sym none) ∙ a)
+            | inl a ↦ absurd (never _ (ap (λ ws. has (is_decision_naming own u) (entries_written ws))
+                (sym none) ∙ a)
                 (has-nil (is_decision_naming own u)))
             | inr b ↦ absurd (never _ b (no_decision_naming own u n.life (undecided (inl at))))
           ];
-          collecting_is_decided = λ e. elim (in_either (is_collecting own) (kept n) (entries_written g.written)
+          collecting_is_decided = λ e. elim (in_either (is_collecting own) (kept n)
+              (entries_written g.written)
               (ap (has (is_collecting own)) (sym keeps) ∙ e)) [
                 | inl a ↦ absurd (never _ a
-                    (active_unrecorded (kept n) own (memory_of place n own).phase (sym (viewed place n own) ∙ at)).no_collecting)
-                | inr b ↦ absurd (never _ (ap (λ ws. has (is_collecting own) (entries_written ws)) (sym none) ∙ b)
+                    (active_unrecorded (kept n) own (memory_of place n own).phase
+                    (sym (viewed place n own) ∙ at)).no_collecting)
+                | inr b ↦ absurd (never _ (ap (λ ws. has (is_collecting own) (entries_written ws)) (sym none)
+                    ∙ b)
                     (has-nil (is_collecting own)))
               ];
         }
@@ -309,8 +333,10 @@ module _ (me p : ProcessId) (tree : List TreeProcess) (n : Node) (nested : Neste
                 (in_order (found_below (coordinator_place me (Some p) tree) n own o gs)) u
                 (within_in_order (found_below (coordinator_place me (Some p) tree) n own o gs))
                 (all_acked ls me (Some p) tree n heard h now own u' o gs hears from last u
-                (named_owed place n own lasts.stays o (coordinator_view place n own).standing from refl u old)))
+                (named_owed place n own lasts.stays o (coordinator_view place n own).standing
+                from refl u old)))
           ];
           collecting_is_decided = λ e. grows (is_decision own)
-              (decided_forced place n own names lasts.forced up o (coordinator_view place n own).standing from refl);
+              (decided_forced place n own names lasts.forced up o
+              (coordinator_view place n own).standing from refl);
         }

@@ -1,4 +1,5 @@
--- From a root's End down to each mismatch that stands: it is reported, or lies below a ticket that is reported.
+-- From a root's End down to each mismatch that stands: it is reported, or lies below a ticket that is
+-- reported.
 use Rattle.std.proofs.Common.{◌≡◌, ◌≢◌, ◌∙◌, ◌⊎◌, inl, inr, ℕ, Bool, true, false, Option, Some, List, [], refl, sym, ap, subst, arith}
 use Rattle.protocol.specs.declared.names.Case.{Case}
 use Rattle.protocol.specs.declared.names.Outcome.{Outcome}
@@ -34,15 +35,18 @@ pub record Reported (fs : List Finding) (r : Option Reports) : Type 0 where
   pub mixed : (t : Ticket) → in_list (mixed_of fs) t ≡ true → in_list (mixed_in r) t ≡ true
   pub unreported : (t : Ticket) → in_list (unreported_of fs) t ≡ true → in_list (unreported_in r) t ≡ true
 
--- the ticket's case acknowledged the outcome, does not report itself as unreported, and all that it found is among these
-pub record ClearAck (ls : List Envelope) (x : Txn) (o : Outcome) (fs : List Finding) (t : Ticket) : Type 0 where
+-- the ticket's case acknowledged the outcome, does not report itself as unreported, and all that it found is
+-- among these
+pub record ClearAck (ls : List Envelope) (x : Txn) (o : Outcome) (fs : List Finding)
+    (t : Ticket) : Type 0 where
   pub found : List Finding
   pub is_sent : IsAmong (Ack (child_case x t) o found) ls
   pub within : Within found fs
   pub clear : in_list (unreported_of found) t ≡ false
 
 nobody_accepts : (n : Node) (c : Case) (t : Ticket) → n.accepted ≡ [] → has_accepted n c t ≡ true → ⊥
-nobody_accepts n c t e f = absurd (let g = ap (λ as'. has_accepted (record n { accepted = as' }) c t) (sym e) ∙ f in cc)
+nobody_accepts n c t e f = absurd (let g = ap (λ as'. has_accepted (record n { accepted = as' }) c t) (sym e)
+    ∙ f in cc)
 
 other_of : (o u : Outcome) → o ≢ u → o ≡ other_outcome u
 other_of CommittedOutcome CommittedOutcome e = absurd (e refl)
@@ -80,7 +84,11 @@ module _ (tree : List TreeProcess) (es : List Made) (w : World) (run : IsRun tre
       where
         by_test : (b : Bool) → in_list (unreported_of a.found) t ≡ b → Told t
         by_test true e =
-            inr (record { top = t; reported = reported.unreported t (a.within.unreported t e); lies = at_top })
+            inr (record {
+              top = t;
+              reported = reported.unreported t (a.within.unreported t e);
+              lies = at_top;
+            })
         by_test false e = inl (record { found = a.found; is_sent = a.is_sent; within = a.within; clear = e })
 
     -- a case that has a ticket, and accepted one, is of a coordinator below the root
@@ -93,9 +101,11 @@ module _ (tree : List TreeProcess) (es : List Made) (w : World) (run : IsRun tre
       by_role : (y : Role) → role_of tree u.child ≡ y → ClearAck ls x o fs u → Told t
       by_role (Below p) f a = below_told p f a
       by_role AtRoot f a =
-          absurd (let e = ((node_as u.child AtRoot f).role.1.accepted_is_begun (child_case x u) t names.accepted).0 in cc)
+          absurd (let e = ((node_as u.child AtRoot f).role.1.accepted_is_begun (child_case x u) t
+          names.accepted).0 in cc)
       by_role (AtLeaf p) f a =
-          absurd (nobody_accepts (w.at u.child) (child_case x u) t (node_as u.child (AtLeaf p) f).role.0.accepts_none
+          absurd (nobody_accepts (w.at u.child) (child_case x u) t
+          (node_as u.child (AtLeaf p) f).role.0.accepts_none
           names.accepted)
 
     -- down the way
@@ -103,7 +113,11 @@ module _ (tree : List TreeProcess) (es : List Made) (w : World) (run : IsRun tre
     told_down _ (by_root t names) = told_of t (named t names)
     told_down _ (by_ticket u t down names) = elim (told_down u down) [
       | inl a ↦ by_role u t names (role_of tree u.child) refl a
-      | inr l ↦ inr (record { top = l.top; reported = l.reported; lies = accepted_by u t l.lies names.accepted })
+      | inr l ↦ inr (record {
+        top = l.top;
+        reported = l.reported;
+        lies = accepted_by u t l.lies names.accepted;
+      })
     ]
 
     -- at a manager that an operator decided against
@@ -117,7 +131,8 @@ module _ (tree : List TreeProcess) (es : List Made) (w : World) (run : IsRun tre
         against = other_of u o (λ e. mismatch.differs (e ∙ agrees))
 
         kept_so : has (is_decided (child_case x t) u) (kept (w.at t.child)) ≡ true
-        kept_so = in_first (is_decided (child_case x t) u) (w.at t.child).forced (w.at t.child).unforced stands.is_forced
+        kept_so = in_first (is_decided (child_case x t) u) (w.at t.child).forced (w.at t.child).unforced
+            stands.is_forced
 
         at_manager : (p : ProcessId) → role_of tree t.child ≡ AtLeaf p → ClearAck ls x o fs t → Result
         at_manager p leaf a = by_test (in_list (mixed_of a.found) t) refl
@@ -129,8 +144,10 @@ module _ (tree : List TreeProcess) (es : List Made) (w : World) (run : IsRun tre
             by_test true e = inl (reported.mixed t (a.within.mixed t e))
             by_test false e =
                 absurd (never _
-                (in_first (is_decided (child_case x t) (other_outcome o)) (kept (w.at t.child)) (w.at t.child).durable
-                (subst (λ (y : Outcome). has (is_decided (child_case x t) y) (kept (w.at t.child)) ≡ true) against kept_so))
+                (in_first (is_decided (child_case x t) (other_outcome o)) (kept (w.at t.child))
+                (w.at t.child).durable
+                (subst (λ (y : Outcome). has (is_decided (child_case x t) y) (kept (w.at t.child)) ≡ true)
+                against kept_so))
                 (since.managers x t p leaf o a.found a.is_sent
                 (λ v f. subst (λ (z : Ticket). (in_list (unreported_of a.found) z ≡ false)
                 × (in_list (mixed_of a.found) z ≡ false)) (same_ticket_so v f) (a.clear, e))))

@@ -21,7 +21,8 @@ use Rattle.proof_processes.proofs.Tests.{has-cons, left, right}
 
 -- Lists.
 
-pub has_at : (q : Record → Bool) (rs : List Record) (j : ℕ) (r : Record) → slice_get rs j ≡ Some r → q r ≡ true
+pub has_at : (q : Record → Bool) (rs : List Record) (j : ℕ) (r : Record) → slice_get rs j ≡ Some r
+    → q r ≡ true
     → has q rs ≡ true
 has_at q [] j r e f = absurd (cc)
 has_at q (x ∷ rs) zero r e f = has-cons q x rs ∙ left _ _ (let g : x ≡ r = cc in ap q g ∙ f)
@@ -68,7 +69,8 @@ module _ (place : Place) (n : Node) (h : Heard) (c : Case) (r : Option Reports) 
   none_here : {A : Type 0} → slice_get [] j ≡ Some (EndRecord c r) → A
   none_here e = none_at j (EndRecord c r) e
 
-  other_here : {A : Type 0} (x : Record) → (x ≡ EndRecord c r → ⊥) → slice_get (x ∷ []) j ≡ Some (EndRecord c r) → A
+  other_here : {A : Type 0} (x : Record) → (x ≡ EndRecord c r → ⊥)
+      → slice_get (x ∷ []) j ≡ Some (EndRecord c r) → A
   other_here x differs e = absurd (differs (one_at x j (EndRecord c r) e))
 
   -- the End is this one
@@ -76,12 +78,14 @@ module _ (place : Place) (n : Node) (h : Heard) (c : Case) (r : Option Reports) 
     pub case_so : d ≡ c
     pub reports_so : s ≡ r
 
-  same_end : (d : Case) (s : Option Reports) → slice_get (EndRecord d s ∷ []) j ≡ Some (EndRecord c r) → SameEnd d s
+  same_end : (d : Case) (s : Option Reports) → slice_get (EndRecord d s ∷ []) j ≡ Some (EndRecord c r)
+      → SameEnd d s
   same_end d s e =
       let f = one_at (EndRecord d s) j (EndRecord c r) e in
       record { case_so = let g : d ≡ c = cc in g; reports_so = let g : s ≡ r = cc in g }
 
-  ends_same : (d : Case) (t : Ticket) (o : Outcome) (fs : List Finding) → HearsChild place n h d t (λ x. Ack x o fs)
+  ends_same : (d : Case) (t : Ticket) (o : Outcome) (fs : List Finding)
+      → HearsChild place n h d t (λ x. Ack x o fs)
       → HasDecided o (coordinator_view place n d).standing
       → none_of (other_tickets t (coordinator_view place n d).owed) ≡ true
       → SameEnd d (end_reports h.version None (found_below place n d o fs)) → By

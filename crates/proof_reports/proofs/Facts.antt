@@ -22,8 +22,8 @@ use Rattle.proof_processes.proofs.PairOf.{given, pair_of}
 use Rattle.proof_processes.proofs.Tests.{and}
 use Rattle.proof_headline.proofs.runs.MessagesHold.{none_gives}
 
--- an open case was never decided by an operator; a decision that was ever forced is forced, or was forgotten; and one
--- that was forgotten stays so while its promise is kept
+-- an open case was never decided by an operator; a decision that was ever forced is forced, or was forgotten;
+-- and one that was forgotten stays so while its promise is kept
 pub record CaseFacts (place : Place) (n : Node) (d : Case) : Type 0 where
   pub open_undecided : is_live (phase_by n.failed (standing_of place n d)) ≡ true
       → has (is_heuristic d) n.durable ≡ false
@@ -32,12 +32,14 @@ pub record CaseFacts (place : Place) (n : Node) (d : Case) : Type 0 where
   pub forgot_stays : has (is_forgot d) n.durable ≡ true → has (is_promise d) (kept n) ≡ true
       → has (is_forgot d) (kept n) ≡ true
 
--- the case is over: it is not open, and it keeps no promise, or its outcome, or a Forgot, is in the forced front
+-- the case is over: it is not open, and it keeps no promise, or its outcome, or a Forgot, is in the forced
+-- front
 pub record IsOver (place : Place) (n : Node) (d : Case) : Type 0 where
   pub closed : is_live (phase_by n.failed (standing_of place n d)) ≡ false
   pub decided : (has (is_promise d) (kept n) ≡ false)
       ⊎ ((has (is_learnt_commit d) n.forced ≡ true)
-      ⊎ (((has (is_learnt_abort d) n.forced || (has (is_abort d) n.forced && has (is_prepare d) n.forced)) ≡ true)
+      ⊎ (((has (is_learnt_abort d) n.forced || (has (is_abort d) n.forced && has (is_prepare d) n.forced))
+      ≡ true)
       ⊎ (has (is_forgot d) n.forced ≡ true)))
 
 not_open : (a b : Bool) → a ≡ true → (a && b) ≡ false → b ≡ false
@@ -73,7 +75,8 @@ module _ (tree : List TreeProcess) (w : World) (h : WorldHolds tree w) (x : Txn)
       → IsOver (place_of tree t.child) (w.at t.child) (child_case x t)
   acked_over e =
       let g = given w.net x t (h.about_given (child_case x t)
-      (sent_other (is_ack_message (child_case x t)) (is_about (child_case x t)) w.net (ack_about (child_case x t)) e)) in
+      (sent_other (is_ack_message (child_case x t)) (is_about (child_case x t)) w.net
+      (ack_about (child_case x t)) e)) in
       subst (λ (y : Txn). sent (is_ack_message (child_case y t)) w.net ≡ true
       → IsOver (place_of tree t.child) (w.at t.child) (child_case y t)) g.same
       (over_of tree w g.of t g.joined (pair_of tree w h x t g).1) e

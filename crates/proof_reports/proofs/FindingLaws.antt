@@ -48,11 +48,13 @@ mixed_in_order fs =
 pub unreported_in_order : (fs : List Finding) → unreported_of (in_order fs) ≡ unreported_of fs
 unreported_in_order fs =
     unreported_both (map (λ t. Mixed t) (mixed_of fs)) (map (λ t. Unreported t) (unreported_of fs))
-    ∙ (ap (λ ts. ts ++ unreported_of (map (λ t. Unreported t) (unreported_of fs))) (none_unreported (mixed_of fs))
+    ∙ (ap (λ ts. ts ++ unreported_of (map (λ t. Unreported t) (unreported_of fs)))
+    (none_unreported (mixed_of fs))
     ∙ all_unreported (unreported_of fs))
 
 -- what is in order stays as it is
 pub in_order_twice : (fs : List Finding) → in_order (in_order fs) ≡ in_order fs
 in_order_twice fs =
-    ap (λ ts. map (λ t. Mixed t) ts ++ map (λ t. Unreported t) (unreported_of (in_order fs))) (mixed_in_order fs)
+    ap (λ ts. map (λ t. Mixed t) ts ++ map (λ t. Unreported t) (unreported_of (in_order fs)))
+    (mixed_in_order fs)
     ∙ ap (λ ts. map (λ t. Mixed t) (mixed_of fs) ++ map (λ t. Unreported t) ts) (unreported_in_order fs)

@@ -88,7 +88,8 @@ module _ (place : Place) (n : Node) where
       (by_outcome (λ o. is_decision_by o c (ClearedRecord d)) refl refl (acknowledged c.txn.presumption))
   writes_plain d _ (collected b s) e c =
       one_other (is_owed_decision c) (CollectingRecord d (coordinator_view place n d).accepted)
-      (by_outcome (λ o. is_decision_by o c (CollectingRecord d (coordinator_view place n d).accepted)) refl refl (acknowledged c.txn.presumption))
+      (by_outcome (λ o. is_decision_by o c (CollectingRecord d (coordinator_view place n d).accepted)) refl
+      refl (acknowledged c.txn.presumption))
   writes_plain d _ (promised ys b s) e c =
       one_other (is_owed_decision c) (PrepareRecord d ys)
       (by_outcome (λ o. is_decision_by o c (PrepareRecord d ys)) refl refl (acknowledged c.txn.presumption))

@@ -82,7 +82,8 @@ among_sent q m e [] i = absurd i
 among_sent q m e (l ∷ ls) (inl f) = left _ _ (ap q f ∙ e)
 among_sent q m e (l ∷ ls) (inr i) = right (q l.message) _ (among_sent q m e ls i)
 
-pub acked_within : (ls : List Envelope) (x : Txn) (o : Outcome) (fs gs : List Finding) (t : Ticket) → Within fs gs
+pub acked_within : (ls : List Envelope) (x : Txn) (o : Outcome) (fs gs : List Finding) (t : Ticket)
+    → Within fs gs
     → Acked ls x o fs t → Acked ls x o gs t
 acked_within ls x o fs gs t w a =
     record { found = a.found; is_sent = a.is_sent; within = within_then a.found fs gs a.within w }

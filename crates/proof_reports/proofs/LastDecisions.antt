@@ -46,7 +46,8 @@ decision_step c b d (End k rep) e = inl e
 decision_step c b d (Cleared k) e = inl e
 decision_step c b d (Prepared k ws) e = by_test (is_branch c k) e
   where
-    by_test : (t : Bool) → (if t then None else d) ≡ Some b → (d ≡ Some b) ⊎ (is_decided c b (Prepared k ws) ≡ true)
+    by_test : (t : Bool) → (if t then None else d) ≡ Some b → (d ≡ Some b)
+        ⊎ (is_decided c b (Prepared k ws) ≡ true)
     by_test true f = absurd (cc)
     by_test false f = inl f
 decision_step c b d (Committed k) e = inl e
@@ -86,14 +87,16 @@ is_decided_mark (ToldOf o) = true
 is_decided_mark _ = false
 
 -- the branch is told of a decision only
-told_behind : (m : Mark) (b : BranchName) (o : Outcome) → may_follow m (Told b o) ≡ true → is_decided_mark m ≡ true
+told_behind : (m : Mark) (b : BranchName) (o : Outcome) → may_follow m (Told b o) ≡ true
+    → is_decided_mark m ≡ true
 told_behind Decided b o e = refl
 told_behind (ToldOf u) b o e = absurd (cc)
 told_behind Promised b o e = absurd (cc)
 told_behind Finished b o e = absurd (cc)
 told_behind Unmarked b o e = absurd (cc)
 
-module _ (d : Case) (m : Mark) (k : Option Outcome) (before : is_decided_mark m ≡ true → is_some k ≡ true) where
+module _ (d : Case) (m : Mark) (k : Option Outcome)
+    (before : is_decided_mark m ≡ true → is_some k ≡ true) where
   -- a record that leaves no decided mark, where it is of the branch, and decides nothing
   over : (b : BranchName) (x : Mark) → is_decided_mark x ≡ false
       → is_decided_mark (if same_branch b (CaseBranch d) then x else m) ≡ true → is_some k ≡ true
@@ -106,7 +109,8 @@ module _ (d : Case) (m : Mark) (k : Option Outcome) (before : is_decided_mark m 
   decides : (b : BranchName) (o : Outcome)
       → is_decided_mark (if same_branch b (CaseBranch d) then Decided else m) ≡ true
       → is_some (if is_branch d b then Some o else k) ≡ true
-  decides b o e = by_test (is_branch d b) (ap (λ t. is_decided_mark (if t then Decided else m)) (sym (same_is d b)) ∙ e)
+  decides b o e = by_test (is_branch d b)
+      (ap (λ t. is_decided_mark (if t then Decided else m)) (sym (same_is d b)) ∙ e)
     where
       by_test : (t : Bool) → is_decided_mark (if t then Decided else m) ≡ true
           → is_some (if t then Some o else k) ≡ true
@@ -115,14 +119,16 @@ module _ (d : Case) (m : Mark) (k : Option Outcome) (before : is_decided_mark m 
 
   promises : (b : BranchName) → is_decided_mark (if same_branch b (CaseBranch d) then Promised else m) ≡ true
       → is_some (if is_branch d b then None else k) ≡ true
-  promises b e = by_test (is_branch d b) (ap (λ t. is_decided_mark (if t then Promised else m)) (sym (same_is d b)) ∙ e)
+  promises b e = by_test (is_branch d b) (ap (λ t. is_decided_mark (if t then Promised else m))
+      (sym (same_is d b)) ∙ e)
     where
       by_test : (t : Bool) → is_decided_mark (if t then Promised else m) ≡ true
           → is_some (if t then None else k) ≡ true
       by_test true f = absurd (cc)
       by_test false f = before f
 
-  tells : (b : BranchName) (o : Outcome) → (not (is_branch_record d (Told b o)) || may_follow m (Told b o)) ≡ true
+  tells : (b : BranchName) (o : Outcome) → (not (is_branch_record d (Told b o)) || may_follow m (Told b o))
+      ≡ true
       → is_decided_mark (if same_branch b (CaseBranch d) then ToldOf o else m) ≡ true → is_some k ≡ true
   tells b o follows e = by_test (is_branch d b) follows (ap (λ t. is_decided_mark (if t then ToldOf o else m))
       (sym (same_is d b)) ∙ e)

@@ -1,4 +1,5 @@
--- What lasts at every coordinator: decisions that are acknowledged are forced, live cases are undecided, and names stay.
+-- What lasts at every coordinator: decisions that are acknowledged are forced, live cases are undecided, and
+-- names stay.
 use Rattle.std.proofs.Common.{◌≡◌, ◌∙◌, inl, inr, Bool, true, false, Option, Some, None, List, [], ◌∷◌, refl, sym, subst}
 use Rattle.protocol.specs.declared.names.Case.{Case}
 use Rattle.protocol.specs.declared.names.Outcome.{Outcome}
@@ -104,7 +105,8 @@ module _ (tree : List TreeProcess) (is_tree : IsTree tree) where
       let now = makes_at tree w m e w' step in
       let x = m.step.process in
       let s = step_of (place_of tree x) (w.at x) m e now.node now.made in
-      let P : ProcessId → Node → Type 0 = λ y k. (parent : Option ProcessId) → role_of tree y ≡ role_below parent
+      let P : ProcessId → Node → Type 0 = λ y k. (parent : Option ProcessId)
+      → role_of tree y ≡ role_below parent
       → CoordinatorLasts (coordinator_place y parent tree) k in
       subst (λ (y : World). P q (y.at q)) (sym now.world)
       (put P x q now.node w.at
@@ -126,7 +128,8 @@ module _ (tree : List TreeProcess) (is_tree : IsTree tree) where
 -- What follows of a case that waits for acknowledgements.
 
 module _ (place : Place) (n : Node) (c : Case) (names : NamesBy c.txn.presumption c (kept n))
-    (forced : n.failed ≡ false → (d : Case) → has (is_owed_decision d) n.unforced ≡ false) (up : n.failed ≡ false)
+    (forced : n.failed ≡ false → (d : Case) → has (is_owed_decision d) n.unforced ≡ false)
+    (up : n.failed ≡ false)
   where
     in_front : (q : Record → Bool) → has q (kept n) ≡ true → has q n.unforced ≡ false → has q n.forced ≡ true
     in_front q e f = elim (in_either q n.forced n.unforced e) [
@@ -163,7 +166,8 @@ module _ (place : Place) (n : Node) (c : Case) (names : NamesBy c.txn.presumptio
         (subst (λ (x : Presumption). has (is_decision_by (acknowledged x) c) (kept n) ≡ true) (sym e) f)
 
     -- its decision is forced
-    pub decided_forced : (o : Outcome) (s : Standing) → HasDecided o s → (coordinator_view place n c).standing ≡ s
+    pub decided_forced : (o : Outcome) (s : Standing) → HasDecided o s
+        → (coordinator_view place n c).standing ≡ s
         → has (is_decision c) n.forced ≡ true
     decided_forced _ _ by_commit e =
         let f = committing_facts place n c e in commit_forced c.txn.presumption refl names f.commit f.some
@@ -171,11 +175,13 @@ module _ (place : Place) (n : Node) (c : Case) (names : NamesBy c.txn.presumptio
         let f = aborting_facts place n c e in abort_forced c.txn.presumption refl names f.abort f.some
 
 -- whom a decision of it ever named, a kept decision names
-pub named_owed : (place : Place) (n : Node) (c : Case) → NamesStay n → (o : Outcome) (s : Standing) → HasDecided o s
+pub named_owed : (place : Place) (n : Node) (c : Case) → NamesStay n → (o : Outcome) (s : Standing)
+    → HasDecided o s
     → (coordinator_view place n c).standing ≡ s → (u : Ticket) → has (is_decision_naming c u) n.life ≡ true
     → in_list (owing_by c (kept n)) u ≡ true
 named_owed place n c stays _ _ by_commit e u f =
     decision_owes c u (kept n) (committing_facts place n c e).some
     (decision_stays_named c u (kept n) (stays c u f))
 named_owed place n c stays _ _ by_abort e u f =
-    decision_owes c u (kept n) (aborting_facts place n c e).some (decision_stays_named c u (kept n) (stays c u f))
+    decision_owes c u (kept n) (aborting_facts place n c e).some
+    (decision_stays_named c u (kept n) (stays c u f))

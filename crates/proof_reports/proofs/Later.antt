@@ -40,7 +40,8 @@ module _ (at : ProcessId → Node) where
   unreported_so x o [] = tt
   unreported_so x o (t ∷ ts) = (tt, unreported_so x o ts)
 
-  pub in_order_so : (x : Txn) (o : Outcome) (fs : List Finding) → AreTrue at x o fs → AreTrue at x o (in_order fs)
+  pub in_order_so : (x : Txn) (o : Outcome) (fs : List Finding) → AreTrue at x o fs
+      → AreTrue at x o (in_order fs)
   in_order_so x o fs f =
       are_both x o (map (λ t. Mixed t) (mixed_of fs)) (map (λ t. Unreported t) (unreported_of fs))
       (mixed_so x o fs f) (unreported_so x o (unreported_of fs))
@@ -78,7 +79,8 @@ abbrev pub AllHeardTrue : (ProcessId → Node) → List Heard → Type 0
 AllHeardTrue at [] = Unit {0}
 AllHeardTrue at (h ∷ hs) = InputTrue at h.input × AllHeardTrue at hs
 
-pub heard_one : (at : ProcessId → Node) (hs : List Heard) (h : Heard) → AllHeardTrue at hs → InputTrue at h.input
+pub heard_one : (at : ProcessId → Node) (hs : List Heard) (h : Heard) → AllHeardTrue at hs
+    → InputTrue at h.input
     → AllHeardTrue at (hs ++ h ∷ [])
 heard_one at [] h f g = (g, tt)
 heard_one at (a ∷ hs) h f g = (f.0, heard_one at hs h f.1 g)
@@ -86,7 +88,8 @@ heard_one at (a ∷ hs) h f g = (f.0, heard_one at hs h f.1 g)
 -- Later.
 
 module _ (at later : ProcessId → Node)
-    (grows : (q : ProcessId) (r : Record → Bool) → has r (at q).durable ≡ true → has r (later q).durable ≡ true)
+    (grows : (q : ProcessId) (r : Record → Bool) → has r (at q).durable ≡ true
+    → has r (later q).durable ≡ true)
   where
     pub is_still : (x : Txn) (o : Outcome) (f : Finding) → IsTrue at x o f → IsTrue later x o f
     is_still x o (Mixed t) e = grows t.child (is_decided (child_case x t) (other_outcome o)) e

@@ -69,7 +69,8 @@ module _ (at : ProcessId → Node) (tree : List TreeProcess) (place : Place) (p 
         by_decision None e = tt
         by_decision (Some b) e = by_outcomes d o b own (decision_stands d b (kept n) e)
 
-    acknowledged : (d : Case) (o : Outcome) (fs : List Finding) → (process_of d ≡ place.me → AreTrue at d.txn o fs)
+    acknowledged : (d : Case) (o : Outcome) (fs : List Finding)
+        → (process_of d ≡ place.me → AreTrue at d.txn o fs)
         → (b : Bool) → AllGo tree (if b then post place.me p (Ack d o fs) ∷ [] else [])
         → AllSayTrue at (if b then post place.me p (Ack d o fs) ∷ [] else [])
     acknowledged d o fs f true g = (f g.0.0, tt)
@@ -104,7 +105,8 @@ module _ (at : ProcessId → Node) (tree : List TreeProcess) (place : Place) (p 
 -- a restart acknowledges nothing
 module _ (at : ProcessId → Node) (me p : ProcessId) (rs : List Record) where
   asks_says : (d : Case) (m : Mark)
-      → AllSayTrue at (inquires_by me p d (marked_branch fresh_memory m) (marked_branch fresh_memory m).standing)
+      → AllSayTrue at (inquires_by me p d (marked_branch fresh_memory m)
+      (marked_branch fresh_memory m).standing)
   asks_says d Unmarked = tt
   asks_says d Promised = (tt, tt)
   asks_says d Decided = (tt, tt)

@@ -1,4 +1,5 @@
--- When a manager acknowledges by the second version, and does not report its ticket, no operator decided against it.
+-- When a manager acknowledges by the second version, and does not report its ticket, no operator decided
+-- against it.
 use Rattle.std.proofs.Common.{◌≡◌, ◌∙◌, ◌||◌, ◌⊎◌, inl, inr, Bool, true, false, Option, Some, None, List, [], ◌∷◌, refl, sym, ap, subst, arith, if◌then◌else◌, is_some, not}
 use Rattle.protocol.specs.declared.names.Case.{Case}
 use Rattle.protocol.specs.declared.names.ProcessId.{ProcessId}
@@ -46,7 +47,8 @@ abbrev pub OneDecision : Node → Type 0
 OneDecision n = (d : Case) (o : Outcome) → has (is_decided d o) (ever n) ≡ true
     → has (is_decided d (other_outcome o)) (ever n) ≡ true → ⊥
 
-pub decided_heuristic : (d : Case) (o : Outcome) (r : Record) → is_decided d o r ≡ true → is_heuristic d r ≡ true
+pub decided_heuristic : (d : Case) (o : Outcome) (r : Record) → is_decided d o r ≡ true
+    → is_heuristic d r ≡ true
 decided_heuristic d CommittedOutcome r e = grind arith
 decided_heuristic d AbortedOutcome r e = grind arith
 
@@ -140,10 +142,12 @@ module _ (net : List Envelope) (place : Place) (p : ProcessId) (leaf : place.rol
 
         was_given : (o : Outcome) (d : Case) → Hears h (tells_outcome o d) → sent (gives_case d) net ≡ true
         was_given o d i =
-            about_given d (among_sent (is_about d) (tells_outcome o d) (tells_about o d) net (heard (tells_outcome o d) i))
+            about_given d (among_sent (is_about d) (tells_outcome o d) (tells_about o d) net
+            (heard (tells_outcome o d) i))
 
         -- a case that was given has a ticket
-        ticketed : {A : Type 0} (d : Case) → sent (gives_case d) net ≡ true → ((t : Ticket) → d.ticket ≡ Some t → A) → A
+        ticketed : {A : Type 0} (d : Case) → sent (gives_case d) net ≡ true
+            → ((t : Ticket) → d.ticket ≡ Some t → A) → A
         ticketed {A} d e f = by_ticket d.txn d.ticket e f
           where
             by_ticket : (x : Txn) (o : Option Ticket)
@@ -189,8 +193,10 @@ module _ (net : List Envelope) (place : Place) (p : ProcessId) (leaf : place.rol
         unfolding same_outcome
         not_against d CommittedOutcome CommittedOutcome t f is g = not_otherwise d CommittedOutcome is
         not_against d AbortedOutcome AbortedOutcome t f is g = not_otherwise d AbortedOutcome is
-        not_against d CommittedOutcome AbortedOutcome t f is g = absurd (never _ (mixed_so d CommittedOutcome t d.ticket f) g)
-        not_against d AbortedOutcome CommittedOutcome t f is g = absurd (never _ (mixed_so d AbortedOutcome t d.ticket f) g)
+        not_against d CommittedOutcome AbortedOutcome t f is g =
+            absurd (never _ (mixed_so d CommittedOutcome t d.ticket f) g)
+        not_against d AbortedOutcome CommittedOutcome t f is g =
+            absurd (never _ (mixed_so d AbortedOutcome t d.ticket f) g)
 
         decided_mark_is : (k : Mark) → IsDecided k → is_decided_mark k ≡ true
         decided_mark_is _ untold = refl
@@ -204,7 +210,8 @@ module _ (net : List Envelope) (place : Place) (p : ProcessId) (leaf : place.rol
         against_kept Second e d o t f k g = by_decision (decision_of (kept n) d) refl g
           where
             by_decision : (b : Option Outcome) → decision_of (kept n) d ≡ b
-                → in_list (mixed_of (if decided_against b o then own_finding Mixed d.ticket else [])) t ≡ false
+                → in_list (mixed_of (if decided_against b o then own_finding Mixed d.ticket else [])) t
+                ≡ false
                 → has (is_decided d (other_outcome o)) (kept n) ≡ false
             by_decision (Some b) is x = not_against d o b t f (decision_stands d b (kept n) is) x
             by_decision None is x =
@@ -235,13 +242,15 @@ module _ (net : List Envelope) (place : Place) (p : ProcessId) (leaf : place.rol
         drops_fine d i a own clean =
             none_against d AbortedOutcome (open_never d (facts d own (was_given AbortedOutcome d i)) up a)
 
-        acked_fine : (d : Case) (o : Outcome) (fs : List Finding) → Fine (Ack d o fs) → (b : Bool) (x : Message)
+        acked_fine : (d : Case) (o : Outcome) (fs : List Finding) → Fine (Ack d o fs)
+            → (b : Bool) (x : Message)
             → IsAmong x (if b then post place.me p (Ack d o fs) ∷ [] else []) → Fine x
         acked_fine d o fs f true x (inl e) = subst Fine e f
         acked_fine d o fs f true x (inr i) = absurd i
         acked_fine d o fs f false x i = absurd i
 
-        one_fine : (y : Message) (q r : ProcessId) → Fine y → (x : Message) → IsAmong x (post q r y ∷ []) → Fine x
+        one_fine : (y : Message) (q r : ProcessId) → Fine y → (x : Message) → IsAmong x (post q r y ∷ [])
+            → Fine x
         one_fine y q r f x (inl e) = subst Fine e f
         one_fine y q r f x (inr i) = absurd i
 
@@ -258,7 +267,8 @@ module _ (net : List Envelope) (place : Place) (p : ProcessId) (leaf : place.rol
             acked_fine d o (unknown_findings h.version d) (unknown_fine h.version second d o i)
             (is_acknowledged d.txn.presumption o) x j
         leaf_fine _ (drops d i a) x j =
-            acked_fine d AbortedOutcome [] (drops_fine d i a) (is_acknowledged d.txn.presumption AbortedOutcome) x j
+            acked_fine d AbortedOutcome [] (drops_fine d i a)
+            (is_acknowledged d.txn.presumption AbortedOutcome) x j
         leaf_fine _ does_nothing x j = absurd j
         leaf_fine _ (gives_again d t i a) x j = one_fine (Joined d t) place.me p tt x j
         leaf_fine _ (gives_fresh d i a s) x j = one_fine (Joined d _) place.me p tt x j

@@ -1,4 +1,5 @@
--- After a manager's acknowledgement that does not report its ticket, no operator ever decides against the outcome.
+-- After a manager's acknowledgement that does not report its ticket, no operator ever decides against the
+-- outcome.
 use Rattle.std.proofs.Common.{◌≡◌, ◌∙◌, inl, inr, List, [], ◌∷◌, sym, subst}
 use Rattle.protocol.specs.declared.names.Case.{Case}
 use Rattle.protocol.specs.declared.names.Outcome.{Outcome}
@@ -29,7 +30,8 @@ use Rattle.proof_reports.proofs.Operators.{ByTurn, decided_came, decision_by_act
 
 -- A manager acknowledges messages alone.
 
-module _ (place : Place) (p : ProcessId) (n : Node) (h : Heard) (d : Case) (o : Outcome) (fs : List Finding) (a : Act)
+module _ (place : Place) (p : ProcessId) (n : Node) (h : Heard) (d : Case) (o : Outcome)
+    (fs : List Finding) (a : Act)
     (act : h.input ≡ ActInput a)
   where
     never_hears : {A : Type 0} (m : Message) → Hears h m → A
@@ -99,13 +101,16 @@ module _ (me p : ProcessId) (tree : List TreeProcess) (m : Move) (n : Node) (nes
         -- none against stays so
         pub none_still : IsOver (record { me = me; role = AtLeaf p; tree = tree }) n d → NoneAgainst k d o
         none_still over = by_either (λ t. over_unpromised d over
-            (decision_by_act place p n (heard_in m t.input) d (other_outcome o) t.effect t.turn t.written).mark)
+            (decision_by_act place p n (heard_in m t.input) d (other_outcome o) t.effect t.turn
+            t.written).mark)
 
         -- and where the branch acknowledges now
-        pub none_now : (i : Input) (g : Effect) → m.step.happening ≡ Handles i → LeafTurn place p n (heard_in m i) g
+        pub none_now : (i : Input) (g : Effect) → m.step.happening ≡ Handles i
+            → LeafTurn place p n (heard_in m i) g
             → (fs : List Finding) → IsAmong (Ack d o fs) g.messages → NoneAgainst k d o
         none_now i g hp turn fs among = by_either (λ t.
-            let act = (decision_by_act place p n (heard_in m t.input) d (other_outcome o) t.effect t.turn t.written).act in
+            let act = (decision_by_act place p n (heard_in m t.input) d (other_outcome o) t.effect t.turn
+            t.written).act in
             let same : Handles i ≡ Handles t.input = sym hp ∙ t.happens in
             acts_ack_nothing place p n (heard_in m i) d o fs (Decide d (other_outcome o))
             (input_is i t.input (Decide d (other_outcome o)) same act) g turn among)

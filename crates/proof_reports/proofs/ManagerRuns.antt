@@ -47,11 +47,14 @@ module _ (tree : List TreeProcess) (is_tree : IsTree tree) where
   abbrev at : ProcessId → Role → Place
   at q r = record { me = q; role = r; tree = tree }
 
-  pub leaf_node : (es : List Made) (w : World) → IsRun tree es w → (q p : ProcessId) → role_of tree q ≡ AtLeaf p
+  pub leaf_node : (es : List Made) (w : World) → IsRun tree es w → (q p : ProcessId)
+      → role_of tree q ≡ AtLeaf p
       → NodeHolds (record { me = q; role = AtLeaf p; tree = tree }) w.net (w.at q)
-  leaf_node es w run q p leaf = subst (λ (r : Role). NodeHolds (at q r) w.net (w.at q)) leaf (nodes_hold tree es w run q)
+  leaf_node es w run q p leaf = subst (λ (r : Role). NodeHolds (at q r) w.net (w.at q)) leaf
+      (nodes_hold tree es w run q)
 
-  pub leaf_facts : (es : List Made) (w : World) → IsRun tree es w → (q p : ProcessId) → role_of tree q ≡ AtLeaf p
+  pub leaf_facts : (es : List Made) (w : World) → IsRun tree es w → (q p : ProcessId)
+      → role_of tree q ≡ AtLeaf p
       → (d : Case) → process_of d ≡ q → sent (gives_case d) w.net ≡ true
       → CaseFacts (record { me = q; role = AtLeaf p; tree = tree }) (w.at q) d
   leaf_facts es w run q p leaf d own given =
@@ -79,7 +82,8 @@ module _ (tree : List TreeProcess) (is_tree : IsTree tree) where
       let now = makes_at tree w m e w' step in
       let x = m.step.process in
       let s = step_of (place_of tree x) (w.at x) m e now.node now.made in
-      let P : ProcessId → Node → Type 0 = λ y k. (p : ProcessId) → role_of tree y ≡ AtLeaf p → OneDecision k in
+      let P : ProcessId → Node → Type 0 = λ y k. (p : ProcessId) → role_of tree y ≡ AtLeaf p → OneDecision k
+      in
       subst (λ (y : World). P q (y.at q)) (sym now.world)
       (put P x q now.node w.at
       (λ p leaf. let old = all_one es w run x p leaf in

@@ -74,7 +74,8 @@ module _ (at : ProcessId → Node) (me : ProcessId) (boot : ℕ) (c : Case) wher
   closed m o Over = o
 
   accepted : (m : Memory) (t : Ticket) → O m → (ph : Phase) → O (accepts_ticket m t ph)
-  accepted m t o Open = if_of (has_child m.accepted t.child) (record m { accepted = m.accepted ++ t ∷ [] }) m o o
+  accepted m t o Open = if_of (has_child m.accepted t.child)
+      (record m { accepted = m.accepted ++ t ∷ [] }) m o o
   accepted m t o Idle = o
   accepted m t o Asked = o
   accepted m t o Over = o
@@ -105,7 +106,8 @@ module _ (at : ProcessId → Node) (me : ProcessId) (boot : ℕ) (c : Case) wher
   acked_so m t u fs o f =
       found_both at c.txn m.found (first_found m t u fs) o (first_so t u fs f (has_acked m.acks u t))
 
-  acked : (m : Memory) (t : Ticket) (u : Outcome) (fs : List Finding) → O m → AreTrue at c.txn u fs → (ph : Phase)
+  acked : (m : Memory) (t : Ticket) (u : Outcome) (fs : List Finding) → O m → AreTrue at c.txn u fs
+      → (ph : Phase)
       → O (takes_ack m t u fs ph)
   acked m t u fs o f Open = o
   acked m t u fs o f Asked = o
@@ -201,9 +203,12 @@ module _ (at : ProcessId → Node) (me : ProcessId) (boot : ℕ) (c : Case) wher
   remembered (Some p) m o (h ∷ hs) f =
       remembered (Some p) (cascaded_remembers me boot c m h.input) (below_remembered m o h.input f.0) hs f.1
 
--- what was found below a case is true, where what was heard is and the last acknowledgement brings true findings
-pub below_is_true : (at : ProcessId → Node) (me : ProcessId) (parent : Option ProcessId) (tree : List TreeProcess)
-    (n : Node) → AllHeardTrue at n.heard → (c : Case) (o : Outcome) (fs : List Finding) → AreTrue at c.txn o fs
+-- what was found below a case is true, where what was heard is and the last acknowledgement brings true
+-- findings
+pub below_is_true : (at : ProcessId → Node) (me : ProcessId) (parent : Option ProcessId)
+    (tree : List TreeProcess)
+    (n : Node) → AllHeardTrue at n.heard → (c : Case) (o : Outcome) (fs : List Finding)
+    → AreTrue at c.txn o fs
     → AreTrue at c.txn o (found_below (coordinator_place me parent tree) n c o fs)
 unfolding found_below memory_of
 below_is_true at me parent tree n heard c o fs f =

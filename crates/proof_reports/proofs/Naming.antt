@@ -61,12 +61,14 @@ has_or p q (r ∷ rs) = ap (λ b. (p r || q r) || b) (has_or p q rs) ∙ four (p
 
 -- nothing leaves the ticket out where none of the three does
 pub leaves_none : (c : Case) (t : Ticket) (rs : List Record) → has (collecting_without c t) rs ≡ false
-    → has (prepare_without c t) rs ≡ false → has (decision_without c t) rs ≡ false → has (leaves_out c t) rs ≡ false
+    → has (prepare_without c t) rs ≡ false → has (decision_without c t) rs ≡ false
+    → has (leaves_out c t) rs ≡ false
 leaves_none c t rs a b d =
     has_or (collecting_without c t) (λ r. prepare_without c t r || decision_without c t r) rs
     ∙ neither _ _ a (has_or (prepare_without c t) (decision_without c t) rs ∙ neither _ _ b d)
 
-collecting_is : (c : Case) (t : Ticket) (r : Record) → collecting_without c t r ≡ true → is_collecting c r ≡ true
+collecting_is : (c : Case) (t : Ticket) (r : Record) → collecting_without c t r ≡ true
+    → is_collecting c r ≡ true
 collecting_is c t (Collecting d ts) e = (both (same_case d c) _ e).0
 collecting_is c t r e = absurd (cc)
 
@@ -79,7 +81,8 @@ decision_is c t (Commit d ts) e = left (same_case d c) false (both (same_case d 
 decision_is c t (Abort d ts) e = (both (same_case d c) _ e).0
 decision_is c t r e = absurd (cc)
 
-pub naming_is : (c : Case) (t : Ticket) (r : Record) → is_decision_naming c t r ≡ true → is_decision c r ≡ true
+pub naming_is : (c : Case) (t : Ticket) (r : Record) → is_decision_naming c t r ≡ true
+    → is_decision c r ≡ true
 naming_is c t (Commit d ts) e = left (same_case d c) false (both (same_case d c) _ e).0
 naming_is c t (Abort d ts) e = (both (same_case d c) _ e).0
 naming_is c t r e = absurd (cc)
@@ -94,7 +97,8 @@ some_decision c rs e = either _ _ (sym (has_or (is_commit c) (is_abort c) rs) �
 
 pub no_collecting_without : (c : Case) (t : Ticket) (rs : List Record) → has (is_collecting c) rs ≡ false
     → has (collecting_without c t) rs ≡ false
-no_collecting_without c t rs e = none_of_them (collecting_without c t) (is_collecting c) rs (collecting_is c t) e
+no_collecting_without c t rs e = none_of_them (collecting_without c t) (is_collecting c) rs
+    (collecting_is c t) e
 
 pub no_prepare_without : (c : Case) (t : Ticket) (rs : List Record) → has (is_prepare c) rs ≡ false
     → has (prepare_without c t) rs ≡ false
@@ -116,7 +120,8 @@ collecting_stays_named c t rs e =
 pub prepare_stays_named : (c : Case) (t : Ticket) (rs : List Record) → has (leaves_out c t) rs ≡ false
     → has (prepare_without c t) rs ≡ false
 prepare_stays_named c t rs e =
-    none_of_them (prepare_without c t) (leaves_out c t) rs (λ r f. right (collecting_without c t r) _ (left _ _ f)) e
+    none_of_them (prepare_without c t) (leaves_out c t) rs
+    (λ r f. right (collecting_without c t r) _ (left _ _ f)) e
 
 pub decision_stays_named : (c : Case) (t : Ticket) (rs : List Record) → has (leaves_out c t) rs ≡ false
     → has (decision_without c t) rs ≡ false
@@ -128,7 +133,8 @@ decision_stays_named c t rs e =
 
 module _ (q naming without : Record → Bool)
     (bars : (rs : List Record) (x : Record) → Fits rs x → q x ≡ true → has q rs ≡ false)
-    (names_it : (r : Record) → naming r ≡ true → q r ≡ true) (lacks_it : (r : Record) → without r ≡ true → q r ≡ true)
+    (names_it : (r : Record) → naming r ≡ true → q r ≡ true)
+    (lacks_it : (r : Record) → without r ≡ true → q r ≡ true)
     (apart : (r : Record) → naming r ≡ true → without r ≡ false)
   where
     last_one : (pre : List Record) (r : Record) → q r ≡ true → has q (pre ++ r ∷ []) ≡ true
@@ -158,7 +164,8 @@ unfolding none_of
 rest_of [] ys a b = b
 rest_of (x ∷ xs) ys a b = absurd (cc)
 
-some_if : (b : Bool) (ts : List Ticket) → none_of (if b then ts else []) ≡ false → (b ≡ true) × (none_of ts ≡ false)
+some_if : (b : Bool) (ts : List Ticket) → none_of (if b then ts else []) ≡ false → (b ≡ true)
+    × (none_of ts ≡ false)
 unfolding none_of
 some_if true ts g = (refl, g)
 some_if false ts g = absurd (cc)
@@ -199,7 +206,8 @@ module _ (c : Case) (t : Ticket) where
   pub one_collecting : (rs : List Record) → AllFit [] rs → has (is_collecting_naming c t) rs ≡ true
       → has (collecting_without c t) rs ≡ false
   one_collecting rs f e =
-      one_alone (is_collecting c) (is_collecting_naming c t) (collecting_without c t) collecting_bars collecting_names
+      one_alone (is_collecting c) (is_collecting_naming c t) (collecting_without c t) collecting_bars
+      collecting_names
       (collecting_is c t) collecting_apart [] rs f e
 
   pub one_prepare : (rs : List Record) → AllFit [] rs → has (is_prepare_naming c t) rs ≡ true
@@ -210,7 +218,8 @@ module _ (c : Case) (t : Ticket) where
 
   -- Who is named.
 
-  if_named : (b : Bool) (ts : List Ticket) → in_list (if b then ts else []) t ≡ true → (b && in_list ts t) ≡ true
+  if_named : (b : Bool) (ts : List Ticket) → in_list (if b then ts else []) t ≡ true
+      → (b && in_list ts t) ≡ true
   if_named true ts e = e
   if_named false ts e = absurd (nobody t e)
 
@@ -245,7 +254,8 @@ module _ (c : Case) (t : Ticket) where
   named_if false ts e f = absurd (cc)
 
   -- a promise that leaves nobody out names the ticket
-  pub prepare_promises : (rs : List Record) → has (is_prepare c) rs ≡ true → has (prepare_without c t) rs ≡ false
+  pub prepare_promises : (rs : List Record) → has (is_prepare c) rs ≡ true
+      → has (prepare_without c t) rs ≡ false
       → in_list (promised_by c rs) t ≡ true
   unfolding promised_by has
   prepare_promises [] e f = absurd (cc)
@@ -256,7 +266,8 @@ module _ (c : Case) (t : Ticket) where
         (prepare_promises rs rest (second_false (prepare_without c t r) _ f))
   ]
     where
-      one : (x : Record) → is_prepare c x ≡ true → prepare_without c t x ≡ false → in_list (promised_in c x) t ≡ true
+      one : (x : Record) → is_prepare c x ≡ true → prepare_without c t x ≡ false
+          → in_list (promised_in c x) t ≡ true
       one (Prepare d ts) g k = named_if (same_case d c) ts g k
       one x g k = absurd (cc)
 
@@ -278,20 +289,23 @@ module _ (c : Case) (t : Ticket) where
       one x g k = absurd (cc)
 
   -- a decision that names somebody, and leaves it not out, owes it
-  pub decision_owes : (rs : List Record) → none_of (owing_by c rs) ≡ false → has (decision_without c t) rs ≡ false
+  pub decision_owes : (rs : List Record) → none_of (owing_by c rs) ≡ false
+      → has (decision_without c t) rs ≡ false
       → in_list (owing_by c rs) t ≡ true
   unfolding owing_by has none_of
   decision_owes [] e f = absurd (cc)
   decision_owes (r ∷ rs) e f =
       by_first (decision_owes rs) (none_of (owing_in c r)) refl
     where
-      sure : (s z b : Bool) (ts : List Ticket) → (s && (not z && not b)) ≡ false → s ≡ true → z ≡ false → b ≡ true
+      sure : (s z b : Bool) (ts : List Ticket) → (s && (not z && not b)) ≡ false → s ≡ true → z ≡ false
+          → b ≡ true
       sure true false true ts g k j = refl
       sure true false false ts g k j = absurd (cc)
       sure true true b ts g k j = absurd (cc)
       sure false z b ts g k j = absurd (cc)
 
-      in_if : (b : Bool) (ts : List Ticket) → b ≡ true → in_list ts t ≡ true → in_list (if b then ts else []) t ≡ true
+      in_if : (b : Bool) (ts : List Ticket) → b ≡ true → in_list ts t ≡ true
+          → in_list (if b then ts else []) t ≡ true
       in_if true ts g k = k
       in_if false ts g k = absurd (cc)
 

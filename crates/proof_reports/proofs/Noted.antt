@@ -28,7 +28,8 @@ use Rattle.proof_reports.proofs.Found.{among_first, within_first, within_second,
 
 -- What was heard.
 
-pub heard_more : (ls : List Envelope) (hs : List Heard) (h : Heard) → AllHeardAmong ls hs → InputAmong ls h.input
+pub heard_more : (ls : List Envelope) (hs : List Heard) (h : Heard) → AllHeardAmong ls hs
+    → InputAmong ls h.input
     → AllHeardAmong ls (hs ++ h ∷ [])
 heard_more ls [] h f g = (g, tt)
 heard_more ls (a ∷ hs) h f g = (f.0, heard_more ls hs h f.1 g)
@@ -37,7 +38,8 @@ input_still : (ls ms : List Envelope) (i : Input) → InputAmong ls i → InputA
 input_still ls ms (MessageInput k m) f = among_first m ls ms f
 input_still ls ms (ActInput a) f = tt
 
-pub heard_still : (ls ms : List Envelope) (hs : List Heard) → AllHeardAmong ls hs → AllHeardAmong (ls ++ ms) hs
+pub heard_still : (ls ms : List Envelope) (hs : List Heard) → AllHeardAmong ls hs
+    → AllHeardAmong (ls ++ ms) hs
 heard_still ls ms [] f = tt
 heard_still ls ms (h ∷ hs) f = (input_still ls ms h.input f.0, heard_still ls ms hs f.1)
 
@@ -48,7 +50,8 @@ abbrev pub HasNote : List (Ticket × (Outcome × List Finding)) → Ticket → O
 HasNote [] t o fs = ⊥
 HasNote (a ∷ as') t o fs = (a ≡ (t, (o, fs))) ⊎ HasNote as' t o fs
 
-note_either : (as' bs : List (Ticket × (Outcome × List Finding))) (t : Ticket) (o : Outcome) (fs : List Finding)
+note_either : (as' bs : List (Ticket × (Outcome × List Finding))) (t : Ticket) (o : Outcome)
+    (fs : List Finding)
     → HasNote (as' ++ bs) t o fs → HasNote as' t o fs ⊎ HasNote bs t o fs
 note_either [] bs t o fs i = inr i
 note_either (a ∷ as') bs t o fs (inl e) = inl (inl e)
@@ -57,13 +60,15 @@ note_either (a ∷ as') bs t o fs (inr i) = elim (note_either as' bs t o fs i) [
   | inr y ↦ inr y
 ]
 
-note_first : (as' bs : List (Ticket × (Outcome × List Finding))) (t : Ticket) (o : Outcome) (fs : List Finding)
+note_first : (as' bs : List (Ticket × (Outcome × List Finding))) (t : Ticket) (o : Outcome)
+    (fs : List Finding)
     → HasNote as' t o fs → HasNote (as' ++ bs) t o fs
 note_first [] bs t o fs i = absurd i
 note_first (a ∷ as') bs t o fs (inl e) = inl e
 note_first (a ∷ as') bs t o fs (inr i) = inr (note_first as' bs t o fs i)
 
-note_second : (as' bs : List (Ticket × (Outcome × List Finding))) (t : Ticket) (o : Outcome) (fs : List Finding)
+note_second : (as' bs : List (Ticket × (Outcome × List Finding))) (t : Ticket) (o : Outcome)
+    (fs : List Finding)
     → HasNote bs t o fs → HasNote (as' ++ bs) t o fs
 note_second [] bs t o fs i = i
 note_second (a ∷ as') bs t o fs i = inr (note_second as' bs t o fs i)
@@ -73,7 +78,8 @@ pub record Noted (ls : List Envelope) (x : Txn) (acks : List (Ticket × Outcome)
     (found : List (Ticket × (Outcome × List Finding))) : Type 0 where
   pub is_sent : (t : Ticket) (o : Outcome) (fs : List Finding) → HasNote found t o fs
       → IsAmong (Ack (child_case x t) o fs) ls
-  pub noted : (t : Ticket) (o : Outcome) → has_acked acks o t ≡ true → (fs : List Finding) × HasNote found t o fs
+  pub noted : (t : Ticket) (o : Outcome) → has_acked acks o t ≡ true → (fs : List Finding)
+      × HasNote found t o fs
 
 none_noted : (ls : List Envelope) (x : Txn) → Noted ls x [] []
 unfolding has_acked
@@ -90,7 +96,8 @@ module _ (ls : List Envelope) (x : Txn) (acks : List (Ticket × Outcome))
         → IsAmong (Ack (child_case x u) p gs) ls
     sent_one true u p gs i = absurd i
     sent_one false u p gs (inl e) =
-        subst (λ (a : Ticket × (Outcome × List Finding)). IsAmong (Ack (child_case x a.0) a.1.0 a.1.1) ls) e now
+        subst (λ (a : Ticket × (Outcome × List Finding)). IsAmong (Ack (child_case x a.0) a.1.0 a.1.1) ls) e
+        now
     sent_one false u p gs (inr i) = absurd i
 
     here : (b : Bool) → has_acked acks o t ≡ b → (gs : List Finding) × HasNote (found ++ one b) t o gs
@@ -113,8 +120,10 @@ module _ (ls : List Envelope) (x : Txn) (acks : List (Ticket × Outcome))
         | inl a ↦ let k = old.noted u p a in (k.0, note_first found _ u p k.0 k.1)
         | inr b ↦ let s = both (same_outcome o p) (same_ticket t u) b in
             let q = same u p s.0 s.1 in
-            subst (λ (v : Ticket). (gs : List Finding) × HasNote (found ++ one (has_acked acks o t)) v p gs) q.1
-            (subst (λ (r : Outcome). (gs : List Finding) × HasNote (found ++ one (has_acked acks o t)) t r gs) q.0
+            subst (λ (v : Ticket). (gs : List Finding) × HasNote (found ++ one (has_acked acks o t)) v p gs)
+            q.1
+            (subst (λ (r : Outcome). (gs : List Finding) × HasNote (found ++ one (has_acked acks o t)) t r gs)
+            q.0
             (here (has_acked acks o t) refl))
       ];
     }
@@ -142,7 +151,8 @@ module _ (ls : List Envelope) (me : ProcessId) (boot : ℕ) (c : Case) where
   closed m o Over = o
 
   accepted : (m : Memory) (t : Ticket) → O m → (ph : Phase) → O (accepts_ticket m t ph)
-  accepted m t o Open = if_of (has_child m.accepted t.child) (record m { accepted = m.accepted ++ t ∷ [] }) m o o
+  accepted m t o Open = if_of (has_child m.accepted t.child)
+      (record m { accepted = m.accepted ++ t ∷ [] }) m o o
   accepted m t o Idle = o
   accepted m t o Asked = o
   accepted m t o Over = o
@@ -170,7 +180,8 @@ module _ (ls : List Envelope) (me : ProcessId) (boot : ℕ) (c : Case) where
   acked m t u fs o f Idle = noted_more ls c.txn m.acks m.found t u fs o f
   acked m t u fs o f Over = noted_more ls c.txn m.acks m.found t u fs o f
 
-  of_children : (m : Memory) (d : Case) (f : Ticket → Memory) → O m → ((t : Ticket) → child_case c.txn t ≡ d → O (f t))
+  of_children : (m : Memory) (d : Case) (f : Ticket → Memory) → O m
+      → ((t : Ticket) → child_case c.txn t ≡ d → O (f t))
       → O (of_child c d m f)
   of_children m d f o g = by_txn (same_txn d.txn c.txn) refl
     where
@@ -182,7 +193,8 @@ module _ (ls : List Envelope) (me : ProcessId) (boot : ℕ) (c : Case) where
       same y e = elim (same_txn_tells y c.txn) [ inl t ↦ t.1 | inr k ↦ absurd (let z = k.0 in cc) ]
 
       by_txn : (b : Bool) → same_txn d.txn c.txn ≡ b → O (if b then of_ticket d.ticket m f else m)
-      by_txn true e = by_ticket d.ticket (ap (λ (y : Txn). record { txn = y; ticket = d.ticket }) (sym (same d.txn e)))
+      by_txn true e = by_ticket d.ticket (ap (λ (y : Txn). record { txn = y; ticket = d.ticket })
+          (sym (same d.txn e)))
       by_txn false e = o
 
   heard : (m : Memory) → O m → (y : Message) → IsAmong y ls → O (hears_child c m y)
@@ -221,7 +233,8 @@ module _ (ls : List Envelope) (me : ProcessId) (boot : ℕ) (c : Case) where
   joined m o d (Some t) = o
   joined m o d None =
       let t = next_ticket me boot m in
-      if_of (same_case c (child_case d.txn t)) (gives m d t) (opens_case (gives m d t)) o (none_noted ls c.txn)
+      if_of (same_case c (child_case d.txn t)) (gives m d t) (opens_case (gives m d t)) o
+      (none_noted ls c.txn)
 
   below_hears : (m : Memory) → O m → (y : Message) → IsAmong y ls → O (cascaded_hears me boot c m y)
   below_hears m o (Join d) s = joined m o d (active_ticket m.active d)
@@ -281,7 +294,8 @@ within_if true false fs gs e f = absurd (cc)
 within_if false c fs gs e f = absurd (cc)
 
 -- what is noted of a ticket that is asked for is found
-pub note_found : (as' : List (Ticket × (Outcome × List Finding))) (ts : List Ticket) (t : Ticket) (o : Outcome)
+pub note_found : (as' : List (Ticket × (Outcome × List Finding))) (ts : List Ticket)
+    (t : Ticket) (o : Outcome)
     (fs : List Finding) → in_list ts t ≡ true → HasNote as' t o fs → Within fs (found_of as' o ts)
 unfolding found_of
 note_found [] ts t o fs e i = absurd i

@@ -47,7 +47,8 @@ module _ (me : ProcessId) (parent : Option ProcessId) (tree : List TreeProcess) 
         k = after n h e
 
         remembered : (c : Case) → memory_of place k c
-            ≡ remembers_at parent me (boot_of (kept n)) c (memory_of (coordinator_place me parent tree) n c) h.input
+            ≡ remembers_at parent me (boot_of (kept n)) c
+            (memory_of (coordinator_place me parent tree) n c) h.input
         remembered c = memory_behind me parent tree n h (after n h e) c refl
             (boot_written n h e (turn_none place.role place n h e t.turn))
 
@@ -58,7 +59,8 @@ module _ (me : ProcessId) (parent : Option ProcessId) (tree : List TreeProcess) 
         none_kept c Idle g live = absurd live
         none_kept c Over g live = absurd live
 
-        none_written : (after n h e).failed ≡ false → (c : Case) → IsLive (memory_of place (after n h e) c).phase
+        none_written : (after n h e).failed ≡ false → (c : Case)
+            → IsLive (memory_of place (after n h e) c).phase
             → has (is_abort c) (entries_written e.written) ≡ false
         none_written up c live = none_if (is_abort c) (entries_written e.written) (λ f.
             never (has (is_abort c) (kept (after n h e)))
@@ -67,15 +69,18 @@ module _ (me : ProcessId) (parent : Option ProcessId) (tree : List TreeProcess) 
             (none_kept c (memory_of place (after n h e) c).phase
             ((handled_so me parent tree n given old h e t r).together up c) live))
 
-        none_before : (c : Case) → IsLive (memory_of place (after n h e) c).phase → has (is_abort c) n.life ≡ false
+        none_before : (c : Case) → IsLive (memory_of place (after n h e) c).phase
+            → has (is_abort c) n.life ≡ false
         none_before c live =
             by_move (moves parent me (boot_of (kept n)) c (memory_of place n c) h.input)
             (subst (λ (x : Memory). IsLive x.phase) (remembered c) live)
           where
-            was : (ph : Phase) → (memory_of place n c).phase ≡ ph → IsLive ph → has (is_abort c) n.life ≡ false
+            was : (ph : Phase) → (memory_of place n c).phase ≡ ph → IsLive ph
+                → has (is_abort c) n.life ≡ false
             was ph f l = unaborted t.up c (subst IsLive (sym f) l)
 
-            by_move : {x : Memory} → MovesMemory parent me (boot_of (kept n)) c (memory_of place n c) h.input x
+            by_move : {x : Memory} → MovesMemory parent me (boot_of (kept n)) c
+                (memory_of place n c) h.input x
                 → IsLive x.phase → has (is_abort c) n.life ≡ false
             by_move (keeps f p l) g = unaborted t.up c (subst IsLive p g)
             by_move (asks a o p l) g = was Open o tt
@@ -88,14 +93,17 @@ module _ (me : ProcessId) (parent : Option ProcessId) (tree : List TreeProcess) 
         handled_unaborted up c live =
             ap (has (is_abort c)) (life_after n e.written)
             ∙ in_none (is_abort c) (reverse (entries_written e.written)) n.life
-            (has-reverse (is_abort c) (entries_written e.written) ∙ none_written up c live) (none_before c live)
+            (has-reverse (is_abort c) (entries_written e.written) ∙ none_written up c live)
+            (none_before c live)
 
-    trims_unaborted : Unaborted (coordinator_place me parent tree) (trims (coordinator_place me parent tree) n)
+    trims_unaborted : Unaborted (coordinator_place me parent tree)
+        (trims (coordinator_place me parent tree) n)
     trims_unaborted up c live =
         ap (λ rs. has (is_abort c) (reverse rs ++ n.life)) (data_same parent (kept n))
         ∙ unaborted up c (subst (λ (x : Memory). IsLive x.phase) (trims_memory place n c) live)
 
-    pub still_unaborted : (m : Move) (e : Effect) (k : Node) → StepOf (coordinator_place me parent tree) n m e k
+    pub still_unaborted : (m : Move) (e : Effect) (k : Node)
+        → StepOf (coordinator_place me parent tree) n m e k
         → Unaborted (coordinator_place me parent tree) k
     still_unaborted m _ _ (handled i g hp np r) =
         handled_unaborted (heard_in m i) g (turn_of place n (heard_in m i) g r) r
@@ -118,7 +126,8 @@ module _ (me : ProcessId) (parent : Option ProcessId) (tree : List TreeProcess) 
     phase_live c ph (inl e) = subst IsLive (sym e) tt
     phase_live c ph (inr e) = subst IsLive (sym e) tt
 
-    was_open : (c : Case) → (coordinator_view place n c).standing ≡ Active → (memory_of place n c).phase ≡ Open
+    was_open : (c : Case) → (coordinator_view place n c).standing ≡ Active
+        → (memory_of place n c).phase ≡ Open
     was_open c e =
         let rs = kept n in
         phase_active c.txn.presumption (memory_of place n c).phase
@@ -132,7 +141,8 @@ module _ (me : ProcessId) (parent : Option ProcessId) (tree : List TreeProcess) 
         → has (is_decision c) n.life ≡ false
     live_undecided up c s = none (live s)
       where
-        live : (((coordinator_view place n c).standing ≡ Active) ⊎ ((coordinator_view place n c).standing ≡ Collecting))
+        live : (((coordinator_view place n c).standing ≡ Active)
+            ⊎ ((coordinator_view place n c).standing ≡ Collecting))
             → IsLive (memory_of place n c).phase
         live (inl e) = phase_live c (memory_of place n c).phase (inl (was_open c e))
         live (inr e) = phase_live c (memory_of place n c).phase

@@ -65,7 +65,8 @@ module _ (place : Place) (p : ProcessId) (n : Node) (h : Heard) (d : Case) (o : 
   pub decision_by_act : (g : Effect) → LeafTurn place p n h g
       → has (is_decided d o) (entries_written g.written) ≡ true → ByAct place p n h d o
   decision_by_act _ (decides c u i e) k =
-      let s = decides_it place p n h c u d u o (one_has (is_decided d o) (decides_record (leaf_of place p c) u) k) in
+      let s = decides_it place p n h c u d u o
+      (one_has (is_decided d o) (decides_record (leaf_of place p c) u) k) in
       subst (λ (x : Case). ByAct place p n h x o) s.0
       (subst (λ (x : Outcome). ByAct place p n h c x) s.1 (record { act = i; mark = e }))
   decision_by_act _ (votes_yes c j ws i a) k = other_here place p n h d o _ (both_false _ refl refl) k
@@ -127,7 +128,8 @@ module _ (me p : ProcessId) (tree : List TreeProcess) (m : Move) (n : Node) wher
       lasted : has q n.durable ≡ true → Came q
       lasted e = inl (in_second q (kept n) n.durable e)
 
-      by_input : (i : Input) (g : Effect) → m.step.happening ≡ Handles i → reacts place n (heard_in m i) ≡ Does g
+      by_input : (i : Input) (g : Effect) → m.step.happening ≡ Handles i
+          → reacts place n (heard_in m i) ≡ Does g
           → has q (entries_written g.written) ≡ true → Came q
       by_input i g hp r e =
           let t = turn_of place n (heard_in m i) g r in
@@ -174,11 +176,14 @@ module _ (me p : ProcessId) (tree : List TreeProcess) (m : Move) (n : Node) wher
           elim (in_either q _ _ e) [
             | inl here ↦ of_kept (take f.appended (entries_written g.written))
                 (λ x. by_input i g hp r (in_front q f.appended (entries_written g.written) x))
-                (ap (has q) (sym (breaks_keeps (logs_of n) (entries_written g.written) f.appended f.forced)) ∙ here)
-            | inr long ↦ elim (in_either q (take f.forced (n.unforced ++ take f.appended (entries_written g.written)))
+                (ap (has q) (sym (breaks_keeps (logs_of n) (entries_written g.written) f.appended f.forced))
+                ∙ here)
+            | inr long ↦ elim (in_either q (take f.forced
+                (n.unforced ++ take f.appended (entries_written g.written)))
                 n.durable long) [
                   | inl a ↦ of_unforced (take f.appended (entries_written g.written))
-                      (λ x. by_input i g hp r (in_front q f.appended (entries_written g.written) x)) f.forced a
+                      (λ x. by_input i g hp r (in_front q f.appended (entries_written g.written) x)) f.forced
+                      a
                   | inr b ↦ lasted b
                 ]
           ]
@@ -187,10 +192,11 @@ module _ (me p : ProcessId) (tree : List TreeProcess) (m : Move) (n : Node) wher
       came _ _ (reopened j hp) e =
           let new : List Record = Opened (boot_of (left_of n j) + 1) ∷ [] in
           elim (in_either q ((left_of n j ++ new) ++ []) (new ++ (left_of n j ++ n.durable)) e) [
-            | inl here ↦ elim (in_either q (left_of n j) new (ap (has q) (sym (append-nil (left_of n j ++ new))) ∙ here)) [
-              | inl a ↦ of_left j a
-              | inr b ↦ only_opened _ b
-            ]
+            | inl here ↦ elim (in_either q (left_of n j) new
+                (ap (has q) (sym (append-nil (left_of n j ++ new))) ∙ here)) [
+                  | inl a ↦ of_left j a
+                  | inr b ↦ only_opened _ b
+                ]
             | inr long ↦ elim (in_either q new (left_of n j ++ n.durable) long) [
               | inl a ↦ only_opened _ a
               | inr rest ↦ elim (in_either q (left_of n j) n.durable rest) [
@@ -207,14 +213,15 @@ module _ (me p : ProcessId) (tree : List TreeProcess) (m : Move) (n : Node) wher
                   | inl a ↦ of_left j a
                   | inr b ↦ only_opened _ (in_front q f.appended new b)
                 ]
-            | inr long ↦ elim (in_either q (take f.forced (take j n.unforced ++ take f.appended new)) n.durable long) [
-              | inl a ↦ elim (in_either q (take j n.unforced) (take f.appended new)
-                  (in_front q f.forced (take j n.unforced ++ take f.appended new) a)) [
-                    | inl x ↦ stood (in_second q n.forced n.unforced (in_front q j n.unforced x))
-                    | inr y ↦ only_opened _ (in_front q f.appended new y)
-                  ]
-              | inr b ↦ lasted b
-            ]
+            | inr long ↦ elim (in_either q (take f.forced (take j n.unforced ++ take f.appended new))
+                n.durable long) [
+                  | inl a ↦ elim (in_either q (take j n.unforced) (take f.appended new)
+                      (in_front q f.forced (take j n.unforced ++ take f.appended new) a)) [
+                        | inl x ↦ stood (in_second q n.forced n.unforced (in_front q j n.unforced x))
+                        | inr y ↦ only_opened _ (in_front q f.appended new y)
+                      ]
+                  | inr b ↦ lasted b
+                ]
           ]
       came _ _ (trims_log hp up) e =
           elim (in_either q (trimmed (AtLeaf p) (kept n) ++ []) (trimmed (AtLeaf p) (kept n) ++ n.durable) e) [
@@ -229,7 +236,8 @@ module _ (me p : ProcessId) (tree : List TreeProcess) (m : Move) (n : Node) wher
           by_front : (j : ℕ) → has q (ever (trim_fails place n j)) ≡ true → Came q
           by_front zero x = inl x
           by_front (suc j) x =
-              elim (in_either q (trimmed (AtLeaf p) (kept n) ++ []) (trimmed (AtLeaf p) (kept n) ++ n.durable) x) [
+              elim (in_either q (trimmed (AtLeaf p) (kept n) ++ [])
+              (trimmed (AtLeaf p) (kept n) ++ n.durable) x) [
                 | inl here ↦ of_trimmed (ap (has q) (sym (append-nil (trimmed (AtLeaf p) (kept n)))) ∙ here)
                 | inr long ↦ elim (in_either q (trimmed (AtLeaf p) (kept n)) n.durable long) [
                   | inl a ↦ of_trimmed a
@@ -258,20 +266,24 @@ module _ (me p : ProcessId) (tree : List TreeProcess) (m : Move) (n : Node) wher
   module _ (old : OneDecision n)
       (never_decided : (d : Case) → mark_at n d ≡ Promised → has (is_heuristic d) (ever n) ≡ false)
     where
-      acts : (d : Case) (o : Outcome) → (t : ByTurn (is_decided d o)) → ByAct place p n (heard_in m t.input) d o
+      acts : (d : Case) (o : Outcome) → (t : ByTurn (is_decided d o))
+          → ByAct place p n (heard_in m t.input) d o
       acts d o t = decision_by_act place p n (heard_in m t.input) d o t.effect t.turn t.written
 
-      not_before : (d : Case) (o u : Outcome) → has (is_decided d u) (ever n) ≡ true → ByTurn (is_decided d o) → ⊥
+      not_before : (d : Case) (o u : Outcome) → has (is_decided d u) (ever n) ≡ true → ByTurn (is_decided d o)
+          → ⊥
       not_before d o u e t =
           never _ (has_other (is_decided d u) (is_heuristic d) (ever n) (decided_heuristic d u) e)
           (never_decided d (acts d o t).mark)
 
-      other_act : (d : Case) (o : Outcome) → Handles (ActInput (Decide d o)) ≡ Handles (ActInput (Decide d (other_outcome o)))
+      other_act : (d : Case) (o : Outcome) → Handles (ActInput (Decide d o))
+          ≡ Handles (ActInput (Decide d (other_outcome o)))
           → ⊥
       other_act d CommittedOutcome e = cc
       other_act d AbortedOutcome e = cc
 
-      not_both_now : (d : Case) (o : Outcome) → ByTurn (is_decided d o) → ByTurn (is_decided d (other_outcome o)) → ⊥
+      not_both_now : (d : Case) (o : Outcome) → ByTurn (is_decided d o)
+          → ByTurn (is_decided d (other_outcome o)) → ⊥
       not_both_now d o t u =
           other_act d o
           (ap (λ (i : Input). Handles i) (sym (acts d o t).act)

@@ -34,7 +34,8 @@ pub record ReportsHold (tree : List TreeProcess) (w : World) : Type 0 where
   pub reported : (q : ProcessId) → role_of tree q ≡ AtRoot → (c : Case) (t : Ticket)
       → has (reports_mixed c t) (w.at q).life ≡ true → IsReported w.at (w.at q) c t
 
-module _ (tree : List TreeProcess) (es : List Made) (w : World) (run : IsRun tree es w) (found : FindingsHold tree w)
+module _ (tree : List TreeProcess) (es : List Made) (w : World) (run : IsRun tree es w)
+    (found : FindingsHold tree w)
     (h : ReportsHold tree w) (m : Move) (e : Effect) (w' : World)
     (stands : MayHappen w.net m.step.process m.step.happening) (made : world_makes tree w m ≡ Some (e, w'))
   where
@@ -58,12 +59,14 @@ module _ (tree : List TreeProcess) (es : List Made) (w : World) (run : IsRun tre
     here role c t f =
         let s = reported_then w.at q tree m (w.at q) (found.heard q) (h.forced q role) node.lasts.nested c t
         (h.reported q role c t)
-        (λ i hp. input_so tree w.at w.net found.net q i (subst (λ (y : Happening). MayHappen w.net q y) hp stands)) e
+        (λ i hp. input_so tree w.at w.net found.net q i
+        (subst (λ (y : Happening). MayHappen w.net q y) hp stands)) e
         (makes_at tree w m e w' made).node (step_at role) f in
         record {
           outcome = s.outcome;
           against = s.against;
-          ended = ended_still (at AtRoot) m (w.at q) e (makes_at tree w m e w' made).node (step_at role) c s.outcome
+          ended = ended_still (at AtRoot) m (w.at q) e (makes_at tree w m e w' made).node
+              (step_at role) c s.outcome
               s.ended;
         }
 
@@ -94,7 +97,8 @@ opened_none : {A : Type 0} (c : Case) (t : Ticket) → has (reports_mixed c t) (
 unfolding has
 opened_none c t e = absurd (cc)
 
-pub reports_hold : (tree : List TreeProcess) (es : List Made) (w : World) → IsRun tree es w → ReportsHold tree w
+pub reports_hold : (tree : List TreeProcess) (es : List Made) (w : World) → IsRun tree es w
+    → ReportsHold tree w
 reports_hold tree _ _ opens =
     record { forced = λ q role up c. has-nil _; reported = λ q role c t e. opened_none c t e }
 reports_hold tree _ _ (makes es w m e w' run stands made) =
@@ -114,7 +118,8 @@ other_differs : (o u : Outcome) → o ≡ u → other_outcome o ≢ u
 other_differs CommittedOutcome u e f = cc
 other_differs AbortedOutcome u e f = cc
 
-pub reported_had_mismatch : (tree : List TreeProcess) → IsTree tree → (es : List Made) (w : World) → IsRun tree es w
+pub reported_had_mismatch : (tree : List TreeProcess) → IsTree tree → (es : List Made) (w : World)
+    → IsRun tree es w
     → MixedHadMismatch tree w
 reported_had_mismatch tree is_tree es w run x t role e =
     let s = (reports_hold tree es w run).reported x.root role (root_case x) t e in

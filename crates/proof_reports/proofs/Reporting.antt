@@ -1,4 +1,5 @@
--- In every run each End that the root appends since its tree was opened last, by the second version, reports truly.
+-- In every run each End that the root appends since its tree was opened last, by the second version, reports
+-- truly.
 use Rattle.std.proofs.Common.{◌≡◌, ◌∙◌, ◌&&◌, ◌||◌, ◌⊎◌, inl, inr, ℕ, Bool, true, false, Option, Some, None, List, [], ◌∷◌, ◌++◌, take, refl, sym, ap, subst, arith}
 use Rattle.std.specs.Prelude.{reverse, slice_get}
 use Rattle.protocol.specs.declared.names.Case.{Case}
@@ -89,7 +90,8 @@ module _ (place : Place) (n : Node) (c : Case) (r : Option Reports) (j : ℕ) (u
   either_unnamed g (inr one) e = writes_unnamed one.of g.written one.writes e
 
 -- what was found, an End by the second version reports
-reported_so : (v : Version) → v ≡ Second → (gs : List Finding) (r : Option Reports) → end_reports v None gs ≡ r
+reported_so : (v : Version) → v ≡ Second → (gs : List Finding) (r : Option Reports)
+    → end_reports v None gs ≡ r
     → Reported gs r
 unfolding in_list mixed_of unreported_of
 reported_so First e gs r f = absurd (cc)
@@ -108,7 +110,8 @@ ends_so n x AbortedOutcome e = first_of_three _ _ _ e
 put_here : (q : ProcessId) (k : Node) (f : ProcessId → Node) → put_at q k f q ≡ k
 put_here q k f = elim (same_process_tells q q) [ inl t ↦ rw t.0 refl | inr g ↦ absurd (g.1 refl) ]
 
-module _ (tree : List TreeProcess) (is_tree : IsTree tree) (es : List Made) (w : World) (plain : IsRun tree es w)
+module _ (tree : List TreeProcess) (is_tree : IsTree tree) (es : List Made) (w : World)
+    (plain : IsRun tree es w)
     (since : List Envelope) (among : (x : Message) → IsAmong x since → IsAmong x w.net)
     (holds : SinceOpened tree since w) (m : Move) (e : Effect) (w' : World) (second : m.version ≡ Second)
     (arrives : (i : Input) → m.step.happening ≡ Handles i → InputAmong since i)
@@ -157,7 +160,8 @@ module _ (tree : List TreeProcess) (is_tree : IsTree tree) (es : List Made) (w :
 
     of_turn : (k' : Node) (i : Input) (g : Effect) → m.step.happening ≡ Handles i
         → (w.at m.step.process).failed ≡ false
-        → CoordinatorTurn (coordinator_place m.step.process None tree) None (w.at m.step.process) (heard_in m i) g
+        → CoordinatorTurn (coordinator_place m.step.process None tree) None (w.at m.step.process)
+        (heard_in m i) g
         → slice_get (entries_written g.written) j ≡ Some (EndRecord c r) → (xs : List Record)
         → ((p : Record → Bool) → has p xs ≡ true → has p (entries_written g.written) ≡ true)
         → ((p : Record → Bool) → p (EndRecord c r) ≡ true → has p xs ≡ true)
@@ -184,18 +188,22 @@ module _ (tree : List TreeProcess) (is_tree : IsTree tree) (es : List Made) (w :
     never_restarts i f =
         absurd (never _
         (has_at (is_end c) (reopens AtRoot (left_of n i)) j (EndRecord c r)
-        (ap (λ rs. slice_get rs j) (sym (entries_forced (reopens AtRoot (left_of n i)))) ∙ f) (same_case-refl c))
+        (ap (λ rs. slice_get rs j) (sym (entries_forced (reopens AtRoot (left_of n i)))) ∙ f)
+        (same_case-refl c))
         (reopens_none (is_end c) (λ d ts. refl) (λ b. refl) AtRoot (left_of n i)))
 
     turn_end : (e' : Effect) (k' : Node)
         → StepOf (coordinator_place m.step.process None tree) (w.at m.step.process) m e' k'
         → slice_get (entries_written e'.written) j ≡ Some (EndRecord c r) → TurnEnd k'
     turn_end _ k' (handled i g hp np s) f =
-        of_turn k' i g hp (turn_of here n (heard_in m i) g s).up (coordinator_turn_of here n (heard_in m i) g s) f
-        (entries_written g.written) (λ p x. x) (λ p x. has_at p (entries_written g.written) j (EndRecord c r) f x)
+        of_turn k' i g hp (turn_of here n (heard_in m i) g s).up
+        (coordinator_turn_of here n (heard_in m i) g s) f
+        (entries_written g.written) (λ p x. x) (λ p x. has_at p (entries_written g.written) j
+        (EndRecord c r) f x)
         (life_after n g.written)
     turn_end _ k' (failed_in i a g fl hp np s) f =
-        of_turn k' i g hp (turn_of here n (heard_in m i) g s).up (coordinator_turn_of here n (heard_in m i) g s)
+        of_turn k' i g hp (turn_of here n (heard_in m i) g s).up
+        (coordinator_turn_of here n (heard_in m i) g s)
         (taken_at a.appended g.written j (EndRecord c r) f) (take a.appended (entries_written g.written))
         (λ p x. in_front p a.appended (entries_written g.written) x)
         (λ p x. ap (has p) (sym (entries_taken a.appended g.written))
@@ -218,10 +226,12 @@ module _ (tree : List TreeProcess) (is_tree : IsTree tree) (es : List Made) (w :
 
     own_case : (c.ticket ≡ None) × (process_of c ≡ m.step.process)
     own_case =
-        let node = subst (λ (y : Role). NodeHolds (record { me = q; role = y; tree = tree }) w'.net (w'.at q)) top
+        let node = subst (λ (y : Role). NodeHolds (record { me = q; role = y; tree = tree }) w'.net (w'.at q))
+        top
         (nodes_hold tree (record { move = m; effect = e } ∷ es) w' thereafter q) in
         let g = node.role.1.own_records c
-        (ap (λ (y : Node). has (is_record_of c) y.life) node_so ∙ end.appended (is_record_of c) (same_case-refl c)) in
+        (ap (λ (y : Node). has (is_record_of c) y.life) node_so
+        ∙ end.appended (is_record_of c) (same_case-refl c)) in
         (g.0, g.1.0)
 
     case_so : root_case c.txn ≡ c
@@ -242,7 +252,8 @@ module _ (tree : List TreeProcess) (is_tree : IsTree tree) (es : List Made) (w :
     named_before u names =
         end.named u
         (ap (λ (y : Node). has (is_decision_naming c u) y.life) (sym at_root)
-        ∙ subst (λ (d : Case). has (is_decision_naming d u) (w'.at c.txn.root).life ≡ true) case_so names.named)
+        ∙ subst (λ (d : Case). has (is_decision_naming d u) (w'.at c.txn.root).life ≡ true)
+        case_so names.named)
 
     -- The first half.
 
@@ -251,7 +262,8 @@ module _ (tree : List TreeProcess) (is_tree : IsTree tree) (es : List Made) (w :
     unfolding in_list
     mixed_then None f t x = absurd (cc)
     mixed_then (Some s) f t x =
-        reported_had_mismatch tree is_tree (record { move = m; effect = e } ∷ es) w' thereafter c.txn t root_role
+        reported_had_mismatch tree is_tree (record { move = m; effect = e } ∷ es) w' thereafter
+        c.txn t root_role
         (ap (λ (y : Node). has (reports_mixed (root_case c.txn) t) y.life) at_root
         ∙ (ap (λ (d : Case). has (reports_mixed d t) k.life) case_so
         ∙ end.appended (reports_mixed c t) (mixed_by r f)))
@@ -264,27 +276,33 @@ module _ (tree : List TreeProcess) (is_tree : IsTree tree) (es : List Made) (w :
 
     -- The second half, where all read only: nobody is named.
 
-    never_named : has (is_decision c) (w.at m.step.process).life ≡ false → (t : Ticket) → IsNamedDown w' c.txn t → ⊥
+    never_named : has (is_decision c) (w.at m.step.process).life ≡ false → (t : Ticket)
+        → IsNamedDown w' c.txn t → ⊥
     never_named none _ (by_root t names) = never _ (named_before t names) (no_decision_naming c t n.life none)
     never_named none _ (by_ticket u t down names) = never_named none u down
 
-    undecided : n.failed ≡ false → (coordinator_view here n c).standing ≡ Collecting → has (is_decision c) n.life ≡ false
+    undecided : n.failed ≡ false → (coordinator_view here n c).standing ≡ Collecting
+        → has (is_decision c) n.life ≡ false
     undecided up at =
         let given = all_coordinated tree es w plain q None top in
-        live_undecided q None tree n (premises tree es w plain q None top given) given lasting.unaborted up c (inr at)
+        live_undecided q None tree n (premises tree es w plain q None top given) given
+        lasting.unaborted up c (inr at)
 
     -- And after the last acknowledgement.
 
-    ended_by : n.failed ≡ false → (o : Outcome) (s : Standing) → HasDecided o s → (coordinator_view here n c).standing ≡ s
+    ended_by : n.failed ≡ false → (o : Outcome) (s : Standing) → HasDecided o s
+        → (coordinator_view here n c).standing ≡ s
         → has_ended n c o ≡ true
     ended_by up _ _ by_commit f =
-        commit_is_old n ((reports_hold tree es w plain).forced q top up) node_at.lasts.nested c (committing_facts here n c f).commit
+        commit_is_old n ((reports_hold tree es w plain).forced q top up) node_at.lasts.nested c
+        (committing_facts here n c f).commit
     ended_by up _ _ by_abort f =
         node_at.lasts.nested.kept_was_written (is_abort c) (λ i. refl) (aborting_facts here n c f).abort
 
     agrees_so : (o : Outcome) → has_ended n c o ≡ true → o ≡ outcome_of w' c.txn
     agrees_so o f =
-        (Headline.headline tree is_tree (record { move = m; effect = e } ∷ es) w' thereafter).agreement.root_agrees c.txn o
+        (Headline.headline tree is_tree (record { move = m; effect = e } ∷ es) w'
+        thereafter).agreement.root_agrees c.txn o
         root_role
         (ends_so (w'.at c.txn.root) c.txn o
         (ap (λ (y : Node). has_ended y (root_case c.txn) o) at_root
@@ -301,11 +319,13 @@ module _ (tree : List TreeProcess) (is_tree : IsTree tree) (es : List Made) (w :
       mixed_had_mismatch = mixed_then r refl;
       mismatch_is_reported =
           is_reported tree (record { move = m; effect = e } ∷ es) w' thereafter (since ++ e.messages)
-          (since_step tree is_tree es w plain since among holds m e w' second arrives stands made) c.txn o (found_below here n c o fs) r
+          (since_step tree is_tree es w plain since among holds m e w' second arrives stands made) c.txn o
+          (found_below here n c o fs) r
           (reported_so h.version by (found_below here n c o fs) r reports)
           (λ u names. acked_still since e.messages c.txn o (found_below here n c o fs) u
           (all_acked since q None tree n (holds.heard q up) h now c t' o fs hears from last u
-          (named_owed here n c lasting.stays o (coordinator_view here n c).standing from refl u (named_before u names))))
+          (named_owed here n c lasting.stays o (coordinator_view here n c).standing from refl u
+          (named_before u names))))
           (agrees_so o (ended_by up o (coordinator_view here n c).standing from refl));
     }
 
@@ -319,7 +339,8 @@ all_truly : (tree : List TreeProcess) → IsTree tree → (v : Version) (before 
 all_truly tree is_tree _ _ _ _ (first_opens v) second = tt
 all_truly tree is_tree _ _ _ _ (next v before es w m e w' run by new made) second = (
   λ j c r top there.
-      let s = since_opened tree is_tree before es w (subst (λ (u : Version). IsRunBy tree u before es w) second run) in
+      let s = since_opened tree is_tree before es w
+      (subst (λ (u : Version). IsRunBy tree u before es w) second run) in
       let q = m.step.process in
       end_reports_truly tree is_tree es w (runs_by_are_runs tree v before es w run) s.messages
       (among_net w.net before s.messages s.behind) s.holds m e w' (by ∙ second)
@@ -330,6 +351,7 @@ all_truly tree is_tree _ _ _ _ (next v before es w m e w' run by new made) secon
 )
 all_truly tree is_tree _ _ _ _ (opens_again v before es w run down) second = tt
 
-pub mismatches_are_reported : (tree : List TreeProcess) → IsTree tree → (before : ℕ) (es : List Made) (w : World)
+pub mismatches_are_reported : (tree : List TreeProcess) → IsTree tree
+    → (before : ℕ) (es : List Made) (w : World)
     → (run : IsRunBy tree Second before es w) → AllReportTruly tree Second before es w run
 mismatches_are_reported tree is_tree before es w run = all_truly tree is_tree Second before es w run refl

@@ -56,12 +56,14 @@ pub record IsReported (at : ProcessId → Node) (n : Node) (c : Case) (t : Ticke
 life_of : (n : Node) (ws : List Written) → (appends n ws).life ≡ reverse (entries_written ws) ++ n.life
 life_of n ws = by_force (is_any_forced ws) refl
   where
-    by_force : (b : Bool) → is_any_forced ws ≡ b → (appends n ws).life ≡ reverse (entries_written ws) ++ n.life
+    by_force : (b : Bool) → is_any_forced ws ≡ b → (appends n ws).life
+        ≡ reverse (entries_written ws) ++ n.life
     by_force true f = rw f refl
     by_force false f = rw f refl
 
 module _ (place : Place) (m : Move) (q : Record → Bool) where
-  life_still : (n : Node) (e : Effect) (k : Node) → StepOf place n m e k → has q n.life ≡ true → has q k.life ≡ true
+  life_still : (n : Node) (e : Effect) (k : Node) → StepOf place n m e k → has q n.life ≡ true
+      → has q k.life ≡ true
   life_still n _ _ (handled i g hp np r) e =
       ap (has q) (life_of n g.written) ∙ in_second q (reverse (entries_written g.written)) n.life e
   life_still n _ _ (failed_in i f g fl hp np r) e =
@@ -79,7 +81,8 @@ module _ (place : Place) (m : Move) (q : Record → Bool) where
       by_front zero = e
       by_front (suc j) = in_second q (reverse (data_records place.role (kept n))) n.life e
 
-pub ended_still : (place : Place) (m : Move) (n : Node) (e : Effect) (k : Node) → StepOf place n m e k → (c : Case)
+pub ended_still : (place : Place) (m : Move) (n : Node) (e : Effect) (k : Node) → StepOf place n m e k
+    → (c : Case)
     (o : Outcome) → has_ended n c o ≡ true → has_ended k c o ≡ true
 ended_still place m n e k s c CommittedOutcome f = durable_still place m (is_commit c) n e k s f
 ended_still place m n e k s c AbortedOutcome f = life_still place m (is_abort c) n e k s f
@@ -101,12 +104,14 @@ module _ (at : ProcessId → Node) (t : Ticket) where
   in_mixed x o (Unreported u ∷ fs) a e = in_mixed x o fs a.1 e
 
 module _ (at : ProcessId → Node) (me : ProcessId) (tree : List TreeProcess) (n : Node)
-    (heard : AllHeardTrue at n.heard) (forced : NoCommitUnforced n) (nested : Nested (logs_of n)) (c : Case) (t : Ticket)
+    (heard : AllHeardTrue at n.heard) (forced : NoCommitUnforced n) (nested : Nested (logs_of n))
+    (c : Case) (t : Ticket)
   where
     abbrev place : Place
     place = coordinator_place me None tree
 
-    decided_ended : (d : Case) (o : Outcome) (s : Standing) → HasDecided o s → (coordinator_view place n d).standing ≡ s
+    decided_ended : (d : Case) (o : Outcome) (s : Standing) → HasDecided o s
+        → (coordinator_view place n d).standing ≡ s
         → has_ended n d o ≡ true
     decided_ended d _ _ by_commit e = commit_is_old n forced nested d (committing_facts place n d e).commit
     decided_ended d _ _ by_abort e =
@@ -198,7 +203,8 @@ module _ (c : Case) (t : Ticket) where
 -- Each step.
 
 module _ (at : ProcessId → Node) (me : ProcessId) (tree : List TreeProcess) (m : Move) (n : Node)
-    (heard : AllHeardTrue at n.heard) (forced : n.failed ≡ false → NoCommitUnforced n) (nested : Nested (logs_of n))
+    (heard : AllHeardTrue at n.heard) (forced : n.failed ≡ false → NoCommitUnforced n)
+    (nested : Nested (logs_of n))
     (c : Case) (t : Ticket) (old : has (reports_mixed c t) n.life ≡ true → IsReported at n c t)
   where
     abbrev here : Place
@@ -217,16 +223,19 @@ module _ (at : ProcessId → Node) (me : ProcessId) (tree : List TreeProcess) (m
     never : (b : Bool) → b ≡ false → b ≡ true → IsReported at n c t
     never b e f = absurd (cc)
 
-    pub reported_then : ((i : Input) → m.step.happening ≡ Handles i → InputTrue at i) → (e : Effect) (k : Node)
+    pub reported_then : ((i : Input) → m.step.happening ≡ Handles i → InputTrue at i)
+        → (e : Effect) (k : Node)
         → StepOf here n m e k → has q k.life ≡ true → IsReported at n c t
     reported_then now _ _ (handled i g hp np r) x =
         behind (entries_written g.written)
-        (turn_reports at me tree n heard (forced (turn_of here n (heard_in m i) g r).up) nested c t (heard_in m i)
+        (turn_reports at me tree n heard (forced (turn_of here n (heard_in m i) g r).up) nested c
+        t (heard_in m i)
         (now i hp) g (coordinator_turn_of here n (heard_in m i) g r))
         (sym (ap (has q) (life_of n g.written)) ∙ x)
     reported_then now _ _ (failed_in i f g fl hp np r) x =
         behind (take f.appended (entries_written g.written))
-        (λ y. turn_reports at me tree n heard (forced (turn_of here n (heard_in m i) g r).up) nested c t (heard_in m i)
+        (λ y. turn_reports at me tree n heard (forced (turn_of here n (heard_in m i) g r).up) nested c
+        t (heard_in m i)
         (now i hp) g (coordinator_turn_of here n (heard_in m i) g r)
         (in_front q f.appended (entries_written g.written) y)) x
     reported_then now _ _ (passed i hp r) x = old x

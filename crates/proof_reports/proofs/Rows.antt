@@ -20,9 +20,11 @@ abbrev pub decision : Outcome → Case → List Ticket → Record
 decision CommittedOutcome c ts = CommitRecord c ts
 decision AbortedOutcome c ts = AbortRecord c ts
 
--- where a case stands as it decides: it collects votes, or it has promised, and names whom it promised for, or nobody
+-- where a case stands as it decides: it collects votes, or it has promised, and names whom it promised for,
+-- or nobody
 pub data DecidesFrom (place : Place) (n : Node) (c : Case) : List Ticket → Type 0 where
-  from_votes : (ts : List Ticket) → (coordinator_view place n c).standing ≡ Collecting → DecidesFrom place n c ts
+  from_votes : (ts : List Ticket) → (coordinator_view place n c).standing ≡ Collecting
+      → DecidesFrom place n c ts
   from_promise : (coordinator_view place n c).standing ≡ Prepared
       → DecidesFrom place n c (coordinator_view place n c).promised
   for_nobody : (coordinator_view place n c).standing ≡ Prepared → DecidesFrom place n c []
@@ -30,7 +32,8 @@ pub data DecidesFrom (place : Place) (n : Node) (c : Case) : List Ticket → Typ
 -- what is written of a case
 pub data Writes (place : Place) (n : Node) (c : Case) : List Written → Type 0 where
   nothing : Writes place n c []
-  ended : (r : Option Reports) (b : Bool) → Writes place n c (record { entry = EndRecord c r; is_forced = b } ∷ [])
+  ended : (r : Option Reports) (b : Bool)
+      → Writes place n c (record { entry = EndRecord c r; is_forced = b } ∷ [])
   cleared : (b : Bool) → Writes place n c (record { entry = ClearedRecord c; is_forced = b } ∷ [])
   collected : (b : Bool) → (coordinator_view place n c).standing ≡ Active
       → Writes place n c

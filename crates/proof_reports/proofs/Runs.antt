@@ -40,7 +40,8 @@ last_go : (tree : List TreeProcess) (xs ys : List Envelope) → AllGo tree (xs +
 last_go tree [] ys g = g
 last_go tree (x ∷ xs) ys g = last_go tree xs ys g.1
 
-module _ (tree : List TreeProcess) (at : ProcessId → Node) (net : List Envelope) (said : AllSayTrue at net) where
+module _ (tree : List TreeProcess) (at : ProcessId → Node) (net : List Envelope)
+    (said : AllSayTrue at net) where
   pub input_so : (q : ProcessId) (i : Input) → InputStands net q i → InputTrue at i
   input_so q (ActInput a) s = tt
   input_so q (MessageInput k m) s = says_at at net s.place _ said s.stands
@@ -100,7 +101,8 @@ module _ (tree : List TreeProcess) (at : ProcessId → Node) (net : List Envelop
       sends_so r node _ _ (trims_log hp up) go = tt
       sends_so r node _ _ (failed_trimming f fl hp up) go = tt
 
-module _ (tree : List TreeProcess) (es : List Made) (w : World) (run : IsRun tree es w) (h : FindingsHold tree w)
+module _ (tree : List TreeProcess) (es : List Made) (w : World) (run : IsRun tree es w)
+    (h : FindingsHold tree w)
     (m : Move) (e : Effect) (w' : World) (stands : MayHappen w.net m.step.process m.step.happening)
     (made : world_makes tree w m ≡ Some (e, w'))
   where
@@ -165,7 +167,8 @@ module _ (tree : List TreeProcess) (es : List Made) (w : World) (run : IsRun tre
           (λ r leaf. h.forced r p leaf) r;
     }
 
-pub findings_hold : (tree : List TreeProcess) (es : List Made) (w : World) → IsRun tree es w → FindingsHold tree w
+pub findings_hold : (tree : List TreeProcess) (es : List Made) (w : World) → IsRun tree es w
+    → FindingsHold tree w
 findings_hold tree _ _ opens =
     record { net = tt; heard = λ q. tt; forced = λ q p leaf up d o. has-nil (is_decided d o) }
 findings_hold tree _ _ (makes es w m e w' run stands made) =

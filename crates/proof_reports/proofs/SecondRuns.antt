@@ -23,7 +23,8 @@ input_among : (net : List Envelope) (q : ProcessId) (i : Input) → InputStands 
 input_among net q (ActInput a) s = tt
 input_among net q (MessageInput k m) s = among_at net s.place _ s.stands
 
-arrives_among : (net : List Envelope) (q : ProcessId) (h : Happening) → MayHappen net q h → (i : Input) → h ≡ Handles i
+arrives_among : (net : List Envelope) (q : ProcessId) (h : Happening) → MayHappen net q h → (i : Input)
+    → h ≡ Handles i
     → InputAmong net i
 arrives_among net q h s i hp = input_among net q i (subst (λ (x : Happening). MayHappen net q x) hp s)
 
@@ -40,7 +41,8 @@ module _ (tree : List TreeProcess) (is_tree : IsTree tree) where
       → EndsReported tree es w run
   second_runs_report _ _ opens by = tt
   second_runs_report _ _ (makes es w m e w' run stands made) by = (
-    λ j c r top there. end_reports_truly tree is_tree es w run w.net (λ x i. i) (since_second es w run by.1) m e w'
+    λ j c r top there. end_reports_truly tree is_tree es w run w.net (λ x i. i)
+        (since_second es w run by.1) m e w'
         by.0 (arrives_among w.net m.step.process m.step.happening stands) stands made top c r j there,
     second_runs_report es w run by.1,
   )

@@ -1,4 +1,5 @@
--- What holds of the acknowledgements that were sent since a tree was opened last, by the second version: through a step.
+-- What holds of the acknowledgements that were sent since a tree was opened last, by the second version:
+-- through a step.
 use Rattle.std.proofs.Common.{◌≡◌, ◌∙◌, inl, inr, ℕ, zero, suc, false, Some, List, [], ◌∷◌, ◌++◌, refl, sym, ap, subst}
 use Rattle.std.specs.List.{flat_map}
 use Rattle.protocol.specs.declared.names.Case.{Case}
@@ -59,14 +60,16 @@ last_go tree [] ys g = g
 last_go tree (x ∷ xs) ys g = last_go tree xs ys g.1
 
 ack_sender : (tree : List TreeProcess) (q : ProcessId) (ls : List Envelope) → AllGo tree ls → AllSentBy q ls
-    → (x : Txn) (t : Ticket) (o : Outcome) (fs : List Finding) → IsAmong (Ack (child_case x t) o fs) ls → t.child ≡ q
+    → (x : Txn) (t : Ticket) (o : Outcome) (fs : List Finding) → IsAmong (Ack (child_case x t) o fs) ls
+    → t.child ≡ q
 ack_sender tree q [] g s x t o fs i = absurd i
 ack_sender tree q (l ∷ ls) g s x t o fs (inl e) = (subst (λ (m : Message). GoesBy tree l m) e g.0).0 ∙ s.0
 ack_sender tree q (l ∷ ls) g s x t o fs (inr i) = ack_sender tree q ls g.1 s.1 x t o fs i
 
 -- a manager's restart acknowledges nothing
 inquired_none : (me p : ProcessId) (c d : Case) (o : Outcome) (fs : List Finding) (k : Mark)
-    → IsAmong (Ack d o fs) (inquires_by me p c (marked_branch fresh_memory k) (marked_branch fresh_memory k).standing) → ⊥
+    → IsAmong (Ack d o fs) (inquires_by me p c (marked_branch fresh_memory k)
+    (marked_branch fresh_memory k).standing) → ⊥
 inquired_none me p c d o fs Unmarked i = i
 inquired_none me p c d o fs Promised (inl e) = cc
 inquired_none me p c d o fs Promised (inr i) = i
@@ -75,19 +78,26 @@ inquired_none me p c d o fs Decided (inr i) = i
 inquired_none me p c d o fs (ToldOf u) i = i
 inquired_none me p c d o fs Finished i = i
 
-manager_resumes_none : (me p : ProcessId) (rs : List Record) (d : Case) (o : Outcome) (fs : List Finding) (cs : List Case)
+manager_resumes_none : (me p : ProcessId) (rs : List Record) (d : Case) (o : Outcome) (fs : List Finding)
+    (cs : List Case)
     → IsAmong (Ack d o fs) (flat_map (manager_resumes me p rs) cs) → ⊥
 unfolding recorded_branch
 manager_resumes_none me p rs d o fs cs =
-    flat_none d o fs (manager_resumes me p rs) (λ c i. inquired_none me p c d o fs (mark_of (CaseBranch c) rs) i) cs
+    flat_none d o fs (manager_resumes me p rs)
+    (λ c i. inquired_none me p c d o fs (mark_of (CaseBranch c) rs) i) cs
 
 covers_more : (ls ms : List Envelope) (n : Node) (x : Txn) (t : Ticket) (o : Outcome) (fs : List Finding)
     → Covers ls n x t o fs → Covers (ls ++ ms) n x t o fs
 covers_more ls ms n x t o fs c =
-    record { named = λ u e. acked_still ls ms x o fs u (c.named u e); collecting_is_decided = c.collecting_is_decided }
+    record {
+      named = λ u e. acked_still ls ms x o fs u (c.named u e);
+      collecting_is_decided = c.collecting_is_decided;
+    }
 
-module _ (tree : List TreeProcess) (is_tree : IsTree tree) (es : List Made) (w : World) (run : IsRun tree es w)
-    (ls : List Envelope) (within : (x : Message) → IsAmong x ls → IsAmong x w.net) (old : SinceOpened tree ls w)
+module _ (tree : List TreeProcess) (is_tree : IsTree tree) (es : List Made) (w : World)
+    (run : IsRun tree es w)
+    (ls : List Envelope) (within : (x : Message) → IsAmong x ls → IsAmong x w.net)
+    (old : SinceOpened tree ls w)
     (m : Move) (e : Effect) (w' : World) (second : m.version ≡ Second)
     (delivered : (i : Input) → m.step.happening ≡ Handles i → InputAmong ls i)
     (stands : MayHappen w.net m.step.process m.step.happening) (made : world_makes tree w m ≡ Some (e, w'))
@@ -123,25 +133,32 @@ module _ (tree : List TreeProcess) (is_tree : IsTree tree) (es : List Made) (w :
         (subst (λ zs. AllGo tree zs) (ap (λ (y : World). y.net) (makes_at tree w m e w' made).world)
         (nets_hold tree (record { move = m; effect = e } ∷ es) w' (makes es w m e w' run stands made)).go)
 
-    sender : (x : Txn) (t : Ticket) (o : Outcome) (fs : List Finding) → IsAmong (Ack (child_case x t) o fs) e.messages
+    sender : (x : Txn) (t : Ticket) (o : Outcome) (fs : List Finding)
+        → IsAmong (Ack (child_case x t) o fs) e.messages
         → t.child ≡ m.step.process
     sender x t o fs i = ack_sender tree q ms goes (step_sent (place_of tree q) n m e k step) x t o fs i
 
-    over_old : (x : Txn) (t : Ticket) (o : Outcome) (fs : List Finding) → IsAmong (Ack (child_case x t) o fs) ls
+    over_old : (x : Txn) (t : Ticket) (o : Outcome) (fs : List Finding)
+        → IsAmong (Ack (child_case x t) o fs) ls
         → IsOver (place_of tree t.child) (w.at t.child) (child_case x t)
     over_old x t o fs i =
         acked_over tree w holds x t
-        (among_sent (is_ack_message (child_case x t)) (Ack (child_case x t) o fs) (same_case-refl (child_case x t)) w.net
+        (among_sent (is_ack_message (child_case x t)) (Ack (child_case x t) o fs)
+        (same_case-refl (child_case x t)) w.net
         (within (Ack (child_case x t) o fs) i))
 
-    over_here : (x : Txn) (t : Ticket) (o : Outcome) (fs : List Finding) → IsAmong (Ack (child_case x t) o fs) ls
+    over_here : (x : Txn) (t : Ticket) (o : Outcome) (fs : List Finding)
+        → IsAmong (Ack (child_case x t) o fs) ls
         → t.child ≡ m.step.process → (r : Role) → role_of tree m.step.process ≡ r
-        → IsOver (record { me = m.step.process; role = r; tree = tree }) (w.at m.step.process) (child_case x t)
+        → IsOver (record { me = m.step.process; role = r; tree = tree }) (w.at m.step.process)
+        (child_case x t)
     over_here x t o fs i f r role =
         subst (λ (y : Role). IsOver (at y) n (child_case x t)) role
-        (subst (λ (y : ProcessId). IsOver (place_of tree y) (w.at y) (child_case x t)) f (over_old x t o fs i))
+        (subst (λ (y : ProcessId). IsOver (place_of tree y) (w.at y) (child_case x t)) f
+        (over_old x t o fs i))
 
-    hears : (i : Input) → m.step.happening ≡ Handles i → (x : Message) → Hears (heard_in m i) x → IsAmong x w.net
+    hears : (i : Input) → m.step.happening ≡ Handles i → (x : Message) → Hears (heard_in m i) x
+        → IsAmong x w.net
     hears i hp x h = within x (subst (λ (y : Input). InputAmong ls y) h.1 (delivered i hp))
 
     -- What was heard.
@@ -150,7 +167,8 @@ module _ (tree : List TreeProcess) (is_tree : IsTree tree) (es : List Made) (w :
         → k'.failed ≡ false → AllHeardAmong (ls ++ e.messages) k'.heard
     heard_so place _ _ (handled i g hp np r) up =
         heard_still ls ms (n.heard ++ heard_in m i ∷ [])
-        (heard_more ls n.heard (heard_in m i) (old.heard q (turn_of place n (heard_in m i) g r).up) (delivered i hp))
+        (heard_more ls n.heard (heard_in m i) (old.heard q (turn_of place n (heard_in m i) g r).up)
+        (delivered i hp))
     heard_so place _ _ (failed_in i f g fl hp np r) up = absurd (cc)
     heard_so place _ _ (passed i hp r) up = heard_still ls ms n.heard (old.heard q up)
     heard_so place _ _ (failed_passing i f fl hp r) up = absurd (cc)
@@ -167,18 +185,22 @@ module _ (tree : List TreeProcess) (is_tree : IsTree tree) (es : List Made) (w :
     -- A manager.
 
     module _ (p : ProcessId) (leaf : role_of tree m.step.process ≡ AtLeaf p) (x : Txn) (t : Ticket)
-        (own : t.child ≡ m.step.process) (o : Outcome) (fs : List Finding) (clean : IsClean (child_case x t) fs)
+        (own : t.child ≡ m.step.process) (o : Outcome) (fs : List Finding)
+        (clean : IsClean (child_case x t) fs)
       where
-        node : NodeHolds (record { me = m.step.process; role = AtLeaf p; tree = tree }) w.net (w.at m.step.process)
+        node : NodeHolds (record { me = m.step.process; role = AtLeaf p; tree = tree }) w.net
+            (w.at m.step.process)
         node = leaf_node tree is_tree es w run q p leaf
 
         manager_new : (e' : Effect) (k' : Node)
-            → StepOf (record { me = m.step.process; role = AtLeaf p; tree = tree }) (w.at m.step.process) m e' k'
+            → StepOf (record { me = m.step.process; role = AtLeaf p; tree = tree })
+            (w.at m.step.process) m e' k'
             → IsAmong (Ack (child_case x t) o fs) e'.messages → NoneAgainst k' (child_case x t) o
         manager_new _ k' (handled i g hp np r) among =
             let u = turn_of (at (AtLeaf p)) n (heard_in m i) g r in
             let none = leaf_fine w.net (at (AtLeaf p)) p refl n node.lasts.nested node.lasts.by_role
-            (all_one tree is_tree es w run q p leaf) holds.about_given (leaf_facts tree is_tree es w run q p leaf)
+            (all_one tree is_tree es w run q p leaf) holds.about_given
+            (leaf_facts tree is_tree es w run q p leaf)
             (heard_in m i) (hears i hp) second u.up g u.turn (Ack (child_case x t) o fs) among own clean in
             none_now q p tree m n node.lasts.nested node.lasts.by_role (child_case x t) o none _ _
             (handled i g hp np r) i g hp u.turn fs among
@@ -186,7 +208,8 @@ module _ (tree : List TreeProcess) (is_tree : IsTree tree) (es : List Made) (w :
         manager_new _ _ (passed i hp r) among = absurd among
         manager_new _ _ (failed_passing i f fl hp r) among = absurd among
         manager_new _ _ (reopened j hp) among =
-            absurd (manager_resumes_none q p (left_of n j ++ reopens (AtLeaf p) (left_of n j)) (child_case x t) o fs
+            absurd (manager_resumes_none q p (left_of n j ++ reopens (AtLeaf p) (left_of n j))
+            (child_case x t) o fs
             (cases_in (left_of n j ++ reopens (AtLeaf p) (left_of n j))) among)
         manager_new _ _ (failed_reopening j f fl hp) among = absurd among
         manager_new _ _ (trims_log hp ok) among = absurd among
@@ -205,24 +228,29 @@ module _ (tree : List TreeProcess) (is_tree : IsTree tree) (es : List Made) (w :
     -- A coordinator.
 
     module _ (p : ProcessId) (role : role_of tree m.step.process ≡ Below p) (x : Txn) (t : Ticket)
-        (own : t.child ≡ m.step.process) (o : Outcome) (fs : List Finding) (clear : in_list (unreported_of fs) t ≡ false)
+        (own : t.child ≡ m.step.process) (o : Outcome) (fs : List Finding)
+        (clear : in_list (unreported_of fs) t ≡ false)
       where
-        below_node : NodeHolds (record { me = m.step.process; role = Below p; tree = tree }) w.net (w.at m.step.process)
+        below_node : NodeHolds (record { me = m.step.process; role = Below p; tree = tree }) w.net
+            (w.at m.step.process)
         below_node = subst (λ (r : Role). NodeHolds (at r) w.net n) role (nodes_hold tree es w run q)
 
         lasting : CoordinatorLasts (coordinator_place m.step.process (Some p) tree) (w.at m.step.process)
         lasting = all_last tree is_tree es w run q (Some p) role
 
         coordinator_new : (e' : Effect) (k' : Node)
-            → StepOf (record { me = m.step.process; role = Below p; tree = tree }) (w.at m.step.process) m e' k'
+            → StepOf (record { me = m.step.process; role = Below p; tree = tree })
+            (w.at m.step.process) m e' k'
             → IsAmong (Ack (child_case x t) o fs) e'.messages → Covers ls k' x t o fs
         coordinator_new _ _ (handled i g hp np r) among =
             let there = all_coordinated tree es w run q (Some p) role in
             let up = (turn_of (at (Below p)) n (heard_in m i) g r).up in
-            covers_now q p tree n below_node.lasts.nested below_node.lasts.by_role.no_managers_record ls (heard_in m i)
+            covers_now q p tree n below_node.lasts.nested below_node.lasts.by_role.no_managers_record
+            ls (heard_in m i)
             x t o fs (old.heard q up) (delivered i hp) lasting
             ((coordinates tree es w run q (Some p) role).names (child_case x t)) up
-            (live_undecided q (Some p) tree n (premises tree es w run q (Some p) role there) there lasting.unaborted up
+            (live_undecided q (Some p) tree n (premises tree es w run q (Some p) role there) there
+            lasting.unaborted up
             (child_case x t)) clear _ g (kept-after n (heard_in m i) g) (life_after n g.written)
             (forced_after n g.written) (forced_whole n g.written)
             (turn_acks (at (Below p)) (Some p) n (heard_in m i) second (child_case x t) o fs g
@@ -231,7 +259,8 @@ module _ (tree : List TreeProcess) (is_tree : IsTree tree) (es : List Made) (w :
         coordinator_new _ _ (passed i hp r) among = absurd among
         coordinator_new _ _ (failed_passing i f fl hp r) among = absurd among
         coordinator_new _ _ (reopened j hp) among =
-            absurd (resumes_none (child_case x t) o fs q (Some p) (left_of n j ++ reopens (Below p) (left_of n j))
+            absurd (resumes_none (child_case x t) o fs q (Some p)
+            (left_of n j ++ reopens (Below p) (left_of n j))
             (cases_in (left_of n j ++ reopens (Below p) (left_of n j))) among)
         coordinator_new _ _ (failed_reopening j f fl hp) among = absurd among
         coordinator_new _ _ (trims_log hp ok) among = absurd among
@@ -239,14 +268,16 @@ module _ (tree : List TreeProcess) (is_tree : IsTree tree) (es : List Made) (w :
 
         coordinator_here : IsAmong (Ack (child_case x t) o fs) (ls ++ e.messages)
             → Covers (ls ++ e.messages) (makes_at tree w m e w' made).node x t o fs
-        coordinator_here i = covers_more ls ms k x t o fs (elim (among_either (Ack (child_case x t) o fs) ls ms i) [
-          | inl before ↦ covers_still q p tree n below_node.lasts.nested below_node.lasts.by_role.no_managers_record
-              ls x t o fs (over_here x t o fs before own (Below p) role)
-              (subst (λ (y : ProcessId). Covers ls (w.at y) x t o fs) own
-              (old.coordinators x t p (ap (role_of tree) own ∙ role) o fs before clear)) k
-              (became q (Some p) tree m n e k (step_as (Below p) role))
-          | inr now ↦ coordinator_new e k (step_as (Below p) role) now
-        ])
+        coordinator_here i = covers_more ls ms k x t o fs
+            (elim (among_either (Ack (child_case x t) o fs) ls ms i) [
+              | inl before ↦ covers_still q p tree n below_node.lasts.nested
+                  below_node.lasts.by_role.no_managers_record
+                  ls x t o fs (over_here x t o fs before own (Below p) role)
+                  (subst (λ (y : ProcessId). Covers ls (w.at y) x t o fs) own
+                  (old.coordinators x t p (ap (role_of tree) own ∙ role) o fs before clear)) k
+                  (became q (Some p) tree m n e k (step_as (Below p) role))
+              | inr now ↦ coordinator_new e k (step_as (Below p) role) now
+            ])
 
     -- All.
 
@@ -254,12 +285,15 @@ module _ (tree : List TreeProcess) (is_tree : IsTree tree) (es : List Made) (w :
     HeardSo r y = y.failed ≡ false → AllHeardAmong (ls ++ e.messages) y.heard
 
     abbrev ManagerSo : ProcessId → Node → Type 0
-    ManagerSo r y = (x : Txn) (t : Ticket) (p : ProcessId) → t.child ≡ r → role_of tree r ≡ AtLeaf p → (o : Outcome)
-        (fs : List Finding) → IsAmong (Ack (child_case x t) o fs) (ls ++ e.messages) → IsClean (child_case x t) fs
+    ManagerSo r y = (x : Txn) (t : Ticket) (p : ProcessId) → t.child ≡ r → role_of tree r ≡ AtLeaf p
+        → (o : Outcome)
+        (fs : List Finding) → IsAmong (Ack (child_case x t) o fs) (ls ++ e.messages)
+        → IsClean (child_case x t) fs
         → NoneAgainst y (child_case x t) o
 
     abbrev CoordinatorSo : ProcessId → Node → Type 0
-    CoordinatorSo r y = (x : Txn) (t : Ticket) (p : ProcessId) → t.child ≡ r → role_of tree r ≡ Below p → (o : Outcome)
+    CoordinatorSo r y = (x : Txn) (t : Ticket) (p : ProcessId) → t.child ≡ r → role_of tree r ≡ Below p
+        → (o : Outcome)
         (fs : List Finding) → IsAmong (Ack (child_case x t) o fs) (ls ++ e.messages)
         → in_list (unreported_of fs) t ≡ false → Covers (ls ++ e.messages) y x t o fs
 
@@ -279,7 +313,8 @@ module _ (tree : List TreeProcess) (is_tree : IsTree tree) (es : List Made) (w :
     heard_then r = put_or_other Any HeardSo q r k w.at (heard_so (place_of tree q) e k step)
         (λ apart u up. heard_still ls ms (w.at r).heard (old.heard r up)) tt
 
-    managers_then : (r : ProcessId) → ManagerSo r (put_at m.step.process (makes_at tree w m e w' made).node w.at r)
+    managers_then : (r : ProcessId) → ManagerSo r
+        (put_at m.step.process (makes_at tree w m e w' made).node w.at r)
     managers_then r = put_or_other Any ManagerSo q r k w.at
         (λ x t p own leaf o fs i clean. manager_here p leaf x t own o fs clean i)
         (λ apart u x t p own leaf o fs i clean. earlier r apart x t own o fs i
@@ -296,8 +331,9 @@ module _ (tree : List TreeProcess) (is_tree : IsTree tree) (es : List Made) (w :
         (old.coordinators x t p (ap (role_of tree) own ∙ role) o fs before clear)))) tt
 
     pub since_step : SinceOpened tree (ls ++ e.messages) w'
-    since_step = subst (λ (y : World). SinceOpened tree (ls ++ ms) y) (sym (makes_at tree w m e w' made).world) (record {
-      heard = heard_then;
-      managers = λ x t p leaf o fs i clean. managers_then t.child x t p refl leaf o fs i clean;
-      coordinators = λ x t p role o fs i clear. coordinators_then t.child x t p refl role o fs i clear;
-    })
+    since_step = subst (λ (y : World). SinceOpened tree (ls ++ ms) y)
+        (sym (makes_at tree w m e w' made).world) (record {
+          heard = heard_then;
+          managers = λ x t p leaf o fs i clean. managers_then t.child x t p refl leaf o fs i clean;
+          coordinators = λ x t p role o fs i clear. coordinators_then t.child x t p refl role o fs i clear;
+        })

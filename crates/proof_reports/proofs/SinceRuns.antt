@@ -1,4 +1,5 @@
--- In every run by the second version since its tree was opened last: what holds of the acknowledgements sent since.
+-- In every run by the second version since its tree was opened last: what holds of the acknowledgements sent
+-- since.
 use Rattle.std.proofs.Common.{◌≡◌, ◌∙◌, ◌+◌, ◌-◌, ℕ, suc, Bool, true, false, Some, List, [], ◌∷◌, ◌++◌, refl, sym, ap, subst, arith, append_assoc}
 use Rattle.std.specs.Prelude.{length, slice_get}
 use Rattle.std.proofs.lemmas.List.{append-nil}
@@ -33,7 +34,8 @@ get_behind (x ∷ xs) ys j =
     ap (slice_get (x ∷ (xs ++ ys))) e ∙ get_behind xs ys j
 
 -- a message that is delivered, of those that were sent since, is one of them
-pub delivered_among : (net : List Envelope) (before : ℕ) (ls : List Envelope) → Behind net before ls → (q : ProcessId)
+pub delivered_among : (net : List Envelope) (before : ℕ) (ls : List Envelope) → Behind net before ls
+    → (q : ProcessId)
     (i : Input) → InputIsNew net before q i → InputAmong ls i
 delivered_among net before ls b q (ActInput a) s = tt
 delivered_among net before ls b q (MessageInput k m) s =
@@ -42,7 +44,8 @@ delivered_among net before ls b q (MessageInput k m) s =
     ∙ (ap (λ (c : ℕ). slice_get (b.earlier ++ ls) (c + (k - 1))) b.counted
     ∙ (ap (λ zs. slice_get zs (before + (k - 1))) (sym b.whole) ∙ s.stands)))
 
-pub stands_new : (net : List Envelope) (before : ℕ) (q : ProcessId) (x : Happening) → IsNewInNet net before q x
+pub stands_new : (net : List Envelope) (before : ℕ) (q : ProcessId) (x : Happening)
+    → IsNewInNet net before q x
     → MayHappen net q x
 stands_new net before q (Handles (ActInput a)) s = tt
 stands_new net before q (Handles (MessageInput k m)) s =
@@ -77,14 +80,16 @@ module _ (tree : List TreeProcess) (is_tree : IsTree tree) where
       by_listed : (b : Bool) → is_listed tree q ≡ b → AllHeardAmong [] (w.at q).heard
       by_listed true f = absurd (never _ (down q f) up)
       by_listed false f =
-          subst (λ (n : Node). AllHeardAmong [] n.heard) (sym ((the_world_holds tree is_tree es w run).unlisted q f)) tt
+          subst (λ (n : Node). AllHeardAmong [] n.heard)
+          (sym ((the_world_holds tree is_tree es w run).unlisted q f)) tt
 
   pub since_then : (before : ℕ) (es : List Made) (w : World) (m : Move) (e : Effect) (w' : World)
       → IsRun tree es w → m.version ≡ Second → IsNewInNet w.net before m.step.process m.step.happening
       → world_makes tree w m ≡ Some (e, w') → (s : Since tree before w)
       → SinceOpened tree (s.messages ++ e.messages) w'
   since_then before es w m e w' run second new made s =
-      since_step tree is_tree es w run s.messages (among_net w.net before s.messages s.behind) s.holds m e w' second
+      since_step tree is_tree es w run s.messages (among_net w.net before s.messages s.behind)
+      s.holds m e w' second
       (λ i hp. delivered_among w.net before s.messages s.behind m.step.process i
       (subst (λ (x : Happening). IsNewInNet w.net before m.step.process x) hp new))
       (stands_new w.net before m.step.process m.step.happening new) made
@@ -108,7 +113,8 @@ module _ (tree : List TreeProcess) (is_tree : IsTree tree) where
     coordinators = λ x t p role o fs i clear. absurd i;
   }
 
-  since_runs : (v : Version) (before : ℕ) (es : List Made) (w : World) → IsRunBy tree v before es w → v ≡ Second
+  since_runs : (v : Version) (before : ℕ) (es : List Made) (w : World) → IsRunBy tree v before es w
+      → v ≡ Second
       → Since tree before w
   since_runs _ _ _ _ (first_opens v) e = record {
     messages = [];
@@ -128,5 +134,6 @@ module _ (tree : List TreeProcess) (is_tree : IsTree tree) where
     };
   }
 
-  pub since_opened : (before : ℕ) (es : List Made) (w : World) → IsRunBy tree Second before es w → Since tree before w
+  pub since_opened : (before : ℕ) (es : List Made) (w : World) → IsRunBy tree Second before es w
+      → Since tree before w
   since_opened before es w run = since_runs Second before es w run refl

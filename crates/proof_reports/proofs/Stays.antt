@@ -1,4 +1,5 @@
--- Whom a decision of a coordinator's case ever named, no kept Collecting, Prepare or decision of the case leaves out.
+-- Whom a decision of a coordinator's case ever named, no kept Collecting, Prepare or decision of the case
+-- leaves out.
 use Rattle.std.proofs.Common.{◌≡◌, ◌∙◌, ◌&&◌, ◌||◌, ◌⊎◌, ◌+◌, inl, inr, ℕ, Bool, true, false, Option, List, [], ◌∷◌, ◌++◌, refl, sym, ap, subst, arith}
 use Rattle.std.specs.Prelude.{not, reverse}
 use Rattle.std.specs.List.{flat_map}
@@ -137,7 +138,8 @@ module _ (c : Case) (rs : List Record) where
       → (recorded_view rs c).standing ≡ Collecting
   reopened_stood k =
       all_stood (cases_in rs)
-      (sym (has-cons (is_record_of c) (Opened (boot_of rs + 1)) (flat_map (aborts_collecting rs) (cases_in rs))) ∙ k)
+      (sym (has-cons (is_record_of c) (Opened (boot_of rs + 1))
+      (flat_map (aborts_collecting rs) (cases_in rs))) ∙ k)
 
   -- then nothing else stands of it
   pub record Stood : Type 0 where
@@ -195,7 +197,8 @@ module _ (c : Case) (rs : List Record) where
 decision_recorded : (c : Case) (r : Record) → is_decision c r ≡ true → is_record_of c r ≡ true
 decision_recorded c r e = grind arith
 
-pub naming_recorded : (c : Case) (t : Ticket) (r : Record) → is_decision_naming c t r ≡ true → is_record_of c r ≡ true
+pub naming_recorded : (c : Case) (t : Ticket) (r : Record) → is_decision_naming c t r ≡ true
+    → is_record_of c r ≡ true
 naming_recorded c t r e = grind arith
 
 naming_names : (c : Case) (t : Ticket) (r : Record) → is_decision_naming c t r ≡ true → is_naming c t r ≡ true
@@ -210,7 +213,8 @@ module _ (me : ProcessId) (parent : Option ProcessId) (tree : List TreeProcess) 
     → ((coordinator_view (coordinator_place me parent tree) n c).standing ≡ Active)
     ⊎ ((coordinator_view (coordinator_place me parent tree) n c).standing ≡ Collecting)
     → has (is_decision c) n.life ≡ false)
-    (all_named : (c : Case) (t : Ticket) → has_accepted n c t ≡ true → has (collecting_without c t) (kept n) ≡ false)
+    (all_named : (c : Case) (t : Ticket) → has_accepted n c t ≡ true
+    → has (collecting_without c t) (kept n) ≡ false)
     (old : NamesStay n)
   where
     abbrev place : Place
@@ -227,13 +231,17 @@ module _ (me : ProcessId) (parent : Option ProcessId) (tree : List TreeProcess) 
               ⊎ (has (is_decision_naming c t) (entries_written ws) ≡ true)
 
           abbrev Fine : List Written → Type 0
-          Fine ws = (has (leaves_out c t) (kept n) ≡ false) × (has (leaves_out c t) (entries_written ws) ≡ false)
+          Fine ws = (has (leaves_out c t) (kept n) ≡ false)
+              × (has (leaves_out c t) (entries_written ws) ≡ false)
 
-          accepted_now : has (is_decision_naming c t) (entries_written g.written) ≡ true → has_accepted n c t ≡ true
+          accepted_now : has (is_decision_naming c t) (entries_written g.written) ≡ true
+              → has_accepted n c t ≡ true
           accepted_now e =
               effect_names me parent tree n h c t holds.remembered_accepted
-              (λ d u f. holds.named_accepted d u (nested.kept_was_written (is_naming d u) (λ k. refl) f)) g turn
-              (has_other (is_decision_naming c t) (is_naming c t) (entries_written g.written) (naming_names c t) e)
+              (λ d u f. holds.named_accepted d u (nested.kept_was_written (is_naming d u) (λ k. refl) f)) g
+              turn
+              (has_other (is_decision_naming c t) (is_naming c t) (entries_written g.written)
+              (naming_names c t) e)
 
           -- what names nobody of the case leaves as before
           quietly : (ws : List Written) → has (is_decision_naming c t) (entries_written ws) ≡ false
@@ -254,7 +262,8 @@ module _ (me : ProcessId) (parent : Option ProcessId) (tree : List TreeProcess) 
               → (same_case d c ≡ false → leaves_out c t r ≡ false)
               → ((coordinator_view (coordinator_place me parent tree) n d).standing ≡ Active)
               ⊎ ((coordinator_view (coordinator_place me parent tree) n d).standing ≡ Collecting)
-              → Named (record { entry = r; is_forced = b } ∷ []) → Fine (record { entry = r; is_forced = b } ∷ [])
+              → Named (record { entry = r; is_forced = b } ∷ [])
+              → Fine (record { entry = r; is_forced = b } ∷ [])
           asking d r b none other at = by_test (same_case d c) refl
             where
               by_test : (x : Bool) → same_case d c ≡ x → Named (record { entry = r; is_forced = b } ∷ [])
@@ -262,13 +271,16 @@ module _ (me : ProcessId) (parent : Option ProcessId) (tree : List TreeProcess) 
               by_test true f (inl e) = absurd (never _ e (undecided_here d f at))
               by_test true f (inr e) = absurd (never _ (one_has (is_decision_naming c t) r e) none)
               by_test false f k =
-                  quietly (record { entry = r; is_forced = b } ∷ []) (one_lacks (is_decision_naming c t) r none)
+                  quietly (record { entry = r; is_forced = b } ∷ [])
+                  (one_lacks (is_decision_naming c t) r none)
                   (one_lacks (leaves_out c t) r (other f)) k
 
-          no_decision_at : (d : Case) → (coordinator_view (coordinator_place me parent tree) n d).standing ≡ Collecting
+          no_decision_at : (d : Case) → (coordinator_view (coordinator_place me parent tree) n d).standing
+              ≡ Collecting
               → (has (is_prepare d) (kept n) ≡ false) × (has (is_decision d) (kept n) ≡ false)
           no_decision_at d at =
-              let u = collecting_undecided (kept n) d (memory_of place n d).phase (sym (viewed place n d) ∙ at) in
+              let u = collecting_undecided (kept n) d (memory_of place n d).phase
+              (sym (viewed place n d) ∙ at) in
               (u.no_prepare, no_decisions d (kept n) u.no_commit u.no_abort)
 
           -- a decision of this case
@@ -297,8 +309,12 @@ module _ (me : ProcessId) (parent : Option ProcessId) (tree : List TreeProcess) 
                   (no_decisions d (kept n) (prepared_facts place n d at).no_commit
                   (prepared_facts place n d at).no_abort)
 
-              by_named : Named (record { entry = decision o d (coordinator_view place n d).promised; is_forced = b } ∷ [])
-                  → Fine (record { entry = decision o d (coordinator_view place n d).promised; is_forced = b } ∷ [])
+              by_named : Named (record {
+                entry = decision o d (coordinator_view place n d).promised;
+                is_forced = b;
+              } ∷ [])
+                  → Fine (record { entry = decision o d (coordinator_view place n d).promised; is_forced = b }
+                  ∷ [])
               by_named (inl e) =
                   let kept_so = old c t e in (
                     kept_so,
@@ -312,7 +328,8 @@ module _ (me : ProcessId) (parent : Option ProcessId) (tree : List TreeProcess) 
                         (prepare_stays_named c t (kept n) kept_so)))),
                   )
               by_named (inr e) =
-                  let named = (decision_names c d t (coordinator_view place n d).promised o (one_has _ _ e)).1 in (
+                  let named = (decision_names c d t (coordinator_view place n d).promised o (one_has _ _ e)).1
+                  in (
                     leaves_none c t (kept n) (all_named c t (accepted e))
                         (one_prepare c t (kept n) fits
                         (promised_named c t (kept n)
@@ -356,7 +373,8 @@ module _ (me : ProcessId) (parent : Option ProcessId) (tree : List TreeProcess) 
           case_fine : (d : Case) (ws : List Written) → Writes place n d ws
               → (has (is_decision_naming c t) (entries_written ws) ≡ true → has_accepted n c t ≡ true)
               → Named ws → Fine ws
-          case_fine d _ nothing accepted k = quietly [] (has-nil (is_decision_naming c t)) (has-nil (leaves_out c t)) k
+          case_fine d _ nothing accepted k = quietly [] (has-nil (is_decision_naming c t))
+              (has-nil (leaves_out c t)) k
           case_fine d _ (ended r b) accepted k =
               quietly (record { entry = EndRecord d r; is_forced = b } ∷ [])
               (one_lacks (is_decision_naming c t) (EndRecord d r) refl)
@@ -372,7 +390,8 @@ module _ (me : ProcessId) (parent : Option ProcessId) (tree : List TreeProcess) 
               asking d (PrepareRecord d ys) b refl (others_prepare d ys) (inr at) k
           case_fine d _ (decided o ts b from f) accepted k = by_test (same_case d c) refl
             where
-              by_test : (x : Bool) → same_case d c ≡ x → Fine (record { entry = decision o d ts; is_forced = b } ∷ [])
+              by_test : (x : Bool) → same_case d c ≡ x
+                  → Fine (record { entry = decision o d ts; is_forced = b } ∷ [])
               by_test true e = deciding d o ts b from (case_is d c e) accepted k
               by_test false e =
                   quietly (record { entry = decision o d ts; is_forced = b } ∷ [])
@@ -405,14 +424,17 @@ module _ (me : ProcessId) (parent : Option ProcessId) (tree : List TreeProcess) 
       left_out_none : (j : ℕ) (new : List Record) → Grows new (reopens AtRoot (left_of n j))
           → (has (is_decision_naming c t) (reverse new) ≡ true) ⊎ (has (is_decision_naming c t) n.life ≡ true)
           → has (leaves_out c t) (left_of n j) ≡ false
-      left_out_none j new front (inr e) = grown_none (left_of n j) (kept n) (left_kept n j) (leaves_out c t) (old c t e)
+      left_out_none j new front (inr e) = grown_none (left_of n j) (kept n) (left_kept n j)
+          (leaves_out c t) (old c t e)
       left_out_none j new front (inl e) =
           let rs = left_of n j in
           let written = front (is_decision_naming c t) (sym (has-reverse (is_decision_naming c t) new) ∙ e) in
           let at = stood c rs (reopened_stood c rs
-          (has_other (is_decision_naming c t) (is_record_of c) (reopens AtRoot rs) (naming_recorded c t) written)) in
+          (has_other (is_decision_naming c t) (is_record_of c) (reopens AtRoot rs)
+          (naming_recorded c t) written)) in
           let named = reopens_name c t rs
-          (has_other (is_decision_naming c t) (is_naming c t) (reopens AtRoot rs) (naming_names c t) written) in
+          (has_other (is_decision_naming c t) (is_naming c t) (reopens AtRoot rs) (naming_names c t) written)
+          in
           leaves_none c t rs
           (grown_none rs (kept n) (left_kept n j) (collecting_without c t)
           (all_named c t (holds.named_accepted c t
@@ -425,9 +447,11 @@ module _ (me : ProcessId) (parent : Option ProcessId) (tree : List TreeProcess) 
       restarted_stays j new front e =
           let none = left_out_none j new front (in_either (is_decision_naming c t) (reverse new) n.life e) in
           in_none (leaves_out c t) (left_of n j) new none
-          (grown_none new (reopens AtRoot (left_of n j)) front (leaves_out c t) (reopens_keep c (left_of n j) t none))
+          (grown_none new (reopens AtRoot (left_of n j)) front (leaves_out c t)
+          (reopens_keep c (left_of n j) t none))
 
-      trimmed_stays : has (is_decision_naming c t) n.life ≡ true → has (leaves_out c t) (trimmed AtRoot (kept n)) ≡ false
+      trimmed_stays : has (is_decision_naming c t) n.life ≡ true
+          → has (leaves_out c t) (trimmed AtRoot (kept n)) ≡ false
       trimmed_stays e =
           none_if (leaves_out c t) (trimmed AtRoot (kept n))
           (λ f. never _ (trim_kept (kept n) (leaves_out c t) (λ k. refl) f) (old c t e))

@@ -68,7 +68,8 @@ module _ (at : ProcessId → Node) where
       say_both at (abort_heard_above s why us) (each s Abort us) (above_says s why us)
       (each_says s Abort (λ d. tt) us)
 
-  votes_say : (s : Seat) (v : CoordinatorView) (p : Presumption) → AllSayTrue at (active_commit_with s v p).messages
+  votes_say : (s : Seat) (v : CoordinatorView) (p : Presumption)
+      → AllSayTrue at (active_commit_with s v p).messages
   votes_say s v PresumeAbort = map_says at _ (λ t. tt) v.accepted
   votes_say s v PresumeCommit = map_says at _ (λ t. tt) v.accepted
 
@@ -98,7 +99,8 @@ module _ (at : ProcessId → Node) where
   last_says : (ver : Version) (s : Seat) (o : Outcome) (fs : List Finding) → AreTrue at s.own.txn o fs
       → AllSayTrue at (acknowledges_at_last ver s o fs)
   last_says First s o fs f = tt
-  last_says Second s o fs f = up_says s.me s.parent (Ack s.own o (in_order fs)) (in_order_so at s.own.txn o fs f)
+  last_says Second s o fs f = up_says s.me s.parent (Ack s.own o (in_order fs))
+      (in_order_so at s.own.txn o fs f)
 
   unknown_says : (v : Version) (c : Case) (o : Outcome) (p : Presumption) (st : Standing) (fs : List Finding)
       → Acknowledges v c o p st fs → AreTrue at c.txn o fs
@@ -121,14 +123,16 @@ module _ (at : ProcessId → Node) where
   resumed_by s v Collecting = tt
   resumed_by s v Heuristic = tt
 
-  pub coordinator_resumes_says : (me : ProcessId) (parent : Option ProcessId) (rs : List Record) (cs : List Case)
+  pub coordinator_resumes_says : (me : ProcessId) (parent : Option ProcessId) (rs : List Record)
+      (cs : List Case)
       → AllSayTrue at (flat_map (coordinator_resumes me parent rs) cs)
   coordinator_resumes_says me parent rs cs =
       flat_says at (coordinator_resumes me parent rs)
       (λ c. resumed_by (record { me = me; parent = parent; own = c }) (recorded_view rs c)
       (recorded_view rs c).standing) cs
 
-module _ (at : ProcessId → Node) (me : ProcessId) (parent : Option ProcessId) (tree : List TreeProcess) (n : Node)
+module _ (at : ProcessId → Node) (me : ProcessId) (parent : Option ProcessId)
+    (tree : List TreeProcess) (n : Node)
     (heard : AllHeardTrue at n.heard) (h : Heard) (now : InputTrue at h.input)
   where
     abbrev place : Place
@@ -155,7 +159,8 @@ module _ (at : ProcessId → Node) (me : ProcessId) (parent : Option ProcessId) 
         (each_says at (seat_of place parent c) Abort (λ d. tt) (coordinator_view place n c).accepted)
     case_says c _ (counts_vote t w v k e) = tt
     case_says c _ (reads_only t w ys p v e f) = up_says at me parent (Read c) tt
-    case_says c _ (commits t w ys p v e f g) = commits_say at (seat_of place parent c) (voted (coordinator_view place n c) t w) ys p
+    case_says c _ (commits t w ys p v e f g) = commits_say at (seat_of place parent c)
+        (voted (coordinator_view place n c) t w) ys p
     case_says c _ (promises t w ys p v e f) = up_says at me parent (Yes c) tt
     case_says c _ (hears_no t us p v e f) =
         collecting_says at (seat_of place parent c) ByVote (voted (coordinator_view place n c) t VoteNo) us p

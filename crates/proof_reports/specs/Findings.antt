@@ -52,4 +52,5 @@ reports_mixed c t _ = false
 -- a ticket that an End of a root's case reports as mixed has had a mismatch
 abbrev pub MixedHadMismatch : List TreeProcess → World → Type 0
 MixedHadMismatch tree w = (x : Txn) (t : Ticket) → role_of tree x.root ≡ AtRoot
-    → has (reports_mixed (root_case x) t) (w.at x.root).life ≡ true → (o : Outcome) × Mismatch w (child_case x t) o
+    → has (reports_mixed (root_case x) t) (w.at x.root).life ≡ true → (o : Outcome)
+    × Mismatch w (child_case x t) o

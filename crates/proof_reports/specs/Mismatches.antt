@@ -33,7 +33,8 @@ pub record Names (n : Node) (c : Case) (t : Ticket) : Type 0 where
   pub accepted : has_accepted n c t ≡ true
   pub named : has (is_decision_naming c t) n.life ≡ true
 
--- a ticket is named down from the root: the root's case names it, or the case of a ticket that is named so does
+-- a ticket is named down from the root: the root's case names it, or the case of a ticket that is named so
+-- does
 pub data IsNamedDown (w : World) (x : Txn) : Ticket → Type 0 where
   by_root : (t : Ticket) → Names (w.at x.root) (root_case x) t → IsNamedDown w x t
   by_ticket : (u t : Ticket) → IsNamedDown w x u → Names (w.at u.child) (child_case x u) t → IsNamedDown w x t
@@ -52,8 +53,8 @@ pub record LiesUnreported (w : World) (x : Txn) (r : Option Reports) (t : Ticket
 
 -- The promise.
 
--- Who is reported as mixed has had a mismatch. And each mismatch that stands, of a ticket that is named down from the
--- root, is reported as mixed, or lies at or below a ticket that is reported as unreported.
+-- Who is reported as mixed has had a mismatch. And each mismatch that stands, of a ticket that is named down
+-- from the root, is reported as mixed, or lies at or below a ticket that is reported as unreported.
 pub record ReportsTruly (w : World) (x : Txn) (r : Option Reports) : Type 0 where
   pub mixed_had_mismatch : (t : Ticket) → in_list (mixed_in r) t ≡ true
       → (o : Outcome) × Mismatch w (child_case x t) o
@@ -61,7 +62,8 @@ pub record ReportsTruly (w : World) (x : Txn) (r : Option Reports) : Type 0 wher
       → DecisionStands (w.at t.child) (child_case x t) o → IsNamedDown w x t
       → (in_list (mixed_in r) t ≡ true) ⊎ LiesUnreported w x r t
 
--- each End that the root appends in this move, also where its device fails, keeps it in the world that the move leaves
+-- each End that the root appends in this move, also where its device fails, keeps it in the world that the
+-- move leaves
 abbrev pub EndsReportTruly : List TreeProcess → Made → World → Type 0
 EndsReportTruly tree e w = (k : ℕ) (c : Case) (r : Option Reports) → role_of tree e.move.step.process ≡ AtRoot
     → slice_get (entries_written e.effect.written) k ≡ Some (End c r) → ReportsTruly w c.txn r

@@ -13,7 +13,8 @@ EndsReported tree _ _ opens = Unit {0}
 EndsReported tree _ _ (makes es w m e w' run stands made) =
     EndsReportTruly tree (record { move = m; effect = e }) w' × EndsReported tree es w run
 
--- reported mismatches: of every run that the second version makes alone, whatever the numbers under which its messages come
+-- reported mismatches: of every run that the second version makes alone, whatever the numbers under which its
+-- messages come
 abbrev pub SecondRunsReport : Type 0
 SecondRunsReport = (tree : List TreeProcess) (es : List Made) (w : World) → IsTree tree
     → (run : IsRun tree es w) → AllBy Second es → EndsReported tree es w run

@@ -69,16 +69,17 @@ NoneAgainst n d o = has (is_decided d (other_outcome o)) (ever n) ≡ false
 abbrev pub is_decision : Case → Record → Bool
 is_decision c r = is_commit c r || is_abort c r
 
--- each ticket that a decision of the case ever named has acknowledged, and what it found is within these findings; and a
--- Collecting that is kept has its decision in the forced front
+-- each ticket that a decision of the case ever named has acknowledged, and what it found is within these
+-- findings; and a Collecting that is kept has its decision in the forced front
 pub record Covers (ls : List Envelope) (n : Node) (x : Txn) (t : Ticket) (o : Outcome)
     (fs : List Finding) : Type 0 where
   pub named : (u : Ticket) → has (is_decision_naming (child_case x t) u) n.life ≡ true → Acked ls x o fs u
   pub collecting_is_decided : has (is_collecting (child_case x t)) (kept n) ≡ true
       → has (is_decision (child_case x t)) n.forced ≡ true
 
--- Each process that is up has heard these messages alone. After an acknowledgement that does not report its own ticket,
--- a manager has no decision against the outcome, and a coordinator has acknowledgements of all that it ever named.
+-- Each process that is up has heard these messages alone. After an acknowledgement that does not report its
+-- own ticket, a manager has no decision against the outcome, and a coordinator has acknowledgements of all
+-- that it ever named.
 pub record SinceOpened (tree : List TreeProcess) (ls : List Envelope) (w : World) : Type 0 where
   pub heard : (q : ProcessId) → (w.at q).failed ≡ false → AllHeardAmong ls (w.at q).heard
   pub managers : (x : Txn) (t : Ticket) (p : ProcessId) → role_of tree t.child ≡ AtLeaf p → (o : Outcome)

@@ -23,7 +23,8 @@ use Rattle.proof_runs.proofs.ManagerSteps.{place_stays}
 use Rattle.proof_runs.proofs.RootSteps.{failed_makes}
 use Rattle.proof_runs.proofs.Turns.{meets_as}
 
-module _ (n : Node) (s s' : CoreState) (me p : ProcessId) (tree : List TreeProcess) (a : DataAnswer) (i : Input)
+module _ (n : Node) (s s' : CoreState) (me p : ProcessId) (tree : List TreeProcess)
+    (a : DataAnswer) (i : Input)
     (found : Option Case) where
   abbrev old : CoreState
   old = record s { place = cascaded_place me p tree }

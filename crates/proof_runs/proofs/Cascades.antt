@@ -233,7 +233,8 @@ module _ (n : Node) (s s' : CoreState) (me p : ProcessId) (tree : List TreeProce
     shows c = is_up.views c
 
     -- a row is taken whose view the extended lists read as
-    takes : (i : Input) (c : Case) (row row' : Row) → SameRow row row' → IsRowOfCase c row' → Same i → (k : Memory)
+    takes : (i : Input) (c : Case) (row row' : Row) → SameRow row row' → IsRowOfCase c row' → Same i
+        → (k : Memory)
         → remembers me (Below p) boot c (memory c) (heard i) ≡ k
         → read (rs ++ entries_written row'.written) c k ≡ row'.view
         → ((d : Case) → same_case c d ≡ false → Still i d) → Leads i (Takes c row)
@@ -371,7 +372,8 @@ module _ (n : Node) (s s' : CoreState) (me p : ProcessId) (tree : List TreeProce
     live_at i x standing.Aborting = refuses i _
     live_at i x standing.Heuristic = refuses i _
 
-    clear_at : (c : Case) (st : Standing) → Leads (ActInput (Forget c)) (clear_turn (seat c) false (s.view_of c) st)
+    clear_at : (c : Case) (st : Standing) → Leads (ActInput (Forget c))
+        (clear_turn (seat c) false (s.view_of c) st)
     clear_at c standing.Unknown = refuses (ActInput (Forget c)) _
     clear_at c standing.Active = refuses (ActInput (Forget c)) _
     clear_at c standing.Collecting = refuses (ActInput (Forget c)) _
@@ -665,7 +667,8 @@ module _ (n : Node) (s s' : CoreState) (me p : ProcessId) (tree : List TreeProce
     joined_at k c t standing.Aborting is = joined_rests k c t standing.Aborting is (λ e. cc) refl refl
     joined_at k c t standing.Heuristic is = joined_rests k c t standing.Heuristic is (λ e. cc) refl refl
 
-    strangers : (x : Txn) (t : Ticket) (found : Option Case) → FindsChildCase old (Some (x, t)) found → (d : Case)
+    strangers : (x : Txn) (t : Ticket) (found : Option Case) → FindsChildCase old (Some (x, t)) found
+        → (d : Case)
         → IsOther found d → IsStranger place n d (fits.alike d) x t
     strangers x t found finds d other = belongs_not place n fits.children old shows x t found finds d other
 
@@ -767,7 +770,8 @@ module _ (n : Node) (s s' : CoreState) (me p : ProcessId) (tree : List TreeProce
     vote_to k w t c finds standing.Heuristic is =
         vote_rests k w t c finds standing.Heuristic is (λ e. cc) refl refl
 
-    vote_at : (k : ℕ) (w : Vote) (x : Txn) (t : Ticket) (found : Option Case) → FindsChildCase old (Some (x, t)) found
+    vote_at : (k : ℕ) (w : Vote) (x : Txn) (t : Ticket) (found : Option Case)
+        → FindsChildCase old (Some (x, t)) found
         → Leads (MessageInput k (vote_message w (child_case x t))) (vote_turn old w t found)
     vote_at k w x t None finds =
         says (MessageInput k (vote_message w (child_case x t))) [] (ungiven k w (child_case x t))
@@ -796,7 +800,8 @@ module _ (n : Node) (s s' : CoreState) (me p : ProcessId) (tree : List TreeProce
         → FindsChildCase old (Some (c.txn, t)) (Some c) → (d : Case)
         → same_case c d ≡ false
         → Still (MessageInput k (Ack (child_case c.txn t) o fs)) d
-    ack_others k o fs t c finds d apart = ack_still k o fs c.txn t d (strangers c.txn t (Some c) finds d apart)
+    ack_others k o fs t c finds d apart = ack_still k o fs c.txn t d
+        (strangers c.txn t (Some c) finds d apart)
 
     same_ack : (k : ℕ) (o : Outcome) (fs : List Finding) (e : Case) → Same (MessageInput k (Ack e o fs))
     same_ack k o fs e = same (MessageInput k (Ack e o fs)) (λ g. refl) (λ d t. refl)
@@ -814,14 +819,16 @@ module _ (n : Node) (s s' : CoreState) (me p : ProcessId) (tree : List TreeProce
         → FindsChildCase old (Some (c.txn, t)) (Some c) → (st : Standing)
         → (view c).standing ≡ st
         → (st ≡ standing.Active → ⊥) → (st ≡ standing.Collecting → ⊥)
-        → (f : CoordinatorView → Row) → ((v : CoordinatorView) → on_ack this_version (seat c) t o (v.found ++ fs) v st ≡ f v)
+        → (f : CoordinatorView → Row) → ((v : CoordinatorView)
+        → on_ack this_version (seat c) t o (v.found ++ fs) v st ≡ f v)
         → read (rs ++ entries_written (f (view_at st rs c (memory c))).written) c (acked (memory c) t o fs)
         ≡ (f (view_at st rs c (memory c))).view
         → Leads (MessageInput k (Ack (child_case c.txn t) o fs))
         (Takes c (on_ack this_version (seat c) t o ((s.view_of c).found ++ fs) (s.view_of c) st))
     ack_noted k o fs t c finds st is shut silent f so reads =
         let m = memory c in
-        takes (MessageInput k (Ack (child_case c.txn t) o fs)) c _ (on_ack this_version (seat c) t o ((view c).found ++ fs) (view c) st)
+        takes (MessageInput k (Ack (child_case c.txn t) o fs)) c _
+        (on_ack this_version (seat c) t o ((view c).found ++ fs) (view c) st)
         (ack_alike o fs t c st)
         (on_ack_of (seat c) (view c) this_version t o ((view c).found ++ fs) st)
         (same_ack k o fs (child_case c.txn t)) (acked m t o fs)
@@ -841,7 +848,8 @@ module _ (n : Node) (s s' : CoreState) (me p : ProcessId) (tree : List TreeProce
         → Leads (MessageInput k (Ack (child_case c.txn t) o fs))
         (Takes c (on_ack this_version (seat c) t o ((s.view_of c).found ++ fs) (s.view_of c) st))
     ack_rests k o fs t c finds st unheard none shown =
-        rests (MessageInput k (Ack (child_case c.txn t) o fs)) c _ (on_ack this_version (seat c) t o ((view c).found ++ fs) (view c) st)
+        rests (MessageInput k (Ack (child_case c.txn t) o fs)) c _
+        (on_ack this_version (seat c) t o ((view c).found ++ fs) (view c) st)
         (ack_alike o fs t c st) none shown
         (same_ack k o fs (child_case c.txn t))
         keeps
@@ -849,14 +857,16 @@ module _ (n : Node) (s s' : CoreState) (me p : ProcessId) (tree : List TreeProce
         keeps : (d : Case) → Still (MessageInput k (Ack (child_case c.txn t) o fs)) d
         keeps d = by_same (same_case c d) refl
           where
-            by_same : (b : Bool) → same_case c d ≡ b → Still (MessageInput k (Ack (child_case c.txn t) o fs)) d
+            by_same : (b : Bool) → same_case c d ≡ b → Still (MessageInput k (Ack (child_case c.txn t) o fs))
+                d
             by_same false other = ack_others k o fs t c finds d other
             by_same true one =
                 subst (λ e. Still (MessageInput k (Ack (child_case c.txn t) o fs)) e) (one_case c d one)
                 (ap (read rs c) (ack_own k o fs t c ∙ unheard))
 
     -- one that comes while its case is Prepared is passed over
-    passed : (k : ℕ) (o : Outcome) (fs : List Finding) (t : Ticket) (c : Case) → FindsChildCase old (Some (c.txn, t)) (Some c)
+    passed : (k : ℕ) (o : Outcome) (fs : List Finding) (t : Ticket) (c : Case)
+        → FindsChildCase old (Some (c.txn, t)) (Some c)
         → (view c).standing ≡ standing.Prepared
         → is_passed_over place n (MessageInput k (Ack (child_case c.txn t) o fs)) ≡ true
     passed k o fs t c finds is =
@@ -871,7 +881,8 @@ module _ (n : Node) (s s' : CoreState) (me p : ProcessId) (tree : List TreeProce
     ack_quiet Committed gs t c v = (refl, refl)
     ack_quiet Aborted gs t c v = (refl, refl)
 
-    ack_to : (k : ℕ) (o : Outcome) (fs : List Finding) (t : Ticket) (c : Case) → FindsChildCase old (Some (c.txn, t)) (Some c)
+    ack_to : (k : ℕ) (o : Outcome) (fs : List Finding) (t : Ticket) (c : Case)
+        → FindsChildCase old (Some (c.txn, t)) (Some c)
         → is_passed_over place n (MessageInput k (Ack (child_case c.txn t) o fs)) ≡ false → (st : Standing)
         → (view c).standing ≡ st
         → Leads (MessageInput k (Ack (child_case c.txn t) o fs))
@@ -880,7 +891,8 @@ module _ (n : Node) (s s' : CoreState) (me p : ProcessId) (tree : List TreeProce
         let m = memory c in
         ack_noted k Committed fs t c finds standing.Committing is (λ e. cc) (λ e. cc)
         (λ v. decided_ack this_version (seat c) Committed t (v.found ++ fs) v) (λ v. refl)
-        (acked_commit this_version (seat c) c.txn.presumption t rs m fs (in_list (still_owed m.acks Committed (owing_by c rs)) t)
+        (acked_commit this_version (seat c) c.txn.presumption t rs m fs
+        (in_list (still_owed m.acks Committed (owing_by c rs)) t)
         (none_of (other_tickets t (still_owed m.acks Committed (owing_by c rs))))
         (stands_as c standing.Committing is)
         refl refl)
@@ -891,7 +903,8 @@ module _ (n : Node) (s s' : CoreState) (me p : ProcessId) (tree : List TreeProce
         let m = memory c in
         ack_noted k Aborted fs t c finds standing.Aborting is (λ e. cc) (λ e. cc)
         (λ v. decided_ack this_version (seat c) Aborted t (v.found ++ fs) v) (λ v. refl)
-        (acked_abort this_version (seat c) c.txn.presumption t rs m fs (in_list (still_owed m.acks Aborted (owing_by c rs)) t)
+        (acked_abort this_version (seat c) c.txn.presumption t rs m fs
+        (in_list (still_owed m.acks Aborted (owing_by c rs)) t)
         (none_of (other_tickets t (still_owed m.acks Aborted (owing_by c rs))))
         (stands_as c standing.Aborting is) refl
         refl)

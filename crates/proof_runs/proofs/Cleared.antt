@@ -44,7 +44,8 @@ module _ (s : Seat) where
   unknown_forget_of v = record { boot = λ b. refl; others = λ d rs m o. cleared_read d s.own rs m }
 
   -- views that are alike make rows that are
-  pub unknown_forget-same : (v w : CoordinatorView) → SameView v w → SameRow (unknown_forget s v) (unknown_forget s w)
+  pub unknown_forget-same : (v w : CoordinatorView) → SameView v w
+      → SameRow (unknown_forget s v) (unknown_forget s w)
   unknown_forget-same v w same = record {
     written = refl;
     told = refl;

@@ -100,7 +100,8 @@ module _ (n : Node) (s s' : CoreState) (place : Place) (a : DataAnswer)
       ∙ own.others d (kept n) (next i d) apart ∙ keeps
 
   -- any view after a report that was seen to
-  pub cleared_written : (i : Input) (e : Effect) (c d : Case) → entries_written e.written ≡ ClearedRecord c ∷ []
+  pub cleared_written : (i : Input) (e : Effect) (c d : Case)
+      → entries_written e.written ≡ ClearedRecord c ∷ []
       → Keeps i d → coordinator_view place (after n (heard i) e) d ≡ view d
   unfolding coordinator_view
   cleared_written i e c d one keeps =
@@ -162,7 +163,8 @@ module _ (n : Node) (s s' : CoreState) (place : Place) (a : DataAnswer)
             branches = λ c. behind.branches c ∙ up.branches c ∙ no_branch n c
                 ∙ sym (no_branch (after n (heard i) e) c);
             decided = λ c is. absurd (let clash : Unknown ≡ Heuristic =
-                ap (λ (v : ManagerView). v.standing) (sym (behind.branches c ∙ up.branches c ∙ no_branch n c)) ∙ is
+                ap (λ (v : ManagerView). v.standing) (sym (behind.branches c ∙ up.branches c ∙ no_branch n c))
+                ∙ is
                 in cc);
           };
         }

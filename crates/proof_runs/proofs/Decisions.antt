@@ -37,8 +37,8 @@ decision-after n h e c =
     ap (fold (decision_after c) None) (kept-after n h e)
     ∙ decision-append c None (kept n) (entries_written e.written)
 
--- A row decides nothing: its records leave what was decided of each other case, and of its own where the branch
--- stays decided; and that it was before.
+-- A row decides nothing: its records leave what was decided of each other case, and of its own where the
+-- branch stays decided; and that it was before.
 pub record DecidesNothing (c : Case) (st : Standing) (row : LeafRow) : Type 0 where
   pub others : (d : Case) (k : Option Outcome) → same_case c d ≡ false
       → fold (decision_after d) k (entries_written row.written) ≡ k

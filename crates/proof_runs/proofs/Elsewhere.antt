@@ -70,7 +70,8 @@ module _ (place : Place) (n : Node) (fit : ChildrenFit place n) (s : CoreState)
   found_belongs x t c is = (its_parts x t c is).2
 
   -- the child belongs to no live case but to the one that was found
-  pub belongs_not : (x : Txn) (t : Ticket) (found : Option Case) → FindsChildCase s (Some (x, t)) found → (d : Case)
+  pub belongs_not : (x : Txn) (t : Ticket) (found : Option Case) → FindsChildCase s (Some (x, t)) found
+      → (d : Case)
       → IsOther found d
       → same_txn x d.txn ≡ true → is_known (view d).standing ≡ true
       → belongs (memory_of place n d) (kept n) d t ≡ false
@@ -172,7 +173,8 @@ others_owe acks t a o (u ∷ ts) h =
     by_tests x y e rest = (λ i. if e i then u ∷ rest i else rest i)
 
 -- and it brings nothing
-others_found : (acks : List (Ticket × Outcome)) (found : List (Ticket × (Outcome × List Finding))) (t : Ticket)
+others_found : (acks : List (Ticket × Outcome))
+    (found : List (Ticket × (Outcome × List Finding))) (t : Ticket)
     (a o : Outcome) (fs : List Finding) (ts : List Ticket) → in_list ts t ≡ false
     → found_of (found ++ (if has_acked acks a t then [] else (t, (a, fs)) ∷ [])) o ts ≡ found_of found o ts
 others_found acks found t a o fs ts none = by_test (has_acked acks a t)

@@ -52,7 +52,8 @@ same_stands n old new same = kept_stands n old new (same_kept old new same)
 
 -- A refusal.
 
-pub refuses_so : (n : Node) (old new : CoreState) (a : DataAnswer) (i : Input) (e : StepError) → StandsFor n old
+pub refuses_so : (n : Node) (old new : CoreState) (a : DataAnswer) (i : Input) (e : StepError)
+    → StandsFor n old
     → (n.failed ≡ false → ChildrenFit old.place n)
     → IsRefusedInput old new a i e → (reacts old.place n (heard_now a i) ≡ Refused e)
     × StandsFor n new
@@ -100,7 +101,8 @@ pub record Split {X : Type 0} (old_forced behind forced unforced : List X) : Typ
   pub forced_is : forced ≡ old_forced ++ take more behind
   pub unforced_is : unforced ≡ drop more behind
 
-pub split : {X : Type 0} (old_forced behind forced unforced : List X) → forced ++ unforced ≡ old_forced ++ behind
+pub split : {X : Type 0} (old_forced behind forced unforced : List X)
+    → forced ++ unforced ≡ old_forced ++ behind
     → length old_forced ≤ length forced
     → Split old_forced behind forced unforced
 split old_forced behind forced unforced same less =

@@ -220,7 +220,8 @@ module _ (n : Node) (s s' : CoreState) (me p : ProcessId) (tree : List TreeProce
         }
 
     -- a row that decides nothing leaves what was decided
-    as_before : (i : Input) (c : Case) (row : LeafRow) → DecidesNothing c (manager_view place n c).standing row
+    as_before : (i : Input) (c : Case) (row : LeafRow)
+        → DecidesNothing c (manager_view place n c).standing row
         → ((d : Case) (k : Option Outcome) → decided_by i d k ≡ k) → HandlesRow old new i c row
         → DecidedSo i (leaf_effect row)
     as_before i c row nothing plain made d is = by_case (same_case c d) refl
@@ -360,7 +361,8 @@ module _ (n : Node) (s s' : CoreState) (me p : ProcessId) (tree : List TreeProce
             (subst (λ u. MovesBranch place n (heard (ActInput (Ask c))) c (untold_ask (leaf_of place p c) u))
             (sym is) ((manager_views this_version me p tree n c).ask a))
             (remains_quiet (ActInput (Ask c)) (λ d. refl) (λ d t. refl))
-            (decides_at c v is (untold_ask (leaf_of place p c) v) (ask_decides (leaf_of place p c) v)) (λ d k. refl)
+            (decides_at c v is (untold_ask (leaf_of place p c) v) (ask_decides (leaf_of place p c) v))
+            (λ d k. refl)
 
         by_told : (o : Option Outcome) → Follows n (heard (ActInput (Ask c))) old new (ActInput (Ask c))
             (untold_turn (leaf_of place p c) v o)
@@ -482,16 +484,20 @@ module _ (n : Node) (s s' : CoreState) (me p : ProcessId) (tree : List TreeProce
         (subst (λ u. MovesBranch place n (heard (MessageInput k (Prepare d j))) d (on_prepare (leaf_of place p
         d) j a.holding u u.standing)) (sym is) ((manager_views this_version me p tree n d).prepare k j a))
         (remains_prepare k j d)
-        (decides_at d v is _ (prepare_decides (leaf_of place p d) j a.holding v v.standing refl)) (λ c k. refl)
+        (decides_at d v is _ (prepare_decides (leaf_of place p d) j a.holding v v.standing refl))
+        (λ c k. refl)
 
     commit_at : (k : ℕ) (d : Case) (v : ManagerView) → v ≡ manager_view place n d
         → Follows n (heard (MessageInput k (Commit d))) old new (MessageInput k (Commit d))
-        (Handles d (on_commit this_version (leaf_of place p d) (decision_records d (s.decided_of d)) v v.standing))
+        (Handles d (on_commit this_version (leaf_of place p d)
+        (decision_records d (s.decided_of d)) v v.standing))
     commit_at k d v is =
-        handled (MessageInput k (Commit d)) d (on_commit this_version (leaf_of place p d) (decision_records d (s.decided_of d)) v v.standing)
+        handled (MessageInput k (Commit d)) d (on_commit this_version (leaf_of place p d)
+        (decision_records d (s.decided_of d)) v v.standing)
         (commit_own this_version (decision_records d (s.decided_of d)) (leaf_of place p d) v v.standing).boot
         (subst (λ u. MovesBranch place n (heard (MessageInput k (Commit d))) d
-        (on_commit this_version (leaf_of place p d) (decision_records d (s.decided_of d)) u u.standing)) (sym is)
+        (on_commit this_version (leaf_of place p d) (decision_records d (s.decided_of d)) u u.standing))
+        (sym is)
         ((manager_views this_version me p tree n d).commit k a (decision_records d (s.decided_of d))))
         (remains_quiet (MessageInput k (Commit d)) (λ c. refl) (λ c t. refl))
         (decides_at d v is _ (commit_decides this_version (leaf_of place p d)
@@ -499,12 +505,15 @@ module _ (n : Node) (s s' : CoreState) (me p : ProcessId) (tree : List TreeProce
 
     abort_at : (k : ℕ) (d : Case) (v : ManagerView) → v ≡ manager_view place n d
         → Follows n (heard (MessageInput k (Abort d))) old new (MessageInput k (Abort d))
-        (Handles d (on_abort this_version (leaf_of place p d) (decision_records d (s.decided_of d)) v v.standing))
+        (Handles d (on_abort this_version (leaf_of place p d)
+        (decision_records d (s.decided_of d)) v v.standing))
     abort_at k d v is =
-        handled (MessageInput k (Abort d)) d (on_abort this_version (leaf_of place p d) (decision_records d (s.decided_of d)) v v.standing)
+        handled (MessageInput k (Abort d)) d (on_abort this_version (leaf_of place p d)
+        (decision_records d (s.decided_of d)) v v.standing)
         (abort_own this_version (decision_records d (s.decided_of d)) (leaf_of place p d) v v.standing).boot
         (subst (λ u. MovesBranch place n (heard (MessageInput k (Abort d))) d
-        (on_abort this_version (leaf_of place p d) (decision_records d (s.decided_of d)) u u.standing)) (sym is)
+        (on_abort this_version (leaf_of place p d) (decision_records d (s.decided_of d)) u u.standing))
+        (sym is)
         ((manager_views this_version me p tree n d).abort k a (decision_records d (s.decided_of d))))
         (remains_abort k d)
         (decides_at d v is _ (abort_decides this_version (leaf_of place p d)

@@ -26,7 +26,8 @@ prepare_of : (c : Case) (ts : List Ticket) (row : Row) (b : Bool)
     → row.written ≡ record { entry = PrepareRecord c ts; is_forced = b } ∷ [] → IsRowOfCase c row
 prepare_of c ts row b h = record { boot = λ b. rw h refl; others = λ d rs m o. rw h (simp (pushed, o) refl) }
 
-either_of : (c : Case) (b : Bool) (r q : Row) → IsRowOfCase c r → IsRowOfCase c q → IsRowOfCase c (if b then r else q)
+either_of : (c : Case) (b : Bool) (r q : Row) → IsRowOfCase c r → IsRowOfCase c q
+    → IsRowOfCase c (if b then r else q)
 either_of c true r q here there = here
 either_of c false r q here there = there
 

@@ -139,7 +139,8 @@ module _ (n : Node) (s s' : CoreState) (me p : ProcessId) (tree : List TreeProce
         let stood : (s.view_of e).standing ≡ standing.Prepared =
         (shows e).standing ∙ ap (λ y. (view y).standing) same ∙ prepared in
         subst (λ r. IsNothing old new (MessageInput k (Ack d o fs)) (Takes e r))
-        (sym (is_quiet e t o ((s.view_of e).found ++ fs) (s.view_of e).standing stood)) (quiet_is_nothing old new k d e o fs)
+        (sym (is_quiet e t o ((s.view_of e).found ++ fs) (s.view_of e).standing stood))
+        (quiet_is_nothing old new k d e o fs)
       where
         the_one : (e c : Case) → Some e ≡ Some c → e ≡ c
         the_one e c one = cc

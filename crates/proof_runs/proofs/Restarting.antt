@@ -199,6 +199,7 @@ module _ (n : Node) (old new : CoreState) (keep : ℕ) (stands : StandsFor n old
           effect = fault_effect (restart_effect place n k) appended;
           left = restart_fails place n k appended parts.more;
           makes = refl;
-          stands = subst (λ p. StandsFor (restart_fails place n k appended parts.more) (record new { place = p }))
+          stands = subst (λ p. StandsFor (restart_fails place n k appended parts.more)
+              (record new { place = p }))
               (sym breaks.1) left_so;
         }

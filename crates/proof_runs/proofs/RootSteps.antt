@@ -34,7 +34,8 @@ failed_makes old new a found i failed = by_test (act_is_listed old.place.tree i)
     by_test false made = absurd made
     by_test true made =
         absurd
-        (subst (λ b. ProcessMoves old new i (if b then Refuses Failed else up_turn old a found i)) failed made)
+        (subst (λ b. ProcessMoves old new i (if b then Refuses Failed else up_turn old a found i)) failed
+        made)
 
 module _ (n : Node) (s s' : CoreState) (me : ProcessId) (tree : List TreeProcess) (a : DataAnswer) (i : Input)
     (found : Option Case) where
@@ -54,7 +55,8 @@ module _ (n : Node) (s s' : CoreState) (me : ProcessId) (tree : List TreeProcess
   up_follows runs stands fits (MessageInput k m) finds =
       heard_so n s s' me tree a fits runs stands k found m finds
 
-  follows : n.failed ≡ false → StandsFor n old → RootFits (root_place me tree) n → FindsChildCase old (asked_by i) found
+  follows : n.failed ≡ false → StandsFor n old → RootFits (root_place me tree) n
+      → FindsChildCase old (asked_by i) found
       → Leads i (turn_of old a found i)
   unfolding turn_of
   follows runs stands fits finds = by_test (act_is_listed tree i)

@@ -282,7 +282,8 @@ module _ (n : Node) (s s' : CoreState) (me : ProcessId) (tree : List TreeProcess
         takes (ActInput (AbortAct x)) c _ (collecting_abort (seat c) ByAct (view c))
         (collecting_abort-same (s.view_of c) (view c) (shows c) (seat c) ByAct)
         (collecting_abort_of (seat c) (view c) ByAct) (same (ActInput (AbortAct x)) (λ g. refl))
-        ((root_views this_version me tree n x).abort_collecting a (fits.alike c) collects).moved (abort_keeps x)
+        ((root_views this_version me tree n x).abort_collecting a (fits.alike c) collects).moved
+        (abort_keeps x)
     abort_at x standing.Unknown is = refuses (ActInput (AbortAct x)) _
     abort_at x standing.Prepared is = refuses (ActInput (AbortAct x)) _
     abort_at x standing.Committing is = refuses (ActInput (AbortAct x)) _
@@ -461,16 +462,19 @@ module _ (n : Node) (s s' : CoreState) (me : ProcessId) (tree : List TreeProcess
         by_known false gone = joined_nowhere k c t (unknown_if (view c).standing gone)
 
     -- the case that was found for a child is the root's own case of the transaction
-    found_root : (x : Txn) (t : Ticket) (c : Case) → FindsChildCase old (Some (x, t)) (Some c) → root_case x ≡ c
+    found_root : (x : Txn) (t : Ticket) (c : Case) → FindsChildCase old (Some (x, t)) (Some c)
+        → root_case x ≡ c
     found_root x t c finds =
         let is = found_known place n fits.children old shows x t c finds in
         ap root_case (sym is.0) ∙ sym (one_of (root_case c.txn) c (fits.children.listed c is.1))
 
-    strangers : (x : Txn) (t : Ticket) (found : Option Case) → FindsChildCase old (Some (x, t)) found → (d : Case)
+    strangers : (x : Txn) (t : Ticket) (found : Option Case) → FindsChildCase old (Some (x, t)) found
+        → (d : Case)
         → IsOther found d → IsStranger place n d (fits.alike d) x t
     strangers x t found finds d other = belongs_not place n fits.children old shows x t found finds d other
 
-    vote_at : (k : ℕ) (w : Vote) (x : Txn) (t : Ticket) (found : Option Case) → FindsChildCase old (Some (x, t)) found
+    vote_at : (k : ℕ) (w : Vote) (x : Txn) (t : Ticket) (found : Option Case)
+        → FindsChildCase old (Some (x, t)) found
         → Leads (MessageInput k (vote_message w (child_case x t))) (vote_turn old w t found)
     vote_at k w x t None finds =
         let i = MessageInput k (vote_message w (child_case x t)) in
@@ -519,7 +523,8 @@ module _ (n : Node) (s s' : CoreState) (me : ProcessId) (tree : List TreeProcess
             (shows c)
             (λ st. subst (λ gs. SameRow (on_ack this_version (seat c) t o (gs ++ fs) (s.view_of c) st)
             (on_ack this_version (seat c) t o ((view c).found ++ fs) (view c) st)) (sym (shows c).found)
-            (on_ack-same (s.view_of c) (view c) (shows c) this_version (seat c) t o ((view c).found ++ fs) st)))
+            (on_ack-same (s.view_of c) (view c) (shows c) this_version (seat c) t o
+            ((view c).found ++ fs) st)))
             (on_ack_of (seat c) (view c) this_version t o ((view c).found ++ fs) (view c).standing)
             (same i (λ g. refl))
             ((root_views this_version me tree n x).acknowledgement k a t o fs (fits.alike c)).moved
@@ -571,7 +576,8 @@ module _ (n : Node) (s s' : CoreState) (me : ProcessId) (tree : List TreeProcess
         let i = MessageInput k (vote_message w (root_case x)) in says i []
         (same i (λ g. refl)) (vote_nameless w x)
 
-    ack_by : (k : ℕ) (found : Option Case) (o : Outcome) (fs : List Finding) (x : Txn) (t : Option Ticket) → let d : Case =
+    ack_by : (k : ℕ) (found : Option Case) (o : Outcome) (fs : List Finding) (x : Txn) (t : Option Ticket)
+        → let d : Case =
         record { txn = x; ticket = t } in
         FindsChildCase old (asked_of d) found → Leads (MessageInput k (Ack d o fs))
         (child_turn d (λ t. ack_turn old o fs t found))

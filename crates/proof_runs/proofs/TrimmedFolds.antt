@@ -1,5 +1,5 @@
--- What a manager's records say of a branch, one by one, they say after a trim: what is said again from each promise on, and
--- what other records leave.
+-- What a manager's records say of a branch, one by one, they say after a trim: what is said again from each
+-- promise on, and what other records leave.
 use Rattle.std.proofs.Common.{◌≡◌, ◌∙◌, ◌&&◌, ◌||◌, not, Bool, true, false, if◌then◌else◌, List, [], ◌∷◌, ◌++◌, fold, refl, sym, ap, subst, arith}
 use Rattle.protocol.specs.declared.names.Case.{Case}
 use Rattle.protocol.specs.declared.names.ProcessId.{ProcessId}

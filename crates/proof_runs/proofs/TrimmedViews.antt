@@ -322,7 +322,8 @@ module _ (c : Case) where
       left_view false unknown =
           view_same c m (trimmed place.role (kept n)) []
           (same_says (trimmed place.role (kept n)) [] (trim_of place.role coordinates (kept n) false unknown))
-          ∙ forgotten (first_false (is_known (recorded_view (kept n) c).standing) (is_reported (kept n) c) unknown)
+          ∙ forgotten (first_false (is_known (recorded_view (kept n) c).standing)
+          (is_reported (kept n) c) unknown)
 
       pub trimmed_view : coordinator_view place (trims place n) c ≡ coordinator_view place n c
       unfolding coordinator_view

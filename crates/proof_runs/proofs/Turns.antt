@@ -45,13 +45,15 @@ record Reads (s : CoreState) (n : Node) : Type 0 where
   tickets : (d : Case) → s.ticket_for d ≡ active_ticket (memory_of s.place n d).active d
   views : (c : Case) → s.view_of c ≡ view_at s.place.role s.place n c
   branches : (c : Case) → s.branch_of c ≡ branch_at s.place.role s.place n c
-  decided : (c : Case) → (s.branch_of c).standing ≡ standing.Heuristic → s.decided_of c ≡ decision_of (kept n) c
+  decided : (c : Case) → (s.branch_of c).standing ≡ standing.Heuristic
+      → s.decided_of c ≡ decision_of (kept n) c
   records : kept_records s ≡ kept n
 
 -- Messages of children.
 
 -- what was found counts only where the case is decided so
-found_so : (s : Seat) (t : Ticket) (o : Outcome) (fs : List Finding) (rs : List Record) (c : Case) (m : Memory)
+found_so : (s : Seat) (t : Ticket) (o : Outcome) (fs : List Finding) (rs : List Record)
+    (c : Case) (m : Memory)
     (st : Standing) → let v = view_by st rs c m in
     on_ack this_version s t o (found_of m.found o (owing_by c rs) ++ fs) v v.standing
     ≡ on_ack this_version s t o (v.found ++ fs) v v.standing
@@ -74,26 +76,30 @@ found_so s t Aborted fs rs c m standing.Heuristic = refl
 commit_decided : (l : Leaf) (rs : List Record) (o : Option Outcome) (v : ManagerView) (st : Standing)
     → (st ≡ standing.Heuristic → decided_findings this_version rs l.own Committed
     ≡ decided_findings this_version (decision_records l.own o) l.own Committed)
-    → ManagerRows.on_commit this_version l rs v st ≡ ManagerRows.on_commit this_version l (decision_records l.own o) v st
+    → ManagerRows.on_commit this_version l rs v st ≡ ManagerRows.on_commit this_version l
+    (decision_records l.own o) v st
 commit_decided l rs o v standing.Committing h = refl
 commit_decided l rs o v standing.Aborting h = refl
 commit_decided l rs o v standing.Unknown h = refl
 commit_decided l rs o v standing.Active h = refl
 commit_decided l rs o v standing.Collecting h = refl
 commit_decided l rs o v standing.Prepared h = refl
-commit_decided l rs o v standing.Heuristic h = ap (λ fs. ManagerRows.heuristic_outcome l Committed fs v v.told) (h refl)
+commit_decided l rs o v standing.Heuristic h =
+    ap (λ fs. ManagerRows.heuristic_outcome l Committed fs v v.told) (h refl)
 
 abort_decided : (l : Leaf) (rs : List Record) (o : Option Outcome) (v : ManagerView) (st : Standing)
     → (st ≡ standing.Heuristic → decided_findings this_version rs l.own Aborted
     ≡ decided_findings this_version (decision_records l.own o) l.own Aborted)
-    → ManagerRows.on_abort this_version l rs v st ≡ ManagerRows.on_abort this_version l (decision_records l.own o) v st
+    → ManagerRows.on_abort this_version l rs v st ≡ ManagerRows.on_abort this_version l
+    (decision_records l.own o) v st
 abort_decided l rs o v standing.Committing h = refl
 abort_decided l rs o v standing.Aborting h = refl
 abort_decided l rs o v standing.Unknown h = refl
 abort_decided l rs o v standing.Active h = refl
 abort_decided l rs o v standing.Collecting h = refl
 abort_decided l rs o v standing.Prepared h = refl
-abort_decided l rs o v standing.Heuristic h = ap (λ fs. ManagerRows.heuristic_outcome l Aborted fs v v.told) (h refl)
+abort_decided l rs o v standing.Heuristic h = ap
+    (λ fs. ManagerRows.heuristic_outcome l Aborted fs v v.told) (h refl)
 
 module _ (s : CoreState) (n : Node) (fit : ChildrenFit s.place n)
     (views : (c : Case) → s.view_of c ≡ coordinator_view s.place n c) where
@@ -105,7 +111,8 @@ module _ (s : CoreState) (n : Node) (fit : ChildrenFit s.place n)
   vote_at w t x _ _ (dead c of gone) =
       ap (λ v. Does (row_effect c (on_vote (seat_in s c) t w v v.standing))) gone
 
-  below_at : (o : Outcome) (fs : List Finding) (t : Ticket) (c : Case) → let v = coordinator_view s.place n c in
+  below_at : (o : Outcome) (fs : List Finding) (t : Ticket) (c : Case)
+      → let v = coordinator_view s.place n c in
       on_ack this_version (seat_in s c) t o (found_below s.place n c o fs) v v.standing
       ≡ on_ack this_version (seat_in s c) t o (v.found ++ fs) v v.standing
   unfolding coordinator_view found_below
@@ -123,7 +130,8 @@ module _ (s : CoreState) (n : Node) (fit : ChildrenFit s.place n)
       (views c))
   ack_at o fs t x _ _ (dead c of gone) =
       ap (λ (r : Row). Does (row_effect c r)) (below_at o fs t c)
-      ∙ (ap (λ v. Does (row_effect c (on_ack this_version (seat_in s c) t o (v.found ++ fs) v v.standing))) gone
+      ∙ (ap (λ v. Does (row_effect c (on_ack this_version (seat_in s c) t o (v.found ++ fs) v v.standing)))
+      gone
       ∙ quiet_at o)
     where
       quiet_at : (o : Outcome)
@@ -229,7 +237,8 @@ module _ (s : CoreState) (n : Node) (fit : ChildrenFit s.place n) (reads : Reads
       ∙ child_hears s n fit views found m finds
 
   cascaded_at : (p : ProcessId) → parent s ≡ Some p → ((c : Case) → s.view_of c
-      ≡ coordinator_view s.place n c) → (found : Option Case) (m : Message) → FindsChildCase s (asked_in m) found
+      ≡ coordinator_view s.place n c) → (found : Option Case) (m : Message)
+      → FindsChildCase s (asked_in m) found
       → Does (cascaded_hears this_version s.place p n m) ≡ reacted (cascaded_turn s p found m)
   cascaded_at p par views found (Join d) finds = join_hears s n reads.boot reads.given reads.tickets p d
   cascaded_at p par views found (Prepare d k) finds =
@@ -270,14 +279,16 @@ module _ (s : CoreState) (n : Node) (fit : ChildrenFit s.place n) (reads : Reads
       (Handles d (ManagerRows.on_prepare (leaf_of s.place p d) k a.holding v v.standing))) (branches d))
   manager_at p a branches (Commit d) =
       let v = manager_view s.place n d in
-      ap (λ (r : LeafRow). Does (leaf_effect r)) (commit_decided (leaf_of s.place p d) (kept n) (s.decided_of d) v v.standing
+      ap (λ (r : LeafRow). Does (leaf_effect r))
+      (commit_decided (leaf_of s.place p d) (kept n) (s.decided_of d) v v.standing
       (λ is. decided_so d Committed (ap (λ (u : ManagerView). u.standing) (branches d) ∙ is)))
       ∙ sym (ap (λ v. reacted (Handles d (ManagerRows.on_commit this_version (leaf_of s.place p d)
       (decision_records d (s.decided_of d)) v v.standing)))
       (branches d))
   manager_at p a branches (Abort d) =
       let v = manager_view s.place n d in
-      ap (λ (r : LeafRow). Does (leaf_effect r)) (abort_decided (leaf_of s.place p d) (kept n) (s.decided_of d) v v.standing
+      ap (λ (r : LeafRow). Does (leaf_effect r))
+      (abort_decided (leaf_of s.place p d) (kept n) (s.decided_of d) v v.standing
       (λ is. decided_so d Aborted (ap (λ (u : ManagerView). u.standing) (branches d) ∙ is)))
       ∙ sym (ap (λ v. reacted (Handles d (ManagerRows.on_abort this_version (leaf_of s.place p d)
       (decision_records d (s.decided_of d)) v v.standing)))
@@ -316,7 +327,8 @@ module _ (s : CoreState) (n : Node) (fit : ChildrenFit s.place n) (reads : Reads
   hears_at (Below p) e a found m finds = cascaded_at p (ap parent_of e) (views_at (Below p) e) found m finds
   hears_at (AtLeaf p) e a found m finds = manager_at p a (branches_at (AtLeaf p) e) m
 
-  up_at : (a : DataAnswer) (found : Option Case) (i : Input) → FindsChildCase s (asked_by i) found → n.failed ≡ false
+  up_at : (a : DataAnswer) (found : Option Case) (i : Input) → FindsChildCase s (asked_by i) found
+      → n.failed ≡ false
       → handles s.place n (heard_now a i) i ≡ reacted (up_turn s a found i)
   up_at a found (ActInput x) finds runs = ap (λ b. if b then Refused Failed else acts s.place.role s.place n
       x) runs ∙ acts_at s.place.role refl x
@@ -356,7 +368,8 @@ same_view-sym v w same =
 module _ (n : Node) (s : CoreState) (a : DataAnswer) (found : Option Case) (i : Input)
     (fit : n.failed ≡ false → ChildrenFit s.place n)
     (finds : FindsChildCase s (asked_by i) found) where
-  up_as : StandsUp n s → kept_records s ≡ kept n → n.failed ≡ false → s.log.failed ≡ false → act_is_listed s.place.tree i ≡ true
+  up_as : StandsUp n s → kept_records s ≡ kept n → n.failed ≡ false → s.log.failed ≡ false
+      → act_is_listed s.place.tree i ≡ true
       → handles s.place n (heard_now a i) i
       ≡ reacted (up_turn (read_off s n) a found i)
   up_as up records runs works listed =
@@ -420,5 +433,6 @@ module _ (n : Node) (s : CoreState) (a : DataAnswer) (found : Option Case) (i : 
       by_tests true listed false failed =
           let up = stands.up failed in
           let works : s.log.failed ≡ false = stands.failed ∙ failed in
-          up_as up (records_as stands) failed works listed ∙ same_cores_up (read_off s n) s a found i (same_as up)
+          up_as up (records_as stands) failed works listed ∙ same_cores_up (read_off s n) s a found i
+          (same_as up)
           ∙ sym (ap (λ b. reacted (if b then Refuses Failed else up_turn s a found i)) works)

@@ -35,7 +35,8 @@ met = record {
   ended = player_of last;
   played_out = goes first refl;
   played_on = goes last refl;
-  is_run = runs_by_are_runs tree_a Second 0 (player_of first).moves start (is_run_by tree_a (process 1) both_begin refl);
+  is_run = runs_by_are_runs tree_a Second 0 (player_of first).moves start
+      (is_run_by tree_a (process 1) both_begin refl);
   goes_on = continues_by tree_a start (process 1) [] both_commit refl;
   abort_root = record {
     root = refl;
@@ -46,7 +47,13 @@ met = record {
     each_acknowledges = record { distinct = refl; among = refl; all = refl };
     are = refl;
   };
-  abort_second = record { manager = refl; is_active = refl; undisturbed = refl; are = refl; votes_yes = refl };
+  abort_second = record {
+    manager = refl;
+    is_active = refl;
+    undisturbed = refl;
+    are = refl;
+    votes_yes = refl;
+  };
   abort_third = record { manager = refl; is_active = refl; undisturbed = refl; are = refl; votes_yes = refl };
   commit_root = record {
     root = refl;
@@ -57,5 +64,11 @@ met = record {
     each_acknowledges = record { distinct = refl; among = refl; all = refl };
     are = refl;
   };
-  commit_second = record { manager = refl; is_active = refl; undisturbed = refl; are = refl; votes_yes = refl };
+  commit_second = record {
+    manager = refl;
+    is_active = refl;
+    undisturbed = refl;
+    are = refl;
+    votes_yes = refl;
+  };
 }

@@ -28,7 +28,8 @@ module _ (q : Record → Bool) (n : Node) (within : has q n.forced ≡ true → 
       → has q (new ++ (old ++ durable)) ≡ (has q (old ++ new) || has q durable)
   all_forced old new durable =
       has-append q new (old ++ durable) ∙ (ap (λ b. has q new || b) (has-append q old durable)
-      ∙ (turned (has q new) (has q old) (has q durable) ∙ ap (λ b. b || has q durable) (sym (has-append q old new))))
+      ∙ (turned (has q new) (has q old) (has q durable)
+      ∙ ap (λ b. b || has q durable) (sym (has-append q old new))))
     where
       turned : (a b c : Bool) → (a || (b || c)) ≡ ((b || a) || c)
       turned true true c = refl
@@ -44,7 +45,8 @@ module _ (q : Record → Bool) (n : Node) (within : has q n.forced ≡ true → 
       by_force false f = rw f stays
 
   -- the forced front grew by these
-  front_grew : (front : List Record) → has q (front ++ n.durable) ≡ (has q (n.forced ++ front) || has q n.durable)
+  front_grew : (front : List Record) → has q (front ++ n.durable)
+      ≡ (has q (n.forced ++ front) || has q n.durable)
   front_grew front =
       has-append q front n.durable ∙ (by_test (has q n.forced) (has q front) (has q n.durable) within
       ∙ ap (λ b. b || has q n.durable) (sym (has-append q n.forced front)))
@@ -67,7 +69,8 @@ module _ (q : Record → Bool) (n : Node) (within : has q n.forced ≡ true → 
   step_adds place m _ _ (reopened j hp) =
       all_forced (kept (crashed place n j)) (reopens place.role (kept (crashed place n j))) n.durable
   step_adds place m _ _ (failed_reopening j f fl hp) =
-      front_grew (take f.forced (take j n.unforced ++ take f.appended (reopens place.role (kept (crashed place n j)))))
+      front_grew (take f.forced (take j n.unforced ++ take f.appended
+      (reopens place.role (kept (crashed place n j)))))
   step_adds place m _ _ (trims_log hp up) = trimmed_so place
   step_adds place m _ _ (failed_trimming f fl hp up) = by_front f.appended
     where

@@ -11,11 +11,13 @@ use Rattle.proof_pairs.proofs.turns.Steps.{step_of}
 
 module _ (tree : List TreeProcess) (P : ProcessId → Node → List Made → Type 0)
     (first : (p : ProcessId) → P p opened_node [])
-    (goes_on : (es : List Made) (w : World) → IsRun tree es w → (p : ProcessId) (m : Move) (e : Effect) (k : Node)
+    (goes_on : (es : List Made) (w : World) → IsRun tree es w
+    → (p : ProcessId) (m : Move) (e : Effect) (k : Node)
     → w.at p ≡ node_by (place_of tree p) (made_by p es) → StepOf (place_of tree p) (w.at p) m e k
     → P p (w.at p) (made_by p es) → P p k (record { move = m; effect = e } ∷ made_by p es))
   where
-    pub over_run : (es : List Made) (w : World) → IsRun tree es w → (p : ProcessId) → P p (w.at p) (made_by p es)
+    pub over_run : (es : List Made) (w : World) → IsRun tree es w → (p : ProcessId)
+        → P p (w.at p) (made_by p es)
     unfolding made_by
     over_run _ _ opens p = first p
     over_run _ _ (makes es w m e w' run stands step) p =

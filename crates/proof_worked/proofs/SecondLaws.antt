@@ -25,7 +25,8 @@ unfolding digits other_tickets has_child ticket_of_child voted_so has_voted all_
     same_process same_presumption same_outcome
     same_txn same_ticket same_owner same_case is_listed is_child role_of sent is_commit_outcome
     writes_heard reacts has in_list none_of same_bytes same_xid same_branch named_by promised_by
-    owing_by boot_of has_case cases_in is_reported mixed_of unreported_of decision_of recorded_view recorded_branch trimmed still_owed
+    owing_by boot_of has_case cases_in is_reported mixed_of unreported_of decision_of recorded_view
+    recorded_branch trimmed still_owed
     coordinator_view mark_of manager_view key_below with_pair without_key applied writes_of
     stored node_makes world_makes made_by node_by net_by entries_of journal_of
 computing = tt

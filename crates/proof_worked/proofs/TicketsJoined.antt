@@ -45,7 +45,8 @@ record Accepts (place : Place) (n : Node) (h : Heard) (c : Case) (t : Ticket) : 
   is_first : has_child (coordinator_view place n c).accepted t.child ≡ false
 
 module _ (place : Place) (parent : Option ProcessId) (n : Node) (h : Heard) (c : Case) (t : Ticket) where
-  row_accepts : (d : Case) (row : Row) → CaseTurn place parent n h d row → took c t (row_effect d row).accepts ≡ true
+  row_accepts : (d : Case) (row : Row) → CaseTurn place parent n h d row
+      → took c t (row_effect d row).accepts ≡ true
       → Accepts place n h c t
   row_accepts d _ (accepts u i k a) f =
       let g = both (same_case d c) (same_ticket u t) (or_nothing _ f) in
@@ -81,7 +82,8 @@ module _ (place : Place) (parent : Option ProcessId) (n : Node) (h : Heard) (c :
   row_accepts d _ (clears i e a b) f = absurd (cc)
   row_accepts d _ (answers u o i k) f = absurd (cc)
 
-  accepted_so : (e : Effect) → CoordinatorTurn place parent n h e → took c t e.accepts ≡ true → Accepts place n h c t
+  accepted_so : (e : Effect) → CoordinatorTurn place parent n h e → took c t e.accepts ≡ true
+      → Accepts place n h c t
   accepted_so _ (does_nothing i) f = absurd (cc)
   accepted_so _ (of_case d row k) f = row_accepts d row k f
   accepted_so _ (begins p k i) f = absurd (cc)
@@ -112,7 +114,8 @@ row_takes : (d : Case) (u : Ticket) (v : CoordinatorView) (s : Standing) → s �
 row_takes d u v Active f g = rw (g, same_case-refl d, same_ticket-refl u) refl
 row_takes d u v s f g = absurd (cc)
 
-module _ (me : ProcessId) (parent : Option ProcessId) (tree : List TreeProcess) (n : Node) (m : Move) (c : Case)
+module _ (me : ProcessId) (parent : Option ProcessId) (tree : List TreeProcess) (n : Node)
+    (m : Move) (c : Case)
     (t : Ticket)
   where
     abbrev place : Place
@@ -143,33 +146,37 @@ module _ (me : ProcessId) (parent : Option ProcessId) (tree : List TreeProcess) 
         → reacts (coordinator_place me parent tree) n (heard_in m i) ≡ Does g
         → k.accepted ≡ g.accepts ++ n.accepted → Adds k
     handles_so k i g hp r e = record {
-      old_or_now = λ f. elim (either _ _ (sym (list_any-append _ g.accepts n.accepted) ∙ (ap (took c t) (sym e) ∙ f))) [
-        | inl now ↦
-            let a = accepted_so place parent n (heard_in m i) c t g (turn_here me parent tree n (heard_in m i) g r) now
-            in
-            inr (record {
-              up = (turn_of place n (heard_in m i) g r).up;
-              input = i;
-              handles = hp;
-              comes = a.hears;
-              is_active = a.is_active;
-              is_first = a.is_first;
-            })
-        | inr before ↦ inl before
-      ];
+      old_or_now = λ f. elim (either _ _ (sym (list_any-append _ g.accepts n.accepted)
+          ∙ (ap (took c t) (sym e) ∙ f))) [
+            | inl now ↦
+                let a = accepted_so place parent n (heard_in m i) c t g
+                (turn_here me parent tree n (heard_in m i) g r) now
+                in
+                inr (record {
+                  up = (turn_of place n (heard_in m i) g r).up;
+                  input = i;
+                  handles = hp;
+                  comes = a.hears;
+                  is_active = a.is_active;
+                  is_first = a.is_first;
+                })
+            | inr before ↦ inl before
+          ];
       old_stays = λ f. ap (took c t) e
           ∙ (list_any-append _ g.accepts n.accepted ∙ right (took c t g.accepts) (took c t n.accepted) f);
       now_taken = λ a.
           let same : a.input ≡ i = input_is a.input i (sym a.handles ∙ hp) in
           let h = heard_in m i in
-          let comes : Hears h (Joined c t) = subst (λ (x : Input). Hears (heard_in m x) (Joined c t)) same a.comes in
+          let comes : Hears h (Joined c t) = subst
+          (λ (x : Input). Hears (heard_in m x) (Joined c t)) same a.comes in
           let v = coordinator_view place n c in
           let row : row_effect c (on_joined t v v.standing) ≡ g =
           does_so _ g (sym (reacts_joined me parent tree n h a.up comes.0 c t comes.1) ∙ r) in
           ap (took c t) e
           ∙ (list_any-append _ g.accepts n.accepted
           ∙ left (took c t g.accepts) (took c t n.accepted)
-          (ap (λ (y : Effect). took c t y.accepts) (sym row) ∙ row_takes c t v v.standing a.is_active a.is_first));
+          (ap (λ (y : Effect). took c t y.accepts) (sym row)
+          ∙ row_takes c t v v.standing a.is_active a.is_first));
     }
 
     -- JOINED is never passed over
@@ -195,7 +202,8 @@ module _ (me : ProcessId) (parent : Option ProcessId) (tree : List TreeProcess) 
     step_adds _ _ (failed_reopening j f fl hp) = stays _ refl (λ a. absurd (let h = sym hp ∙ a.handles in cc))
     step_adds _ _ (trims_log hp up) = stays _ refl (λ a. absurd (let h = sym hp ∙ a.handles in cc))
     step_adds _ _ (failed_trimming f fl hp up) =
-        stays (trim_fails place n f.appended) (by_front f.appended) (λ a. absurd (let h = sym hp ∙ a.handles in cc))
+        stays (trim_fails place n f.appended) (by_front f.appended)
+        (λ a. absurd (let h = sym hp ∙ a.handles in cc))
       where
         by_front : (a : ℕ) → (trim_fails place n a).accepted ≡ n.accepted
         by_front zero = refl
@@ -210,7 +218,8 @@ AreJoined tree c t p n es = IsCoordinator (role_of tree p)
 
 module _ (tree : List TreeProcess) (c : Case) (t : Ticket) where
   -- the role of a coordinator, by its parent
-  by_parent : {A : Type 0} (r : Role) → IsCoordinator r → ((parent : Option ProcessId) → r ≡ role_below parent → A) → A
+  by_parent : {A : Type 0} (r : Role) → IsCoordinator r
+      → ((parent : Option ProcessId) → r ≡ role_below parent → A) → A
   by_parent AtRoot i f = f None refl
   by_parent (Below p) i f = f (Some p) refl
   by_parent (AtLeaf p) i f = absurd i
@@ -247,6 +256,7 @@ module _ (tree : List TreeProcess) (c : Case) (t : Ticket) where
       ↔ AcceptedTicket (P x) c t (record { move = m; effect = e } ∷ made_by q gs)) (sym role)
       (added q (made_by q gs) m e (v.at q) k place
       (subst (λ (x : Role). v.at q ≡ node_by (P x) (made_by q gs)) role same)
-      (subst (λ (x : Role). (took c t (v.at q).accepted ≡ true) ↔ AcceptedTicket (P x) c t (made_by q gs)) role (old i))
+      (subst (λ (x : Role). (took c t (v.at q).accepted ≡ true) ↔ AcceptedTicket (P x) c t (made_by q gs))
+      role (old i))
       a.old_or_now a.old_stays a.now_taken)))
       es w run p

@@ -86,7 +86,8 @@ module _ (x : Txn) (place : Place) (n : Node) (m : Move) where
       by_front zero = refl
       by_front (suc a) = refl
 
-pub undecided_by : (tree : List TreeProcess) (es : List Made) (w : World) → IsRun tree es w → (p : ProcessId) (x : Txn)
+pub undecided_by : (tree : List TreeProcess) (es : List Made) (w : World) → IsRun tree es w
+    → (p : ProcessId) (x : Txn)
     → has_txn x (w.at p).found_undecided ≡ was_found_undecided (place_of tree p) x (made_by p es)
 unfolding was_found_undecided
 undecided_by tree es w run p x =

@@ -1,4 +1,5 @@
--- Of each ticket a coordinator's history has the vote that the case heard first while it collected votes, and no other.
+-- Of each ticket a coordinator's history has the vote that the case heard first while it collected votes, and
+-- no other.
 use Rattle.std.proofs.Common.{◌≡◌, ◌∙◌, ◌&&◌, ◌||◌, ◌⊎◌, inl, inr, ℕ, zero, suc, Bool, true, false, not, Option, Some, None, List, [], ◌∷◌, ◌++◌, refl, sym, ap, subst, arith, if◌then◌else◌}
 use Rattle.std.proofs.lemmas.List.Folds.{list_any-append}
 use Rattle.std.specs.List.{list_any}
@@ -108,7 +109,8 @@ module _ (c : Case) (t : Ticket) where
       by_rest more (Some u) f g = right _ _ (more (f ∙ g))
       by_rest more None f g = left _ _ (in_front (same_case x.0 c) (same_ticket x.1.0 t) x.1.1 v g)
 
-  none_in_front : (a b d : Bool) (w : Vote) → (if a && b then Some w else None) ≡ None → (a && (b && d)) ≡ true → ⊥
+  none_in_front : (a b d : Bool) (w : Vote) → (if a && b then Some w else None) ≡ None
+      → (a && (b && d)) ≡ true → ⊥
   none_in_front true true d w e f = cc
   none_in_front true false d w e f = cc
   none_in_front false b d w e f = cc
@@ -124,11 +126,13 @@ module _ (c : Case) (t : Ticket) where
           → vote_in x c t o ≡ None
           → ((same_case x.0 c && (same_ticket x.1.0 t && q x.1.1)) ≡ true) ⊎ HeardSo c t q xs → ⊥
       by_rest more (Some u) g h k = cc
-      by_rest more None g h (inl now) = none_in_front (same_case x.0 c) (same_ticket x.1.0 t) (q x.1.1) x.1.1 h now
+      by_rest more None g h (inl now) = none_in_front (same_case x.0 c) (same_ticket x.1.0 t)
+          (q x.1.1) x.1.1 h now
       by_rest more None g h (inr rest) = more g rest
 
 -- a ticket that has voted has voted so
-voted_as : (t : Ticket) (vs : List (Ticket × Vote)) → has_voted vs t ≡ true → (u : Vote) × (voted_so u vs t ≡ true)
+voted_as : (t : Ticket) (vs : List (Ticket × Vote)) → has_voted vs t ≡ true → (u : Vote)
+    × (voted_so u vs t ≡ true)
 unfolding has_voted voted_so
 voted_as t [] e = absurd (cc)
 voted_as t (v ∷ vs) e = by_either (voted_as t vs) (either (same_ticket v.0 t) (has_voted vs t) e)
@@ -147,14 +151,16 @@ voted_as t (v ∷ vs) e = by_either (voted_as t vs) (either (same_ticket v.0 t) 
         let r = more rest in
         (r.0, right (same_vote r.0 v.1 && same_ticket v.0 t) (voted_so r.0 vs t) r.1)
 
-voted_at_all : (t : Ticket) (u : Vote) (vs : List (Ticket × Vote)) → voted_so u vs t ≡ true → has_voted vs t ≡ true
+voted_at_all : (t : Ticket) (u : Vote) (vs : List (Ticket × Vote)) → voted_so u vs t ≡ true
+    → has_voted vs t ≡ true
 unfolding has_voted voted_so
 voted_at_all t u [] e = absurd (cc)
 voted_at_all t u (v ∷ vs) e =
     by_either (voted_at_all t u vs) (either (same_vote u v.1 && same_ticket v.0 t) (voted_so u vs t) e)
   where
     by_either : (voted_so u vs t ≡ true → has_voted vs t ≡ true)
-        → ((same_vote u v.1 && same_ticket v.0 t) ≡ true) ⊎ (voted_so u vs t ≡ true) → has_voted (v ∷ vs) t ≡ true
+        → ((same_vote u v.1 && same_ticket v.0 t) ≡ true) ⊎ (voted_so u vs t ≡ true)
+        → has_voted (v ∷ vs) t ≡ true
     by_either more (inl now) =
         left (same_ticket v.0 t) (has_voted vs t) (both (same_vote u v.1) (same_ticket v.0 t) now).1
     by_either more (inr rest) = right (same_ticket v.0 t) (has_voted vs t) (more rest)
@@ -177,7 +183,8 @@ reacts_vote me parent tree n h up k y u w i =
         → (if act_is_listed tree (MessageInput k (vote_message z (child_case y u)))
         then handles (coordinator_place me o tree) n h (MessageInput k (vote_message z (child_case y u)))
         else Refused NoSuch)
-        ≡ Does (vote_for (coordinator_place me o tree) o n u z (case_of_child (coordinator_place me o tree) n y u))
+        ≡ Does (vote_for (coordinator_place me o tree) o n u z
+        (case_of_child (coordinator_place me o tree) n y u))
     by_vote None VoteYes = rw up refl
     by_vote None VoteNo = rw up refl
     by_vote None VoteRead = rw up refl
@@ -185,9 +192,11 @@ reacts_vote me parent tree n h up k y u w i =
     by_vote (Some p) VoteNo = rw up refl
     by_vote (Some p) VoteRead = rw up refl
 
-row_counts : (me : ProcessId) (parent : Option ProcessId) (tree : List TreeProcess) (c : Case) (u : Ticket) (w : Vote)
+row_counts : (me : ProcessId) (parent : Option ProcessId) (tree : List TreeProcess) (c : Case)
+    (u : Ticket) (w : Vote)
     (v : CoordinatorView) (s : Standing) → s ≡ Collecting → is_counted v.accepted v.votes u ≡ true
-    → (row_effect c (on_vote (seat_of (coordinator_place me parent tree) parent c) u w v s)).counts ≡ (c, (u, w)) ∷ []
+    → (row_effect c (on_vote (seat_of (coordinator_place me parent tree) parent c) u w v s)).counts
+    ≡ (c, (u, w)) ∷ []
 row_counts me parent tree c u w v Collecting f g = rw g refl
 row_counts me parent tree c u w v s f g = absurd (cc)
 
@@ -205,7 +214,8 @@ module _ (me : ProcessId) (parent : Option ProcessId) (tree : List TreeProcess) 
       stays : (v : Vote) → first_vote n.voted c t ≡ Some v → first_vote k.voted c t ≡ Some v
       now : (v : Vote) → first_vote n.voted c t ≡ None → first_vote k.voted c t ≡ Some v
           → HearsVote (coordinator_place me parent tree) n m c t v
-      heard : (v : Vote) → HearsVote (coordinator_place me parent tree) n m c t v → first_vote n.voted c t ≡ None
+      heard : (v : Vote) → HearsVote (coordinator_place me parent tree) n m c t v
+          → first_vote n.voted c t ≡ None
           → first_vote k.voted c t ≡ Some v
       once : (v : Vote) → HeardSo c t (same_vote v) k.voted
           → HeardSo c t (same_vote v) n.voted ⊎ (first_vote k.voted c t ≡ Some v)
@@ -230,7 +240,8 @@ module _ (me : ProcessId) (parent : Option ProcessId) (tree : List TreeProcess) 
         ap (λ q. (view_at q (kept n) c (memory_of place n c)).votes) (sym (viewed place n c) ∙ f)
 
     -- what the case has heard is what it remembers
-    remembered : n.failed ≡ false → (coordinator_view (coordinator_place me parent tree) n c).standing ≡ Collecting
+    remembered : n.failed ≡ false → (coordinator_view (coordinator_place me parent tree) n c).standing
+        ≡ Collecting
         → (u : Vote) → list_any (λ a. same_case a.0 c && (same_ticket a.1.0 t && same_vote u a.1.1)) n.voted
         ≡ voted_so u (coordinator_view (coordinator_place me parent tree) n c).votes t
     remembered up s u =
@@ -278,7 +289,8 @@ module _ (me : ProcessId) (parent : Option ProcessId) (tree : List TreeProcess) 
     input_is : (i j : Input) → Handles i ≡ Handles j → i ≡ j
     input_is i j q = cc
 
-    counts_now : (h : Heard) (e : Effect) → n.failed ≡ false → reacts (coordinator_place me parent tree) n h ≡ Does e
+    counts_now : (h : Heard) (e : Effect) → n.failed ≡ false
+        → reacts (coordinator_place me parent tree) n h ≡ Does e
         → (v : Vote) → CountsVote (coordinator_place me parent tree) n h c t v → e.counts ≡ (c, (t, v)) ∷ []
     counts_now h e up r v x =
         let y = x.hears.txn in
@@ -293,20 +305,25 @@ module _ (me : ProcessId) (parent : Option ProcessId) (tree : List TreeProcess) 
     unfolding first_vote
     one_first v = rw (same_case-refl c, same_ticket-refl t) refl
 
-    counted_so : (h : Heard) (e : Effect) → reacts (coordinator_place me parent tree) n h ≡ Does e → (v : Vote)
+    counted_so : (h : Heard) (e : Effect) → reacts (coordinator_place me parent tree) n h ≡ Does e
+        → (v : Vote)
         → HeardSo c t (same_vote v) e.counts → CountsVote (coordinator_place me parent tree) n h c t v
     counted_so h e r v f =
-        effect_counts place parent n h c t (same_vote v) (CountsVote (coordinator_place me parent tree) n h c t v)
+        effect_counts place parent n h c t (same_vote v)
+        (CountsVote (coordinator_place me parent tree) n h c t v)
         one e (turn_here me parent tree n h e r) f
       where
         one : (d : Case) (u : Ticket) (w : Vote) → CountsVote (coordinator_place me parent tree) n h d u w
-            → HeardSo c t (same_vote v) ((d, (u, w)) ∷ []) → CountsVote (coordinator_place me parent tree) n h c t v
+            → HeardSo c t (same_vote v) ((d, (u, w)) ∷ []) → CountsVote (coordinator_place me parent tree) n h
+            c t v
         one d u w i g =
             let a = both (same_case d c) (same_ticket u t && same_vote v w) (or_nothing _ g) in
             let b = both (same_ticket u t) (same_vote v w) a.1 in
             subst (λ (x : Case). CountsVote (coordinator_place me parent tree) n h x t v) (case_is d c a.0)
-            (subst (λ (x : Ticket). CountsVote (coordinator_place me parent tree) n h d x v) (ticket_is u t b.0)
-            (subst (λ (x : Vote). CountsVote (coordinator_place me parent tree) n h d u x) (sym (vote_is v w b.1)) i))
+            (subst (λ (x : Ticket). CountsVote (coordinator_place me parent tree) n h d x v)
+            (ticket_is u t b.0)
+            (subst (λ (x : Vote). CountsVote (coordinator_place me parent tree) n h d u x)
+            (sym (vote_is v w b.1)) i))
 
     heard_of : (i : Input) → m.step.happening ≡ Handles i → n.failed ≡ false → (v : Vote)
         → CountsVote (coordinator_place me parent tree) n (heard_in m i) c t v
@@ -324,7 +341,8 @@ module _ (me : ProcessId) (parent : Option ProcessId) (tree : List TreeProcess) 
         → HearsVote (coordinator_place me parent tree) n m c t v → first_vote n.voted c t ≡ None
         → CountsVote (coordinator_place me parent tree) n (heard_in m i) c t v
     counts_of i hp v x none = record {
-      hears = subst (λ (y : Input). HearsChild (coordinator_place me parent tree) n (heard_in m y) c t (vote_message v))
+      hears = subst (λ (y : Input). HearsChild (coordinator_place me parent tree) n (heard_in m y) c t
+          (vote_message v))
           (input_is x.input i (sym x.handles ∙ hp)) x.comes;
       stands = x.collects;
       counts = counts_if_none x.up x.collects x.accepted none;
@@ -351,7 +369,8 @@ module _ (me : ProcessId) (parent : Option ProcessId) (tree : List TreeProcess) 
         }
       where
         first_now : n.failed ≡ false → (v : Vote) → first_vote n.voted c t ≡ None
-            → CountsVote (coordinator_place me parent tree) n (heard_in m i) c t v → first_vote k.voted c t ≡ Some v
+            → CountsVote (coordinator_place me parent tree) n (heard_in m i) c t v
+            → first_vote k.voted c t ≡ Some v
         first_now up v none x =
             ap (λ vs. first_vote vs c t) e
             ∙ (first_later c t g.counts n.voted none
@@ -383,7 +402,8 @@ module _ (me : ProcessId) (parent : Option ProcessId) (tree : List TreeProcess) 
     steps _ _ (failed_reopening j f fl hp) = quiet _ refl (λ v a. absurd (let h = sym hp ∙ a.handles in cc))
     steps _ _ (trims_log hp up) = quiet _ refl (λ v a. absurd (let h = sym hp ∙ a.handles in cc))
     steps _ _ (failed_trimming f fl hp up) =
-        quiet (trim_fails place n f.appended) (by_front f.appended) (λ v a. absurd (let h = sym hp ∙ a.handles in cc))
+        quiet (trim_fails place n f.appended) (by_front f.appended)
+        (λ v a. absurd (let h = sym hp ∙ a.handles in cc))
       where
         by_front : (a : ℕ) → (trim_fails place n a).voted ≡ n.voted
         by_front zero = refl
@@ -405,9 +425,11 @@ pub record Tells (place : Place) (c : Case) (t : Ticket) (n : Node) (es : List M
   pub once : (v : Vote) → HeardSo c t (same_vote v) n.voted → first_vote n.voted c t ≡ Some v
 
 module _ (me : ProcessId) (parent : Option ProcessId) (tree : List TreeProcess) (n : Node)
-    (coordinated : Coordinated (coordinator_place me parent tree) n) (m : Move) (e : Effect) (k : Node) (c : Case)
+    (coordinated : Coordinated (coordinator_place me parent tree) n) (m : Move) (e : Effect)
+    (k : Node) (c : Case)
     (t : Ticket) (es : List Made) (same : n ≡ node_by (coordinator_place me parent tree) es)
-    (s : StepOf (coordinator_place me parent tree) n m e k) (old : Tells (coordinator_place me parent tree) c t n es)
+    (s : StepOf (coordinator_place me parent tree) n m e k)
+    (old : Tells (coordinator_place me parent tree) c t n es)
   where
     step : Steps me parent tree n coordinated m c t k
     step = steps me parent tree n coordinated m c t e k s
@@ -426,7 +448,8 @@ module _ (me : ProcessId) (parent : Option ProcessId) (tree : List TreeProcess) 
       once = λ v f. elim (step.once v f) [ inl b ↦ step.stays v (old.once v b) | inr b ↦ b ];
     }
       where
-        first_of : (v : Vote) → first_vote k.voted c t ≡ Some v → (o : Option Vote) → first_vote n.voted c t ≡ o
+        first_of : (v : Vote) → first_vote k.voted c t ≡ Some v → (o : Option Vote)
+            → first_vote n.voted c t ≡ o
             → HeardFirst (coordinator_place me parent tree) c t v (record { move = m; effect = e } ∷ es)
         first_of v f (Some u) g =
             inl (old.first v (g ∙ ap (λ (x : Vote). Some x) (some_is u v (sym (step.stays u g) ∙ f))))
@@ -435,7 +458,8 @@ module _ (me : ProcessId) (parent : Option ProcessId) (tree : List TreeProcess) 
           λ u x. old.heard u x g,
         )
 
-        back_of : (v : Vote) → HeardFirst (coordinator_place me parent tree) c t v (record { move = m; effect = e } ∷ es)
+        back_of : (v : Vote) → HeardFirst (coordinator_place me parent tree) c t v
+            (record { move = m; effect = e } ∷ es)
             → (o : Option Vote) → first_vote n.voted c t ≡ o → first_vote k.voted c t ≡ Some v
         back_of v (inl f) o g = step.stays v (old.back v f)
         back_of v (inr f) (Some u) g =
@@ -451,11 +475,13 @@ module _ (me : ProcessId) (parent : Option ProcessId) (tree : List TreeProcess) 
         heard_of_it v (inl f) g None h = old.heard v f h
         heard_of_it v (inr f) g None h =
             not_none v (sym (step.heard v
-            (subst (λ (x : Node). HearsVote (coordinator_place me parent tree) x m c t v) (sym same) f) h) ∙ g)
+            (subst (λ (x : Node). HearsVote (coordinator_place me parent tree) x m c t v) (sym same) f) h)
+            ∙ g)
 
 -- Over a run.
 
-by_parent : {A : Type 0} (r : Role) → IsCoordinator r → ((parent : Option ProcessId) → r ≡ role_below parent → A) → A
+by_parent : {A : Type 0} (r : Role) → IsCoordinator r
+    → ((parent : Option ProcessId) → r ≡ role_below parent → A) → A
 by_parent AtRoot i f = f None refl
 by_parent (Below p) i f = f (Some p) refl
 by_parent (AtLeaf p) i f = absurd i
@@ -469,7 +495,8 @@ nothing place c t n e = record {
   once = λ v f. absurd (let g : HeardSo c t (same_vote v) [] = subst (HeardSo c t (same_vote v)) e f in cc);
 }
 
-pub tells_so : (tree : List TreeProcess) (c : Case) (t : Ticket) (es : List Made) (w : World) → IsRun tree es w
+pub tells_so : (tree : List TreeProcess) (c : Case) (t : Ticket) (es : List Made) (w : World)
+    → IsRun tree es w
     → (p : ProcessId) → IsCoordinator (role_of tree p) → Tells (place_of tree p) c t (w.at p) (made_by p es)
 tells_so tree c t es w run p =
     over_run tree (λ q n ms. IsCoordinator (role_of tree q) → Tells (place_of tree q) c t n ms)

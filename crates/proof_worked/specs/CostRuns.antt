@@ -10,8 +10,8 @@ use Rattle.protocol.specs.World.{Continues, IsRun, World, journal_of}
 use Rattle.proof_costs.specs.Journals.{ManagerCommits, RootCommits}
 use Rattle.proof_worked.specs.SecondPlays.{second_plays_all, second_plays_on}
 
--- Root 1 begins a transaction under each presumption. Managers 2 and 3 join the first one, and manager 2 the second one; and
--- each does a work of each that it joined.
+-- Root 1 begins a transaction under each presumption. Managers 2 and 3 join the first one, and manager 2 the
+-- second one; and each does a work of each that it joined.
 abbrev pub both_begin : List Play
 both_begin =
     Acts (Begin PresumeAbort)
@@ -33,8 +33,8 @@ both_begin =
     ∷ Delivers 9
     ∷ []
 
--- Both commit, and what is said of the one comes between what is said of the other. Manager 3 votes before manager 2, and
--- acknowledges before it.
+-- Both commit, and what is said of the one comes between what is said of the other. Manager 3 votes before
+-- manager 2, and acknowledges before it.
 abbrev pub both_commit : List Play
 both_commit =
     Acts (Commit (txn 1 1 PresumeAbort))
@@ -54,10 +54,12 @@ both_commit =
 
 -- what both commits lead to, from this world on
 abbrev pub then_commit : World → Played
-then_commit w = fold (second_plays_on tree_a (process 1)) (Goes (record { world = w; moves = []; delivered = [] })) both_commit
+then_commit w = fold (second_plays_on tree_a (process 1))
+    (Goes (record { world = w; moves = []; delivered = [] })) both_commit
 
--- None of the events is refused, and they are a run. From the commit acts on, its journal has a committed update of the first
--- transaction at the root and at managers 2 and 3, and one of the second transaction at the root and at manager 2.
+-- None of the events is refused, and they are a run. From the commit acts on, its journal has a committed
+-- update of the first transaction at the root and at managers 2 and 3, and one of the second transaction at
+-- the root and at manager 2.
 pub record CostsAreMet : Type 0 where
   pub begun : Player
   pub ended : Player
@@ -71,7 +73,8 @@ pub record CostsAreMet : Type 0 where
       (child_case (txn 1 1 PresumeAbort) (ticket 2 1 1)) 1
   pub abort_third : ManagerCommits tree_a begun.world (journal_of ended.moves) (process 3) (process 1)
       (child_case (txn 1 1 PresumeAbort) (ticket 3 1 1)) 1
-  pub commit_root : RootCommits tree_a begun.world (journal_of ended.moves) (process 1) (txn 1 2 PresumeCommit)
+  pub commit_root : RootCommits tree_a begun.world (journal_of ended.moves) (process 1)
+      (txn 1 2 PresumeCommit)
       (ticket 2 1 2 ∷ []) (ticket 2 1 2 ∷ [])
   pub commit_second : ManagerCommits tree_a begun.world (journal_of ended.moves) (process 2) (process 1)
       (child_case (txn 1 2 PresumeCommit) (ticket 2 1 2)) 1

@@ -24,16 +24,17 @@ use Rattle.proof_pairs.specs.turns.LeafTurns.{Hears}
 use Rattle.proof_pairs.specs.turns.CoordinatorTurns.{HearsChild}
 use Rattle.proof_pairs.specs.turns.Steps.{heard_in}
 
--- a record that passes the test stood in the forced front of the process, as it opened or after one of its moves, the
--- newest first
+-- a record that passes the test stood in the forced front of the process, as it opened or after one of its
+-- moves, the newest first
 unfoldable pub was_forced : Place → (Record → Bool) → List Made → Bool
 was_forced place q [] = has q opened_node.forced
 was_forced place q (e ∷ es) = has q (node_by place (e ∷ es)).forced || was_forced place q es
 
 -- Votes.
 
--- The case hears this vote of the ticket in a move while it collects votes: the process is up, and handles the message of the
--- ticket's child; the case, to which the ticket belongs, is at Collecting, and has accepted the ticket.
+-- The case hears this vote of the ticket in a move while it collects votes: the process is up, and handles
+-- the message of the ticket's child; the case, to which the ticket belongs, is at Collecting, and has
+-- accepted the ticket.
 pub record HearsVote (place : Place) (n : Node) (m : Move) (c : Case) (t : Ticket) (v : Vote) : Type 0 where
   pub up : n.failed ≡ false
   pub input : Input
@@ -47,7 +48,8 @@ abbrev pub HeardVote : Place → Case → Ticket → Vote → List Made → Type
 HeardVote place c t v [] = ⊥
 HeardVote place c t v (e ∷ es) = HeardVote place c t v es ⊎ HearsVote place (node_by place es) e.move c t v
 
--- the case heard this vote of the ticket first: so in one of the moves, and in none before that any vote of the ticket
+-- the case heard this vote of the ticket first: so in one of the moves, and in none before that any vote of
+-- the ticket
 abbrev pub HeardFirst : Place → Case → Ticket → Vote → List Made → Type 0
 HeardFirst place c t v [] = ⊥
 HeardFirst place c t v (e ∷ es) = HeardFirst place c t v es
@@ -55,8 +57,8 @@ HeardFirst place c t v (e ∷ es) = HeardFirst place c t v es
 
 -- Tickets.
 
--- The case accepts the ticket in a move: the process is up, and hears JOINED of the case with this ticket; the case is Active,
--- and has accepted no ticket of the same child.
+-- The case accepts the ticket in a move: the process is up, and hears JOINED of the case with this ticket;
+-- the case is Active, and has accepted no ticket of the same child.
 pub record AcceptsTicket (place : Place) (n : Node) (m : Move) (c : Case) (t : Ticket) : Type 0 where
   pub up : n.failed ≡ false
   pub input : Input
@@ -68,7 +70,8 @@ pub record AcceptsTicket (place : Place) (n : Node) (m : Move) (c : Case) (t : T
 -- the case accepted the ticket so in one of the moves, the newest first
 abbrev pub AcceptedTicket : Place → Case → Ticket → List Made → Type 0
 AcceptedTicket place c t [] = ⊥
-AcceptedTicket place c t (e ∷ es) = AcceptedTicket place c t es ⊎ AcceptsTicket place (node_by place es) e.move c t
+AcceptedTicket place c t (e ∷ es) = AcceptedTicket place c t es
+    ⊎ AcceptsTicket place (node_by place es) e.move c t
 
 -- Transactions that a restart found undecided.
 
@@ -76,8 +79,9 @@ AcceptedTicket place c t (e ∷ es) = AcceptedTicket place c t es ⊎ AcceptsTic
 abbrev pub has_txn : Txn → List Txn → Bool
 has_txn x xs = list_any (λ y. same_txn y x) xs
 
--- what happens is a restart of the root that finds the transaction undecided: the root had begun it, had concluded nothing of it
--- for the application, and no Commit of it was ever in the forced front, nor is one left
+-- what happens is a restart of the root that finds the transaction undecided: the root had begun it, had
+-- concluded nothing of it for the application, and no Commit of it was ever in the forced front, nor is one
+-- left
 abbrev pub finds_undecided : Role → Node → Happening → Txn → Bool
 finds_undecided AtRoot n (Restart k) x = has_txn x n.begun && is_undecided n (left_of n k) x
 finds_undecided _ n _ x = false

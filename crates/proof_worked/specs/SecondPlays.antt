@@ -52,7 +52,8 @@ abbrev pub second_plays : List TreeProcess → ProcessId → Player → Play →
 second_plays tree root p (Acts a) = second_input tree p (process_of_act root a) (ActInput a) p.delivered
 second_plays tree root p (Delivers k) = second_delivers tree p k (sent_as p.world.net k)
 second_plays tree root p Settles = second_settles 10000 tree p
-second_plays tree root p (Restarts q k) = plays_move tree p (second_move_of q (Restart k) no_answer) p.delivered
+second_plays tree root p (Restarts q k) = plays_move tree p
+    (second_move_of q (Restart k) no_answer) p.delivered
 second_plays tree root p (Trims q) = plays_move tree p (second_move_of q Trim no_answer) p.delivered
 
 -- one event more, unless the run has stopped

@@ -19,7 +19,8 @@ acknowledged_from_below_pa =
           ∷ Settles
           ∷ Acts (Join (child_case (txn 1 1 PresumeAbort) (ticket 2 1 1)) (process 3))
           ∷ Settles
-          ∷ Acts (Work (child_case (txn 1 1 PresumeAbort) (ticket 2 1 1)) (process 3) (Put (codes "k") (codes "v")))
+          ∷ Acts (Work (child_case (txn 1 1 PresumeAbort) (ticket 2 1 1)) (process 3)
+          (Put (codes "k") (codes "v")))
           ∷ Settles
           ∷ Acts (Commit (txn 1 1 PresumeAbort))
           ∷ Delivers 6
@@ -68,7 +69,8 @@ acknowledged_from_below_pc =
           ∷ Settles
           ∷ Acts (Join (child_case (txn 1 1 PresumeCommit) (ticket 2 1 1)) (process 3))
           ∷ Settles
-          ∷ Acts (Work (child_case (txn 1 1 PresumeCommit) (ticket 2 1 1)) (process 3) (Put (codes "k") (codes "v")))
+          ∷ Acts (Work (child_case (txn 1 1 PresumeCommit) (ticket 2 1 1)) (process 3)
+          (Put (codes "k") (codes "v")))
           ∷ Settles
           ∷ Acts (Commit (txn 1 1 PresumeCommit))
           ∷ Delivers 6
@@ -172,7 +174,8 @@ mismatch_below_is_reported =
           ∷ Settles
           ∷ Acts (Join (child_case (txn 1 1 PresumeAbort) (ticket 2 1 1)) (process 3))
           ∷ Settles
-          ∷ Acts (Work (child_case (txn 1 1 PresumeAbort) (ticket 2 1 1)) (process 3) (Put (codes "k") (codes "v")))
+          ∷ Acts (Work (child_case (txn 1 1 PresumeAbort) (ticket 2 1 1)) (process 3)
+          (Put (codes "k") (codes "v")))
           ∷ Settles
           ∷ Acts (Commit (txn 1 1 PresumeAbort))
           ∷ Delivers 6
@@ -268,7 +271,8 @@ first_acknowledgement_counts =
           ∷ [];
     }
 
--- a lost End: the coordinator aborts below, if nothing is known any more, and tells that with its acknowledgement
+-- a lost End: the coordinator aborts below, if nothing is known any more, and tells that with its
+-- acknowledgement
 abbrev pub abort_below_is_unreported : WorkedRun
 abort_below_is_unreported =
     record {

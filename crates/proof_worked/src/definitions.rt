@@ -28,28 +28,31 @@ pub fn processes_are_their_moves()
     ensures processes { (tree : List TreeProcess) (es : List Made) (w : World)
         → IsRun tree es w → (p : ProcessId)
         → w.at p ≡ node_by (place_of tree p) (made_by p es) }
-    ensures net { (tree : List TreeProcess) (es : List Made) (w : World) → IsRun tree es w → w.net ≡ net_by es }
+    ensures net { (tree : List TreeProcess) (es : List Made) (w : World) → IsRun tree es w
+        → w.net ≡ net_by es }
 {}
 
-/// The history of forced records has each record that was ever in the forced front of the process, and no other.
+/// The history of forced records has each record that was ever in the forced front of the process, and no
+/// other.
 pub fn durable_is_what_was_forced()
     ensures { (tree : List TreeProcess) (es : List Made) (w : World) → IsRun tree es w → (p : ProcessId)
         → (q : Record → Bool) → has q (w.at p).durable ≡ was_forced (place_of tree p) q (made_by p es) }
 {}
 
-/// A coordinator's history of votes has, of each ticket in each case, the first vote that the case heard of it while it
-/// collected votes, and no other; and the first vote that is read off it is this one.
+/// A coordinator's history of votes has, of each ticket in each case, the first vote that the case heard of
+/// it while it collected votes, and no other; and the first vote that is read off it is this one.
 pub fn voted_is_what_was_heard_first()
     ensures voted { (tree : List TreeProcess) (es : List Made) (w : World) → IsRun tree es w → (p : ProcessId)
         → IsCoordinator (role_of tree p) → (c : Case) (t : Ticket) (v : Vote)
-        → (has_heard_vote (w.at p) c t (same_vote v) ≡ true) ↔ HeardFirst (place_of tree p) c t v (made_by p es) }
+        → (has_heard_vote (w.at p) c t (same_vote v) ≡ true) ↔ HeardFirst (place_of tree p) c t v
+        (made_by p es) }
     ensures first { (tree : List TreeProcess) (es : List Made) (w : World) → IsRun tree es w → (p : ProcessId)
         → IsCoordinator (role_of tree p) → (c : Case) (t : Ticket) (v : Vote)
         → (first_vote (w.at p).voted c t ≡ Some v) ↔ HeardFirst (place_of tree p) c t v (made_by p es) }
 {}
 
-/// A coordinator's history of accepted tickets has each ticket that JOINED brought to a case that was Active and had
-/// accepted none of the same child, and no other.
+/// A coordinator's history of accepted tickets has each ticket that JOINED brought to a case that was Active
+/// and had accepted none of the same child, and no other.
 pub fn accepted_is_what_joined()
     ensures { (tree : List TreeProcess) (es : List Made) (w : World) → IsRun tree es w → (p : ProcessId)
         → IsCoordinator (role_of tree p) → (c : Case) (t : Ticket)
@@ -58,11 +61,13 @@ pub fn accepted_is_what_joined()
 
 /// The history of undecided transactions has each that a restart of the root found undecided, and no other.
 pub fn found_undecided_is_what_restarts_found()
-    ensures { (tree : List TreeProcess) (es : List Made) (w : World) → IsRun tree es w → (p : ProcessId) (x : Txn)
+    ensures { (tree : List TreeProcess) (es : List Made) (w : World) → IsRun tree es w
+        → (p : ProcessId) (x : Txn)
         → has_txn x (w.at p).found_undecided ≡ was_found_undecided (place_of tree p) x (made_by p es) }
 {}
 
-/// A manager's new view, as its reaction table of either version gives it, is what its extended lists read as.
+/// A manager's new view, as its reaction table of either version gives it, is what its extended lists read
+/// as.
 pub fn manager_views_follow_the_table()
     ensures { (ver : Version) (me p : ProcessId) (tree : List TreeProcess) (n : Node) (d : Case)
         → ManagerViews ver me p tree n d }

@@ -45,8 +45,8 @@ pub fn second_runs()
     ensures abort_below_is_unreported { RunsBySecond abort_below_is_unreported }
 {}
 
-/// The law of costs (`proof_costs`) speaks of something: in a run by the second version two transactions commit at once, one
-/// under each presumption, and meet its premises at the root and at each manager.
+/// The law of costs (`proof_costs`) speaks of something: in a run by the second version two transactions
+/// commit at once, one under each presumption, and meet its premises at the root and at each manager.
 pub fn costs_are_met()
     ensures { CostsAreMet }
 {}

@@ -285,7 +285,8 @@ scan_by_state old new t count flags c (Err e) R1 ok opened is h =
 
 recover_step : (old new : States) (t count : ℕ) (flags : ℕ) (answer : Result (List Xid) Code)
     (l : Result Call Code) → IsReached old → legal verb.Recover flags ≡ l
-    → MatchResult l (λ c. Scanned old new t count c answer) (λ refusal. (answer ≡ Err refusal) × SameStates old new)
+    → MatchResult l (λ c. Scanned old new t count c answer)
+    (λ refusal. (answer ≡ Err refusal) × SameStates old new)
     → Steps old (Recover t count flags answer) new
 recover_step old new t count flags answer (Ok c) ok is h =
     scan_by_state old new t count flags c answer old.init ok refl is h
@@ -379,7 +380,8 @@ makes_step old new (Restart left) ok h = restart_step old new left h
 -- what each step does to a part of the manager, a list of moves does to it
 project : {S : Type 0} (step : S → XaMove → S → Type 0) (f : States → S)
     → ((old new : States) (move : XaMove) → IsLegalStep old move new → step (f old) move (f new))
-    → (m n : States) (moves : List XaMove) → IsReached m → MovesLead m moves n → WalksBy step (f m) moves (f n)
+    → (m n : States) (moves : List XaMove) → IsReached m → MovesLead m moves n
+    → WalksBy step (f m) moves (f n)
 project step f by m n [] ok e = ap f e
 project step f by m n (move ∷ moves) ok e =
     let s = makes_step m e.0 move ok e.1 in
@@ -394,7 +396,8 @@ one_branch (Some z) x y h k = sym (same_is z x h) ∙ same_is z y k
 one_active : (a : AssocList) (t : ℕ) (x y : Xid) → own_state a t x ≡ T1 → own_state a t y ≡ T1 → x ≡ y
 one_active a t x y h k = one_branch (active_of a t) x y (is_active-T1 a t x h) (is_active-T1 a t y k)
 
-pub legal_history : (m n : States) (moves : List XaMove) → AreNewStates m → MovesLead m moves n → IsLegalHistory m moves n
+pub legal_history : (m n : States) (moves : List XaMove) → AreNewStates m → MovesLead m moves n
+    → IsLegalHistory m moves n
 legal_history m n moves new leads =
     let ok = new_reached m new in
     record {

@@ -415,7 +415,8 @@ finish_by wanted old new t x c answer true w is fits f =
 
 pub finish_out : (wanted : Wanted) (old new : States) (t : ℕ) (x : Xid) (c : Call)
     (answer : Code) → is_work c ≡ false
-    → FitsRows wanted (state_at old x) → TablesFinish old new x c (wanted c) answer → Outcome old new t x c answer
+    → FitsRows wanted (state_at old x) → TablesFinish old new x c (wanted c) answer
+    → Outcome old new t x c answer
 finish_out wanted old new t x c answer w fits f =
     finish_by wanted old new t x c answer (is_known old.branches.branches x) w refl fits f
 

@@ -137,7 +137,8 @@ begins None false false false u m p false false held imp =
 begins None false false false u m p true false held imp =
     record { first = refl; leaves = refl; refuses = tt; answers = refl }
 
-pub joins : (s : BranchState) (busy active seat unmoved migrates spare room full held : Bool) → IsAtWork false s
+pub joins : (s : BranchState) (busy active seat unmoved migrates spare room full held : Bool)
+    → IsAtWork false s
     → (busy ≡ false → active ≡ false)
     → Agrees (seen (Some s) busy active seat unmoved migrates spare room full held) call.StartJoin
     (start_by (seen (Some s) busy active seat unmoved migrates spare room full held))
@@ -165,7 +166,8 @@ joins S2 false false false u m p false full held h imp =
     record { first = refl; leaves = tt; refuses = refl; answers = tt }
 
 -- a branch at work, or lost, resumes
-works_on : (s : BranchState) → IsAtWork false s → (busy active seat unmoved migrates spare room full held : Bool)
+works_on : (s : BranchState) → IsAtWork false s
+    → (busy active seat unmoved migrates spare room full held : Bool)
     → (busy ≡ false → active ≡ false)
     → Agrees (seen (Some s) busy active seat unmoved migrates spare room full held) call.StartResume
     (resume_by (seen (Some s) busy active seat unmoved migrates spare room full held) false)

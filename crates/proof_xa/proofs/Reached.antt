@@ -186,7 +186,8 @@ pub empty_states : (a : AssocList) → IsBare a → a.seats ≡ [] → (t : ℕ)
 unfolding state_by
 empty_states a bare seats t x =
     let none : active_of a t ≡ None = ap (λ o. unwrap_or o None) (lookup_none a.holders t bare.holders) in
-    state_of a t x ∙ ap (λ o. state_by o a.seats t x) none ∙ ap (λ (s : List Suspended). state_by None s t x) seats
+    state_of a t x ∙ ap (λ o. state_by o a.seats t x) none
+    ∙ ap (λ (s : List Suspended). state_by None s t x) seats
 
 -- a new manager is reached
 pub new_reached : (m : States) → AreNewStates m → IsReached m

@@ -88,7 +88,8 @@ refused_branch old new (Decide y) c by stays x = absurd (let e = by.0 in cc)
 refused_branch old new (Restart left) c by stays x = absurd (let e = by.0 in cc)
 refused_branch old new _ c by stays x = kept_branch old new x stays
 
-refused_own : (old new : States) (m : XaMove) (c : Code) → IsRefusedBy m c → SameStates old new → (t : ℕ) (x : Xid)
+refused_own : (old new : States) (m : XaMove) (c : Code) → IsRefusedBy m c → SameStates old new
+    → (t : ℕ) (x : Xid)
     → OwnStep t x (own_state old.associations t x) m (own_state new.associations t x)
 refused_own old new (Branch v u y flags answer) c by stays t x =
     stays_put (is_work_on x v flags y && nat_eq t u) (is_refusal answer) _ _ (same_refusal answer c by.0 by.1)
@@ -96,7 +97,8 @@ refused_own old new (Branch v u y flags answer) c by stays t x =
 refused_own old new (Restart left) c by stays t x = absurd (let e = by.0 in cc)
 refused_own old new _ c by stays t x = kept_own old new t x stays
 
-refused_migration : (old new : States) (m : XaMove) (c : Code) → IsRefusedBy m c → SameStates old new → (x : Xid)
+refused_migration : (old new : States) (m : XaMove) (c : Code) → IsRefusedBy m c → SameStates old new
+    → (x : Xid)
     → MigrationStep x (moved_of old.associations x) m (moved_of new.associations x)
 refused_migration old new (Branch v u y flags answer) c by stays x =
     stays_put (is_work_on x v flags y) (is_refusal answer) _ _ (same_refusal answer c by.0 by.1)

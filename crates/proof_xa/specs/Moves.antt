@@ -44,7 +44,8 @@ Answered old new v t x flags answer =
 
 -- a move takes the tables of a manager from one state to another
 abbrev pub MakesMove : States → States → XaMove → Type 0
-MakesMove old new (Open flags migrates answer) = Declines old new answer ⊎ OpensManager old new flags migrates answer
+MakesMove old new (Open flags migrates answer) = Declines old new answer
+    ⊎ OpensManager old new flags migrates answer
 MakesMove old new (Close flags answer) = Declines old new answer ⊎ Closes old new flags answer
 MakesMove old new (Branch v t x flags answer) = Declines old new answer ⊎ Answered old new v t x flags answer
 MakesMove old new (Recover t count flags answer) =

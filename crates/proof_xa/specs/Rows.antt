@@ -25,7 +25,8 @@ rows_of s wrote b d c = row_of (turn_of s c wrote b d)
 
 -- the table has the row of each turn wherever it has any
 abbrev pub TurnsAreRows : Type 0
-TurnsAreRows = (s : BranchState) (wrote : Bool) (b : BranchName) (d : Decision) → FitsRows (rows_of s wrote b d) s
+TurnsAreRows = (s : BranchState) (wrote : Bool) (b : BranchName) (d : Decision)
+    → FitsRows (rows_of s wrote b d) s
 
 -- a call that finishes a branch is refused by a check alone
 abbrev pub RefusalsAreChecks : Type 0

@@ -10,5 +10,6 @@ ghost use Rattle.proof_xa.specs.Histories.{IsLegalHistory};
 /// two moves without a call, and each answer off the rows is that of the first check that applies, or the
 /// manager's own.
 pub fn histories_are_legal()
-    ensures { (m n : AnyStates) (moves : List XaMove) → AreNewStates m → MovesLead m moves n → IsLegalHistory m moves n }
+    ensures { (m n : AnyStates) (moves : List XaMove) → AreNewStates m → MovesLead m moves n
+        → IsLegalHistory m moves n }
 {}

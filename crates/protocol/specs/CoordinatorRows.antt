@@ -185,7 +185,8 @@ pub data Reason : Type 0 where
   ByAct : Reason
   ByAbort : Version → Reason
 
--- after ABORT: by the first version it is acknowledged at once, by the second where nobody owes an acknowledgement
+-- after ABORT: by the first version it is acknowledged at once, by the second where nobody owes an
+-- acknowledgement
 abbrev pub abort_answered : Seat → Version → List Ticket → List Envelope
 abort_answered s First us = acknowledges_abort s s.own.txn.presumption
 abort_answered s Second us = if none_of us then acknowledges_abort s s.own.txn.presumption else []
@@ -379,7 +380,8 @@ aborting_prepare s v = sends (up s (No s.own)) v
 unfoldable pub other_tickets : Ticket → List Ticket → List Ticket
 other_tickets t ts = filter (λ u. not (same_ticket t u)) ts
 
--- by the second version a decision is acknowledged after the last acknowledgement of it, with what was found below
+-- by the second version a decision is acknowledged after the last acknowledgement of it, with what was found
+-- below
 abbrev pub acknowledges_at_last : Version → Seat → Outcome → List Finding → List Envelope
 acknowledges_at_last First s o fs = []
 acknowledges_at_last Second s o fs = up s (Ack s.own o (in_order fs))
@@ -412,7 +414,8 @@ decided_ack_by ver s o left fs v =
     }
     else quiet (record v { owed = left; found = fs })
 
--- an acknowledgement that agrees with the decision; the last one that is owed ends the case, with all that was found
+-- an acknowledgement that agrees with the decision; the last one that is owed ends the case, with all that
+-- was found
 abbrev pub decided_ack : Version → Seat → Outcome → Ticket → List Finding → CoordinatorView → Row
 decided_ack ver s o t fs v =
     if in_list v.owed t then decided_ack_by ver s o (other_tickets t v.owed) fs v else quiet v
@@ -434,7 +437,8 @@ unknown_prepare s v = sends (up s (No s.own)) v
 
 -- COMMIT of a case of which nothing is known: acknowledged under Presumed Abort, else nothing
 abbrev pub unknown_commit_by : Version → Seat → CoordinatorView → Presumption → Row
-unknown_commit_by ver s v PresumeAbort = sends (up s (Ack s.own CommittedOutcome (unknown_findings ver s.own))) v
+unknown_commit_by ver s v PresumeAbort =
+    sends (up s (Ack s.own CommittedOutcome (unknown_findings ver s.own))) v
 unknown_commit_by ver s v PresumeCommit = quiet v
 
 -- COMMIT of a case of which nothing is known, by the presumption of the transaction
@@ -444,7 +448,8 @@ unknown_commit ver s v = unknown_commit_by ver s v s.own.txn.presumption
 -- ABORT of a case of which nothing is known: acknowledged under Presumed Commit, else nothing
 abbrev pub unknown_abort_by : Version → Seat → CoordinatorView → Presumption → Row
 unknown_abort_by ver s v PresumeAbort = quiet v
-unknown_abort_by ver s v PresumeCommit = sends (up s (Ack s.own AbortedOutcome (unknown_findings ver s.own))) v
+unknown_abort_by ver s v PresumeCommit = sends
+    (up s (Ack s.own AbortedOutcome (unknown_findings ver s.own))) v
 
 -- ABORT of a case of which nothing is known, by the presumption of the transaction
 abbrev pub unknown_abort : Version → Seat → CoordinatorView → Row
@@ -472,7 +477,8 @@ abbrev pub on_vote : Seat → Ticket → Vote → CoordinatorView → Standing �
 on_vote s t w v Collecting = collecting_vote s t w v
 on_vote s t w v _ = quiet v
 
--- an acknowledgement of a child, with what was found by then; it does something only where it agrees with the decision
+-- an acknowledgement of a child, with what was found by then; it does something only where it agrees with the
+-- decision
 abbrev pub on_ack : Version → Seat → Ticket → Outcome → List Finding → CoordinatorView → Standing → Row
 on_ack ver s t CommittedOutcome fs v Committing = decided_ack ver s CommittedOutcome t fs v
 on_ack ver s t AbortedOutcome fs v Aborting = decided_ack ver s AbortedOutcome t fs v

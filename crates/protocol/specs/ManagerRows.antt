@@ -99,7 +99,11 @@ active_prepare l n holding v =
 
 -- ABORT: the branch is forgotten without a record; under Presumed Commit it is acknowledged
 abbrev pub active_abort : Leaf → LeafRow
-active_abort l = record { written = []; messages = acknowledgement l AbortedOutcome []; view = unknown_branch }
+active_abort l = record {
+  written = [];
+  messages = acknowledgement l AbortedOutcome [];
+  view = unknown_branch;
+}
 
 -- Prepared.
 
@@ -141,7 +145,8 @@ prepared_decide l o = record {
 
 -- Heuristic.
 
--- the outcome comes: the first one is noted, the same again is acknowledged again, each time with what was found
+-- the outcome comes: the first one is noted, the same again is acknowledged again, each time with what was
+-- found
 abbrev pub heuristic_outcome : Leaf → Outcome → List Finding → ManagerView → Option Outcome → LeafRow
 heuristic_outcome l o fs v None =
     record {

@@ -83,8 +83,8 @@ pub data Phase : Type 0 where
 
 -- Of the process: how many transactions it began and how many tickets it gave in this boot, the cases of
 -- those tickets, and each parent's case with the active ticket given to it. Of the case: its phase, the
--- accepted tickets, their first votes, a ticket for each work sent, the acknowledgements, and what the first of each
--- ticket and outcome found; at a manager how many works are done, and whether one was refused.
+-- accepted tickets, their first votes, a ticket for each work sent, the acknowledgements, and what the first
+-- of each ticket and outcome found; at a manager how many works are done, and whether one was refused.
 pub record Memory : Type 0 where
   pub begun : ℕ
   pub given : ℕ

@@ -90,8 +90,8 @@ pub record DataAnswer : Type 0 where
   pub does : Bool
   pub holding : Holding
 
--- the version of the reaction table: by the first a coordinator below the root acknowledges a decision at once, by the
--- second once its children have acknowledged it
+-- the version of the reaction table: by the first a coordinator below the root acknowledges a decision at
+-- once, by the second once its children have acknowledged it
 pub data Version : Type 0 where
   First : Version
   Second : Version

@@ -195,7 +195,8 @@ vote_for place parent n t w (Some c) =
     let v = coordinator_view place n c in row_effect c (on_vote (seat_of place parent c) t w v v.standing)
 
 -- a ticket's acknowledgement in the case to which it belongs; if there is none, nothing is done
-abbrev pub ack_for : Version → Place → Option ProcessId → Node → Ticket → Outcome → List Finding → Option Case → Effect
+abbrev pub ack_for : Version → Place → Option ProcessId → Node → Ticket → Outcome → List Finding → Option Case
+    → Effect
 ack_for ver place parent n t o fs None = no_effect
 ack_for ver place parent n t o fs (Some c) =
     let v = coordinator_view place n c in

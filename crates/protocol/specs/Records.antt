@@ -259,7 +259,8 @@ unreported_of [] = []
 unreported_of (Mixed t ∷ fs) = unreported_of fs
 unreported_of (Unreported t ∷ fs) = t ∷ unreported_of fs
 
--- these findings in the order of an acknowledgement's text: the mixed tickets, and the unreported ones after them
+-- these findings in the order of an acknowledgement's text: the mixed tickets, and the unreported ones after
+-- them
 abbrev pub in_order : List Finding → List Finding
 in_order fs = map (λ t. Mixed t) (mixed_of fs) ++ map (λ t. Unreported t) (unreported_of fs)
 

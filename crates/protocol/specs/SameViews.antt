@@ -33,4 +33,13 @@ pub record SameRow (r q : Row) : Type 0 where
 -- a case that takes children and work, and has none
 abbrev pub open_view : CoordinatorView
 open_view =
-    record { standing = Active; accepted = []; votes = []; works = []; promised = []; named = []; owed = []; found = [] }
+    record {
+      standing = Active;
+      accepted = [];
+      votes = [];
+      works = [];
+      promised = [];
+      named = [];
+      owed = [];
+      found = [];
+    }

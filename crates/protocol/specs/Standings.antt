@@ -28,8 +28,8 @@ use Rattle.xa_xid.specs.declared.xid.Xid.{Xid}
 -- A coordinator.
 
 -- Its standing; the accepted tickets, their first votes, a ticket for each work sent; the tickets that its
--- Prepared record names, those that any of its records names, and those that still owe an acknowledgement; and
--- what those found that acknowledged its decision.
+-- Prepared record names, those that any of its records names, and those that still owe an acknowledgement;
+-- and what those found that acknowledged its decision.
 pub record CoordinatorView : Type 0 where
   pub standing : Standing
   pub accepted : List Ticket

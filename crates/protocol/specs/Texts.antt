@@ -83,8 +83,8 @@ abbrev pub unreported_word : Finding → List ℕ
 unreported_word (Mixed t) = []
 unreported_word (Unreported t) = codes " " ++ ticket_text t
 
--- what an acknowledgement found: ` mixed` and the mixed tickets, then ` unreported` and the unreported ones, each only
--- where there are some
+-- what an acknowledgement found: ` mixed` and the mixed tickets, then ` unreported` and the unreported ones,
+-- each only where there are some
 unfoldable pub findings_text : List Finding → List ℕ
 findings_text fs =
     (if list_any is_mixed fs then codes " mixed" else []) ++ (flat_map mixed_word fs

@@ -75,7 +75,8 @@ pub record JoinsBranch (place : Place) (p : ProcessId) (n : Node) (h : Heard) (d
       ≡ manager_view place n c
 
 -- the rows of a manager, by this version
-pub record ManagerViews (ver : Version) (me p : ProcessId) (tree : List TreeProcess) (n : Node) (d : Case) : Type 0 where
+pub record ManagerViews (ver : Version) (me p : ProcessId) (tree : List TreeProcess) (n : Node)
+    (d : Case) : Type 0 where
   pub work : (k i : ℕ) (op : Op) (a : DataAnswer) → let place = leaf_place me p tree in let v =
       manager_view place n d in
       MovesBranch place n (hears_message ver k (Work d i op) a) d (ManagerRows.on_work i a.does v v.standing)
@@ -85,10 +86,12 @@ pub record ManagerViews (ver : Version) (me p : ProcessId) (tree : List TreeProc
       (ManagerRows.on_prepare (leaf_of place p d) i a.holding v v.standing)
   pub commit : (k : ℕ) (a : DataAnswer) (rs : List Record) → let place = leaf_place me p tree in let v =
       manager_view place n d in
-      MovesBranch place n (hears_message ver k (Commit d) a) d (ManagerRows.on_commit ver (leaf_of place p d) rs v v.standing)
+      MovesBranch place n (hears_message ver k (Commit d) a) d
+      (ManagerRows.on_commit ver (leaf_of place p d) rs v v.standing)
   pub abort : (k : ℕ) (a : DataAnswer) (rs : List Record) → let place = leaf_place me p tree in let v =
       manager_view place n d in
-      MovesBranch place n (hears_message ver k (Abort d) a) d (ManagerRows.on_abort ver (leaf_of place p d) rs v v.standing)
+      MovesBranch place n (hears_message ver k (Abort d) a) d
+      (ManagerRows.on_abort ver (leaf_of place p d) rs v v.standing)
   pub join : (k : ℕ) (a : DataAnswer) → JoinsBranch (leaf_place me p tree) p n
       (hears_message ver k (Join d) a) d a.starts
   pub ask : (a : DataAnswer) → let place = leaf_place me p tree in let v = manager_view place n d in
@@ -183,13 +186,16 @@ RootBegins ver me tree n p a =
     BeginsTxn place n (hears_act ver (Begin p) a) (begin_effect x) x
 
 -- the rows of the root, by this version
-pub record RootViews (ver : Version) (me : ProcessId) (tree : List TreeProcess) (n : Node) (x : Txn) : Type 0 where
+pub record RootViews (ver : Version) (me : ProcessId) (tree : List TreeProcess) (n : Node)
+    (x : Txn) : Type 0 where
   pub commit : (a : DataAnswer) → let place = root_place me tree in let c = root_case x in let v =
       coordinator_view place n c in
-      v.standing ≡ Active → MovesTxn place n (hears_act ver (CommitAct x) a) x (active_commit (root_seat me c) v)
+      v.standing ≡ Active → MovesTxn place n (hears_act ver (CommitAct x) a) x
+      (active_commit (root_seat me c) v)
   pub abort_active : (a : DataAnswer) → let place = root_place me tree in let c = root_case x in let v =
       coordinator_view place n c in
-      v.standing ≡ Active → MovesTxn place n (hears_act ver (AbortAct x) a) x (active_abort (root_seat me c) v)
+      v.standing ≡ Active → MovesTxn place n (hears_act ver (AbortAct x) a) x
+      (active_abort (root_seat me c) v)
   pub abort_collecting : (a : DataAnswer) → let place = root_place me tree in let c = root_case x in let v =
       coordinator_view place n c in
       IsOpenAlike place n c → v.standing ≡ Collecting
@@ -203,7 +209,8 @@ pub record RootViews (ver : Version) (me : ProcessId) (tree : List TreeProcess) 
       → MovesTxn place n (hears_act ver (WorkAct c q op) a) x (active_work (root_seat me c) t op v)
   pub joined : (k : ℕ) (a : DataAnswer) (t : Ticket) → let place = root_place me tree in let c =
       root_case x in let v = coordinator_view place n c in
-      IsOpenAlike place n c → MovesTxn place n (hears_message ver k (Joined c t) a) x (on_joined t v v.standing)
+      IsOpenAlike place n c → MovesTxn place n (hears_message ver k (Joined c t) a) x
+      (on_joined t v v.standing)
   pub vote : (k : ℕ) (a : DataAnswer) (t : Ticket) (w : Vote) → let place = root_place me tree in let c =
       root_case x in let v = coordinator_view place n c in
       IsOpenAlike place n c → MovesTxn place n (hears_message ver k (vote_message w (child_case x t)) a) x

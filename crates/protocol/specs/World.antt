@@ -174,9 +174,10 @@ IsNewInNet net before q _ = ⊤
 abbrev pub IsDown : List TreeProcess → World → Type 0
 IsDown tree w = (q : ProcessId) → is_listed tree q ≡ true → (w.at q).failed ≡ true
 
--- The moves made, the newest first, lead from the opened tree to the world; since the tree was opened last, and N
--- messages had been sent, each was made by this version, and each message that was delivered was sent since. A tree of which
--- every process is down may be opened again, by the second version: then each process goes on from its log.
+-- The moves made, the newest first, lead from the opened tree to the world; since the tree was opened last,
+-- and N messages had been sent, each was made by this version, and each message that was delivered was sent
+-- since. A tree of which every process is down may be opened again, by the second version: then each process
+-- goes on from its log.
 pub data IsRunBy (tree : List TreeProcess) : Version → ℕ → List Made → World → Type 0 where
   first_opens : (v : Version) → IsRunBy tree v 0 [] opened_world
   next : (v : Version) (before : ℕ) (es : List Made) (w : World) (m : Move) (e : Effect) (w' : World)

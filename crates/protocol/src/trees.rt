@@ -18,8 +18,8 @@ pub const MOST_PROCESSES: usize = 64;
 /// The most levels of a tree; the root's is the first.
 pub const MOST_LEVELS: usize = 8;
 
-/// A process as a tree lists it. `info` is a manager's text for xa_open, of 0 to 32 ASCII letters; it is kept,
-/// and opening a tree does not look at it.
+/// A process as a tree lists it. `info` is a manager's text for xa_open, of 0 to 32 ASCII letters; it is
+/// kept, and opening a tree does not look at it.
 #[derive(Drop)]
 pub struct TreeProcess {
     pub id: ProcessId,

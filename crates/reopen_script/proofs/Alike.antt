@@ -24,7 +24,8 @@ module _ (tree : List TreeProcess) (rule : ℕ) (lines : List (List ℕ)) (h : A
   asked_alike =
       ap asked_in (sym (both_parts lines)) ∙ asked_behind (ahead_in lines) (behind_in lines) h
 
-  events_alike : events_at (event_at (root_of tree)) (rule + 1) lines ≡ asked_by (lines_behind tree rule lines)
+  events_alike : events_at (event_at (root_of tree)) (rule + 1) lines
+      ≡ asked_by (lines_behind tree rule lines)
   events_alike =
       let size = ahead_size lines in
       let next : (rule + 1) + length (ahead_in lines) ≡ (rule + leading lines) + 1 = omega (arith, size) in
@@ -34,7 +35,8 @@ module _ (tree : List TreeProcess) (rule : ℕ) (lines : List (List ℕ)) (h : A
 
   no_logs : logs_ahead tree rule lines ≡ Ok None
   no_logs =
-      none_said tree rule [] (ahead_in lines) (behind_in lines) (none_read (rule + 1) [] (ahead_in lines) h) refl
+      none_said tree rule [] (ahead_in lines) (behind_in lines)
+      (none_read (rule + 1) [] (ahead_in lines) h) refl
 
 abbrev taken_by : List ProcessLog → ℕ → Bool → Result (Option (List ProcessLog)) ℕ
 taken_by ls n b = if b then Ok (Some ls) else Err n
@@ -44,17 +46,20 @@ some_taken ls n true h = absurd cc
 some_taken ls n false h = absurd cc
 
 -- no logs were said
-none_taken : (es : List TreeProcess) (n : ℕ) (r : Result (List ProcessLog) ℕ) → taken es n r ≡ Ok None → r ≡ Ok []
+none_taken : (es : List TreeProcess) (n : ℕ) (r : Result (List ProcessLog) ℕ) → taken es n r ≡ Ok None
+    → r ≡ Ok []
 none_taken es n (Err k) h = absurd cc
 none_taken es n (Ok []) h = refl
 none_taken es n (Ok (l ∷ ls)) h = absurd (some_taken (l ∷ ls) n (are_of_all es (l ∷ ls)) h)
 
-skipped_by_none : (tree : List TreeProcess) (rule : ℕ) (lines : List (List ℕ)) → logs_ahead tree rule lines ≡ Ok None
+skipped_by_none : (tree : List TreeProcess) (rule : ℕ) (lines : List (List ℕ))
+    → logs_ahead tree rule lines ≡ Ok None
     → AllSkipped (ahead_in lines)
 unfolding logs_said
 skipped_by_none tree rule lines h =
     all_skipped [] (rule + 1) (ahead_in lines)
-    (none_taken tree (set_line rule (ahead_in lines) (behind_in lines)) (logs_in [] (rule + 1) (ahead_in lines)) h)
+    (none_taken tree (set_line rule (ahead_in lines) (behind_in lines))
+    (logs_in [] (rule + 1) (ahead_in lines)) h)
 
 -- Scripts.
 
@@ -64,7 +69,14 @@ front_of : (bytes : List ℕ) (tree : List TreeProcess) (events : List Event) �
 front_of bytes tree events (fronts, behind, text, is, few, asks) = (
   length fronts + 1,
   lines_of_parts behind,
-  record { fronts = fronts; behind = behind; has_text = text; is_tree = is; rule_is = refl; lines_are = refl },
+  record {
+    fronts = fronts;
+    behind = behind;
+    has_text = text;
+    is_tree = is;
+    rule_is = refl;
+    lines_are = refl;
+  },
   few,
   asks,
 )
@@ -87,7 +99,8 @@ events_of : (bytes : List ℕ) (tree : List TreeProcess) (rule : ℕ) (lines : L
     (front : IsTreeFront bytes tree rule lines)
     → script_events front.fronts front.behind tree ≡ events_at (event_at (root_of tree)) (rule + 1) lines
 events_of bytes tree rule lines front =
-    ap (λ (k : ℕ). events_at (event_at (root_of tree)) (k + 1) (lines_of_parts front.behind)) (sym front.rule_is)
+    ap (λ (k : ℕ). events_at (event_at (root_of tree)) (k + 1) (lines_of_parts front.behind))
+    (sym front.rule_is)
     ∙ ap (events_at (event_at (root_of tree)) (rule + 1)) (sym front.lines_are)
 
 pub script_there : (bytes : List ℕ) (tree : List TreeProcess) (events : List Event)
@@ -110,7 +123,8 @@ scripts_alike = record { here = script_here; there = script_there }
 -- Faults.
 
 module _ (bytes : List ℕ) (none : BeginsWithNone bytes) where
-  module _ (tree : List TreeProcess) (rule : ℕ) (lines : List (List ℕ)) (front : IsTreeFront bytes tree rule lines) where
+  module _ (tree : List TreeProcess) (rule : ℕ) (lines : List (List ℕ))
+      (front : IsTreeFront bytes tree rule lines) where
     skipped : AllSkipped (ahead_in lines)
     skipped = skipped_without_logs lines (none tree rule lines front)
 

@@ -12,7 +12,8 @@ use Rattle.reopen_script.specs.Ahead.{IsNumbered, are_of_all, last_said, line_th
 
 -- One more line of logs.
 
-pub at_skipped : (ls : List ProcessLog) (n : ℕ) (line : List ℕ) (lines : List (List ℕ)) → is_skipped line ≡ true
+pub at_skipped : (ls : List ProcessLog) (n : ℕ) (line : List ℕ) (lines : List (List ℕ))
+    → is_skipped line ≡ true
     → logs_in ls n (line ∷ lines) ≡ logs_in ls (n + 1) lines
 unfolding logs_in
 at_skipped ls n line lines e = rw e refl
@@ -44,7 +45,8 @@ pub goes_on : (ls : List ProcessLog) (lines : List (List ℕ)) (n m i : ℕ) (l 
     → logs_in (ls ++ l ∷ []) m (drop (i + 1) lines) ≡ total
 goes_on ls lines n m i l total lt kept is next so_far =
     ap (λ (k : ℕ). logs_in (ls ++ l ∷ []) k (drop (i + 1) lines)) next
-    ∙ ap (λ (o : Option ProcessLog). line_then ls n o (λ more. logs_in more (n + 1) (drop (i + 1) lines))) (sym is)
+    ∙ ap (λ (o : Option ProcessLog). line_then ls n o (λ more. logs_in more (n + 1) (drop (i + 1) lines)))
+    (sym is)
     ∙ sym (at ls n i lines lt ∙ at_line ls n (get_or lines i []) (drop (i + 1) lines) kept)
     ∙ so_far
 

@@ -13,8 +13,10 @@ use Rattle.reopen_script.specs.Ahead.{IsNumbered, logs_ahead}
 use Rattle.reopen_script.specs.Inputs.{HasLines, IsOpenReopen, IsReopenError, IsReopenScript, lines_behind}
 
 -- one of the lines ahead of the events is wrong
-pub wrong_ahead : (bytes : List ℕ) (tree : List TreeProcess) (rule : ℕ) (lines : List (List ℕ)) (error : ScriptError)
-    → HasLines bytes tree rule lines → IsNumbered error (logs_ahead tree rule lines) → IsReopenError bytes error
+pub wrong_ahead : (bytes : List ℕ) (tree : List TreeProcess) (rule : ℕ) (lines : List (List ℕ))
+    (error : ScriptError)
+    → HasLines bytes tree rule lines → IsNumbered error (logs_ahead tree rule lines)
+    → IsReopenError bytes error
 wrong_ahead bytes tree rule lines Memory has h = tt
 wrong_ahead bytes tree rule lines (Fault (Line n)) has h =
     record { tree = tree; rule = rule; lines = lines; has = has; wrong = inl h }
@@ -25,7 +27,8 @@ wrong_ahead bytes tree rule lines (Fault TooLong) has h = absurd h
 
 -- the lines of an opened script were read
 pub script_of : (bytes : List ℕ) (tree : List TreeProcess) (logs : Option (List ProcessLog)) (s : LinesState)
-    (es : List Event) → IsOpenReopen bytes tree logs s → asked_by s ≡ Ok es → IsReopenScript bytes tree logs es
+    (es : List Event) → IsOpenReopen bytes tree logs s → asked_by s ≡ Ok es
+    → IsReopenScript bytes tree logs es
 script_of bytes tree logs s es o read = record {
   rule = o.rule;
   lines = o.lines;
@@ -35,11 +38,13 @@ script_of bytes tree logs s es o read = record {
 }
 
 -- the tree of a script passed its check
-pub opened_tree : (bytes : List ℕ) (tree : List TreeProcess) (logs : Option (List ProcessLog)) (s : LinesState)
+pub opened_tree : (bytes : List ℕ) (tree : List TreeProcess) (logs : Option (List ProcessLog))
+    (s : LinesState)
     → IsOpenReopen bytes tree logs s → IsTree tree
 opened_tree bytes tree logs s o = o.has.front.is_tree
 
-pub script_tree : (bytes : List ℕ) (tree : List TreeProcess) (logs : Option (List ProcessLog)) (es : List Event)
+pub script_tree : (bytes : List ℕ) (tree : List TreeProcess) (logs : Option (List ProcessLog))
+    (es : List Event)
     → IsReopenScript bytes tree logs es → IsTree tree
 script_tree bytes tree logs es s = s.has.front.is_tree
 

@@ -20,7 +20,8 @@ use Rattle.reopen_script.proofs.Words.{no_event}
 abbrev pub AllSkipped : List (List ℕ) → Type 0
 AllSkipped ls = list_all is_skipped ls ≡ true
 
-skipped_parts : (l : List ℕ) (ls : List (List ℕ)) → AllSkipped (l ∷ ls) → (is_skipped l ≡ true) × AllSkipped ls
+skipped_parts : (l : List ℕ) (ls : List (List ℕ)) → AllSkipped (l ∷ ls) → (is_skipped l ≡ true)
+    × AllSkipped ls
 skipped_parts l ls h = by (is_skipped l) refl h
   where
     by : (b : Bool) → is_skipped l ≡ b → AllSkipped (l ∷ ls) → (is_skipped l ≡ true) × AllSkipped ls
@@ -152,23 +153,27 @@ skipped_in_events root n es (l ∷ ls) h =
     by (is_skipped l) refl
     (λ is. skipped_in_events root (n + 1) es ls (sym (asks_none (event_at root) n l ls is) ∙ h))
   where
-    then_ends : (o : Option Event) → o ≡ None → event_then n o (events_at (event_at root) (n + 1) ls) ≡ Ok es → ⊥
+    then_ends : (o : Option Event) → o ≡ None → event_then n o (events_at (event_at root) (n + 1) ls) ≡ Ok es
+        → ⊥
     then_ends None none e = absurd cc
     then_ends (Some x) none e = absurd cc
 
     said : (b : Bool) → is_skipped l ≡ false → is_log l ≡ b → AllSkipped (ahead_in (l ∷ ls))
     said true is log =
-        absurd (then_ends (event_at root l) (no_event root l log) (sym (asks_line (event_at root) n l ls is) ∙ h))
+        absurd (then_ends (event_at root l) (no_event root l log)
+        (sym (asks_line (event_at root) n l ls is) ∙ h))
     said false is log = subst AllSkipped (sym (ahead_none l ls (is_ahead_said l is ∙ log))) refl
 
     by : (b : Bool) → is_skipped l ≡ b → (is_skipped l ≡ true → AllSkipped (ahead_in ls))
         → AllSkipped (ahead_in (l ∷ ls))
     by false is rest = said (is_log l) is refl
     by true is rest =
-        subst AllSkipped (sym (ahead_more l ls (is_ahead_skipped l is))) (more_skipped l (ahead_in ls) is (rest is))
+        subst AllSkipped (sym (ahead_more l ls (is_ahead_skipped l is)))
+        (more_skipped l (ahead_in ls) is (rest is))
 
 -- where none of those that stand ahead of the events begins with the word `log`, each of them is skipped
-pub skipped_without_logs : (ls : List (List ℕ)) → list_any is_log (ahead_in ls) ≡ false → AllSkipped (ahead_in ls)
+pub skipped_without_logs : (ls : List (List ℕ)) → list_any is_log (ahead_in ls) ≡ false
+    → AllSkipped (ahead_in ls)
 skipped_without_logs [] h = refl
 skipped_without_logs (l ∷ ls) h = by (is_skipped l) refl (λ none. skipped_without_logs ls none)
   where

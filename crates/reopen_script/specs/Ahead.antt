@@ -44,8 +44,8 @@ abbrev pub line_then : List ProcessLog → ℕ → Option ProcessLog
 line_then ls n None more = Err n
 line_then ls n (Some l) more = more (ls ++ l ∷ [])
 
--- these logs and those of the lines, the first of which has this number; or the number of the first line that is
--- not the line of a log
+-- these logs and those of the lines, the first of which has this number; or the number of the first line that
+-- is not the line of a log
 unfoldable pub logs_in : List ProcessLog → ℕ → List (List ℕ) → Result (List ProcessLog) ℕ
 logs_in ls n [] = Ok ls
 logs_in ls n (line ∷ lines) =
@@ -62,8 +62,8 @@ unfoldable pub last_said : ℕ → ℕ → List (List ℕ) → ℕ
 last_said last n [] = last
 last_said last n (line ∷ lines) = last_said (if is_skipped line then last else n + 1) (n + 1) lines
 
--- the line at which it is told that the logs ahead are not those of all processes: the first after them, or, if
--- none is, the last of them that is not skipped
+-- the line at which it is told that the logs ahead are not those of all processes: the first after them, or,
+-- if none is, the last of them that is not skipped
 abbrev pub set_line : ℕ → List (List ℕ) → List (List ℕ) → ℕ
 set_line before ahead [] = last_said before before ahead
 set_line before ahead (line ∷ lines) = before + length ahead + 1
@@ -75,9 +75,10 @@ taken es n (Err k) = Err k
 taken es n (Ok []) = Ok None
 taken es n (Ok (l ∷ ls)) = if are_of_all es (l ∷ ls) then Ok (Some (l ∷ ls)) else Err n
 
--- the logs that the lines ahead say, none where they say none, where the line before the first has this number; or
--- the number of the line that is wrong
-unfoldable pub logs_said : List TreeProcess → ℕ → List (List ℕ) → List (List ℕ) → Result (Option (List ProcessLog)) ℕ
+-- the logs that the lines ahead say, none where they say none, where the line before the first has this
+-- number; or the number of the line that is wrong
+unfoldable pub logs_said : List TreeProcess → ℕ → List (List ℕ) → List (List ℕ)
+    → Result (Option (List ProcessLog)) ℕ
 logs_said es before ahead behind = taken es (set_line before ahead behind) (logs_in [] (before + 1) ahead)
 
 -- those of the lines that stand ahead of the events

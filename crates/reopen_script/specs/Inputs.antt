@@ -20,13 +20,15 @@ lines_behind tree before lines = record {
   lines = behind_in lines;
 }
 
--- bytes that begin with this tree and, after the line of three dashes, which has this number, with these lines, of
--- which no more than 100,000 after the logs ask for an event
-pub record HasLines (bytes : List ℕ) (tree : List TreeProcess) (rule : ℕ) (lines : List (List ℕ)) : Type 0 where
+-- bytes that begin with this tree and, after the line of three dashes, which has this number, with these
+-- lines, of which no more than 100,000 after the logs ask for an event
+pub record HasLines (bytes : List ℕ) (tree : List TreeProcess) (rule : ℕ)
+    (lines : List (List ℕ)) : Type 0 where
   pub front : IsTreeFront bytes tree rule lines
   pub few : asked_in (behind_in lines) ≤ 100000
 
--- bytes that are a script of this tree and these logs, or of none, as far as the lines after them, which are these
+-- bytes that are a script of this tree and these logs, or of none, as far as the lines after them, which are
+-- these
 pub record IsOpenReopen (bytes : List ℕ) (tree : List TreeProcess) (logs : Option (List ProcessLog))
     (s : LinesState) : Type 0 where
   pub rule : ℕ
@@ -44,8 +46,8 @@ pub record IsReopenScript (bytes : List ℕ) (tree : List TreeProcess) (logs : O
   pub logs_are : logs_ahead tree rule lines ≡ Ok logs
   pub asks : asked_by (lines_behind tree rule lines) ≡ Ok events
 
--- the first line that is wrong has this number: one of those ahead of the events, or, where these are right, one of
--- no event
+-- the first line that is wrong has this number: one of those ahead of the events, or, where these are right,
+-- one of no event
 pub record HasWrongLine (bytes : List ℕ) (number : ℕ) : Type 0 where
   pub tree : List TreeProcess
   pub rule : ℕ

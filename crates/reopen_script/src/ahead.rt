@@ -98,8 +98,8 @@ fn are_of_all(tree: &Tree, logs: &ProcessLogs) -> bool
 }
 
 /// The logs that the lines ahead of these others say, where this is the number of the line before the first;
-/// none where they say none. Line: the first that is not the line of a log; where each is one and they are not
-/// those of all processes, each once, the first line after them, or the last of them, if none is.
+/// none where they say none. Line: the first that is not the line of a log; where each is one and they are
+/// not those of all processes, each once, the first line after them, or the last of them, if none is.
 pub fn logs_said(
     alloc: Global,
     tree: &Tree,

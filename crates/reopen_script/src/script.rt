@@ -10,12 +10,12 @@ use script_words::count_asked;
 use std::alloc::Global;
 use tree_script::{Lines, MOST_EVENTS, ScriptError, ScriptFault, read_front};
 
-/// The tree of a script, the logs of its processes where its events begin with such lines, and the lines after
-/// them, which are read one after another. Empty lines and lines that begin with `#` are skipped. The faults are
-/// Utf8, TreeText, Tree, TooLong and Line, each judged over the whole input before the next; the lines ahead of
-/// the events do not count for TooLong. Line is that of the first line whose first word is `log`, before any
-/// event, and which is not the line of a log; where each is one and they are not those of all processes, each once,
-/// that of the first line after them, or of the last of them, if none is.
+/// The tree of a script, the logs of its processes where its events begin with such lines, and the lines
+/// after them, which are read one after another. Empty lines and lines that begin with `#` are skipped. The
+/// faults are Utf8, TreeText, Tree, TooLong and Line, each judged over the whole input before the next; the
+/// lines ahead of the events do not count for TooLong. Line is that of the first line whose first word is
+/// `log`, before any event, and which is not the line of a log; where each is one and they are not those of
+/// all processes, each once, that of the first line after them, or of the last of them, if none is.
 pub fn open_reopen<'a>(
     alloc: Global,
     bytes: &'a [u8],

@@ -79,13 +79,14 @@ module _ (tree : List TreeProcess) (t : IsTree tree) (logs : List ProcessLog) (e
       → own_decision d (logs_of_world w (process_of d))
       ≡ decides (stands_in (kinds_of d (since_promise d (logs_of_world w p))))
   own_is p listed x u d is =
-      let named = (both (same_txn d.txn x) (has (is_naming d u) (there p)) (asked_so tree p x u (there p) d is)).1 in
+      let named = (both (same_txn d.txn x) (has (is_naming d u) (there p))
+      (asked_so tree p x u (there p) d is)).1 in
       ap (λ q. own_decision d (there q)) (case_at tree there p d (naming_own tree there p x u d is))
       ∙ stands_decides d (there p)
       (naming_no_branch (role_of tree p) (w.at p) d u (holds.nodes p listed).lasts named)
 
-  -- Where the last of the steps from a case says how it ends, that is what an audit says above the case. Without a step the case
-  -- is the root's, and what was answered before says only that it aborts.
+  -- Where the last of the steps from a case says how it ends, that is what an audit says above the case.
+  -- Without a step the case is the root's, and what was answered before says only that it aborts.
   abbrev Says : ℕ → Type 0
   Says k = (d : Case) → d.txn.presumption ≡ c.txn.presumption → is_listed tree (process_of d) ≡ true
       → is_case_at tree (process_of d) d ≡ true → is_none (level_within (suc k) tree (process_of d)) ≡ false
@@ -114,7 +115,8 @@ module _ (tree : List TreeProcess) (t : IsTree tree) (logs : List ProcessLog) (e
           → own_decision e (logs_of_world w (process_of e)) ≡ b
           → (fold (λ b s. step_answer trust logs c s)
           (step_answer trust logs c (record { ticket = u; process = p; found = Finds e s }))
-          (steps_on (steps_within (suc k) tree (kept_lists tree logs)) (asks_on (Finds e s)))).word ≡ word_by o
+          (steps_on (steps_within (suc k) tree (kept_lists tree logs)) (asks_on (Finds e s)))).word
+          ≡ word_by o
           → outcome_within (suc k) tree (logs_of_world w) e ≡ o
       by_decision s (Some b) here own answered =
           ap (λ z. decided_or z (asked_above (outcome_within k tree there) tree there e.txn e.ticket)) own
@@ -127,7 +129,8 @@ module _ (tree : List TreeProcess) (t : IsTree tree) (logs : List ProcessLog) (e
           ap (λ z. decided_or z (asked_above (outcome_within k tree there) tree there e.txn e.ticket)) own
           ∙ says e
           (same_presumed e.txn d.txn
-          (both (same_txn e.txn d.txn) (has (is_naming e u) (there p)) (asked_so tree p d.txn u (there p) e is)).0
+          (both (same_txn e.txn d.txn) (has (is_naming e u) (there p))
+          (asked_so tree p d.txn u (there p) e is)).0
           ∙ presumes)
           (subst (λ q. is_listed tree q ≡ true) (sym at_parent) listed)
           (subst (λ q. is_case_at tree q e ≡ true) (sym at_parent) (naming_own tree there p d.txn u e is))
@@ -159,12 +162,14 @@ module _ (tree : List TreeProcess) (t : IsTree tree) (logs : List ProcessLog) (e
     by_log true here =
         let same : keeps p ≡ there p = left.kept_there p listed here in
         subst (Above (suc k) p u d)
-        (sym (ap (λ rs. finds (notes_of rs) d.txn u) same ∙ finds_naming tree logs t p listed (there p) same d.txn u))
+        (sym (ap (λ rs. finds (notes_of rs) d.txn u) same
+        ∙ finds_naming tree logs t p listed (there p) same d.txn u))
         (by_naming here (naming_case tree p d.txn u (there p)) refl)
     by_log false none =
         subst (Above (suc k) p u d)
         (sym (ap (λ rs. finds (notes_of rs) d.txn u) (no_log_keeps tree logs p none) ∙ none_finds d.txn u))
-        (λ answered. absurd (unknown_is_none p o (ap (λ b. (not_kept trust b p c).word) (sym none) ∙ answered)))
+        (λ answered. absurd (unknown_is_none p o
+        (ap (λ b. (not_kept trust b p c).word) (sym none) ∙ answered)))
 
   -- the next case upward
   above : (k : ℕ) → ((j : ℕ) → k ≡ suc j → Says j) → (d : Case) → d.txn.presumption ≡ c.txn.presumption
@@ -198,12 +203,15 @@ module _ (tree : List TreeProcess) (t : IsTree tree) (logs : List ProcessLog) (e
       let steps : steps_within (suc k) tree keeps d
       ≡ record { ticket = u; process = p; found = finds (notes_of (keeps p)) d.txn u }
       ∷ steps_on (steps_within k tree keeps) (asks_on (finds (notes_of (keeps p)) d.txn u)) =
-      ap (λ x. steps_by (steps_within k tree keeps) (found_in keeps d.txn x) x (parent_of tree (process_of d))) is
-      ∙ ap (λ q. steps_by (steps_within k tree keeps) (found_in keeps d.txn (Some u)) (Some u) (parent_of tree q)) here
+      ap (λ x. steps_by (steps_within k tree keeps) (found_in keeps d.txn x) x
+      (parent_of tree (process_of d))) is
+      ∙ ap (λ q. steps_by (steps_within k tree keeps) (found_in keeps d.txn (Some u)) (Some u)
+      (parent_of tree q)) here
       ∙ ap (steps_by (steps_within k tree keeps) (found_in keeps d.txn (Some u)) (Some u)) up in
       above k says d presumes p
       (up_listed tree t u.child p (subst (λ q. is_listed tree q ≡ true) here listed) up)
-      (parent_climbs tree k u.child p child (subst (λ q. is_none (level_within (suc k) tree q) ≡ false) here level))
+      (parent_climbs tree k u.child p child (subst
+      (λ q. is_none (level_within (suc k) tree q) ≡ false) here level))
       u (ap (λ ss. (fold (λ b s. step_answer trust logs c s) a ss).word) (sym steps) ∙ answered)
 
   -- however many levels there are

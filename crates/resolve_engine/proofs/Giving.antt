@@ -14,7 +14,8 @@ use Rattle.resolve_engine.specs.declared.asked.Trust.{Trust}
 use Rattle.resolve_engine.specs.Reports.{Given, Gives, GivesAll, GivesOne, IsGiven, ending_by, is_name, names_in, waits}
 
 -- no name has an answer yet
-pub none_given : (f : AnswerForm) (t : Trust) (n : Option (List ℕ)) (tree : List TreeProcess) (logs : List ProcessLog)
+pub none_given : (f : AnswerForm) (t : Trust) (n : Option (List ℕ)) (tree : List TreeProcess)
+    (logs : List ProcessLog)
     (kept : KeptLogs) → Gives f t n tree logs kept [] false []
 none_given f t n tree logs kept = record {
   given = [];
@@ -25,14 +26,16 @@ none_given f t n tree logs kept = record {
 }
 
 -- one more name has its answer
-pub one_more : (f : AnswerForm) (t : Trust) (n : Option (List ℕ)) (tree : List TreeProcess) (logs : List ProcessLog)
+pub one_more : (f : AnswerForm) (t : Trust) (n : Option (List ℕ)) (tree : List TreeProcess)
+    (logs : List ProcessLog)
     (kept : KeptLogs) (names : List (List ℕ)) (line : List ℕ) (w v : Bool) (text after : List ℕ)
     → Gives f t n tree logs kept names w text → GivesOne f t n tree logs kept line v text after
     → Gives f t n tree logs kept (names ++ line ∷ []) (w || v) after
 one_more f t n tree logs kept names line w v text after g o = record {
   given = g.given ++ o.given ∷ [];
   each = All-append (IsGiven f t n tree logs kept) g.given (o.given ∷ []) g.each
-      (All-cons (IsGiven f t n tree logs kept) o.given [] o.is_given (All-nil (IsGiven f t n tree logs kept)));
+      (All-cons (IsGiven f t n tree logs kept) o.given [] o.is_given
+      (All-nil (IsGiven f t n tree logs kept)));
   names_are = map-append (λ (x : Given). x.name) g.given (o.given ∷ [])
       ∙ ap (λ (l : List (List ℕ)). l ++ o.given.name ∷ []) g.names_are
       ∙ ap (λ (l : List ℕ). names ++ l ∷ []) o.name_is;
@@ -70,7 +73,8 @@ is_none ls i lt e = next_line ls i lt
     ∙ append-nil (filter is_name (take i ls))
 
 -- how the run ends
-pub ended : (f : AnswerForm) (t : Trust) (n : Option (List ℕ)) (tree : List TreeProcess) (logs : List ProcessLog)
+pub ended : (f : AnswerForm) (t : Trust) (n : Option (List ℕ)) (tree : List TreeProcess)
+    (logs : List ProcessLog)
     (kept : KeptLogs) (input : List ℕ) (names : List (List ℕ)) (w : Bool) (text : List ℕ)
     → names ≡ names_in input → Gives f t n tree logs kept names w text
     → GivesAll f t n tree logs kept input (ending_by w) text

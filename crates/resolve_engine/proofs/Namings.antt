@@ -49,7 +49,8 @@ no_log_keeps tree logs q none =
     (no_bytes logs q none)
     ∙ by_test (same_bytes [] _)
   where
-    by_test : (b : Bool) → own_records (place_of tree q) (whole_records (if b then Whole [] 0 else Damaged 0)) ≡ []
+    by_test : (b : Bool) → own_records (place_of tree q)
+        (whole_records (if b then Whole [] 0 else Damaged 0)) ≡ []
     by_test true = refl
     by_test false = refl
 
@@ -94,7 +95,8 @@ pub finds_naming : (tree : List TreeProcess) (logs : List ProcessLog) → IsTree
 finds_naming tree logs t p listed rs is x u =
     ap found_by (first_is tree p rs x u (cases_in rs)
     (each_if (is_case_at tree p) (cases_in rs)
-    (ap (λ ks. list_all (is_case_at tree p) (listed_cases AtRoot ks)) (sym is) ∙ kept_own tree logs t p listed AtRoot)))
+    (ap (λ ks. list_all (is_case_at tree p) (listed_cases AtRoot ks)) (sym is)
+    ∙ kept_own tree logs t p listed AtRoot)))
 
 -- The case that is asked.
 

@@ -29,7 +29,8 @@ read_and : (place : ℕ) (o : Option LogRecord) (xs : List Placed) (ls : List Lo
 read_and place None xs ls is = refl
 read_and place (Some l) xs ls is = ap (λ t. l ∷ t) is
 
-read_by : (p : LogForm) (place : ℕ) (o : Option Cut) (places : ℕ → ℕ → List Placed) (more : ℕ → List LogRecord)
+read_by : (p : LogForm) (place : ℕ) (o : Option Cut) (places : ℕ → ℕ → List Placed)
+    (more : ℕ → List LogRecord)
     → ((at k : ℕ) → reads (places at k) ≡ more k) → reads (placed_by p place o places) ≡ records_by p o more
 read_by p place None places more same = refl
 read_by p place (Some c) places more same =
@@ -73,7 +74,8 @@ sound_at logs (x ∷ es) q e none found =
     by_reading (read_as x.id x.kind (bytes_of logs x.id)) refl none (sound_at logs es q e)
   where
     by_found : IsSoundLog x.id x.kind (bytes_of logs x.id)
-        → (find (λ x. same_process x.id q) es ≡ Some e → IsSoundLog e.id e.kind (bytes_of logs e.id)) → (b : Bool)
+        → (find (λ x. same_process x.id q) es ≡ Some e → IsSoundLog e.id e.kind (bytes_of logs e.id))
+        → (b : Bool)
         → (if b then Some x else find (λ x. same_process x.id q) es) ≡ Some e
         → IsSoundLog e.id e.kind (bytes_of logs e.id)
     by_found here rest true is = subst (λ (y : TreeProcess). IsSoundLog y.id y.kind

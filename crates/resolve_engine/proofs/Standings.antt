@@ -82,7 +82,8 @@ stands_decides c rs none =
     let k = kinds_of c (since_promise c rs) in
     let no = none_since c (is_branch_record c) rs none in
     sym (decision_is c rs)
-    ∙ by_kinds k.committed k.commit k.told_commit k.rolled_back k.told_abort k.abort k.prepared k.prepare k.ended
+    ∙ by_kinds k.committed k.commit k.told_commit k.rolled_back k.told_abort k.abort k.prepared
+    k.prepare k.ended
     (none_so (is_committed c) (is_branch_record c) (since_promise c rs) (committed_branch c) no)
     (none_so (is_told_of c Committed) (is_branch_record c) (since_promise c rs) (told_branch c Committed) no)
     (none_so (is_rolled_back c) (is_branch_record c) (since_promise c rs) (rolled_back_branch c) no)

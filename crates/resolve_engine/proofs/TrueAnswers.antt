@@ -51,7 +51,8 @@ module _ (tree : List TreeProcess) (t : IsTree tree) (logs : List ProcessLog) (e
   own : is_case_at tree (process_of c) c ≡ true
   own = (both (is_case_at tree (process_of c) c) _ (both (is_listed tree (process_of c)) _ line).1).0
 
-  shown : has_line_in (role_of tree (process_of c)) c (since_promise c (logs_of_world w (process_of c))) ≡ true
+  shown : has_line_in (role_of tree (process_of c)) c
+      (since_promise c (logs_of_world w (process_of c))) ≡ true
   shown = (both (is_case_at tree (process_of c) c) _ (both (is_listed tree (process_of c)) _ line).1).1
 
   size : (k : ℕ) × (length tree ≡ suc k)
@@ -73,12 +74,14 @@ module _ (tree : List TreeProcess) (t : IsTree tree) (logs : List ProcessLog) (e
   unfolding chain_of
   above_is answered =
       climb tree t logs es w left trust c o size.0 c refl listed own
-      (ap (λ n. is_none (level_within n tree (process_of c))) (sym size.1) ∙ climbs tree t (process_of c) listed)
+      (ap (λ n. is_none (level_within n tree (process_of c))) (sym size.1)
+      ∙ climbs tree t (process_of c) listed)
       (root_answer trust c) (λ root said. if_complete_is trust Aborted o said)
       (ap (λ n. (above_answer trust logs c (steps_within n tree keeps c)).word) (sym size.1) ∙ answered)
 
   -- an answer that says how it ends is not replaced
-  promised_is : (k : Kinds) (a : BranchAnswer) → (answer_above logs c k a).word ≡ word_by o → a.word ≡ word_by o
+  promised_is : (k : Kinds) (a : BranchAnswer) → (answer_above logs c k a).word ≡ word_by o
+      → a.word ≡ word_by o
   promised_is k a = by_test (is_unpromised logs c k a)
     where
       by_test : (b : Bool)
@@ -105,7 +108,8 @@ module _ (tree : List TreeProcess) (t : IsTree tree) (logs : List ProcessLog) (e
   unfolding answer_of
   missing none doubt answered =
       by_above doubt (promised_is no_kinds (above_answer trust logs c (chain_of tree keeps c))
-      (ap (λ k. (answer_by (own_answer k) (answer_above logs c k (above_answer trust logs c (chain_of tree keeps c)))).word)
+      (ap (λ k. (answer_by (own_answer k) (answer_above logs c k
+      (above_answer trust logs c (chain_of tree keeps c)))).word)
       (sym (nothing_kept (keeps (process_of c)) (no_log_keeps tree logs (process_of c) none))) ∙ answered))
 
   -- a case with a line that has neither a promise nor an end is the root's
@@ -119,7 +123,8 @@ module _ (tree : List TreeProcess) (t : IsTree tree) (logs : List ProcessLog) (e
       promise true b c h e = cc
       promise false true c h e = cc
       promise false false c h e = cc
-  on_top (AtLeaf p) ticket k none is place = absurd (promise k.prepared k.prepare k.ended (not k.forgot) none is)
+  on_top (AtLeaf p) ticket k none is place =
+      absurd (promise k.prepared k.prepare k.ended (not k.forgot) none is)
     where
       promise : (a b c d : Bool) → ((a || b) || c) ≡ false → (a && d) ≡ true → ⊥
       promise true b c d h e = cc
@@ -144,7 +149,8 @@ module _ (tree : List TreeProcess) (t : IsTree tree) (logs : List ProcessLog) (e
       → (hc hr a b p : Bool) → is_promised k ≡ p
       → own_decision c (logs_of_world w (process_of c)) ≡ decision_by a b p
       → (answer_by (own_by hc hr (decided_by a b))
-      (answer_above logs c k (above_answer trust logs c (chain_of tree (kept_lists tree logs) c)))).word ≡ word_by o
+      (answer_above logs c k (above_answer trust logs c (chain_of tree (kept_lists tree logs) c)))).word
+      ≡ word_by o
       → audited tree (logs_of_world w) c ≡ o
   by_own k are true hr a b p is decision answered = absurd (heuristic_commit_is_none o answered)
   by_own k are false true a b p is decision answered = absurd (heuristic_rollback_is_none o answered)
@@ -157,7 +163,8 @@ module _ (tree : List TreeProcess) (t : IsTree tree) (logs : List ProcessLog) (e
       (promised_is k (above_answer trust logs c (chain_of tree keeps c)) answered)
 
   -- the case's own log is here
-  here : has_log logs (process_of c) ≡ true → (answer_of trust tree logs (kept_lists tree logs) c).word ≡ word_by o
+  here : has_log logs (process_of c) ≡ true → (answer_of trust tree logs (kept_lists tree logs) c).word
+      ≡ word_by o
       → audited tree (logs_of_world w) c ≡ o
   unfolding answer_of
   here has answered =
@@ -168,7 +175,8 @@ module _ (tree : List TreeProcess) (t : IsTree tree) (logs : List ProcessLog) (e
       by_own k refl k.heur_commit k.heur_rollback _ _ (is_promised k) refl
       (sym (decision_is c (there (process_of c))))
       (ap (λ n. (answer_by (own_answer n)
-      (answer_above logs c n (above_answer trust logs c (chain_of tree keeps c)))).word) (sym same) ∙ answered)
+      (answer_above logs c n (above_answer trust logs c (chain_of tree keeps c)))).word) (sym same)
+      ∙ answered)
 
 -- an answer that says commit or rollback is how the transaction ends
 pub answers_true : AnswersAreTrue
@@ -180,4 +188,5 @@ answers_true tree logs es w t left c is_left trust o answered =
 
     by_log : (b : Bool) → has_log logs (process_of c) ≡ b → audited tree (logs_of_world w) c ≡ o
     by_log true has = here tree t logs es w left trust c o is_left.line has answered
-    by_log false none = missing tree t logs es w left trust c o is_left.line none (is_left.in_doubt none) answered
+    by_log false none = missing tree t logs es w left trust c o is_left.line none
+        (is_left.in_doubt none) answered

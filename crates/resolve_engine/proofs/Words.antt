@@ -56,7 +56,8 @@ some_outcome a b o is h =
     sym same ∙ h
 
 -- where what stands of a case decides, its word says nothing else
-pub kept_says : (t : Trust) (s : Stands) (o a : Outcome) → decides s ≡ Some a → kept_word t s ≡ word_by o → a ≡ o
+pub kept_says : (t : Trust) (s : Stands) (o a : Outcome) → decides s ≡ Some a → kept_word t s ≡ word_by o
+    → a ≡ o
 unfolding decides
 kept_says t stands.Commit o a is e = some_outcome Committed a o is (same_word Committed o e)
 kept_says t stands.Abort o a is e = some_outcome Aborted a o is (same_word Aborted o e)

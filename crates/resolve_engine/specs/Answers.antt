@@ -47,7 +47,8 @@ decided_by false false = None
 
 -- the decision that records of these kinds say, if they say one
 abbrev pub decided_in : Kinds → Option Outcome
-decided_in k = decided_by ((k.committed || k.commit) || k.told_commit) ((k.rolled_back || k.told_abort) || k.abort)
+decided_in k = decided_by ((k.committed || k.commit) || k.told_commit)
+    ((k.rolled_back || k.told_abort) || k.abort)
 
 -- the answer of a decision, if there is one
 abbrev pub told_by : Option Outcome → Option BranchAnswer
@@ -66,8 +67,8 @@ own_answer k = own_by k.heur_commit k.heur_rollback (decided_in k)
 
 -- What is found above.
 
--- what a coordinator's case says of the tickets that it names: one that is not decided is aborted by the next start of its
--- process
+-- what a coordinator's case says of the tickets that it names: one that is not decided is aborted by the next
+-- start of its process
 abbrev pub kept_word : Trust → Stands → AnswerWord
 kept_word t stands.Commit = word.Commit
 kept_word t stands.Abort = word.Rollback

@@ -9,7 +9,8 @@ use Rattle.resolve_engine.specs.declared.asked.Trust.{Trust}
 use Rattle.resolve_engine.specs.declared.finding.Finder.{Finder}
 
 -- it looks in these logs of this tree, of which the caller says this
-pub record Looks (trust : Trust) (tree : List TreeProcess) (logs : List ProcessLog) (f : Finder) : Type 0 where
+pub record Looks (trust : Trust) (tree : List TreeProcess) (logs : List ProcessLog)
+    (f : Finder) : Type 0 where
   pub trusts : f.trust ≡ trust
   pub tree_is : f.tree.now ≡ tree
   pub logs_are : f.logs.now ≡ logs

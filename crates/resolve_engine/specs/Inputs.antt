@@ -9,7 +9,8 @@ use Rattle.tree_script.specs.Inputs.{IsTreeFront, IsFrontFault}
 use Rattle.log_script.specs.declared.line.ProcessLog.{ProcessLog}
 use Rattle.log_script.specs.Logs.{IsNumberedFault, logs_behind}
 
--- the logs of the lines after the line of three dashes, which has this number; or the number of the line that is wrong
+-- the logs of the lines after the line of three dashes, which has this number; or the number of the line that
+-- is wrong
 abbrev pub some_logs_of : List TreeProcess → ℕ → List (List ℕ) → Result (List ProcessLog) ℕ
 some_logs_of tree rule lines = logs_behind tree [] (rule + 1) lines
 

@@ -60,7 +60,8 @@ pub record Given : Type 0 where
   pub text : List ℕ
 
 -- this is answered and written of a name, by these logs, which have these kept lists
-pub record IsGiven (f : AnswerForm) (trust : Trust) (name : Option (List ℕ)) (tree : List TreeProcess) (logs : List ProcessLog)
+pub record IsGiven (f : AnswerForm) (trust : Trust) (name : Option (List ℕ)) (tree : List TreeProcess)
+    (logs : List ProcessLog)
     (kept : KeptLogs) (g : Given) : Type 0 where
   pub of : Naming
   pub named : IsNaming tree name g.name of
@@ -84,7 +85,8 @@ abbrev pub names_in : List ℕ → List (List ℕ)
 names_in input = filter is_name (lines input)
 
 -- this is answered of one more name, and whether it has to wait
-pub record GivesOne (f : AnswerForm) (trust : Trust) (name : Option (List ℕ)) (tree : List TreeProcess) (logs : List ProcessLog)
+pub record GivesOne (f : AnswerForm) (trust : Trust) (name : Option (List ℕ)) (tree : List TreeProcess)
+    (logs : List ProcessLog)
     (kept : KeptLogs) (line : List ℕ) (waits_now : Bool) (before after : List ℕ) : Type 0 where
   pub given : Given
   pub is_given : IsGiven f trust name tree logs kept given
@@ -93,7 +95,8 @@ pub record GivesOne (f : AnswerForm) (trust : Trust) (name : Option (List ℕ)) 
   pub waiting : waits given.answer.word ≡ waits_now
 
 -- these are the answers to these names, the text has them, and whether one has to wait
-pub record Gives (f : AnswerForm) (trust : Trust) (name : Option (List ℕ)) (tree : List TreeProcess) (logs : List ProcessLog)
+pub record Gives (f : AnswerForm) (trust : Trust) (name : Option (List ℕ)) (tree : List TreeProcess)
+    (logs : List ProcessLog)
     (kept : KeptLogs) (names : List (List ℕ)) (waits_any : Bool) (text : List ℕ) : Type 0 where
   pub given : List Given
   pub each : All (IsGiven f trust name tree logs kept) given
@@ -102,31 +105,37 @@ pub record Gives (f : AnswerForm) (trust : Trust) (name : Option (List ℕ)) (tr
   pub one_waits : list_any (λ g. waits g.answer.word) given ≡ waits_any
 
 -- these are the answers to the names of an input, by how the run ends
-abbrev pub GivesAll : AnswerForm → Trust → Option (List ℕ) → List TreeProcess → List ProcessLog → KeptLogs → List ℕ → ResolveStatus
+abbrev pub GivesAll : AnswerForm → Trust → Option (List ℕ) → List TreeProcess → List ProcessLog → KeptLogs
+    → List ℕ → ResolveStatus
     → List ℕ → Type 0
-GivesAll f t n tree logs kept input ending.Answered text = Gives f t n tree logs kept (names_in input) false text
+GivesAll f t n tree logs kept input ending.Answered text =
+    Gives f t n tree logs kept (names_in input) false text
 GivesAll f t n tree logs kept input ending.Waits text = Gives f t n tree logs kept (names_in input) true text
 GivesAll f t n tree logs kept input ending.Refused text = ⊥
 
 -- no log is damaged, the names are text, and this has their answers
-pub record Resolves (e : ResolveStatus) (f : AnswerForm) (trust : Trust) (name : Option (List ℕ)) (tree : List TreeProcess)
+pub record Resolves (e : ResolveStatus) (f : AnswerForm) (trust : Trust) (name : Option (List ℕ))
+    (tree : List TreeProcess)
     (logs : List ProcessLog) (input text : List ℕ) : Type 0 where
   pub sound : first_damage tree logs ≡ None
   pub is_text : IsUtf8 input
   pub answers : GivesAll f trust name tree logs (kept_lists tree logs) input e text
 
 -- no log is damaged, and the names are no text
-pub record RefusesNames (tree : List TreeProcess) (logs : List ProcessLog) (input text : List ℕ) : Type 0 where
+pub record RefusesNames (tree : List TreeProcess) (logs : List ProcessLog)
+    (input text : List ℕ) : Type 0 where
   pub sound : first_damage tree logs ≡ None
   pub is_no_text : IsUtf8 input → ⊥
   pub line : text ≡ fault_text Utf8
 
 -- what is written of logs that were read, and of names, by how the run ends
-abbrev pub IsResolved : ResolveStatus → AnswerForm → Trust → Option (List ℕ) → List TreeProcess → List ProcessLog → List ℕ
+abbrev pub IsResolved : ResolveStatus → AnswerForm → Trust → Option (List ℕ) → List TreeProcess
+    → List ProcessLog → List ℕ
     → List ℕ → Type 0
 IsResolved ending.Answered f t n tree logs input text = Resolves ending.Answered f t n tree logs input text
 IsResolved ending.Waits f t n tree logs input text = Resolves ending.Waits f t n tree logs input text
-IsResolved ending.Refused f t n tree logs input text = TellsDamage tree logs text ⊎ RefusesNames tree logs input text
+IsResolved ending.Refused f t n tree logs input text = TellsDamage tree logs text
+    ⊎ RefusesNames tree logs input text
 
 -- how a run ends, by whether a name has to wait
 abbrev pub ending_by : Bool → ResolveStatus
@@ -140,7 +149,8 @@ ending_number ending.Refused = 1
 ending_number ending.Waits = 3
 
 -- the text is that of the names, and of the tree and the logs that the text of logs says
-pub record ResolvesBy (e : ResolveStatus) (f : AnswerForm) (t : Trust) (n : Option (List ℕ)) (text_of_logs input text : List ℕ)
+pub record ResolvesBy (e : ResolveStatus) (f : AnswerForm) (t : Trust) (n : Option (List ℕ))
+    (text_of_logs input text : List ℕ)
     : Type 0 where
   pub tree : List TreeProcess
   pub logs : List ProcessLog
@@ -154,7 +164,8 @@ pub record RefusesLogs (text_of_logs text : List ℕ) : Type 0 where
   pub line : text ≡ fault_text fault
 
 -- what is written, by how the run ends
-abbrev pub IsResolveReport : ResolveStatus → AnswerForm → Trust → Option (List ℕ) → List ℕ → List ℕ → List ℕ → Type 0
+abbrev pub IsResolveReport : ResolveStatus → AnswerForm → Trust → Option (List ℕ) → List ℕ → List ℕ → List ℕ
+    → Type 0
 IsResolveReport ending.Answered f t n logs input text = ResolvesBy ending.Answered f t n logs input text
 IsResolveReport ending.Waits f t n logs input text = ResolvesBy ending.Waits f t n logs input text
 IsResolveReport ending.Refused f t n logs input text =

@@ -57,7 +57,8 @@ kept_text p c s = codes "the log of " ++ decimal p.0 ++ codes " says that " ++ c
 -- that nothing of it is kept, and what is presumed
 abbrev pub presumed_text : ProcessId → Presumption → List ℕ
 presumed_text p x =
-    codes "the log of " ++ decimal p.0 ++ codes " has nothing of it, and so it is presumed " ++ outcome_word (presumed x)
+    codes "the log of " ++ decimal p.0 ++ codes " has nothing of it, and so it is presumed "
+    ++ outcome_word (presumed x)
 
 -- the reason of an answer, as a sentence without its end
 abbrev pub reason_text : AnswerReason → List ℕ

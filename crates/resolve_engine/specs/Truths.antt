@@ -16,15 +16,17 @@ use Rattle.audit_tree.specs.Reports.{kept_lists}
 use Rattle.resolve_engine.specs.declared.asked.Trust.{Trust}
 use Rattle.resolve_engine.specs.Answers.{answer_of, word_by}
 
--- these moves are a run of the model to this world, in which no process of the tree is failed, and each log that is here reads as
--- the list that its process keeps there
-pub record AreLogsKept (tree : List TreeProcess) (logs : List ProcessLog) (es : List Made) (w : World) : Type 0 where
+-- these moves are a run of the model to this world, in which no process of the tree is failed, and each log
+-- that is here reads as the list that its process keeps there
+pub record AreLogsKept (tree : List TreeProcess) (logs : List ProcessLog) (es : List Made)
+    (w : World) : Type 0 where
   pub is_run : IsRun tree es w
   pub all_up : AllUp tree w
   pub kept_there : (q : ProcessId) → is_listed tree q ≡ true → has_log logs q ≡ true
       → kept_lists tree logs q ≡ kept (w.at q)
 
--- an audit of that world tells of the case; and if the log of its own process is not here, the case is in doubt there
+-- an audit of that world tells of the case; and if the log of its own process is not here, the case is in
+-- doubt there
 pub record IsCaseLeft (tree : List TreeProcess) (logs : List ProcessLog) (w : World) (c : Case) : Type 0 where
   pub line : has_line tree (logs_of_world w) c ≡ true
   pub in_doubt : has_log logs (process_of c) ≡ false → own_decision c (logs_of_world w (process_of c)) ≡ None

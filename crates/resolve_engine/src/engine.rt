@@ -55,10 +55,10 @@ impl ResolveStatus {
     }
 }
 
-/// Reads names, one a line, and writes for each what is to be done with its branch by these logs, which are a text as
-/// `rstar tree --logs` writes it; those of some processes may be missing. Empty lines are skipped. Or one line that says
-/// which log is damaged where, or why the logs or the names are refused. After a failed read, or where memory is refused,
-/// nothing was written; after a failed write, a beginning of the text.
+/// Reads names, one a line, and writes for each what is to be done with its branch by these logs, which are a
+/// text as `rstar tree --logs` writes it; those of some processes may be missing. Empty lines are skipped. Or
+/// one line that says which log is damaged where, or why the logs or the names are refused. After a failed
+/// read, or where memory is refused, nothing was written; after a failed write, a beginning of the text.
 pub fn run_resolve<R: Read, W: Write>(
     alloc: Global,
     asked: &ResolveInput,
@@ -68,12 +68,14 @@ pub fn run_resolve<R: Read, W: Write>(
 ) -> Result<ResolveStatus, Failure>
     ensures written { IfOk result (λ ending. (input : List ℕ) × (text : List ℕ)
         × IsInput (R.remaining reader.old) input
-        × IsResolveReport ending asked.now.form asked.now.trust (option_map (λ s. s.now) asked.now.name) logs.now input text
+        × IsResolveReport ending asked.now.form asked.now.trust (option_map (λ s. s.now) asked.now.name)
+        logs.now input text
         × Appends (W.contents writer.old) (W.contents writer.new) text) }
     ensures cut { IfErr result (λ e. e ≡ Failure.Write → (input : List ℕ)
         × (text : List ℕ) × (ending : AnyEnding)
         × IsInput (R.remaining reader.old) input
-        × IsResolveReport ending asked.now.form asked.now.trust (option_map (λ s. s.now) asked.now.name) logs.now input text
+        × IsResolveReport ending asked.now.form asked.now.trust (option_map (λ s. s.now) asked.now.name)
+        logs.now input text
         × WritesFront (W.contents writer.old) (W.contents writer.new) text) }
     ensures unread { IfErr result (λ e. e ≡ Failure.Read
         → Keeps (W.contents writer.old) (W.contents writer.new)) }
@@ -159,8 +161,8 @@ fn answer_to(alloc: Global, finder: &Finder, naming: Naming) -> Result<BranchAns
     }
 }
 
-/// What is answered of what a name is of, by these logs of a tree; those of some processes may be missing. Damaged: the
-/// first log in the order of the tree that is.
+/// What is answered of what a name is of, by these logs of a tree; those of some processes may be missing.
+/// Damaged: the first log in the order of the tree that is.
 pub fn answer_named(
     alloc: Global,
     tree: &Tree,
@@ -216,7 +218,8 @@ fn push_name(
 ) -> Result<bool, AllocError>
     requires tree { IsTree tree.now }
     requires looks { Looks asked.now.trust tree.now finder.now.logs.now finder.now }
-    ensures { IfOk result (λ w. (kept : KeptLogs) → Finds kept finder.now → GivesOne asked.now.form asked.now.trust
+    ensures { IfOk result (λ w. (kept : KeptLogs) → Finds kept finder.now
+        → GivesOne asked.now.form asked.now.trust
         (option_map (λ s. s.now) asked.now.name) tree.now finder.now.logs.now kept name.now w out.old.items
         out.new.items) }
 {
@@ -236,7 +239,8 @@ fn told(
 ) -> Result<(Vec<u8>, ResolveStatus), AllocError>
     requires tree { IsTree tree.now }
     requires looks { Looks asked.now.trust tree.now finder.now.logs.now finder.now }
-    ensures { IfOk result (λ r. (kept : KeptLogs) → Finds kept finder.now → GivesAll asked.now.form asked.now.trust
+    ensures { IfOk result (λ r. (kept : KeptLogs) → Finds kept finder.now
+        → GivesAll asked.now.form asked.now.trust
         (option_map (λ s. s.now) asked.now.name) tree.now finder.now.logs.now kept text.now r.1 r.0.items) }
 {
     let names = lines_of(alloc, text)?;

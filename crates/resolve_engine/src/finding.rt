@@ -99,7 +99,8 @@ impl<'a> Finder<'a> {
 
     /// What is noted of a case in its own process's log.
     fn kinds_of(&self, case: &Case) -> Kinds
-        ensures { (kept : KeptLogs) → Finds kept self.now → is_listed self.now.tree.now (process_of case.now) ≡ true
+        ensures { (kept : KeptLogs) → Finds kept self.now
+            → is_listed self.now.tree.now (process_of case.now) ≡ true
             → result ≡ own_kinds kept case.now }
     {
         match self.notes.get(&case.process()) {

@@ -1,6 +1,7 @@
 //! Floor: engines and program.
 //!
-//! The engine of `rstar resolve`: what is to be done with a prepared branch that was left behind, by the logs of its tree.
+//! The engine of `rstar resolve`: what is to be done with a prepared branch that was left behind, by the logs
+//! of its tree.
 //!
 //! ```text
 //! engine     the engine

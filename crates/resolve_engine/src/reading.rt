@@ -47,8 +47,9 @@ fn logs_after(
     Ok(logs)
 }
 
-/// Reads the text of a tree, a line of three dashes, and a line for the log of some of its processes, each at most once, in
-/// any order. The faults are those of a text with a log of each process, but that none need be there.
+/// Reads the text of a tree, a line of three dashes, and a line for the log of some of its processes, each at
+/// most once, in any order. The faults are those of a text with a log of each process, but that none need be
+/// there.
 pub fn read_some_logs(alloc: Global, bytes: &[u8]) -> Result<(Tree, ProcessLogs), ScriptError>
     ensures ok { IfOk result (λ (tree, logs). IsSomeLogsText bytes.now tree logs) }
     ensures err { IfErr result (λ error. IsSomeLogsError bytes.now error) }

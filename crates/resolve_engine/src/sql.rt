@@ -174,7 +174,8 @@ fn push_written(
     push_comment(out, name, answer)
 }
 
-/// The line of an answer: its statement and the reason as a comment; or a comment alone, if nothing is to be done now.
+/// The line of an answer: its statement and the reason as a comment; or a comment alone, if nothing is to be
+/// done now.
 pub fn push_sql(
     alloc: Global,
     out: &mut Vec<u8>,

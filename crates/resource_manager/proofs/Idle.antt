@@ -1,4 +1,5 @@
--- A manager at which no thread is at work: whether a branch can begin, and what is known after a piece of work.
+-- A manager at which no thread is at work: whether a branch can begin, and what is known after a piece of
+-- work.
 use Rattle.std.proofs.Common.{◌≡◌, ◌∙◌, ℕ, Bool, true, false, List, Option, None, Result, Ok, Err, refl, sym, ap, subst, arith, length}
 use Rattle.std.specs.Prelude.{◌||◌, is_some, is_ok, nat_eq, nat_le, nat_lt, unwrap_or, if◌then◌else◌}
 use Rattle.std.specs.List.{list_any}
@@ -135,7 +136,8 @@ stays_known old new x s c was y = by_name (same x y) refl
   where
     by_name : (b : Bool) → same x y ≡ b → is_begun (state_at new.tables y) ≡ is_begun (state_at old.tables y)
     by_name true e =
-        subst (λ (z : Xid). is_begun (state_at new.tables z) ≡ is_begun (state_at old.tables z)) (same_is x y e)
+        subst (λ (z : Xid). is_begun (state_at new.tables z) ≡ is_begun (state_at old.tables z))
+        (same_is x y e)
         (ap is_begun c.own ∙ sym was)
     by_name false e = ap is_begun (c.others y e)
 

@@ -14,7 +14,8 @@ whole_rest n (l ∷ ls) = by_test (nat_le (record_size l) n) (whole_rest (n - re
     by_test true h = (h.0, ap (λ ks. l ∷ ks) h.1)
     by_test false h = (l ∷ ls, refl)
 
-pub left_rest : (s : LogSight) (keep : ℕ) → (rest : List LogRecord) × (left_by s keep ++ rest ≡ records_of s.kept)
+pub left_rest : (s : LogSight) (keep : ℕ) → (rest : List LogRecord)
+    × (left_by s keep ++ rest ≡ records_of s.kept)
 left_rest s keep =
     let rest = whole_rest (s.behind + keep) s.kept.unforced in (
       rest.0,

@@ -1,5 +1,5 @@
--- The data of a resource manager, as those see them that work at them: why they are in the way of an operation,
--- and what each piece of work leaves of them.
+-- The data of a resource manager, as those see them that work at them: why they are in the way of an
+-- operation, and what each piece of work leaves of them.
 use Rattle.std.specs.Prelude.{◌≡◌, ◌⊎◌, ◌≤◌, ℕ, Bool, true, false, ◌==◌, ◌||◌, nat_lt, if◌then◌else◌, List, [], ◌∷◌, length, Option, Some, None}
 use Rattle.std.specs.List.{AllByRecursion, IsDistinct}
 use Rattle.xa_xid.specs.declared.xid.Xid.{Xid}
@@ -76,8 +76,8 @@ refusal_of ws hs x op =
 
 -- The data.
 
--- what each branch has written that is at work or prepared, in order of each key's first write; who holds each key;
--- and which branches the manager knows: those that began and are not ended
+-- what each branch has written that is at work or prepared, in order of each key's first write; who holds
+-- each key; and which branches the manager knows: those that began and are not ended
 pub record ManagerData : Type 0 where
   pub writes : Xid → List Write
   pub holders : Holdings
@@ -165,8 +165,8 @@ pub record Ends (old new : ManagerData) (x : Xid) : Type 0 where
   pub lets_go : LetsHoldsGo old new x
   pub known : KnowsBranch old new x false
 
--- the holders of a key after a call on a branch, which is in this state then: it holds nothing any more once it
--- is ended or decided by an operator
+-- the holders of a key after a call on a branch, which is in this state then: it holds nothing any more once
+-- it is ended or decided by an operator
 abbrev pub held_with : BranchState → Xid → List Holder → List Holder
 held_with S0 x hs = without hs x
 held_with S5 x hs = without hs x

@@ -140,7 +140,8 @@ pub record BranchFails (old new : ManagerSight) (x : Xid) (c : Call) : Type 0 wh
 -- what a prepare, commit, rollback or forget answers and does: a failed manager refuses it, then the first
 -- check, then a limit of the manager's own; else its row is made, or the device fails. A row that the table
 -- does not have is not made
-pub data ManagerFinishes (old new : ManagerSight) (v : Verb) (x : Xid) (flags : ℕ) (answer : Code) : Type 0 where
+pub data ManagerFinishes (old new : ManagerSight) (v : Verb) (x : Xid) (flags : ℕ)
+    (answer : Code) : Type 0 where
   Failed : old.log.failed ≡ true → answer ≡ code.RmFail → SameManager old new
       → ManagerFinishes old new v x flags answer
   Refused : old.log.failed ≡ false → ready old.tables v x flags ≡ Err answer → SameManager old new

@@ -1,5 +1,5 @@
--- Whole pieces of work at a manager, between which no thread is at work: a branch begins and is left idle, or an idle
--- branch does an operation.
+-- Whole pieces of work at a manager, between which no thread is at work: a branch begins and is left idle, or
+-- an idle branch does an operation.
 use Rattle.std.specs.Prelude.{◌≡◌, Bool, true, false, is_none, is_ok, if◌then◌else◌, []}
 use Rattle.xa_tables.specs.declared.states.InitState.TheVariants.{R1}
 use Rattle.xa_tables.specs.declared.states.BranchState.{BranchState}
@@ -33,9 +33,9 @@ pub record BranchComes (old new : ManagerSight) (x : Xid) (s : BranchState) : Ty
   pub boot : new.boot ≡ old.boot
   pub form : new.log.form ≡ old.log.form
 
--- but for its log, a manager between two pieces of work is as it was: which branches it knows and their states,
--- what each has written, who holds which key, what operators decided, and whether a limit of its
--- own is met
+-- but for its log, a manager between two pieces of work is as it was: which branches it knows and their
+-- states, what each has written, who holds which key, what operators decided, and whether a limit of its own
+-- is met
 pub record KeepsManager (old new : ManagerSight) : Type 0 where
   pub branches : new.tables.branches.branches ≡ old.tables.branches.branches
   pub spent : new.spent ≡ old.spent

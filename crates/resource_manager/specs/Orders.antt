@@ -12,8 +12,8 @@ use Rattle.protocol.specs.Standings.{Mark, Unmarked, mark_at}
 use Rattle.resource_manager.specs.Restarting.{marked_state}
 
 -- a record may be after this boot, where its branch is marked so: boots never fall; a branch promises that is
--- neither prepared nor decided by an operator; he decides one that is prepared; and one that he decided is told an
--- outcome
+-- neither prepared nor decided by an operator; he decides one that is prepared; and one that he decided is
+-- told an outcome
 abbrev pub MayStand : ℕ → Mark → Record → Type 0
 MayStand boot m (Opened n) = boot ≤ n
 MayStand boot m (Prepared b ws) = marked_state m ≡ S0

@@ -60,8 +60,8 @@ with_boot ls = ls ++ boot_record (next_boot ls) ∷ []
 -- Restart.
 
 -- a manager restarted, after a crash that kept N unforced bytes: it is not open, each branch is as the
--- records that are left say, with what an operator decided of it, those in doubt hold what they promised, without associations and scans, and its log
--- is these records and the next boot, all forced
+-- records that are left say, with what an operator decided of it, those in doubt hold what they promised,
+-- without associations and scans, and its log is these records and the next boot, all forced
 pub record RestartsManager (old new : ManagerSight) (keep : ℕ) : Type 0 where
   pub closed : new.tables.init ≡ R0
   pub states : (x : Xid) → state_at new.tables x ≡ marked_state (mark_at (left_by old.log keep) x)

@@ -12,8 +12,8 @@ use Rattle.resource_manager.specs.Data.{Holdings, ManagerData, is_begun, obstacl
 
 -- The tables of its calls; its log; how often it opened; whether a limit of its own is met, so that it may
 -- refuse to finish a branch; what each branch has written that is at work or prepared, in order of each key's
--- first write; who holds each key; and what an operator decided of each branch in S5, with what it was told since
--- (of any other branch this says nothing).
+-- first write; who holds each key; and what an operator decided of each branch in S5, with what it was told
+-- since (of any other branch this says nothing).
 pub record ManagerSight : Type 0 where
   pub tables : States
   pub log : LogSight
@@ -25,10 +25,14 @@ pub record ManagerSight : Type 0 where
 
 -- its data
 abbrev pub manager_data : ManagerSight → ManagerData
-manager_data m = record { writes = m.writes; holders = m.holders; known = λ x. is_begun (state_at m.tables x) }
+manager_data m = record {
+  writes = m.writes;
+  holders = m.holders;
+  known = λ x. is_begun (state_at m.tables x);
+}
 
--- why its data are in the way of an operation of a branch: what the branch has written and the holders of the key
--- alone say it
+-- why its data are in the way of an operation of a branch: what the branch has written and the holders of the
+-- key alone say it
 abbrev pub obstacle : ManagerSight → Xid → Op → Option WorkError
 obstacle m x op = obstacle_in (manager_data m) x op
 
@@ -48,7 +52,8 @@ pub record SameManager (old new : ManagerSight) : Type 0 where
 
 -- a call that concerns the tables alone: a failed manager refuses it, and else it moves them so; nothing else
 -- changes
-pub record ManagerCalls (old new : ManagerSight) (refuses : Type 0) (Moves : States → States → Type 0) : Type 0 where
+pub record ManagerCalls (old new : ManagerSight) (refuses : Type 0)
+    (Moves : States → States → Type 0) : Type 0 where
   pub failed : old.log.failed ≡ true → refuses × SameManager old new
   pub works : old.log.failed ≡ false → Moves old.tables new.tables
   pub log : new.log ≡ old.log

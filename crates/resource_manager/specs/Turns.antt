@@ -1,5 +1,5 @@
--- What an input makes of the data of a manager: which branch begins, does an operation, lets go what it has written
--- and holds, or is ended.
+-- What an input makes of the data of a manager: which branch begins, does an operation, lets go what it has
+-- written and holds, or is ended.
 use Rattle.std.specs.Prelude.{◌≡◌, ◌+◌, ◌==◌, ◌&&◌, ⊤, ℕ, Bool, true, false, not, is_none, if◌then◌else◌, Option, Some, None}
 use Rattle.xa_xid.specs.declared.xid.Xid.{Xid}
 use Rattle.protocol.specs.declared.names.Case.{Case}
@@ -25,8 +25,8 @@ use Rattle.process_state.specs.Turns.{next_ticket, no_answer}
 use Rattle.resource_manager.specs.Data.{CanBegin, ManagerData, obstacle_in}
 use Rattle.resource_manager.specs.Data
 
--- nothing; or the branch of a case begins; or it does an operation; or it lets its writes and its keys go, and is
--- known still, or is ended
+-- nothing; or the branch of a case begins; or it does an operation; or it lets its writes and its keys go,
+-- and is known still, or is ended
 pub data DataTurn : Type 0 where
   Rests : DataTurn
   Begins : Case → DataTurn
@@ -38,13 +38,15 @@ pub data DataTurn : Type 0 where
 abbrev pub next_case : CoreState → Case → Case
 next_case s d = child_case d.txn (next_ticket s)
 
--- JOIN of the parent's case, where this ticket of it is active, or none: a branch begins whose start the data let in
+-- JOIN of the parent's case, where this ticket of it is active, or none: a branch begins whose start the data
+-- let in
 abbrev pub join_data : CoreState → Case → Bool → Option Ticket → DataTurn
 join_data s d starts (Some t) = Rests
 join_data s d true None = Begins (next_case s d)
 join_data s d false None = Rests
 
--- WORK i at a branch: the next work of an Active branch that was refused none, where the data are not in its way
+-- WORK i at a branch: the next work of an Active branch that was refused none, where the data are not in its
+-- way
 abbrev pub work_data : Case → ℕ → Op → Bool → ManagerView → Standing → DataTurn
 work_data c i op does v Active =
     if (i == v.done + 1) && not v.spoiled then (if does then Operates c op else Rests) else Rests
@@ -61,7 +63,8 @@ prepare_data c n holding v Active =
     if (v.done == n) && not v.spoiled then vote_data c holding else Ends c
 prepare_data c n holding v _ = Rests
 
--- an outcome after an operator's decision: the first one ends the branch's data again, of which there are none
+-- an outcome after an operator's decision: the first one ends the branch's data again, of which there are
+-- none
 abbrev pub told_data : Case → Option Outcome → DataTurn
 told_data c None = Releases c
 told_data c (Some o) = Rests
@@ -117,8 +120,8 @@ MovesData old new x (Operates c op) = Data.Operates old new (x c) op
 MovesData old new x (Releases c) = Data.ReleasesHolds old new (x c)
 MovesData old new x (Ends c) = Data.Ends old new (x c)
 
--- what the data answer to a message: whether they let the branch of a JOIN begin, whether they are in the way of the
--- operation of a WORK, and what the branch of a PREPARE has written
+-- what the data answer to a message: whether they let the branch of a JOIN begin, whether they are in the way
+-- of the operation of a WORK, and what the branch of a PREPARE has written
 abbrev pub answer_of : ManagerData → (Case → Xid) → Bool → Message → DataAnswer
 answer_of d x begins (Join c) = record { starts = begins; does = true; holding = ReadsOnly }
 answer_of d x begins (Work c i op) =

@@ -29,8 +29,8 @@ abbrev pub work_refusal : ManagerSight → ℕ → Op → Option WorkError
 work_refusal m t op =
     if m.log.failed then Some RmFail else refusal_by m op (active_of m.tables.associations t)
 
--- a thread did an operation: the branch that it is active in has written that, and no other branch anything; it
--- holds the key, and every other key is held as it was
+-- a thread did an operation: the branch that it is active in has written that, and no other branch anything;
+-- it holds the key, and every other key is held as it was
 pub record ThreadWorks (old new : ManagerSight) (t : ℕ) (op : Op) : Type 0 where
   pub allowed : work_refusal old t op ≡ None
   pub branch : Xid

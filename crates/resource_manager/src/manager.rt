@@ -51,8 +51,8 @@ pub trait ResourceManager {
         ensures { result ≡ decision_at (state_at (sight self.now).tables xid.now)
             ((sight self.now).decided xid.now) };
 
-    /// Opens the manager, which migrates associations or not; one that is open stays so. RmFail. Inval, Async:
-    /// the flags. A refusal changes nothing.
+    /// Opens the manager, which migrates associations or not; one that is open stays so. RmFail. Inval,
+    /// Async: the flags. A refusal changes nothing.
     fn open(&mut self, flags: Flags, migrates: bool) -> Code
         ensures { ManagerCalls (sight self.old) (sight self.new) (result ≡ Code.RmFail)
             (λ old new. OpensManager old new flags.0 migrates result) };
@@ -84,8 +84,8 @@ pub trait ResourceManager {
         ensures err { OnErr result ((is_left flags.0 ≡ false)
             × SameManager (sight self.old) (sight self.new)) };
 
-    /// While no thread has an association, a new branch begins and is left idle, as by a start and an end with
-    /// TMSUCCESS. False: the start would be refused; nothing changed, nor does want of memory.
+    /// While no thread has an association, a new branch begins and is left idle, as by a start and an end
+    /// with TMSUCCESS. False: the start would be refused; nothing changed, nor does want of memory.
     fn begin_idle(&mut self, xid: &Xid) -> Result<bool, AllocError>
         requires idle { IsIdle (sight self.old) }
         requires up { (sight self.old).log.failed ≡ false }
@@ -93,9 +93,9 @@ pub trait ResourceManager {
         ensures ok { IfOk result (HasBegun (sight self.old) (sight self.new) xid.now) }
         ensures err { OnErr result (SameManager (sight self.old) (sight self.new)) };
 
-    /// While no thread has an association, an idle branch does an operation, as by a start with TMJOIN, the work
-    /// and an end. False: it was refused, and the branch can only be rolled back. Memory: the branch is idle as
-    /// before.
+    /// While no thread has an association, an idle branch does an operation, as by a start with TMJOIN, the
+    /// work and an end. False: it was refused, and the branch can only be rolled back. Memory: the branch is
+    /// idle as before.
     fn work_idle(&mut self, xid: &Xid, op: &Op) -> Result<bool, AllocError>
         requires idle { IsIdle (sight self.old) }
         requires up { (sight self.old).log.failed ≡ false }
@@ -134,9 +134,9 @@ pub trait ResourceManager {
             Verb.Forget xid.now flags.0) }
         ensures err { OnErr result (SameManager (sight self.old) (sight self.new)) };
 
-    /// An operator decides a prepared branch, without its parent: the decision is forced, and stands until
-    /// it is forgotten. The manager need not be open. Failed, then NotInDoubt: nothing changed. Memory:
-    /// nothing changed. Exhausted: a limit of the manager's own is met; nothing changed. Device: it fails now.
+    /// An operator decides a prepared branch, without its parent: the decision is forced, and stands until it
+    /// is forgotten. The manager need not be open. Failed, then NotInDoubt: nothing changed. Memory: nothing
+    /// changed. Exhausted: a limit of the manager's own is met; nothing changed. Device: it fails now.
     fn decide(&mut self, xid: &Xid, outcome: Outcome) -> Result<(), DecideError>
         ensures ok { OnOk result (ManagerDecides (sight self.old) (sight self.new) xid.now outcome) }
         ensures err { IfErr result (ManagerNotDecided (sight self.old) (sight self.new) xid.now outcome) };
@@ -167,15 +167,17 @@ pub trait ResourceManager {
     fn left(&self, keep: usize) -> Result<Vec<LogRecord>, AllocError>
         ensures { IfOk result (λ records. records.items ≡ left_by (sight self.now).log keep) };
 
-    /// How many bytes its log has: the header and the frames of its records, and a torn one where its device has failed.
+    /// How many bytes its log has: the header and the frames of its records, and a torn one where its device
+    /// has failed.
     fn log_size(&self) -> usize
         ensures { (sight self.now).log.failed ≡ false
             → result ≡ 5 + frames_size (records_of (sight self.now).log.kept) };
 
-    /// Of the records that a crash would leave that keeps N bytes after the forced front, those after the first ones, if the
-    /// header and the first ones, all of them forced, are `size` bytes.
+    /// Of the records that a crash would leave that keeps N bytes after the forced front, those after the
+    /// first ones, if the header and the first ones, all of them forced, are `size` bytes.
     fn kept_after(&self, size: usize, keep: usize) -> Result<Vec<LogRecord>, AllocError>
-        ensures { IfOk result (λ records. (first : List AnyRecord) → IsLogFront (sight self.now).log size first
+        ensures { IfOk result (λ records. (first : List AnyRecord)
+            → IsLogFront (sight self.now).log size first
             → first ++ records.items ≡ left_by (sight self.now).log keep) };
 
     /// Each record of its log can be in a manager's log: it was read off bytes.
@@ -190,17 +192,17 @@ pub trait ResourceManager {
     fn branches_are_listed_once(&self)
         ensures { AreBranchesListedOnce (sight self.now).tables.branches.branches };
 
-    /// Restarts the manager after a crash that keeps N of the log's unforced bytes: it stands as the
-    /// records say that are left, and is not open. Its own records are never refused. Memory: nothing changed.
+    /// Restarts the manager after a crash that keeps N of the log's unforced bytes: it stands as the records
+    /// say that are left, and is not open. Its own records are never refused. Memory: nothing changed.
     /// Exhausted: no boot below 2^63 comes after the last one; nothing changed. Device: the manager has
     /// failed until it is restarted.
     fn restart(&mut self, keep: usize) -> Result<(), RestartError>
         ensures ok { OnOk result (RestartsManager (sight self.old) (sight self.new) keep) }
         ensures err { IfErr result (ManagerNotRestarted (sight self.old) (sight self.new) keep) };
 
-    /// Trims the log: the last Opened and the records of the branches that are not forgotten stay, and
-    /// after them the data, keys rising, all of it forced by one write. Gives how many records remain.
-    /// Its own records are never refused. Failed, Memory: nothing changed. Device: the log stands as it was or
+    /// Trims the log: the last Opened and the records of the branches that are not forgotten stay, and after
+    /// them the data, keys rising, all of it forced by one write. Gives how many records remain. Its own
+    /// records are never refused. Failed, Memory: nothing changed. Device: the log stands as it was or
     /// trimmed, and the manager has failed until a restart.
     fn trim(&mut self) -> Result<usize, TrimError>
         ensures ok { IfOk result (ManagerTrims (sight self.old) (sight self.new)) }

@@ -63,14 +63,16 @@ module _ (end : WorldState) (t : IsTree end.tree) (es : List Made) (w : World) (
   tree = end.tree
 
   module _ (q : ProcessId) (listed : is_listed end.tree q ≡ true) where
-    kept_by : (e : TreeProcess) → find (λ x. same_process x.id q) end.tree ≡ Some e → e.id ≡ q → (c : CoreState)
+    kept_by : (e : TreeProcess) → find (λ x. same_process x.id q) end.tree ≡ Some e → e.id ≡ q
+        → (c : CoreState)
         → end.node_at q ≡ Some c → kept_lists end.tree logs q ≡ kept (w.at q)
     unfolding kept_lists
     kept_by e found here c there =
         let at = follows.nodes q c there in
         let mine : form_of c.place ≡ log_form q e.kind =
         ap (λ (p : Place). log_form p.me (kind_of_role c.place.role)) at.place
-        ∙ ap (log_form q) (ap (λ (p : Place). kind_of_role p.role) at.place ∙ entry_log end.tree t q e found) in
+        ∙ ap (log_form q) (ap (λ (p : Place). kind_of_role p.role) at.place ∙ entry_log end.tree t q e found)
+        in
         let spells : SpellsLogBy (Some c) (bytes_of logs q) =
         subst (λ o. SpellsLogBy o (bytes_of logs q)) there
         (subst (λ p. SpellsLogBy (end.node_at p) (bytes_of logs q)) here
@@ -82,7 +84,8 @@ module _ (end : WorldState) (t : IsTree end.tree) (es : List Made) (w : World) (
         ap (λ o. own_records (place_of end.tree q)
         (whole_records (read_as q (entry_kind o) (bytes_of logs q)))) found
         ∙ ap (own_records (place_of end.tree q))
-        (sound_records (form_in (bytes_of logs q) q e.kind) (bytes_of logs q) sound.records sound.torn sound.read
+        (sound_records (form_in (bytes_of logs q) q e.kind) (bytes_of logs q) sound.records
+        sound.torn sound.read
         ∙ ap (λ f. records_in f 0 (body (bytes_of logs q))) (second ∙ sym mine)
         ∙ spells.read)
         ∙ ap (λ p. own_records p (records_of c.log.kept)) (sym at.place)
@@ -110,7 +113,8 @@ no_damage d x none some = absurd (let both = sym none ∙ some in cc)
 module _ (d : Detail) (tree : List TreeProcess) (logs : List ProcessLog) (w : World) (text report : List ℕ)
     (says : IsLogsText text tree logs) (none : first_damage tree logs ≡ None)
     (lines : AreTrue w (audit_lines tree logs)) where
-  reported : (e : AuditStatus) → e ≡ ending_by (mismatches_in (audit_lines tree logs)) → Reports d tree logs report
+  reported : (e : AuditStatus) → e ≡ ending_by (mismatches_in (audit_lines tree logs))
+      → Reports d tree logs report
       → AuditsTruly d tree w text e report
   reported e ends reports = record {
     logs = logs;

@@ -24,8 +24,10 @@ pub record ReportsTruly (d : Detail) (tree : List TreeProcess) (logs : List Proc
   pub ends : ending ≡ ending_by (mismatches_in lines)
   pub lines_true : AreTrue w lines
 
--- The text says this tree and some logs of it, none of which is damaged, and the report is true in this world.
-pub record AuditsTruly (d : Detail) (tree : List TreeProcess) (w : World) (text : List ℕ) (ending : AuditStatus)
+-- The text says this tree and some logs of it, none of which is damaged, and the report is true in this
+-- world.
+pub record AuditsTruly (d : Detail) (tree : List TreeProcess) (w : World) (text : List ℕ)
+    (ending : AuditStatus)
     (report : List ℕ) : Type 0 where
   pub logs : List ProcessLog
   pub says : IsLogsText text tree logs

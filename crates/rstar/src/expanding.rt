@@ -77,8 +77,8 @@ fn line_of(alloc: Global, fault: ExpandFault) -> Result<Vec<u8>, AllocError> {
     }
 }
 
-/// Writes the line of a script that cannot be expanded, and on standard error why, if it is to be told or that is a
-/// terminal; answers the exit status.
+/// Writes the line of a script that cannot be expanded, and on standard error why, if it is to be told or
+/// that is a terminal; answers the exit status.
 fn refused(rt: &HostRuntime, is_told: bool, fault: ExpandFault) -> u8 {
     let Ok(line) = line_of(rt.alloc(), fault) else {
         return 4;
@@ -106,8 +106,8 @@ fn script_of<R: Read>(
     expand(alloc, &input)
 }
 
-/// The script of specified events to which one read from here comes; or the exit status, if there is none: then all is
-/// told.
+/// The script of specified events to which one read from here comes; or the exit status, if there is none:
+/// then all is told.
 pub(crate) fn expanded<R: Read>(
     rt: &HostRuntime,
     is_told: bool,

@@ -63,8 +63,8 @@ fn no_tree(alloc: Global, path: &str, error: ScriptError) -> End {
     }
 }
 
-/// The tree of a front that was read of a file's text and a line of three dashes after it; None, if the file has
-/// such a line of its own.
+/// The tree of a front that was read of a file's text and a line of three dashes after it; None, if the file
+/// has such a line of its own.
 fn tree_of(front: Front<'_>) -> Option<Tree> {
     if front.lines.iter().any(|line| *line == "---") {
         None
@@ -249,7 +249,8 @@ pub(crate) fn judged(
     })
 }
 
-/// Whether the log that these bytes are, over which this process goes on, has a case of a boot that it had not reached.
+/// Whether the log that these bytes are, over which this process goes on, has a case of a boot that it had
+/// not reached.
 fn is_ahead(alloc: Global, me: &TreeProcess, bytes: &[u8]) -> Result<bool, AllocError> {
     let copy = MemoryStore::from_bytes(Vec::from_slice(alloc, bytes)?);
     match RecLog::open(copy, me.id, me.kind, alloc) {
@@ -261,8 +262,8 @@ fn is_ahead(alloc: Global, me: &TreeProcess, bytes: &[u8]) -> Result<bool, Alloc
     }
 }
 
-/// Says to the operator what no run leaves: that the log at this path has a case of a boot that it had not reached. The
-/// process goes on over it all the same.
+/// Says to the operator what no run leaves: that the log at this path has a case of a boot that it had not
+/// reached. The process goes on over it all the same.
 pub(crate) fn warn(rt: &HostRuntime, path: &str, me: &TreeProcess, bytes: &[u8]) {
     let alloc = rt.alloc();
     if let Ok(true) = is_ahead(alloc, me, bytes) {

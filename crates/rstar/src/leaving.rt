@@ -6,8 +6,8 @@ use std::alloc::Global;
 use std::io::{Read, Write};
 use tree_engine::{TreeOutput, run_tree};
 
-/// Runs a tree script, writes its trace, and after it the data that its managers hold then; and answers the exit status.
-/// Of a script that is refused nothing more is written than its line.
+/// Runs a tree script, writes its trace, and after it the data that its managers hold then; and answers the
+/// exit status. Of a script that is refused nothing more is written than its line.
 pub(crate) fn perform<R: Read, W: Write>(
     alloc: Global,
     reader: &mut R,

@@ -1,5 +1,5 @@
-//! `rstar log --file` and `rstar audit --file`: the logs of a tree out of the files in which its processes have
-//! them. Nothing is locked and nothing is written, so the processes may be running.
+//! `rstar log --file` and `rstar audit --file`: the logs of a tree out of the files in which its processes
+//! have them. Nothing is locked and nothing is written, so the processes may be running.
 
 use crate::files::{End, entry_of, no_memory, not_opened, refused, tree_in};
 use clap::{Arg, ArgAction, ArgMatches};
@@ -109,7 +109,8 @@ fn cut_tree<'a, 'b>(alloc: Global, words: &'b [&'a str]) -> Result<(&'a str, &'b
     }
 }
 
-/// The text of the tree and the logs of these words, as `rstar tree --logs` writes it and `rstar log` reads it.
+/// The text of the tree and the logs of these words, as `rstar tree --logs` writes it and `rstar log` reads
+/// it.
 pub(crate) fn input_of(rt: &HostRuntime, words: &[&str]) -> Result<Vec<u8>, End> {
     let alloc = rt.alloc();
     let (path, rest) = cut_tree(alloc, words)?;

@@ -380,7 +380,8 @@ fn data<'a>(alloc: Global) -> Result<Arg<'a>, AllocError> {
     .conflicts_with("picture")
 }
 
-/// The flag `--events` of `rstar tree`, which excludes the others; with `--picture` it takes the numbers of two events.
+/// The flag `--events` of `rstar tree`, which excludes the others; with `--picture` it takes the numbers of
+/// two events.
 fn events<'a>(alloc: Global) -> Result<Arg<'a>, AllocError> {
     Arg::new(alloc, "events")
         .long("events")
@@ -779,8 +780,8 @@ fn run_on<T: Threads + Wait + Sync>(
     Ok(status)
 }
 
-/// The bytes of the longest script of whose run something is noted if no explanation is asked for, since the run is
-/// made once more for that.
+/// The bytes of the longest script of whose run something is noted if no explanation is asked for, since the
+/// run is made once more for that.
 const MOST_NOTED: usize = 1 << 16;
 
 /// Tells on standard error what is to be noted of the run of a tree script.

@@ -22,8 +22,9 @@ use std::time::{Clock, Duration};
 use tree_process::ProcessReopenError;
 
 /// The words after `rstar node`: the file of the tree, the process, the file of its log, and whether that is
-/// to be made; whether what is refused is explained, and said by words; the name of the tree; after how many seconds it
-/// asks again; over how many bytes of its log's file it trims; and whether it tells of each child that joins.
+/// to be made; whether what is refused is explained, and said by words; the name of the tree; after how many
+/// seconds it asks again; over how many bytes of its log's file it trims; and whether it tells of each child
+/// that joins.
 #[derive(Clone, Copy)]
 pub struct NodeWords<'a> {
     pub tree: &'a str,
@@ -115,8 +116,8 @@ fn staged(
     }
 }
 
-/// The node of these words, and the reason of whatever fails under its log. Its file is written only once it is known that
-/// the process goes on over the log.
+/// The node of these words, and the reason of whatever fails under its log. Its file is written only once it
+/// is known that the process goes on over the log.
 fn started<'a>(rt: &HostRuntime, words: NodeWords<'a>) -> Result<(OpenNode<'a>, Trouble), End> {
     let alloc = rt.alloc();
     let tree = tree_in(rt, words.tree)?;
@@ -218,7 +219,8 @@ fn answer_input<T: Threads + Wait + Clock + Copy + Drop + Send + 'static>(
     }
 }
 
-/// Lets a node go. One function does it: what letting go of one means is proved once, and not at each way out.
+/// Lets a node go. One function does it: what letting go of one means is proved once, and not at each way
+/// out.
 fn let_go(_node: FileNode) {}
 
 /// Closes the file of a node that ended in order.
@@ -245,8 +247,8 @@ fn serve<T: Threads + Wait + Clock + Copy + Drop + Send + 'static>(
     close(rt, words.log, store, &trouble)
 }
 
-/// Runs a node, and answers the exit status. Why it did not start, or ended before its input did, is told on standard
-/// error. Threads are started with `ask` alone.
+/// Runs a node, and answers the exit status. Why it did not start, or ended before its input did, is told on
+/// standard error. Threads are started with `ask` alone.
 pub fn run<T: Threads + Wait + Clock + Copy + Drop + Send + 'static>(
     rt: &HostRuntime,
     threads: T,

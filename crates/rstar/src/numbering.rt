@@ -8,8 +8,8 @@ use std::alloc::Global;
 use std::io::{Read, Write};
 use tree_engine::{TreeOutput, run_tree};
 
-/// What these words name as the input, if no picture is asked for: the word after `--events` is the file, if there is
-/// one, and no other word may name it then.
+/// What these words name as the input, if no picture is asked for: the word after `--events` is the file, if
+/// there is one, and no other word may name it then.
 pub(crate) fn source_of<'a>(matches: &ArgMatches<'a>) -> Result<Source<'a>, &'a str> {
     match (matches.get_str("events"), source::source_of(matches)) {
         (None, named) => Ok(named),
@@ -18,8 +18,8 @@ pub(crate) fn source_of<'a>(matches: &ArgMatches<'a>) -> Result<Source<'a>, &'a 
     }
 }
 
-/// Runs a tree script, writes its trace with the number of its event before each line, and answers the exit status. Of a
-/// script that is refused its line is written, as without the numbers.
+/// Runs a tree script, writes its trace with the number of its event before each line, and answers the exit
+/// status. Of a script that is refused its line is written, as without the numbers.
 pub(crate) fn perform<R: Read, W: Write>(
     alloc: Global,
     reader: &mut R,

@@ -19,13 +19,18 @@ abbrev pub handle_val : Ptr → Val
 handle_val p = vstruct (vcons (ptr_val p) vnil)
 
 module _ {M : Type 1} {𝓤 : Ura M} {𝓛 : Logic 𝓤} {K : Type 0} {Γ : List (Item 𝓤)} {G : Goal 𝓤 𝓛.H} where
-  pub handle_out : K → (d : handle.the_row.Denot) (vs : List Val) → (vs ≡ handle_val d.at ∷ [] → Seq K 𝓛 (‵ (handle_owns kept.the_row d.at d.node) ∷ Γ) G)
+  pub handle_out : K → (d : handle.the_row.Denot) (vs : List Val)
+      → (vs ≡ handle_val d.at ∷ [] → Seq K 𝓛 (‵ (handle_owns kept.the_row d.at d.node) ∷ Γ) G)
       → Seq K 𝓛 (‵ (handle.the_row.own_val d vs) ∷ Γ) G
-  handle_out t d vs k = fsplit t $ fpick t (λ vss. fsplit t $ feq_l t (λ ev. fsplit t $ feq_l t (λ ep. drop t $
+  handle_out t d vs k = fsplit t $ fpick t
+      (λ vss. fsplit t $ feq_l t (λ ev. fsplit t $ feq_l t (λ ep. drop t $
       k (subst (λ (ps : List Val). vs ≡ vstruct (of_list (ps ++ [])) ∷ []) ep ev))))
 
   pub handle_in : K → (p : Ptr) (x : Option kept.the_row.Denot)
-      → Step K 𝓛 (‵ (handle.the_row.own_val (record { at = p; node = x }) (handle_val p ∷ [])) ∷ Γ) G (‵ (handle_owns kept.the_row p x) ∷ Γ) G
-  handle_in t p x = step (λ s. nothing t $ feq_i t (List Val) (ptr_val p ∷ []) (ptr_val p ∷ []) refl $ fjoin t $
+      → Step K 𝓛 (‵ (handle.the_row.own_val (record { at = p; node = x }) (handle_val p ∷ [])) ∷ Γ) G
+      (‵ (handle_owns kept.the_row p x) ∷ Γ) G
+  handle_in t p x = step (λ s. nothing t $ feq_i t (List Val) (ptr_val p ∷ []) (ptr_val p ∷ [])
+      refl $ fjoin t $
       feq_i t (List Val) (handle_val p ∷ []) (handle_val p ∷ []) refl $ fjoin t $
-      fpack t (Valss (RawPtr ∷ [])) (within (shape handle.the_type) (p, tt) (handle_val p ∷ [])) (ptr_val p ∷ [], tt) $ fjoin t $ s)
+      fpack t (Valss (RawPtr ∷ [])) (within (shape handle.the_type) (p, tt) (handle_val p ∷ []))
+      (ptr_val p ∷ [], tt) $ fjoin t $ s)

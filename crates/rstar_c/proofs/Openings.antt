@@ -11,7 +11,8 @@ use Rattle.linked_node.specs.declared.kept.KeptLife.TheVariants.{Serves, Failed,
 use Rattle.node_engine.specs.declared.serving.Serving.{Serving}
 use Rattle.protocol.specs.declared.events.Reaction.{Reaction}
 
-pub told : (first : Serving (FileStore CalledFile)) (opening : Reaction) (kept : Kept) (life : KeptLife) (status : ℕ)
+pub told : (first : Serving (FileStore CalledFile)) (opening : Reaction) (kept : Kept)
+    (life : KeptLife) (status : ℕ)
     → ServesAfter first opening kept life → TellsBy life status → IsAnswerNumber status
 told first opening kept (Serves node) status serves tells = tells
 told first opening kept (Failed why) status serves tells = absurd serves

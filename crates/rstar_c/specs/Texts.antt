@@ -17,7 +17,8 @@ Told text old new size = (size ≡ length text) × Fills text old new
 abbrev pub detail_by : ℕ → Detail
 detail_by number = if number == 0 then Lines else Explained
 
--- the report of an audit of these logs, true of each run that left them, and the status by which the program ends
+-- the report of an audit of these logs, true of each run that left them, and the status by which the program
+-- ends
 pub record AuditsAs (detail : Detail) (logs old new : List ℕ) (size status : ℕ) : Type 0 where
   pub ending : AuditStatus
   pub text : List ℕ
@@ -43,7 +44,8 @@ pub record TellsNone (old new : List ℕ) (size ending status : ℕ) : Type 0 wh
 
 -- logs are audited, or memory was refused
 pub data Audits (detail : Detail) (logs old new : List ℕ) (size ending status : ℕ) : Type 0 where
-  audited : status ≡ 0 → AuditsAs detail logs old new size ending → Audits detail logs old new size ending status
+  audited : status ≡ 0 → AuditsAs detail logs old new size ending
+      → Audits detail logs old new size ending status
   refused : TellsNone old new size ending status → Audits detail logs old new size ending status
 
 -- logs are shown, or memory was refused

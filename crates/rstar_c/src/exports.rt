@@ -26,8 +26,9 @@ fn refused(why: u32) -> u32
     if why == DONE || why == CALLS { IO } else { why }
 }
 
-/// Opens a process of a tree over the bytes of its log's file (how is 0), or over a new one (how is 1). 0 or 27: the
-/// handle is of a node, whose answer is what it did as it opened. Else why not, and the handle is as it was.
+/// Opens a process of a tree over the bytes of its log's file (how is 0), or over a new one (how is 1). 0 or
+/// 27: the handle is of a node, whose answer is what it did as it opened. Else why not, and the handle is as
+/// it was.
 #[unsafe(no_mangle)]
 pub extern "C" fn rstar_core_open(
     alloc: Global,
@@ -140,7 +141,8 @@ pub extern "C" fn rstar_core_done(alloc: Global, core: &mut Core, is_made: u32) 
     status
 }
 
-/// Releases a node: its memory. What it had forced is in its file; what a line `end` did not force may be lost.
+/// Releases a node: its memory. What it had forced is in its file; what a line `end` did not force may be
+/// lost.
 #[unsafe(no_mangle)]
 pub extern "C" fn rstar_core_close(alloc: Global, core: &mut Core)
     requires { IsSome core.old.node }

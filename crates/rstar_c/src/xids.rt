@@ -61,8 +61,8 @@ pub extern "C" fn rstar_xid_bytes(
     }
 }
 
-/// Gives the bytes of the XID of a case: the root of its tree, the parent of the case's process (0 at the root), and the
-/// case as a trace spells it.
+/// Gives the bytes of the XID of a case: the root of its tree, the parent of the case's process (0 at the
+/// root), and the case as a trace spells it.
 #[unsafe(no_mangle)]
 pub extern "C" fn rstar_xid_of_case(
     alloc: Global,

@@ -37,7 +37,8 @@ managers_more tree k e old new there at were adds p =
     grind (arith, all, were p, adds p, list_any-append (is_manager_entry p) (take k tree) (e ∷ []))
 
 -- the manager of an entry that is one
-pub manager_added : (e : TreeProcess) (es fs : List (ProcessId × Manager)) (m : Manager) → e.kind ≡ ManagerKind
+pub manager_added : (e : TreeProcess) (es fs : List (ProcessId × Manager)) (m : Manager)
+    → e.kind ≡ ManagerKind
     → fs ≡ insert_entry same_id es e.id m → AddsManager e (keys_of es) (keys_of fs)
 manager_added e es fs m is made p =
     ap (λ xs. is_among p (keys_of xs)) made ∙ known_more es e.id p m

@@ -139,7 +139,8 @@ manager_note tree m e (Some w) there is = record {
 }
 
 -- a process is among the managers if it is found
-among_if_found : (n : Notes) (e : JournalEntry) (o : Option Manager) → manager_in n.managers.entries e.step.process ≡ o
+among_if_found : (n : Notes) (e : JournalEntry) (o : Option Manager)
+    → manager_in n.managers.entries e.step.process ≡ o
     → is_some o ≡ is_among e.step.process (known n)
 among_if_found n e o is =
     ap is_some (sym is) ∙ is_some-lookup (same_id e.step.process) n.managers.entries
@@ -161,7 +162,8 @@ step_note tree n e o managers is = by (manager_in n.managers.entries e.step.proc
         (sym (managers e.step.process) ∙ sym (among_if_found n e (Some m) at)) is
 
 -- the notes of one more step
-pub notes_more : (tree : List TreeProcess) (es : List JournalEntry) (k : ℕ) (e : JournalEntry) (old new : List (Vec ℕ)) (v : Vec ℕ)
+pub notes_more : (tree : List TreeProcess) (es : List JournalEntry) (k : ℕ) (e : JournalEntry)
+    (old new : List (Vec ℕ)) (v : Vec ℕ)
     (n : Notes) → k < length es → e ≡ get_or es k e → AreNotes tree (take k es) (map (λ w. w.items) old)
     → AreManagers tree (known n) → v.items ≡ unwrap_or (told n e) [] → new ≡ old ++ v ∷ []
     → AreNotes tree (take (k + 1) es) (map (λ w. w.items) new)

@@ -91,7 +91,8 @@ is_open m (Some x) = is_some (branch_at m x)
 abbrev pub is_full_for : Branch → List ℕ → Bool
 is_full_for b k = nat_le 64 (length b.writes.entries) && not (is_some (at_key b.writes.entries k))
 
--- a branch is refused an operation: no store does it, another branch holds the key, or it would write too many
+-- a branch is refused an operation: no store does it, another branch holds the key, or it would write too
+-- many
 abbrev pub is_refused : Manager → Xid → Branch → Op → Bool
 is_refused m x b op =
     is_bad_op op

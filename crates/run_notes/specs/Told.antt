@@ -117,8 +117,8 @@ told_by (Some m) e = told_at m e.step.happening e.reaction
 abbrev pub told : Notes → JournalEntry → Option (List ℕ)
 told n e = told_by (manager_in n.managers.entries e.step.process) e
 
--- these words may be told of a message that came to a manager, which reacted so: of a work what its get read, and of a
--- question for a vote, which the manager answered by NO, why
+-- these words may be told of a message that came to a manager, which reacted so: of a work what its get read,
+-- and of a question for a vote, which the manager answered by NO, why
 abbrev pub MayTellOf : Message → Reaction → List ℕ → Type 0
 MayTellOf (Work c i op) r w = IsRead c op w
 MayTellOf (Prepare c works) r w = (votes_no r ≡ true) × IsNo c w
@@ -137,8 +137,8 @@ MayTellAt Trim r w = ⊥
 abbrev pub MayTell : JournalEntry → List ℕ → Type 0
 MayTell e w = MayTellAt e.step.happening e.reaction w
 
--- These words are the note of a step of a tree, where no words say that nothing is told: only a step of a manager has one, and
--- each has one by which the manager answers a question for a vote by NO.
+-- These words are the note of a step of a tree, where no words say that nothing is told: only a step of a
+-- manager has one, and each has one by which the manager answers a question for a vote by NO.
 pub record IsNote (tree : List TreeProcess) (e : JournalEntry) (words : List ℕ) : Type 0 where
   pub only : (words ≡ []) ⊎ ((is_manager tree e.step.process ≡ true) × MayTell e words)
   pub each : is_manager tree e.step.process ≡ true → refuses e ≡ true → MayTell e words

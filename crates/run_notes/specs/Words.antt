@@ -44,7 +44,8 @@ unknown_text c = no_text c (codes "it does not know the branch, which was lost i
 
 -- why a case votes NO that did M of N works
 abbrev pub count_text : Case → ℕ → ℕ → List ℕ
-count_text c works done = no_text c (codes "of " ++ decimal works ++ codes " works " ++ decimal done ++ codes " came in order")
+count_text c works done = no_text c (codes "of " ++ decimal works ++ codes " works " ++ decimal done
+    ++ codes " came in order")
 
 -- which key which branch holds
 abbrev pub held_text : List ℕ → BranchName → List ℕ

@@ -26,7 +26,8 @@ struct Before {
 /// What a record did that is not forced yet.
 #[derive(Drop)]
 enum Deed {
-    /// It ended a branch that had promised. What stood before at the keys that it wrote, in the order of these writes.
+    /// It ended a branch that had promised. What stood before at the keys that it wrote, in the order of
+    /// these writes.
     Ended(Xid, Branch, Vec<Before>),
     /// Nothing that a crash would change.
     Nothing,

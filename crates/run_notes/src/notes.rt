@@ -155,7 +155,8 @@ fn add_manager(
     entry: &TreeProcess,
     records: &[LogRecord],
 ) -> Result<(), AllocError>
-    ensures { OnOk result (AddsManager entry.now (keys_of managers.old.entries) (keys_of managers.new.entries)) }
+    ensures { OnOk result (AddsManager entry.now (keys_of managers.old.entries)
+        (keys_of managers.new.entries)) }
 {
     match entry.kind {
         Kind::Coordinator => Ok(()),
@@ -168,8 +169,8 @@ fn add_manager(
 }
 
 impl Notes {
-    /// Of a tree that has just opened: its processes, and the records of the log of each, in the tree's order. A process
-    /// with no log among them has no records.
+    /// Of a tree that has just opened: its processes, and the records of the log of each, in the tree's
+    /// order. A process with no log among them has no records.
     #[tactic(auto, using(crate::proofs::Knowing::managers_more))]
     pub fn new(
         alloc: Global,
@@ -185,8 +186,8 @@ impl Notes {
         Ok(Notes { managers })
     }
 
-    /// Takes the next step of the run, and says what is told of it, as bytes without a line feed, if anything is: why a
-    /// manager votes NO, or what a get read.
+    /// Takes the next step of the run, and says what is told of it, as bytes without a line feed, if anything
+    /// is: why a manager votes NO, or what a get read.
     pub fn take(&mut self, entry: &JournalEntry) -> Result<Option<Vec<u8>>, AllocError>
         ensures told { IfOk result (λ said. bytes_in said ≡ told self.old entry.now) }
         ensures known { known self.new ≡ known self.old }
@@ -209,8 +210,8 @@ fn note_of(alloc: Global, notes: &mut Notes, entry: &JournalEntry) -> Result<Vec
     }
 }
 
-/// What is told of each of these steps of a tree that opened over these logs, in their order; of one of which nothing is,
-/// no bytes.
+/// What is told of each of these steps of a tree that opened over these logs, in their order; of one of which
+/// nothing is, no bytes.
 pub fn notes_of(
     alloc: Global,
     tree: &[TreeProcess],

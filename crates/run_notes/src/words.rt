@@ -31,8 +31,8 @@ fn push_byte(alloc: Global, out: &mut Vec<u8>, byte: u8) -> Result<(), AllocErro
     push(out, &digits)
 }
 
-/// Adds the bytes of a key or a value: a visible character of ASCII other than a backslash as it is, and each other byte
-/// as a backslash, an `x` and its two digits.
+/// Adds the bytes of a key or a value: a visible character of ASCII other than a backslash as it is, and each
+/// other byte as a backslash, an `x` and its two digits.
 pub fn push_bytes(alloc: Global, out: &mut Vec<u8>, bytes: &[u8]) -> Result<(), AllocError>
     ensures { OnOk result (out.new.items ≡ out.old.items ++ bytes_text bytes.now) }
 {

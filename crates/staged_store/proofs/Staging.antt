@@ -12,7 +12,8 @@ use Rattle.staged_store.specs.Crashes.{GroupsStandOrNot}
 use Rattle.staged_store.specs.Backings.{AddsPromised, Asks, Holds, asks_block, asks_file, asks_nothing}
 
 -- two facts of an Ok
-pub both_on_ok : {A E : Type 0} (r : Result A E) (P Q R : Type 0) → (P → Q → R) → OnOk r P → OnOk r Q → OnOk r R
+pub both_on_ok : {A E : Type 0} (r : Result A E) (P Q R : Type 0) → (P → Q → R) → OnOk r P → OnOk r Q
+    → OnOk r R
 both_on_ok (Ok a) P Q R f p q = f p q
 both_on_ok (Err e) P Q R f p q = tt
 
@@ -42,7 +43,8 @@ stores_go_on s = record {
 
 -- Files.
 
-module _ {F : Type 0} (b : FileBacking F) (before s : StagedStore) (h : Holds b before) (k : Continues before s) where
+module _ {F : Type 0} (b : FileBacking F) (before s : StagedStore) (h : Holds b before)
+    (k : Continues before s) where
   -- if nothing took the place of what stood, what is in the file is a front of what is promised
   front_stands : b.rewrites ≡ s.rewrites → take (length (file_bytes b.file)) (promised s) ≡ file_bytes b.file
   front_stands same =
@@ -55,7 +57,8 @@ module _ {F : Type 0} (b : FileBacking F) (before s : StagedStore) (h : Holds b 
   -- nothing was asked
   all_stands : b.rewrites ≡ s.rewrites → file_forced b.file ≡ length (promised s) → Holds b s
   all_stands same forced =
-      let long : length (promised s) ≡ length (file_bytes b.file) = sym forced ∙ h.all ∙ ap length (sym h.text) in
+      let long : length (promised s) ≡ length (file_bytes b.file) = sym forced ∙ h.all
+      ∙ ap length (sym h.text) in
       record {
         text = sym (front_stands same) ∙ ap (λ n. take n (promised s)) (sym long)
             ∙ take_all (length (promised s)) (promised s) (le_refl (length (promised s)));
@@ -63,14 +66,17 @@ module _ {F : Type 0} (b : FileBacking F) (before s : StagedStore) (h : Holds b 
         rewrites = same;
       }
 
-module _ {F : Type 0} (writes : F → F → ℕ → List ℕ → Type 0) (syncs : F → F → Type 0) (replaces : F → F → List ℕ → Type 0)
+module _ {F : Type 0} (writes : F → F → ℕ → List ℕ → Type 0) (syncs : F → F → Type 0)
+    (replaces : F → F → List ℕ → Type 0)
     (b new : FileBacking F) (before s : StagedStore) (h : Holds b before) (k : Continues before s) where
   block_stands : b.rewrites ≡ s.rewrites
-      → AddsPromised writes syncs replaces b new (drop (length (file_bytes b.file)) (promised s)) → Holds new s
+      → AddsPromised writes syncs replaces b new (drop (length (file_bytes b.file)) (promised s))
+      → Holds new s
   block_stands same adds =
       let text : file_bytes adds.mid ≡ promised s =
       adds.appends.text
-      ∙ ap (λ xs. xs ++ drop (length (file_bytes b.file)) (promised s)) (sym (front_stands b before s h k same))
+      ∙ ap (λ xs. xs ++ drop (length (file_bytes b.file)) (promised s))
+      (sym (front_stands b before s h k same))
       ∙ take-append-drop (length (file_bytes b.file)) (promised s) in
       record {
         text = adds.forces.text ∙ text;
@@ -92,7 +98,8 @@ stand_or_not f a b first others bytes h few is left =
     let found = kept f.number first others (unforced f) bytes h few left in
     (found.0, λ m held k there. by_case held (found.1 m held k there))
   where
-    by_case : (held : List ℕ) → (held ≡ concat (first ∷ others)) ⊎ (held ≡ concat (first ∷ others) ++ unforced f)
+    by_case : (held : List ℕ) → (held ≡ concat (first ∷ others))
+        ⊎ (held ≡ concat (first ∷ others) ++ unforced f)
         → (held ≡ promised a) ⊎ (held ≡ promised b)
     by_case held (inl e) = inl (e ∙ is.disk.safe ∙ is.before)
     by_case held (inr e) =

@@ -40,7 +40,8 @@ module _ {F : Type 0} where
 
   -- What was asked of the file of a store which promised these bytes and was replaced so often.
   pub data Asks (writes : F → F → ℕ → List ℕ → Type 0) (syncs : F → F → Type 0)
-      (replaces : F → F → List ℕ → Type 0) (old new : FileBacking F) (all : List ℕ) (rewrites : ℕ) : Type 0 where
+      (replaces : F → F → List ℕ → Type 0) (old new : FileBacking F) (all : List ℕ)
+      (rewrites : ℕ) : Type 0 where
     -- nothing: as much is forced in the file already
     asks_nothing : new ≡ old → old.rewrites ≡ rewrites → file_forced old.file ≡ length all
         → Asks writes syncs replaces old new all rewrites

@@ -16,8 +16,8 @@ pub trait Backing<L: LogStore> {
     /// Whether all that the store promised is safe already.
     fn is_up_to(&self, store: &L) -> bool;
 
-    /// Makes safe what the store promised. Memory: nothing changed. Device: the device failed, and nobody is to be told of
-    /// what rests on what was promised since it was last brought up.
+    /// Makes safe what the store promised. Memory: nothing changed. Device: the device failed, and nobody is
+    /// to be told of what rests on what was promised since it was last brought up.
     fn bring_up(&mut self, store: &L) -> Result<(), StoreError>
         ensures { OnOk result (brings self.old self.new store.now) };
 }
@@ -36,8 +36,8 @@ impl<L: LogStore> Backing<L> for NoBacking {
     }
 }
 
-/// A file that is brought up to a store in memory: by one block and one sync, or by a new file in its place, if other
-/// bytes took the place of what stood in the store.
+/// A file that is brought up to a store in memory: by one block and one sync, or by a new file in its place,
+/// if other bytes took the place of what stood in the store.
 pub struct FileBacking<F> {
     file: FileStore<F>,
     /// How often the store was replaced, to which it was last brought up.
@@ -106,8 +106,10 @@ impl<F: LogFile> Backing<StagedStore> for FileBacking<F> {
     }
 
     fn bring_up(&mut self, store: &StagedStore) -> Result<(), StoreError>
-        ensures asks { OnOk result (Asks F.writes F.syncs F.replaces self.old self.new (promised store.now) store.now.rewrites) }
-        ensures holds { OnOk result ((before : StagedStore) → Holds self.old before → Continues before store.now
+        ensures asks { OnOk result (Asks F.writes F.syncs F.replaces self.old self.new (promised store.now)
+            store.now.rewrites) }
+        ensures holds { OnOk result ((before : StagedStore) → Holds self.old before
+            → Continues before store.now
             → Holds self.new store.now) }
     {
         let promised = store.promised();

@@ -11,8 +11,8 @@ pub fn stores_continue(store: &StagedStore)
     ensures { StoresContinue store.now }
 {}
 
-/// Whatever a crash leaves of a file that was being brought up to a store holds what was promised when it was last brought
-/// up, or what it was being brought up to.
+/// Whatever a crash leaves of a file that was being brought up to a store holds what was promised when it was
+/// last brought up, or what it was being brought up to.
 pub fn groups_stand_or_not<F: LogFile>(file: &FileStore<F>)
     ensures { GroupsStandOrNot file.now }
 {}

@@ -17,8 +17,8 @@ ghost use Rattle.log_store.specs.Stores.{
 use log_store::{LogStore, StoreError};
 use std::alloc::AllocError;
 
-/// A store in memory. What is forced in it is a promise: nobody may be told of a step that rests on it, until another
-/// store was brought up to it.
+/// A store in memory. What is forced in it is a promise: nobody may be told of a step that rests on it, until
+/// another store was brought up to it.
 pub struct StagedStore {
     bytes: Vec<u8>,
     forced: usize,

@@ -80,7 +80,8 @@ module _ (me p : ProcessId) (tree : List TreeProcess) (ls rest : List LogRecord)
   decides q b None is name m = tt
   decides q b (Some c) is name m = by_mark (mark_at ls (name_xid q b)) m (kept_is q b c is name)
     where
-      by_mark : (k : Mark) → marked_state k ≡ S3 → branch_in s.branches c ≡ branch_left p c k → CanDecide s None c
+      by_mark : (k : Mark) → marked_state k ≡ S3 → branch_in s.branches c ≡ branch_left p c k
+          → CanDecide s None c
       by_mark Promised e h = record { branch = kept_at p c Prepared; live = h; fits = refl }
       by_mark Unmarked e h = absurd (cc)
       by_mark Finished e h = absurd (cc)

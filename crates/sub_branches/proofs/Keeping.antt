@@ -52,7 +52,8 @@ ticket_with ts us c (Heuristic told) moves h = tt
 -- a case is opened
 module _ (old new : BranchTable) (d0 : Case) (t : Ticket) (x : Xid) (kept : IsBranchTable old)
     (fresh : branch_in old (child_case d0.txn t) ≡ None)
-    (ungiven : ticket_in old d0 ≡ None) (opens : OpensBranch old new d0 t x) (apart : AreApart new.branches) where
+    (ungiven : ticket_in old d0 ≡ None) (opens : OpensBranch old new d0 t x)
+    (apart : AreApart new.branches) where
   given_opened : (d : Case) (k : Ticket) (b : Bool) → same_case d0 d ≡ b → ticket_in new d ≡ Some k
       → (v : LiveBranch) × (branch_in new (child_case d.txn k) ≡ Some v) × IsGivenFor d v.stage
   given_opened d k true is e =
@@ -133,7 +134,8 @@ module _ (old new : BranchTable) (key : ℕ) (g : Case) (done : ℕ) (spoiled : 
   ticket_noted Prepared is h = absurd is
   ticket_noted (Heuristic told) is h = absurd is
 
-  active_noted : (c : Case) (v : LiveBranch) (b : Bool) → same_case notes.owner c ≡ b → branch_in new c ≡ Some v
+  active_noted : (c : Case) (v : LiveBranch) (b : Bool) → same_case notes.owner c ≡ b
+      → branch_in new c ≡ Some v
       → HasTicket new.tickets c v.stage
   active_noted c v true is e =
       let here = one _ c is in
@@ -255,7 +257,8 @@ module _ (old : BranchTable) (us : Tickets) (owner : Case) (branch : LiveBranch)
           absurd (let f = sym own ∙ ap (live_value bs) (one owner c is) ∙ e in cc)
       active_at c w (Some q) inactive true is own e =
           let same_one : q ≡ w = some_same q w (sym own ∙ ap (live_value bs) (one owner c is) ∙ e) in
-          needs_no_ticket us c w.stage (ap (λ (z : LiveBranch). has_promised z.stage) (sym same_one) ∙ inactive)
+          needs_no_ticket us c w.stage (ap (λ (z : LiveBranch). has_promised z.stage) (sym same_one)
+          ∙ inactive)
       active_at c w o inactive false apart own e =
           ticket_with old.tickets us c w.stage
           (λ d k there child. retired drops d ∙ ap (retired_at owner d) there
@@ -283,7 +286,8 @@ none_dropped ts (Active g n p) h = absurd (h g n p refl)
 none_dropped ts Prepared h = refl
 none_dropped ts (Heuristic told) h = refl
 
-module _ (ts us : Tickets) (bs : Slots) (key : ℕ) (c : Case) (b : LiveBranch) (kept : IsBranchTable (table ts bs))
+module _ (ts us : Tickets) (bs : Slots) (key : ℕ) (c : Case) (b : LiveBranch)
+    (kept : IsBranchTable (table ts bs))
     (entry : entry_at bs key ≡ Some (c, b)) where
   at : live_value bs c ≡ Some b
   at = live_at bs c key (c, b) kept.apart entry (same_case-itself c)
@@ -330,7 +334,8 @@ module _ (ts us : Tickets) (bs : Slots) (key : ℕ) (c : Case) (b : LiveBranch) 
   -- an operator decided a branch that promised
   pub decides : (told : Option Outcome) → has_promised b.stage ≡ true
       → IsBranchTable (table ts (with_value bs key (record { xid = b.xid; stage = Heuristic told })))
-      × NotesStage (table ts bs) (table ts (with_value bs key (record { xid = b.xid; stage = Heuristic told })))
+      × NotesStage (table ts bs) (table ts (with_value bs key
+      (record { xid = b.xid; stage = Heuristic told })))
       key (Heuristic told)
   decides told promised =
       let w : LiveBranch = record { xid = b.xid; stage = Heuristic told } in
@@ -372,8 +377,10 @@ opens ts us bs cs d t x k kept fresh ungiven given opened =
     fresh opened.updates kept.apart)
 
 -- a case that promised is live again
-module _ (ts : Tickets) (bs cs : Slots) (c0 : Case) (b0 : LiveBranch) (key : ℕ) (kept : IsBranchTable (table ts bs))
-    (fresh : live_value bs c0 ≡ None) (promised : has_promised b0.stage ≡ true) (inserts : Inserts bs cs c0 b0 key) where
+module _ (ts : Tickets) (bs cs : Slots) (c0 : Case) (b0 : LiveBranch) (key : ℕ)
+    (kept : IsBranchTable (table ts bs))
+    (fresh : live_value bs c0 ≡ None) (promised : has_promised b0.stage ≡ true)
+    (inserts : Inserts bs cs c0 b0 key) where
   given_restored : (d : Case) (k : Ticket) (b : Bool)
       → same_case c0 (child_case d.txn k) ≡ b → live_value ts d ≡ Some k
       → (v : LiveBranch) × (live_value cs (child_case d.txn k) ≡ Some v) × IsGivenFor d v.stage

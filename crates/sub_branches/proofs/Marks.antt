@@ -92,7 +92,8 @@ module _ (me p : ProcessId) (tree : List TreeProcess) (c : Case)
   branch_alike q b h = read_is (leaf_place me p tree) q b c ∙ sym (alike q b h)
 
   -- what one record of a branch makes of what is read off a branch's own records
-  followed : {A : Type 0} (after : BranchName → A → Record → A) (r : BranchName → Record) (q : Option ProcessId) (b : BranchName)
+  followed : {A : Type 0} (after : BranchName → A → Record → A) (r : BranchName → Record)
+      (q : Option ProcessId) (b : BranchName)
       (v : A → A) (m : A) → NameReads q b
       → ((c d : BranchName) → renamed d (r c) ≡ r d)
       → ((c : BranchName) → record_case (r c) ≡ branch_case c)
@@ -102,7 +103,8 @@ module _ (me p : ProcessId) (tree : List TreeProcess) (c : Case)
       ≡ after (Foreign x) m (renamed (Foreign (name_xid q b)) (r b))
   followed after r q b v m h names case marks =
       ap (fold (after (CaseBranch c)) m) (read_as me p tree r q b names case)
-      ∙ marks (read_name (leaf_place me p tree) q b) (CaseBranch c) m ∙ ap (λ t. cond t (v m) m) (branch_alike q b h)
+      ∙ marks (read_name (leaf_place me p tree) q b) (CaseBranch c) m
+      ∙ ap (λ t. cond t (v m) m) (branch_alike q b h)
       ∙ sym (marks (Foreign (name_xid q b)) (Foreign x) m)
       ∙ ap (after (Foreign x) m) (sym (names b (Foreign (name_xid q b))))
 
@@ -200,7 +202,8 @@ module _ (me p : ProcessId) (tree : List TreeProcess) (c : Case)
   same_either true m = refl
   same_either false m = refl
 
-  one_decided : (r : Record) (q : Option ProcessId) (k : Decision) → ReadsBack (record { entry = r; parent = q })
+  one_decided : (r : Record) (q : Option ProcessId) (k : Decision)
+      → ReadsBack (record { entry = r; parent = q })
       → fold (decision_after (CaseBranch c)) k (own_records (leaf_place me p tree)
       (record { entry = r; parent = q } ∷ []))
       ≡ decision_after (Foreign x) k (renamed_by q (record_branch r) r)
@@ -244,7 +247,8 @@ module _ (me p : ProcessId) (tree : List TreeProcess) (c : Case)
           (cond t (Cleared d ∷ []) (foreign_to (AtLeaf p) q d (Cleared d)) ++ []) ≡ k
       by_own true = refl
       by_own false = refl
-  one_decided (Prepared b ws) q k h = followed decision_after (λ c. Prepared c ws) q b (λ d. decided_as AbortedOutcome) k h
+  one_decided (Prepared b ws) q k h = followed decision_after (λ c. Prepared c ws) q b
+      (λ d. decided_as AbortedOutcome) k h
       (λ c d. refl) (λ c. refl) (λ c d m. refl)
   one_decided (Committed b) q k h = followed decision_after Committed q b (λ d. d) k h
       (λ c d. refl) (λ c. refl) (λ c d m. same_either (same_branch c d) m)
@@ -252,9 +256,11 @@ module _ (me p : ProcessId) (tree : List TreeProcess) (c : Case)
       (λ c d. refl) (λ c. refl) (λ c d m. same_either (same_branch c d) m)
   one_decided (Direct b ws) q k h = followed decision_after (λ c. Direct c ws) q b (λ d. d) k h
       (λ c d. refl) (λ c. refl) (λ c d m. same_either (same_branch c d) m)
-  one_decided (HeurCommit b) q k h = followed decision_after HeurCommit q b (λ d. decided_as CommittedOutcome) k h
+  one_decided (HeurCommit b) q k h = followed decision_after HeurCommit q b
+      (λ d. decided_as CommittedOutcome) k h
       (λ c d. refl) (λ c. refl) (λ c d m. refl)
-  one_decided (HeurRollback b) q k h = followed decision_after HeurRollback q b (λ d. decided_as AbortedOutcome) k h
+  one_decided (HeurRollback b) q k h = followed decision_after HeurRollback q b
+      (λ d. decided_as AbortedOutcome) k h
       (λ c d. refl) (λ c. refl) (λ c d m. refl)
   one_decided (Told b o) q k h = followed decision_after (λ c. Told c o) q b
       (λ d. record { outcome = d.outcome; told = Some o }) k h (λ c d. refl) (λ c. refl) (λ c d m. refl)
@@ -285,7 +291,8 @@ module _ (me p : ProcessId) (tree : List TreeProcess) (c : Case)
 module _ (me p : ProcessId) (tree : List TreeProcess) where
   named_boot : (r : BranchName → Record) (q : Option ProcessId) (b : BranchName) (n : ℕ)
       → ((c d : BranchName) → renamed d (r c) ≡ r d)
-      → ((c : BranchName) → record_case (r c) ≡ branch_case c) → ((c : BranchName) (n : ℕ) → boot_after n (r c) ≡ n)
+      → ((c : BranchName) → record_case (r c) ≡ branch_case c)
+      → ((c : BranchName) (n : ℕ) → boot_after n (r c) ≡ n)
       → fold boot_after n (own_records (leaf_place me p tree)
       (record { entry = r b; parent = q } ∷ [])) ≡ boot_after n (r b)
   named_boot r q b n names case stays =
@@ -350,7 +357,8 @@ module _ (me p : ProcessId) (tree : List TreeProcess) where
   boots_from [] n = refl
   boots_from (l ∷ ls) n =
       ap (fold boot_after n) (own_append (leaf_place me p tree) (l ∷ []) ls)
-      ∙ fold-append boot_after n (own_records (leaf_place me p tree) (l ∷ [])) (own_records (leaf_place me p tree) ls)
+      ∙ fold-append boot_after n (own_records (leaf_place me p tree) (l ∷ []))
+      (own_records (leaf_place me p tree) ls)
       ∙ ap (λ k. fold boot_after k (own_records (leaf_place me p tree) ls)) (one_boot l.entry l.parent n)
       ∙ boots_from ls (boot_after n l.entry)
 

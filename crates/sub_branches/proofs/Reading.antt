@@ -111,7 +111,8 @@ module _ (me p : ProcessId) (tree : List TreeProcess) where
       → ((c d : BranchName) (m : Mark) → mark_after d m (r c) ≡ cond (same_branch c d) x m)
       → ((c : BranchName) (n : ℕ) → boot_after n (r c) ≡ n)
       → ((c d : BranchName) (m : Mark) → (same_branch c d ≡ true → MayFollow x m) → FitsTold m d (r c))
-      → One (leaf_place me p tree) (record { entry = r b; parent = q }) (own_case (leaf_place me p tree) q b) (λ m. x)
+      → One (leaf_place me p tree) (record { entry = r b; parent = q })
+      (own_case (leaf_place me p tree) q b) (λ m. x)
   one_branch r q b x names case marks boots fits = record {
     read = r (read_name (leaf_place me p tree) q b);
     is = read_as r q b names case;
@@ -150,7 +151,8 @@ module _ (me p : ProcessId) (tree : List TreeProcess) where
   pub one_forgot : (q : Option ProcessId) (b : BranchName)
       → One (leaf_place me p tree) (record { entry = Forgot b; parent = q })
       (own_case (leaf_place me p tree) q b) (λ m. Finished)
-  one_forgot q b = one_branch Forgot q b Finished (λ c d. refl) (λ c. refl) (λ c d m. refl) (λ c n. refl) (λ c d m h. tt)
+  one_forgot q b = one_branch Forgot q b Finished (λ c d. refl) (λ c. refl) (λ c d m. refl)
+      (λ c n. refl) (λ c d m h. tt)
 
   pub one_committed_so : (q : Option ProcessId) (b : BranchName)
       → One (leaf_place me p tree) (record { entry = HeurCommit b; parent = q })
@@ -174,14 +176,35 @@ module _ (me p : ProcessId) (tree : List TreeProcess) where
   pub one_opened : (q : Option ProcessId) (n : ℕ)
       → One (leaf_place me p tree) (record { entry = Opened n; parent = q }) None (λ m. m)
   unfolding own_records
-  one_opened q n = record { read = Opened n; is = refl; marks = λ c m. refl; fits = λ c m h. tt; case = refl; boot = λ k. refl }
+  one_opened q n = record {
+    read = Opened n;
+    is = refl;
+    marks = λ c m. refl;
+    fits = λ c m h. tt;
+    case = refl;
+    boot = λ k. refl;
+  }
 
   pub one_base : (q : Option ProcessId) (n : ℕ)
       → One (leaf_place me p tree) (record { entry = Base n; parent = q }) None (λ m. m)
   unfolding own_records
-  one_base q n = record { read = Base n; is = refl; marks = λ c m. refl; fits = λ c m h. tt; case = refl; boot = λ k. refl }
+  one_base q n = record {
+    read = Base n;
+    is = refl;
+    marks = λ c m. refl;
+    fits = λ c m h. tt;
+    case = refl;
+    boot = λ k. refl;
+  }
 
   pub one_pair : (q : Option ProcessId) (k v : List ℕ)
       → One (leaf_place me p tree) (record { entry = Pair k v; parent = q }) None (λ m. m)
   unfolding own_records
-  one_pair q k v = record { read = Pair k v; is = refl; marks = λ c m. refl; fits = λ c m h. tt; case = refl; boot = λ n. refl }
+  one_pair q k v = record {
+    read = Pair k v;
+    is = refl;
+    marks = λ c m. refl;
+    fits = λ c m h. tt;
+    case = refl;
+    boot = λ n. refl;
+  }

@@ -40,7 +40,8 @@ pub same_flat : (f g : Case → List Envelope) → ((c : Case) → f c ≡ g c) 
 same_flat f g same [] = refl
 same_flat f g same (c ∷ cs) = λ i. same c i ++ same_flat f g same cs i
 
-module _ (place : Place) (p : ProcessId) (ls : List LogRecord) (s : ReplayedCases) (left : RecordsLeave place p ls s) where
+module _ (place : Place) (p : ProcessId) (ls : List LogRecord) (s : ReplayedCases)
+    (left : RecordsLeave place p ls s) where
   view_of : (c : Case) → view_in s.branches c ≡ recorded_branch (own_records place ls) c
   unfolding recorded_branch
   view_of c = ap kept_view (left.branches c) ∙ view_left p c (mark_of (CaseBranch c) (own_records place ls))

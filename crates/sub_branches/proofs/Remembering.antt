@@ -62,7 +62,8 @@ listed_last (d ∷ cs) c = by_test (same_case d c) (listed_last cs c)
     by_test false rest = rest
 
 -- one that was there before
-still_listed : (cs : List Case) (c d : Case) → has_case cs d ≡ true → has_case (with_case cs (Some c)) d ≡ true
+still_listed : (cs : List Case) (c d : Case) → has_case cs d ≡ true
+    → has_case (with_case cs (Some c)) d ≡ true
 still_listed cs c d is = by_test (has_case cs c)
   where
     by_test : (b : Bool) → has_case (if b then cs else (cs ++ c ∷ [])) d ≡ true
@@ -80,7 +81,8 @@ own_listed cs c = by_test (has_case cs c) refl
 -- One record more.
 
 -- there was a record of the case
-adds_listed : (old mid : ReplayedCases) (c : Case) → AddsCase old mid c → AreLiveOf old.branches old.order.keys
+adds_listed : (old mid : ReplayedCases) (c : Case) → AddsCase old mid c
+    → AreLiveOf old.branches old.order.keys
     → (has_case mid.order.keys c ≡ true) × AreLiveOf mid.branches mid.order.keys
 adds_listed old mid c adds listed = (
   ap (λ ks. has_case ks c) adds.1 ∙ own_listed old.order.keys c,
@@ -100,8 +102,10 @@ moves_listed mid new c o order moves own listed d b live =
     by_test true is = subst (λ e. has_case mid.order.keys e ≡ true) (one_case c d is) own
     by_test false is = listed d b (sym (moves.others d is) ∙ live)
 
-takes_by_listed : (place : Place) (p : ProcessId) (old new : ReplayedCases) (q : Option ProcessId) (s : Saying)
-    → TakesBy place p old new q s → AreLiveOf old.branches old.order.keys → AreLiveOf new.branches new.order.keys
+takes_by_listed : (place : Place) (p : ProcessId) (old new : ReplayedCases)
+    (q : Option ProcessId) (s : Saying)
+    → TakesBy place p old new q s → AreLiveOf old.branches old.order.keys
+    → AreLiveOf new.branches new.order.keys
 takes_by_listed place p old new q Nothing takes listed =
     subst (λ (s : ReplayedCases). AreLiveOf s.branches s.order.keys) (sym takes) listed
 takes_by_listed place p old new q (Boot n) takes listed =
@@ -129,7 +133,8 @@ takes_by_listed place p old new q (Decides b told) takes listed = by_case (own_c
         moves_listed made.0 new c _ made.2.order made.2.branches added.0 added.1
 takes_by_listed place p old new q Coordinates takes listed = absurd takes
 
-pub takes_listed : (place : Place) (p : ProcessId) (old new : ReplayedCases) (l : LogRecord) → ReadsRecord place p old new l
+pub takes_listed : (place : Place) (p : ProcessId) (old new : ReplayedCases) (l : LogRecord)
+    → ReadsRecord place p old new l
     → AreLiveOf old.branches old.order.keys → AreLiveOf new.branches new.order.keys
 takes_listed place p old new l takes listed =
     takes_by_listed place p old new l.parent (saying_of l.entry) takes listed
@@ -137,7 +142,8 @@ takes_listed place p old new l takes listed =
 -- Reading on.
 
 -- some records were read after others
-pub record ReadsTo (place : Place) (p : ProcessId) (old : ReplayedCases) (done : List LogRecord) (now : ReplayedCases) : Type 0 where
+pub record ReadsTo (place : Place) (p : ProcessId) (old : ReplayedCases) (done : List LogRecord)
+    (now : ReplayedCases) : Type 0 where
   pub leaves : (ls : List LogRecord) → RecordsLeave place p ls old → RecordsLeave place p (ls ++ done) now
   pub listed : AreLiveOf old.branches old.order.keys → AreLiveOf now.branches now.order.keys
 
@@ -147,8 +153,10 @@ reading_begins place p old = record {
   listed = λ listed. listed;
 }
 
-pub reading_goes_on : (me p : ProcessId) (tree : List TreeProcess) (old now new : ReplayedCases) (done all : List LogRecord)
-    (l : LogRecord) → ReadsTo (leaf_place me p tree) p old done now → ReadsRecord (leaf_place me p tree) p now new l
+pub reading_goes_on : (me p : ProcessId) (tree : List TreeProcess) (old now new : ReplayedCases)
+    (done all : List LogRecord)
+    (l : LogRecord) → ReadsTo (leaf_place me p tree) p old done now
+    → ReadsRecord (leaf_place me p tree) p now new l
     → done ++ l ∷ [] ≡ all → ReadsTo (leaf_place me p tree) p old all new
 reading_goes_on me p tree old now new done all l reads takes more = record {
   leaves = λ ls left. subst (λ ks. RecordsLeave (leaf_place me p tree) p ks new)
@@ -165,7 +173,8 @@ pub record IsCopying (t : BranchTable) (rest : List Case) (copy : BranchTable) :
       → (branch_in copy c ≡ branch_in t c) ⊎ ((branch_in copy c ≡ None) × (has_case rest c ≡ true))
   pub tickets : copy.tickets ≡ []
 
-pub copying_starts : (t copy : BranchTable) (cs : List Case) → AreLiveOf t cs → copy.branches ≡ [] → copy.tickets ≡ []
+pub copying_starts : (t copy : BranchTable) (cs : List Case) → AreLiveOf t cs → copy.branches ≡ []
+    → copy.tickets ≡ []
     → IsCopying t cs copy
 unfolding live_value
 copying_starts t copy cs listed none tickets = record {
@@ -211,12 +220,14 @@ module _ (t : BranchTable) (k : Case) (rest : List Case) (copy : BranchTable)
           → (branch_in copy c ≡ branch_in t c) ⊎ ((branch_in copy c ≡ None) × (has_case (k ∷ rest) c ≡ true))
           → (branch_in copy c ≡ branch_in t c) ⊎ ((branch_in copy c ≡ None) × (has_case rest c ≡ true))
       by_test c e is (inl one) = inl one
-      by_test c true is (inr out) = inl (out.0 ∙ sym (subst (λ d. branch_in copy d ≡ None → branch_in t d ≡ None)
+      by_test c true is (inr out) = inl (out.0
+          ∙ sym (subst (λ d. branch_in copy d ≡ None → branch_in t d ≡ None)
           (one_case k c is) none out.0))
       by_test c false is (inr out) = inr (out.0, among_rest c is out.1)
 
 -- the same of the case at a place of a list
-pub copies_one : (t : BranchTable) (cs : List Case) (i : ℕ) (d : Case) (copy new : BranchTable) (b : LiveBranch)
+pub copies_one : (t : BranchTable) (cs : List Case) (i : ℕ) (d : Case) (copy new : BranchTable)
+    (b : LiveBranch)
     → i < length cs → IsCopying t (drop i cs) copy → branch_in t (get_or cs i d) ≡ Some b
     → Restores copy new (get_or cs i d) b → IsCopying t (drop (i + 1) cs) new
 copies_one t cs i d copy new b within copying found made =
@@ -231,7 +242,8 @@ passes_one t cs i d copy within copying none =
     copying_passes t (get_or cs i d) (drop (i + 1) cs) copy
     (subst (λ ks. IsCopying t ks copy) (drop_more cs i d within) copying) none
 
-pub copying_ends : (t copy : BranchTable) → IsCopying t [] copy → (c : Case) → branch_in copy c ≡ branch_in t c
+pub copying_ends : (t copy : BranchTable) → IsCopying t [] copy → (c : Case)
+    → branch_in copy c ≡ branch_in t c
 unfolding has_case
 copying_ends t copy copying c = elim (copying.each c) [
   | inl one ↦ one
@@ -261,13 +273,15 @@ left_promised p c b (ToldOf o) is = sym (ap promised_of is)
 left_promised p c b Finished is = absurd (cc)
 
 -- each live branch promised
-pub have_promised : (place : Place) (p : ProcessId) (ls : List LogRecord) (s : ReplayedCases) → RecordsLeave place p ls s
+pub have_promised : (place : Place) (p : ProcessId) (ls : List LogRecord) (s : ReplayedCases)
+    → RecordsLeave place p ls s
     → HavePromised s.branches
 have_promised place p ls s left c b live =
     left_promised p c b (mark_of (CaseBranch c) (own_records place ls)) (sym (left.branches c) ∙ live)
 
 -- what they leave, with the live branches in another table
-pub leaves_copied : (place : Place) (p : ProcessId) (ls : List LogRecord) (s : ReplayedCases) (t : BranchTable)
+pub leaves_copied : (place : Place) (p : ProcessId) (ls : List LogRecord) (s : ReplayedCases)
+    (t : BranchTable)
     → RecordsLeave place p ls s → ((c : Case) → branch_in t c ≡ branch_in s.branches c) → t.tickets ≡ []
     → RecordsLeave place p ls (record s { branches = t })
 unfolding live_value
@@ -284,10 +298,12 @@ leaves_copied place p ls s t left alike tickets = record {
 }
 
 -- with the record of a boot after them
-pub leaves_boot : (me p : ProcessId) (tree : List TreeProcess) (ls : List LogRecord) (s : ReplayedCases) (boot : ℕ)
+pub leaves_boot : (me p : ProcessId) (tree : List TreeProcess) (ls : List LogRecord)
+    (s : ReplayedCases) (boot : ℕ)
     → RecordsLeave (leaf_place me p tree) p ls s
     → RecordsLeave (leaf_place me p tree) p (ls ++ boot_record boot ∷ []) (record s { boot = boot })
-leaves_boot me p tree ls s boot left = taken me p tree ls s left (record s { boot = boot }) (boot_record boot) refl
+leaves_boot me p tree ls s boot left = taken me p tree ls s left (record s { boot = boot })
+    (boot_record boot) refl
 
 -- no record leaves nothing
 pub remembers_nothing : (place : Place) (p : ProcessId) (s : ReplayedCases) → s.order.keys ≡ []
@@ -305,13 +321,16 @@ module _ (me p : ProcessId) (tree : List TreeProcess) (ls : List LogRecord) (s :
   pub rebuilt_copied : (t : BranchTable) (messages : List Envelope)
       → ((c : Case) → branch_in t c ≡ branch_in s.branches c) → t.tickets ≡ []
       → messages ≡ flat_map (asks me p s.branches) s.order.keys → s.newest ≤ s.boot → s.boot + 1 < 2 ^ 63
-      → RebuildsBranches (leaf_place me p tree) p ls (record { branches = t; messages = messages; boot = s.boot })
+      → RebuildsBranches (leaf_place me p tree) p ls
+      (record { branches = t; messages = messages; boot = s.boot })
   rebuilt_copied t messages alike tickets sent within room =
       rebuilds (leaf_place me p tree) p ls (record s { branches = t })
       (leaves_copied (leaf_place me p tree) p ls s t left alike tickets) messages
-      (sent ∙ same_flat (asks me p s.branches) (asks me p t) (λ c. ap (asks_by me p c) (sym (alike c))) s.order.keys)
+      (sent ∙ same_flat (asks me p s.branches) (asks me p t)
+      (λ c. ap (asks_by me p c) (sym (alike c))) s.order.keys)
       within room
 
   pub remembered_boot : AreLiveOf s.branches s.order.keys → (boot : ℕ)
-      → RemembersBranches (leaf_place me p tree) p (ls ++ boot_record boot ∷ []) (record { cases = record s { boot = boot } })
+      → RemembersBranches (leaf_place me p tree) p (ls ++ boot_record boot ∷ [])
+      (record { cases = record s { boot = boot } })
   remembered_boot listed boot = record { leaves = leaves_boot me p tree ls s boot left; listed = listed }

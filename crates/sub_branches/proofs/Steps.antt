@@ -117,7 +117,8 @@ recalls_told : (c : Case) (a : BranchName) (told : Outcome) (t : Bool) → same_
 recalls_told c a told true e m o d at h = recalls_decided m o d (at e) h
 recalls_told c a told false e m o d at h = h
 
-recalls_after : (c : Case) (m : Mark) (o : Option Outcome) (d : Decision) (r : Record) → FitsTold m (CaseBranch c) r
+recalls_after : (c : Case) (m : Mark) (o : Option Outcome) (d : Decision) (r : Record)
+    → FitsTold m (CaseBranch c) r
     → Recalls m o d
     → Recalls (mark_after (CaseBranch c) m r) (case_decision_after c o r) (decision_after (CaseBranch c) d r)
 recalls_after c m o d (PreparedRecord a ws) f h =
@@ -132,7 +133,8 @@ recalls_after c m o d (Forgot a) f h = by_test (same_branch a (CaseBranch c))
     by_test true = tt
     by_test false = h
 recalls_after c m o d (HeurCommit a) f h =
-    recalls_if (same_branch a (CaseBranch c)) (is_branch c a) (same_is c a) Decided m (Some CommittedOutcome) o
+    recalls_if (same_branch a (CaseBranch c)) (is_branch c a) (same_is c a) Decided m
+    (Some CommittedOutcome) o
     (decided_as CommittedOutcome) d refl h
 recalls_after c m o d (HeurRollback a) f h =
     recalls_if (same_branch a (CaseBranch c)) (is_branch c a) (same_is c a) Decided m (Some AbortedOutcome) o
@@ -231,14 +233,16 @@ left_told p c None = refl
 left_told p c (Some o) = refl
 
 -- what is kept of a case that is told an outcome
-may_tell : (p : ProcessId) (c : Case) (m : Mark) (told : Option Outcome) (was : Option LiveBranch) (b : LiveBranch)
+may_tell : (p : ProcessId) (c : Case) (m : Mark) (told : Option Outcome) (was : Option LiveBranch)
+    (b : LiveBranch)
     → was ≡ Some b → was ≡ branch_left p c m → fits_told told b.stage ≡ true → MayFollow (mark_told told) m
 may_tell p c m None was b at left fits = tt
 may_tell p c Unmarked (Some o) was b at left fits = absurd (let none : None ≡ Some b = sym left ∙ at in cc)
 may_tell p c Finished (Some o) was b at left fits = absurd (let none : None ≡ Some b = sym left ∙ at in cc)
 may_tell p c Promised (Some o) was b at left fits =
     let is : kept_at p c Prepared ≡ b = some_same (kept_at p c Prepared) b (sym left ∙ at) in
-    absurd (let no : fits_told (Some o) Prepared ≡ true = subst (λ (v : LiveBranch). fits_told (Some o) v.stage ≡ true)
+    absurd (let no : fits_told (Some o) Prepared ≡ true =
+    subst (λ (v : LiveBranch). fits_told (Some o) v.stage ≡ true)
     (sym is) fits in cc)
 may_tell p c Decided (Some o) was b at left fits = tt
 may_tell p c (ToldOf q) (Some o) was b at left fits = tt
@@ -293,7 +297,8 @@ module _ (me p : ProcessId) (tree : List TreeProcess) (ls : List LogRecord) (old
       below_is h = grind (arith, common_steps)
 
   -- a record that says nothing of a case of the process's own
-  stays : (l : LogRecord) (new : ReplayedCases) (x : Mark → Mark) → One (leaf_place me p tree) l None x → ReadsBack l
+  stays : (l : LogRecord) (new : ReplayedCases) (x : Mark → Mark) → One (leaf_place me p tree) l None x
+      → ReadsBack l
       → new.branches ≡ old.branches → new.order ≡ old.order → new.newest ≡ old.newest
       → new.boot ≡ boot_after old.boot l.entry → ((n : ℕ) → IsReached (leaf_place me p tree) n l)
       → RecordsLeave (leaf_place me p tree) p (ls ++ l ∷ []) new
@@ -305,7 +310,8 @@ module _ (me p : ProcessId) (tree : List TreeProcess) (ls : List LogRecord) (old
       (λ c e. absurd (cc)) (λ n low h. not_above old.newest new.newest n newest low)
       (no_lower old.newest new.newest newest) (reach new.newest)
 
-  quiet : (l : LogRecord) (new : ReplayedCases) (x : Mark → Mark) → One (leaf_place me p tree) l None x → ReadsBack l
+  quiet : (l : LogRecord) (new : ReplayedCases) (x : Mark → Mark) → One (leaf_place me p tree) l None x
+      → ReadsBack l
       → boot_after old.boot l.entry ≡ old.boot → ((n : ℕ) → IsReached (leaf_place me p tree) n l) → new ≡ old
       → RecordsLeave (leaf_place me p tree) p (ls ++ l ∷ []) new
   quiet l new x reads back boot reach is =
@@ -313,7 +319,8 @@ module _ (me p : ProcessId) (tree : List TreeProcess) (ls : List LogRecord) (old
       (ap (λ s. s.boot) is ∙ sym boot) reach
 
   -- a record of a case of the process's own that promised
-  promised : (l : LogRecord) (mid new : ReplayedCases) (q : Option ProcessId) (b : BranchName) (o : Option Case)
+  promised : (l : LogRecord) (mid new : ReplayedCases) (q : Option ProcessId) (b : BranchName)
+      (o : Option Case)
       → own_case (leaf_place me p tree) q b ≡ o
       → One (leaf_place me p tree) l o (λ m. Promised) → NameReads q b → ReadsBack l
       → boot_after old.boot l.entry ≡ old.boot
@@ -365,7 +372,8 @@ module _ (me p : ProcessId) (tree : List TreeProcess) (ls : List LogRecord) (old
   -- a record of a case of the process's own that is finished
   ended : (l : LogRecord) (mid new : ReplayedCases) (o : Option Case)
       → One (leaf_place me p tree) l o (λ m. Finished) → ReadsBack l
-      → boot_after old.boot l.entry ≡ old.boot → ((n : ℕ) → IsReached (leaf_place me p tree) n l) → EndsBy old new o
+      → boot_after old.boot l.entry ≡ old.boot → ((n : ℕ) → IsReached (leaf_place me p tree) n l)
+      → EndsBy old new o
       → RecordsLeave (leaf_place me p tree) p (ls ++ l ∷ []) new
   ended l mid new None reads back boot reach made = quiet l new (λ m. Finished) reads back boot reach made
   ended l mid new (Some c) reads back boot reach made =
@@ -400,7 +408,8 @@ module _ (me p : ProcessId) (tree : List TreeProcess) (ls : List LogRecord) (old
       → ReadsBack l → boot_after old.boot l.entry ≡ old.boot
       → ((n : ℕ) → IsReached (leaf_place me p tree) n l) → DecidesBy old new told o
       → RecordsLeave (leaf_place me p tree) p (ls ++ l ∷ []) new
-  decided l new told None reads back boot reach made = quiet l new (λ m. mark_told told) reads back boot reach made
+  decided l new told None reads back boot reach made =
+      quiet l new (λ m. mark_told told) reads back boot reach made
   decided l new told (Some c) reads back boot reach made =
       let adds = made.1 in
       let makes = made.2 in
@@ -451,7 +460,8 @@ module _ (me p : ProcessId) (tree : List TreeProcess) (ls : List LogRecord) (old
       → RecordsLeave (leaf_place me p tree) p (ls ++ record { entry = r; parent = q } ∷ []) new
   by_entry new q (Opened n) made =
       stays (record { entry = Opened n; parent = q }) new (λ m. m) (one_opened me p tree q n) tt
-      (ap (λ s. s.branches) made) (ap (λ s. s.order) made) (ap (λ s. s.newest) made) (ap (λ s. s.boot) made) (λ k. tt)
+      (ap (λ s. s.branches) made) (ap (λ s. s.order) made) (ap (λ s. s.newest) made)
+      (ap (λ s. s.boot) made) (λ k. tt)
   by_entry new q (Base n) made = quiet _ new (λ m. m) (one_base me p tree q n) tt refl (λ k. tt) made
   by_entry new q (Pair k v) made = quiet _ new (λ m. m) (one_pair me p tree q k v) tt refl (λ n. tt) made
   by_entry new q (PreparedRecord b ws) made =
@@ -466,11 +476,14 @@ module _ (me p : ProcessId) (tree : List TreeProcess) (ls : List LogRecord) (old
   by_entry new q (Forgot b) made = ended _ new new (own_case (leaf_place me p tree) q b)
       (one_forgot me p tree q b) made.0 refl (λ n. tt) made.1
   by_entry new q (HeurCommit b) made =
-      decided _ new None (own_case (leaf_place me p tree) q b) (one_committed_so me p tree q b) made.0 refl (λ n. tt) made.1
+      decided _ new None (own_case (leaf_place me p tree) q b) (one_committed_so me p tree q b) made.0 refl
+      (λ n. tt) made.1
   by_entry new q (HeurRollback b) made =
-      decided _ new None (own_case (leaf_place me p tree) q b) (one_rolled_back_so me p tree q b) made.0 refl (λ n. tt) made.1
+      decided _ new None (own_case (leaf_place me p tree) q b) (one_rolled_back_so me p tree q b) made.0 refl
+      (λ n. tt) made.1
   by_entry new q (Told b o) made =
-      decided _ new (Some o) (own_case (leaf_place me p tree) q b) (one_told me p tree q b o) made.0 refl (λ n. tt) made.1
+      decided _ new (Some o) (own_case (leaf_place me p tree) q b) (one_told me p tree q b o) made.0 refl
+      (λ n. tt) made.1
   by_entry new q (Collecting c ts) made = absurd made
   by_entry new q (Prepare c ts) made = absurd made
   by_entry new q (Commit c ts) made = absurd made

@@ -22,7 +22,8 @@ use Rattle.sub_branches.proofs.Keeping.{Dropped, Slots, decides, notes, opens, p
 -- Lists of which what is nothing is left out.
 
 module _ {V : Type 0} where
-  live_filter : (ms : List (Option (Case × V))) (d : Case) → live_value (filter is_some ms) d ≡ live_value ms d
+  live_filter : (ms : List (Option (Case × V))) (d : Case)
+      → live_value (filter is_some ms) d ≡ live_value ms d
   unfolding live_value
   live_filter [] d = refl
   live_filter (None ∷ ms) d = live_filter ms d
@@ -179,22 +180,26 @@ module _ (bs : Slots) (kept : IsBranchTable (table (tickets_of bs) bs)) where
     updated w = updates (tickets_of bs) (tickets_of bs) bs key c b kept entry w
 
     pub noted : (g : Case) (done : ℕ) (spoiled : Bool) → IsGivenFor g b.stage
-        → IsBranchTable (table (tickets_of (with_value bs key (record { xid = b.xid; stage = Active g done spoiled })))
+        → IsBranchTable (table (tickets_of (with_value bs key
+        (record { xid = b.xid; stage = Active g done spoiled })))
         (with_value bs key (record { xid = b.xid; stage = Active g done spoiled })))
         × NotesStage (table (tickets_of bs) bs)
         (table (tickets_of (with_value bs key (record { xid = b.xid; stage = Active g done spoiled })))
-        (with_value bs key (record { xid = b.xid; stage = Active g done spoiled }))) key (Active g done spoiled)
+        (with_value bs key (record { xid = b.xid; stage = Active g done spoiled }))) key
+        (Active g done spoiled)
     noted g done spoiled given =
         let w : LiveBranch = record { xid = b.xid; stage = Active g done spoiled } in
         let same : tickets_of (with_value bs key w) ≡ tickets_of bs =
         tickets_same bs (with_value bs key w) key (Some (c, w)) (updated w)
         (given_stays g done spoiled b.stage c.ticket given ∙ sym (ap given_ticket entry)) in
         subst (λ ts. IsBranchTable (table ts (with_value bs key w))
-        × NotesStage (table (tickets_of bs) bs) (table ts (with_value bs key w)) key (Active g done spoiled)) (sym same)
+        × NotesStage (table (tickets_of bs) bs) (table ts (with_value bs key w)) key (Active g done spoiled))
+        (sym same)
         (notes (tickets_of bs) (tickets_of bs) bs key c b kept entry g done spoiled given)
 
     pub decided : (told : Option Outcome) → has_promised b.stage ≡ true
-        → IsBranchTable (table (tickets_of (with_value bs key (record { xid = b.xid; stage = Heuristic told })))
+        → IsBranchTable (table (tickets_of (with_value bs key
+        (record { xid = b.xid; stage = Heuristic told })))
         (with_value bs key (record { xid = b.xid; stage = Heuristic told })))
         × NotesStage (table (tickets_of bs) bs)
         (table (tickets_of (with_value bs key (record { xid = b.xid; stage = Heuristic told })))
@@ -205,10 +210,12 @@ module _ (bs : Slots) (kept : IsBranchTable (table (tickets_of bs) bs)) where
         tickets_same bs (with_value bs key w) key (Some (c, w)) (updated w)
         (promised_none b.stage c.ticket is ∙ sym (ap given_ticket entry)) in
         subst (λ ts. IsBranchTable (table ts (with_value bs key w))
-        × NotesStage (table (tickets_of bs) bs) (table ts (with_value bs key w)) key (Heuristic told)) (sym same)
+        × NotesStage (table (tickets_of bs) bs) (table ts (with_value bs key w)) key (Heuristic told))
+        (sym same)
         (decides (tickets_of bs) (tickets_of bs) bs key c b kept entry told is)
 
-    pub promising : IsBranchTable (table (tickets_of (with_value bs key (record { xid = b.xid; stage = Prepared })))
+    pub promising : IsBranchTable (table (tickets_of
+        (with_value bs key (record { xid = b.xid; stage = Prepared })))
         (with_value bs key (record { xid = b.xid; stage = Prepared })))
         × Retires (table (tickets_of bs) bs)
         (table (tickets_of (with_value bs key (record { xid = b.xid; stage = Prepared })))
@@ -240,7 +247,8 @@ module _ (bs : Slots) (kept : IsBranchTable (table (tickets_of bs) bs)) where
     )
 
   module _ (cs : Slots) (d : Case) (t : Ticket) (x : Xid)
-      (fresh : live_value bs (child_case d.txn t) ≡ None) (ungiven : live_value (tickets_of bs) d ≡ None) where
+      (fresh : live_value bs (child_case d.txn t) ≡ None)
+      (ungiven : live_value (tickets_of bs) d ≡ None) where
     pub entered_kept : {E : Type 0} (r : Result ℕ E)
         → IfOk r (λ key. Inserts bs cs (child_case d.txn t) (opened x d) key) → OnErr r (cs ≡ bs)
         → IsBranchTable (table (tickets_of cs) cs)

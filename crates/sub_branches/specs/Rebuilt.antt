@@ -102,12 +102,13 @@ abbrev pub ReachesBy : Place → ℕ → Option ProcessId → Saying → Type 0
 ReachesBy place boot q (PromisesOf b) = IsGivenWhere boot (own_case place q b)
 ReachesBy place boot q _ = ⊤
 
--- where a record is the promise of a case of the process's own, the case has a ticket of a boot that is at most this
+-- where a record is the promise of a case of the process's own, the case has a ticket of a boot that is at
+-- most this
 abbrev pub IsReached : Place → ℕ → LogRecord → Type 0
 IsReached place boot l = ReachesBy place boot l.parent (saying_of l.entry)
 
--- records that a subordinate can have written: each can be in a manager's log, and after those before it; and its
--- own cases promised by tickets of boots that the log has reached
+-- records that a subordinate can have written: each can be in a manager's log, and after those before it; and
+-- its own cases promised by tickets of boots that the log has reached
 pub record AreFit (place : Place) (ls : List LogRecord) : Type 0 where
   pub sound : AllByRecursion (IsSound Manager) ls
   pub ordered : AreInOrder ls
@@ -119,8 +120,8 @@ pub record IsOwn (place : Place) (p : ProcessId) (boot : ℕ) (c : Case) : Type 
   pub reads : NameReads (Some p) (CaseBranch c)
   pub given : IsGivenBy boot c
 
--- what the records say that an operator decided, where the last of them says that he did: for the process, and
--- for its manager
+-- what the records say that an operator decided, where the last of them says that he did: for the process,
+-- and for its manager
 abbrev pub Recalls : Mark → Option Outcome → Decision → Type 0
 Recalls Decided o d = o ≡ Some d.outcome
 Recalls (ToldOf told) o d = o ≡ Some d.outcome
@@ -131,7 +132,8 @@ abbrev pub RecallsCase : List Record → Case → Type 0
 RecallsCase rs c = Recalls (mark_of (CaseBranch c) rs) (case_decision rs c) (decision_of (CaseBranch c) rs)
 
 -- what some records leave
-pub record RecordsLeave (place : Place) (p : ProcessId) (ls : List LogRecord) (s : ReplayedCases) : Type 0 where
+pub record RecordsLeave (place : Place) (p : ProcessId) (ls : List LogRecord)
+    (s : ReplayedCases) : Type 0 where
   pub reads : AllByRecursion ReadsBack ls
   pub boot : s.boot ≡ boot_of (own_records place ls)
   pub order : s.order.keys ≡ cases_in (own_records place ls)
@@ -160,7 +162,8 @@ pub record Promises (old new : ReplayedCases) (p : ProcessId) (c : Case) : Type 
   pub grows : old.newest ≤ new.newest
   pub least : (n : ℕ) → old.newest ≤ n → IsGivenBy n c → new.newest ≤ n
 
--- an operator can decide a branch at this stage, which promised; or it can be told an outcome since, where he did
+-- an operator can decide a branch at this stage, which promised; or it can be told an outcome since, where he
+-- did
 abbrev pub fits_told : Option Outcome → BranchStage → Bool
 fits_told told (Active d done spoiled) = false
 fits_told told Prepared = is_none told
@@ -274,7 +277,8 @@ pub record IsBranchLeft (place : Place) (p : ProcessId) (rs : List Record) (boot
 
 -- what the records of a log leave: each case stands as the process reads them, those that were not told their
 -- outcome are asked about, and the last boot is that of the last Opened
-pub record RebuildsBranches (place : Place) (p : ProcessId) (ls : List LogRecord) (r : RebuiltBranches) : Type 0 where
+pub record RebuildsBranches (place : Place) (p : ProcessId) (ls : List LogRecord)
+    (r : RebuiltBranches) : Type 0 where
   pub reads : AllByRecursion ReadsBack ls
   pub boot : r.boot ≡ boot_of (own_records place ls)
   pub room : r.boot + 1 < 2 ^ 63
@@ -295,8 +299,8 @@ IsRefusal Fits errors.Memory = ⊤
 IsRefusal Fits errors.Unfit = Fits → ⊥
 IsRefusal Fits errors.Exhausted = ⊥
 
--- why nothing was rebuilt: the records are none that a subordinate can have written; or boots are used up, where
--- none below 2^63 comes after the last one
+-- why nothing was rebuilt: the records are none that a subordinate can have written; or boots are used up,
+-- where none below 2^63 comes after the last one
 abbrev pub BranchesNotRebuilt : Place → List LogRecord → RebuildError → Type 0
 BranchesNotRebuilt place ls errors.Exhausted = 2 ^ 63 ≤ boot_of (own_records place ls) + 1
 BranchesNotRebuilt place ls e = IsRefusal (AreFit place ls) e

@@ -7,9 +7,10 @@ use Rattle.sub_branches.specs.Rebuilt.{RecordsLeave}
 use Rattle.sub_branches.specs.Tables.{AreLiveOf}
 use Rattle.sub_branches.specs.declared.rebuilt.RememberedBranches.{RememberedBranches}
 
--- what is remembered is what these records leave: the cases of the process's own in order of their first records, and
--- what is kept of those that are live
-pub record RemembersBranches (place : Place) (p : ProcessId) (ls : List LogRecord) (m : RememberedBranches) : Type 0 where
+-- what is remembered is what these records leave: the cases of the process's own in order of their first
+-- records, and what is kept of those that are live
+pub record RemembersBranches (place : Place) (p : ProcessId) (ls : List LogRecord)
+    (m : RememberedBranches) : Type 0 where
   pub leaves : RecordsLeave place p ls m.cases
   pub listed : AreLiveOf m.cases.branches m.cases.order.keys
 

@@ -125,7 +125,8 @@ pub record NotesStage (old new : BranchTable) (key : ℕ) (stage : BranchStage) 
   pub owner : Case
   pub branch : LiveBranch
   pub was : entry_at old.branches key ≡ Some (owner, branch)
-  pub branches : MovesValue old.branches new.branches owner (Some (record { xid = branch.xid; stage = stage }))
+  pub branches : MovesValue old.branches new.branches owner
+      (Some (record { xid = branch.xid; stage = stage }))
   pub tickets : new.tickets ≡ old.tickets
 
 -- the case of a key stands otherwise from now on, or is live no longer, and its ticket's time ends

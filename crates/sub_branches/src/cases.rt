@@ -22,8 +22,8 @@ pub(crate) struct ReplayedCases {
     pub(crate) newest: u64,
 }
 
-/// Whether an operator can decide a branch at this stage, or it can be told this outcome: it promised, and it is
-/// told what comes after his decision alone.
+/// Whether an operator can decide a branch at this stage, or it can be told this outcome: it promised, and it
+/// is told what comes after his decision alone.
 fn can_be_told(stage: BranchStage, told: Option<Outcome>) -> bool
     ensures { result ≡ fits_told told stage }
 {
@@ -80,8 +80,8 @@ impl ReplayedCases {
         Ok(())
     }
 
-    /// An operator decided the case, or it was told this outcome since. Unfit: it did not promise, or it was told
-    /// before an operator decided it.
+    /// An operator decided the case, or it was told this outcome since. Unfit: it did not promise, or it was
+    /// told before an operator decided it.
     fn decide(&mut self, case: &Case, told: Option<Outcome>) -> Result<(), RebuildError>
         ensures ok { OnOk result (DecidesCase self.old self.new case.now told) }
         ensures err { IfErr result (IsRefusal (CanDecide self.old told case.now)) }
@@ -108,9 +108,9 @@ impl ReplayedCases {
         }
     }
 
-    /// One record more. Unfit: it is of a coordinator's case; or it names a branch whose XID reads as
-    /// another name; or a case promised that has done so already, or was decided that did not promise, or told
-    /// that was not decided.
+    /// One record more. Unfit: it is of a coordinator's case; or it names a branch whose XID reads as another
+    /// name; or a case promised that has done so already, or was decided that did not promise, or told that
+    /// was not decided.
     pub(crate) fn take(
         &mut self,
         me: ProcessId,
@@ -118,7 +118,8 @@ impl ReplayedCases {
         tree: &Tree,
         next: &LogRecord,
     ) -> Result<(), RebuildError>
-        ensures ok { OnOk result (ReadsRecord (leaf_place me parent tree.now) parent self.old self.new next.now) }
+        ensures ok { OnOk result (ReadsRecord (leaf_place me parent tree.now) parent self.old
+            self.new next.now) }
         ensures err { IfErr result (IsRefusal (CanCome (leaf_place me parent tree.now) self.old next.now)) }
     {
         match saying_of(&next.entry) {

@@ -1,7 +1,7 @@
 //! Floor: coordinator and subordinate.
 //!
-//! The live branches of a subordinate and its active tickets, what each branch does at each of its stages, and what the
-//! records of a log leave of them.
+//! The live branches of a subordinate and its active tickets, what each branch does at each of its stages,
+//! and what the records of a log leave of them.
 #![tactic(auto)]
 
 mod branch;

@@ -47,8 +47,8 @@ impl RememberedBranches {
     }
 }
 
-/// The cases of these records and of those before them, of which these are the cases. Unfit: no subordinate can have
-/// written them all.
+/// The cases of these records and of those before them, of which these are the cases. Unfit: no subordinate
+/// can have written them all.
 fn read(
     me: ProcessId,
     parent: ProcessId,
@@ -56,7 +56,8 @@ fn read(
     cases: ReplayedCases,
     records: &[LogRecord],
 ) -> Result<ReplayedCases, RebuildError>
-    ensures ok { IfOk result (λ s. (ls : List AnyRecord) → RecordsLeave (leaf_place me parent tree.now) parent ls cases
+    ensures ok { IfOk result (λ s. (ls : List AnyRecord)
+        → RecordsLeave (leaf_place me parent tree.now) parent ls cases
         → RecordsLeave (leaf_place me parent tree.now) parent (ls ++ records.now) s) }
     ensures listed { IfOk result (λ s. AreLiveOf cases.branches cases.order.keys
         → AreLiveOf s.branches s.order.keys) }
@@ -137,10 +138,10 @@ fn inquiries(
     Ok(messages)
 }
 
-/// What these records leave and those before them, of which this is remembered; and what is to be remembered of all of
-/// them, and of the record of the boot that comes after them. Unfit: no subordinate can have written them, as with a ticket
-/// of a boot that they have not reached. Exhausted: no boot below 2^63 comes after the last one. With an error what
-/// was remembered is gone.
+/// What these records leave and those before them, of which this is remembered; and what is to be remembered
+/// of all of them, and of the record of the boot that comes after them. Unfit: no subordinate can have
+/// written them, as with a ticket of a boot that they have not reached. Exhausted: no boot below 2^63 comes
+/// after the last one. With an error what was remembered is gone.
 pub fn rebuild(
     me: ProcessId,
     parent: ProcessId,

@@ -133,8 +133,8 @@ impl LiveBranches {
         self.branches.insert(case, branch)
     }
 
-    /// A case that is not live is live again, with what is kept of it: it promised before a restart. Memory: nothing
-    /// changed.
+    /// A case that is not live is live again, with what is kept of it: it promised before a restart. Memory:
+    /// nothing changed.
     pub fn restore(&mut self, case: Case, branch: LiveBranch) -> Result<(), AllocError>
         requires fresh { branch_in self.old case ≡ None }
         requires promised { has_promised branch.stage ≡ true }

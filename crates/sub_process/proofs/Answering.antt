@@ -12,7 +12,8 @@ use Rattle.sub_work.proofs.Begun.{can_begin}
 use Rattle.sub_process.specs.Subordinates.{SubState, answer_for, core_of, next_case, xid_of}
 use Rattle.sub_process.specs.Steps.{data_answer}
 
-module _ (s : SubState) (idle : IsIdle s.manager) (once : AreBranchesListedOnce s.manager.tables.branches.branches) where
+module _ (s : SubState) (idle : IsIdle s.manager)
+    (once : AreBranchesListedOnce s.manager.tables.branches.branches) where
   answers_message : (m : Message)
       → AnswersMessage (core_of s) (manager_data s.manager) (case_xid s.parent) m (answer_for s m)
   answers_message (Join d) = record {

@@ -108,9 +108,11 @@ module _ {f : Front} (s : SubState) (key : ℕ) (c : Case) (x : Xid) (o : Outcom
             (λ d k apart. ap (λ (b : Bool). if b then Some o else k) apart)
             (λ is. decided_now c o (Some (s.manager.decided x).outcome) (m.decided x) made.decided))
             made.comes.boot));
-        writes = subst (λ (q : DataTurn). MovesData (manager_data s.manager) (manager_data m) (λ c. xid_of s c) q)
+        writes = subst (λ (q : DataTurn). MovesData (manager_data s.manager) (manager_data m)
+            (λ c. xid_of s c) q)
             (sym (ap (λ (k : Option LiveBranch). decide_data c (kept_view k).standing) at.live))
-            (subst (λ (y : Xid). Data.ReleasesHolds (manager_data s.manager) (manager_data m) y) named.is made.releases);
+            (subst (λ (y : Xid). Data.ReleasesHolds (manager_data s.manager) (manager_data m) y)
+            named.is made.releases);
       }
 
   pub decides_tied : (t : BranchTable) (m : ManagerSight) → NotesStage s.table t key (Heuristic None)
@@ -153,25 +155,31 @@ found_is s c x told o at there =
 module _ (s : SubState) (key : ℕ) (c : Case) (x : Xid) (told : Option Outcome) (kept : IsBranchTable s.table)
     (at : IsAt s.table key c (decided x told)) where
   outcome_is : (o : Outcome) → turn_for s (tells_outcome o c)
-      ≡ Handles c (heuristic_outcome (leaf_in (core_of s) s.parent c) o (decided_found s c o) (view_in s.table c)
+      ≡ Handles c (heuristic_outcome (leaf_in (core_of s) s.parent c) o (decided_found s c o)
+      (view_in s.table c)
       told)
   outcome_is Committed =
       let l : Leaf = leaf_in (core_of s) s.parent c in
-      ap (λ (k : Option LiveBranch). Handles c (on_commit this_version l (decided_records s c) (view_in s.table c)
+      ap (λ (k : Option LiveBranch). Handles c
+      (on_commit this_version l (decided_records s c) (view_in s.table c)
       (kept_view k).standing)) at.live
       ∙ ap (λ (k : Option LiveBranch). Handles c (heuristic_outcome l Committed (decided_found s c Committed)
       (view_in s.table c) (kept_view k).told)) at.live
   outcome_is Aborted =
       let l : Leaf = leaf_in (core_of s) s.parent c in
-      ap (λ (k : Option LiveBranch). Handles c (on_abort this_version l (decided_records s c) (view_in s.table c)
+      ap (λ (k : Option LiveBranch). Handles c
+      (on_abort this_version l (decided_records s c) (view_in s.table c)
       (kept_view k).standing)) at.live
       ∙ ap (λ (k : Option LiveBranch). Handles c (heuristic_outcome l Aborted (decided_found s c Aborted)
       (view_in s.table c) (kept_view k).told)) at.live
 
-  outcome_data : (o : Outcome) → message_data (core_of s) (answer_for s (tells_outcome o c)) (tells_outcome o c)
+  outcome_data : (o : Outcome) → message_data (core_of s) (answer_for s (tells_outcome o c))
+      (tells_outcome o c)
       ≡ told_data c told
-  outcome_data Committed = ap (λ (k : Option LiveBranch). commit_data c (kept_view k) (kept_view k).standing) at.live
-  outcome_data Aborted = ap (λ (k : Option LiveBranch). abort_data c (kept_view k) (kept_view k).standing) at.live
+  outcome_data Committed = ap (λ (k : Option LiveBranch). commit_data c (kept_view k) (kept_view k).standing)
+      at.live
+  outcome_data Aborted = ap (λ (k : Option LiveBranch). abort_data c (kept_view k) (kept_view k).standing)
+      at.live
 
   outcome_tickets : (o : Outcome) (k : ℕ) (d : Case)
       → ticket_in s.table d ≡ retired_by (MessageInput k (tells_outcome o c)) d (ticket_in s.table d)
@@ -250,7 +258,8 @@ tells_is s c Committed ws d none = ap (tells (CaseBranch c) Committed) none
 tells_is s c Aborted ws d none = ap (tells (CaseBranch c) Aborted) none
 
 -- the first outcome is noted
-module _ {f : Front} (s : SubState) (key : ℕ) (c : Case) (x : Xid) (o : Outcome) (tied : IsTied f s) (kept : IsBranchTable s.table)
+module _ {f : Front} (s : SubState) (key : ℕ) (c : Case) (x : Xid) (o : Outcome) (tied : IsTied f s)
+    (kept : IsBranchTable s.table)
     (at : IsAt s.table key c (decided x None)) where
   abbrev l : Leaf
   l = leaf_in (core_of s) s.parent c
@@ -289,7 +298,8 @@ module _ {f : Front} (s : SubState) (key : ℕ) (c : Case) (x : Xid) (o : Outcom
             (λ is. ap (λ (q : Decision). Some q.outcome) (f.decided there)
             ∙ outcome_then o (s.manager.decided x)))
             f.comes.boot);
-        writes = subst (λ (q : DataTurn). MovesData (manager_data s.manager) (manager_data m) (λ c. xid_of s c) q)
+        writes = subst (λ (q : DataTurn). MovesData (manager_data s.manager) (manager_data m)
+            (λ c. xid_of s c) q)
             (sym (outcome_data s key c x None kept at o))
             (subst (λ (y : Xid). Data.ReleasesHolds (manager_data s.manager) (manager_data m) y) named.is
             (decided_data s.manager m x (outcome_call o) f (tied.stands c (decided x None) at.live) there));
@@ -348,7 +358,8 @@ module _ {f : Front} (s : SubState) (key : ℕ) (c : Case) (x : Xid) (told : Opt
             (keeps_decided s t m c (decided x told) None tied at.live r.branches f.comes.others_decided
             (ActInput (Forget c)) (λ d q apart. refl) (λ is. absurd (cc)))
             f.comes.boot);
-        writes = subst (λ (q : DataTurn). MovesData (manager_data s.manager) (manager_data m) (λ c. xid_of s c) q)
+        writes = subst (λ (q : DataTurn). MovesData (manager_data s.manager) (manager_data m)
+            (λ c. xid_of s c) q)
             (sym (ap (λ (k : Option LiveBranch). forget_data c (kept_view k).standing) at.live))
             (subst (λ (y : Xid). Data.Ends (manager_data s.manager) (manager_data m) y) named.is
             (ended_data s.manager m x call.Forget f refl));

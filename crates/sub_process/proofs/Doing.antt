@@ -87,7 +87,8 @@ module _ {f : Front} (s : SubState) (key : ℕ) (c g : Case) (n i : ℕ) (x : Xi
       (ap (λ (m : ℕ). i == m) (sym next) ∙ same_number i)
 
   moves_as : (does : Bool) (m : ManagerSight) → BranchWorks s.manager m x op does
-      → MovesData (manager_data s.manager) (manager_data m) (λ c. xid_of s c) (if does then Operates c op else Rests)
+      → MovesData (manager_data s.manager) (manager_data m) (λ c. xid_of s c)
+      (if does then Operates c op else Rests)
   moves_as true m w = subst (λ (y : Xid). Data.Operates (manager_data s.manager) (manager_data m) y op)
       (tied.named c (active x g n false) at.live).is w.operates
   moves_as false m w = w.operates
@@ -111,7 +112,8 @@ module _ {f : Front} (s : SubState) (key : ℕ) (c g : Case) (n i : ℕ) (x : Xi
             r.branches
             w.comes.others_decided (MessageInput k (Work c i op)) (λ d o apart. refl) (λ e. absurd (cc)))
             w.comes.boot);
-        writes = subst (λ (t : DataTurn). MovesData (manager_data s.manager) (manager_data m) (λ c. xid_of s c) t)
+        writes = subst (λ (t : DataTurn). MovesData (manager_data s.manager) (manager_data m)
+            (λ c. xid_of s c) t)
             (sym (data_is does w.allowed)) (moves_as does m w);
       }
 
@@ -130,14 +132,16 @@ module _ {f : Front} (s : SubState) (key : ℕ) (c g : Case) (n i : ℕ) (x : Xi
   did_tied t m notes w =
       moved_tied s t m c (active x g n false) (Some (active x g i false)) S2 tied at.live
       (notes_at s.table t key (Active g i false) c (active x g n false) at
-      notes).branches (refl, refl, tt) w.comes (same_reached (place_of s) s.manager m tied.reached w.comes.boot w.log)
+      notes).branches (refl, refl, tt) w.comes
+      (same_reached (place_of s) s.manager m tied.reached w.comes.boot w.log)
 
   pub spoils_tied : (t : BranchTable) (m : ManagerSight) → NotesStage s.table t key (Active g n true)
       → BranchWorks s.manager m x op false → IsTied f (behind s t m)
   spoils_tied t m notes w =
       moved_tied s t m c (active x g n false) (Some (active x g n true)) S4 tied at.live
       (notes_at s.table t key (Active g n true) c (active x g n false) at
-      notes).branches (refl, refl, tt) w.comes (same_reached (place_of s) s.manager m tied.reached w.comes.boot w.log)
+      notes).branches (refl, refl, tt) w.comes
+      (same_reached (place_of s) s.manager m tied.reached w.comes.boot w.log)
 
   pub idles_tied : (m : ManagerSight) → Idles s.manager m x → IsTied f (behind s s.table m)
   idles_tied m w =

@@ -137,12 +137,14 @@ pub none_tied : {f : Front} (s : SubState) (m : ManagerSight) (ls : List LogReco
 none_tied s m ls Memory tied each h = same_tied s m tied h
 none_tied s m ls Device tied each h =
     still_tied s m tied h.idle h.states h.decided h.boot h.log.form
-    (broke_reached (place_of s) s.manager m ls h.log.appended tied.reached h.boot h.log.stand h.log.no_less each)
+    (broke_reached (place_of s) s.manager m ls h.log.appended tied.reached h.boot h.log.stand
+    h.log.no_less each)
 none_tied s m ls Exhausted tied each h = same_tied s m tied h.0
 none_tied s m ls _ tied each h = absurd h
 
 -- the tie after a call that was not made
-pub not_tied : {f : Front} (s : SubState) (m : ManagerSight) (c : Case) (b : LiveBranch) (call : Call) (e : StepError) → IsTied f s
+pub not_tied : {f : Front} (s : SubState) (m : ManagerSight) (c : Case) (b : LiveBranch) (call : Call)
+    (e : StepError) → IsTied f s
     → branch_in s.table c ≡ Some b → NotFinished s.manager m b.xid call e
     → IsTied f (behind s s.table m)
 not_tied s m c b call e tied at h =
@@ -150,7 +152,8 @@ not_tied s m c b call e tied at h =
     (call_reached s c b.xid call (tied.named c b at) (tied.given_before c b at)) h
 
 -- the tie after a decision that was not made
-pub undecided_tied : {f : Front} (s : SubState) (m : ManagerSight) (c : Case) (b : LiveBranch) (o : Outcome) (e : StepError)
+pub undecided_tied : {f : Front} (s : SubState) (m : ManagerSight) (c : Case) (b : LiveBranch)
+    (o : Outcome) (e : StepError)
     → IsTied f s → branch_in s.table c ≡ Some b → WorkNotDecided s.manager m b.xid o e
     → IsTied f (behind s s.table m)
 undecided_tied s m c b o e tied at h =

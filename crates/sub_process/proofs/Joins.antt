@@ -91,14 +91,16 @@ repeated s d t e = record {
       (shown [] (post s.me s.parent (Joined d t) ∷ [])))
       (ap (turn_by s d (starts s.manager (xid_of s (next_case s d)))) e)
       (said s s (MessageInput k (Join d)) (post s.me s.parent (Joined d t) ∷ []) (stays_core s));
-  writes = subst (λ (o : Option Ticket). MovesData (manager_data s.manager) (manager_data s.manager) (λ c. xid_of s c)
+  writes = subst (λ (o : Option Ticket). MovesData (manager_data s.manager) (manager_data s.manager)
+      (λ c. xid_of s c)
       (join_data (core_of s) d (starts s.manager (xid_of s (next_case s d))) o)) e (rests s.manager);
 }
 
 -- what the data make of a start
 abbrev joined_data : SubState → SubState → Case → Bool → Option Ticket → Type 0
 joined_data s new d b o =
-    MovesData (manager_data s.manager) (manager_data new.manager) (λ c. xid_of s c) (join_data (core_of s) d b o)
+    MovesData (manager_data s.manager) (manager_data new.manager) (λ c. xid_of s c)
+    (join_data (core_of s) d b o)
 
 -- a fresh ticket was given
 pub issued : (s new : SubState) (d : Case) → ticket_in s.table d ≡ None → Joins s new d true
@@ -113,7 +115,8 @@ issued s new d ungiven j =
       turns = λ k.
           subst (λ (turn : Turn). Turns s new (MessageInput k (Join d)) turn (shown [] ls)) (sym is)
           (record { moves = j.1; effect = sends_only ls; does = refl; shown = refl });
-      writes = subst (λ (o : Option Ticket). joined_data s new d (starts s.manager (xid_of s (next_case s d))) o)
+      writes = subst (λ (o : Option Ticket). joined_data s new d
+          (starts s.manager (xid_of s (next_case s d))) o)
           (sym ungiven) (subst (λ (b : Bool). joined_data s new d b None) (sym j.0) j.2);
     }
 
@@ -128,7 +131,8 @@ refused s new d ungiven j =
       turns = λ k.
           subst (λ (turn : Turn). Turns s new (MessageInput k (Join d)) turn (shown [] [])) (sym is)
           (said s new (MessageInput k (Join d)) [] j.1);
-      writes = subst (λ (o : Option Ticket). joined_data s new d (starts s.manager (xid_of s (next_case s d))) o)
+      writes = subst (λ (o : Option Ticket). joined_data s new d
+          (starts s.manager (xid_of s (next_case s d))) o)
           (sym ungiven) (subst (λ (b : Bool). joined_data s new d b None) (sym j.0) j.2);
     }
 
@@ -147,7 +151,8 @@ is_fresh s d tied = by_branch (branch_in s.table (next_case s d)) refl
         let number : s.given + 1 ≡ g.ticket.number = ap (λ (t : Ticket). t.number) is in
         absurd (omega arith)
 
-module _ {f : Front} (s : SubState) (d : Case) (t : BranchTable) (m : ManagerSight) (x : Xid) (tied : IsTied f s)
+module _ {f : Front} (s : SubState) (d : Case) (t : BranchTable) (m : ManagerSight) (x : Xid)
+    (tied : IsTied f s)
     (named : IsNamed s.parent (next_case s d) x)
     (opens : OpensBranch s.table t d (next_ticket (core_of s)) x) where
   abbrev own : Case
@@ -271,7 +276,8 @@ table_tied s t tied same = record {
   reached = tied.reached;
 }
 
-pub undone_tied : {f : Front} (s : SubState) (t : BranchTable) (m : ManagerSight) → IsTied f s → SameTable s.table t
+pub undone_tied : {f : Front} (s : SubState) (t : BranchTable) (m : ManagerSight) → IsTied f s
+    → SameTable s.table t
     → SameManager s.manager m → IsTied f (behind s t m)
 undone_tied s t m tied same stays = same_tied (behind s t s.manager) m (table_tied s t tied same) stays
 

@@ -60,7 +60,8 @@ pub record EndsBy (s : SubState) (c : Case) (b : LiveBranch) (message : Message)
   pub drops : message_data (core_of s) (answer_for s message) message ≡ Ends c
   pub gone : (row_of call (stage_state b.stage) (s.manager.writes b.xid) (s.manager.decided b.xid)).1 ≡ S0
 
-module _ {f : Front} (s : SubState) (key : ℕ) (c : Case) (b : LiveBranch) (message : Message) (call : Call) (row : LeafRow)
+module _ {f : Front} (s : SubState) (key : ℕ) (c : Case) (b : LiveBranch) (message : Message)
+    (call : Call) (row : LeafRow)
     (tied : IsTied f s) (at : IsAt s.table key c b)
     (ends : EndsBy s c b message call row) where
   pub ended : (t : BranchTable) (m : ManagerSight) → Retires s.table t key nothing
@@ -81,8 +82,10 @@ module _ {f : Front} (s : SubState) (key : ℕ) (c : Case) (b : LiveBranch) (mes
             (keeps_decided s t m c b None tied at.live r.branches f.comes.others_decided
             (MessageInput k message)
             (λ d o apart. refl) (λ e. absurd (cc))) f.comes.boot);
-        writes = subst (λ (t : DataTurn). MovesData (manager_data s.manager) (manager_data m) (λ c. xid_of s c) t) (sym ends.drops)
-            (subst (λ (y : Xid). Data.Ends (manager_data s.manager) (manager_data m) y) (tied.named c b at.live).is
+        writes = subst (λ (t : DataTurn). MovesData (manager_data s.manager) (manager_data m)
+            (λ c. xid_of s c) t) (sym ends.drops)
+            (subst (λ (y : Xid). Data.Ends (manager_data s.manager) (manager_data m) y)
+            (tied.named c b at.live).is
             (ended_data s.manager m b.xid call f (ap (λ (q : BranchState).
             (row_of call q (s.manager.writes b.xid) (s.manager.decided b.xid)).1) (tied.stands c b at.live)
             ∙ ends.gone)));
@@ -97,7 +100,8 @@ module _ {f : Front} (s : SubState) (key : ℕ) (c : Case) (b : LiveBranch) (mes
       (tied.stands c b at.live) refl ends.written ends.of h)
 
 -- the tie after a branch that ended
-pub ended_tied : {f : Front} (s : SubState) (key : ℕ) (c : Case) (b : LiveBranch) (call : Call) (t : BranchTable)
+pub ended_tied : {f : Front} (s : SubState) (key : ℕ) (c : Case) (b : LiveBranch) (call : Call)
+    (t : BranchTable)
     (m : ManagerSight) → IsTied f s → IsAt s.table key c b
     → Retires s.table t key nothing → FinishesWork s.manager m b.xid call → IsTied f (behind s t m)
 ended_tied s key c b call t m tied at gone f =
@@ -149,7 +153,8 @@ untouched t c b kept at stage d = by_ticket (ticket_in t d) refl
         by_case true is =
             let h = kept.given d k e in
             let entry : b ≡ h.0 = some_same b h.0 (sym at ∙ ap (branch_in t) (sym (one _ c is)) ∙ h.1) in
-            absurd (not_given d h.0.stage (ap (λ (w : LiveBranch). has_promised w.stage) (sym entry) ∙ stage) h.2)
+            absurd (not_given d h.0.stage (ap (λ (w : LiveBranch). has_promised w.stage) (sym entry) ∙ stage)
+            h.2)
 
 pub refuse_row : (s : SubState) (key : ℕ) (c g : Case) (n works : ℕ) (p : Bool) (x : Xid)
     → IsAt s.table key c (active x g n p) → ((n == works) && not p) ≡ false
@@ -167,7 +172,8 @@ refuse_row s key c g n works p x at unfit =
       written = none_written g c n p (s.manager.writes x) (s.manager.decided x);
       of = tt;
       tickets = λ k d. retired_prepare k works c d (ticket_in s.table d);
-      drops = ap (λ (o : Option LiveBranch). prepare_data c works holding (kept_view o) (kept_view o).standing) at.live
+      drops = ap (λ (o : Option LiveBranch). prepare_data c works holding (kept_view o)
+          (kept_view o).standing) at.live
           ∙ ap (λ b. if b then vote_data c holding else Ends c) unfit;
       gone = rolled_gone g n p (s.manager.writes x) (s.manager.decided x);
     }

@@ -122,7 +122,8 @@ regroup : (front : List LogRecord) (l : LogRecord) (rest : List LogRecord)
     → front ++ l ∷ rest ≡ (front ++ l ∷ []) ++ rest
 regroup front l rest = sym (append_assoc front (l ∷ []) rest)
 
-boots_rise : (front rest : List LogRecord) → AreInOrder (front ++ rest) → boot_in front ≤ boot_in (front ++ rest)
+boots_rise : (front rest : List LogRecord) → AreInOrder (front ++ rest)
+    → boot_in front ≤ boot_in (front ++ rest)
 boots_rise front [] h = subst (λ ls. boot_in front ≤ boot_in ls) (sym (append-nil front)) (omega arith)
 boots_rise front (l ∷ rest) h =
     let step : boot_in front ≤ boot_in (front ++ l ∷ []) =
@@ -171,7 +172,8 @@ trim_reaches n ls h =
 
 -- Records that are written.
 
-module _ (place : Place) (boot : ℕ) (name : Name) (given : IsGivenWhere boot (own_case place name.0 name.1)) where
+module _ (place : Place) (boot : ℕ) (name : Name)
+    (given : IsGivenWhere boot (own_case place name.0 name.1)) where
   abbrev under : List Written → List LogRecord
   under ws = map (λ (w : Written). record { entry = w.entry; parent = name.0 }) ws
 
@@ -202,12 +204,14 @@ module _ (place : Place) (boot : ℕ) (name : Name) (given : IsGivenWhere boot (
   row_reached _ st ws d = tt
 
   decision_reached : (o : Outcome)
-      → AllByRecursion (IsReached place boot) (under (record { entry = decides_record name.1 o; is_forced = true } ∷ []))
+      → AllByRecursion (IsReached place boot)
+      (under (record { entry = decides_record name.1 o; is_forced = true } ∷ []))
   decision_reached Committed = (tt, tt)
   decision_reached Aborted = (tt, tt)
 
 -- the name of a case that was given a ticket
-named_given : (s : SubState) (c : Case) (name : Name) → ◌≡◌ {A = Name} name (Some s.parent, CaseBranch c) → IsGiven s c
+named_given : (s : SubState) (c : Case) (name : Name) → ◌≡◌ {A = Name} name (Some s.parent, CaseBranch c)
+    → IsGiven s c
     → IsGivenWhere s.manager.boot (own_case (place_of s) name.0 name.1)
 named_given s c name is g =
     subst (λ (n : Name). IsGivenWhere s.manager.boot (own_case (place_of s) n.0 n.1)) (sym is)
@@ -247,19 +251,23 @@ front_goes_on place old new f more is front = record {
   first = front.first;
   stands = record {
     rest = front.stands.rest ++ more;
-    split = sym (append_assoc front.first front.stands.rest more) ∙ ap (λ ks. ks ++ more) front.stands.split ∙ sym is;
+    split = sym (append_assoc front.first front.stands.rest more) ∙ ap (λ ks. ks ++ more) front.stands.split
+        ∙ sym is;
     sized = front.stands.sized;
   };
   says = front.says;
 }
 
-front_same : (place : Place) (old new : LogSight) (f : Front) → new ≡ old → IsFrontOf place old f → IsFrontOf place new f
+front_same : (place : Place) (old new : LogSight) (f : Front) → new ≡ old → IsFrontOf place old f
+    → IsFrontOf place new f
 front_same place old new f is front = subst (λ (l : LogSight). IsFrontOf place l f) (sym is) front
 
 -- what a restart remembers is the front of the log
-pub restarted_front : (place : Place) (log : LogSight) (form : LogForm) (all : List LogRecord) (failures : ℕ) (f : Front)
+pub restarted_front : (place : Place) (log : LogSight) (form : LogForm) (all : List LogRecord)
+    (failures : ℕ) (f : Front)
     → log ≡ forced_sight form all failures → f.size ≡ 5 + frames_size (records_of log.kept)
-    → ((p : ProcessId) → place.role ≡ AtLeaf p → RemembersBranches place p all f.remembered) → IsFrontOf place log f
+    → ((p : ProcessId) → place.role ≡ AtLeaf p → RemembersBranches place p all f.remembered)
+    → IsFrontOf place log f
 restarted_front place log form all failures f is sized says = record {
   first = all;
   stands = record {
@@ -274,15 +282,18 @@ restarted_front place log form all failures f is sized says = record {
 -- A log that goes on.
 
 -- its forced records go on, and all of them are such
-pub goes_on : {f : Front} (place : Place) (old new : ManagerSight) (behind : List LogRecord) → HasReached f place old
+pub goes_on : {f : Front} (place : Place) (old new : ManagerSight) (behind : List LogRecord)
+    → HasReached f place old
     → new.boot ≡ old.boot → records_of new.log.kept ≡ old.log.kept.forced ++ behind
     → length old.log.kept.forced ≤ length new.log.kept.forced
     → AllByRecursion (IsReached place old.boot) (records_of new.log.kept) → HasReached f place new
 goes_on place old new behind h boot all longer each =
-    let longer_by = longer_front old.log.kept.forced behind new.log.kept.forced new.log.kept.unforced (sym all) longer in
+    let longer_by = longer_front old.log.kept.forced behind new.log.kept.forced new.log.kept.unforced
+    (sym all) longer in
     record {
       boot = subst (λ n. Reaches n new.log.kept.forced) (sym boot)
-          (subst (Reaches old.boot) (sym longer_by.1) (reaches_more old.boot old.log.kept.forced longer_by.0 h.boot));
+          (subst (Reaches old.boot) (sym longer_by.1)
+          (reaches_more old.boot old.log.kept.forced longer_by.0 h.boot));
       promises = subst (λ n. AllByRecursion (IsReached place n) (records_of new.log.kept)) (sym boot) each;
       front = front_goes_on place old.log new.log _ longer_by.0 longer_by.1 h.front;
     }
@@ -305,7 +316,8 @@ same_reached place old new h boot log = record {
   boot = subst (λ n. Reaches n new.log.kept.forced) (sym boot)
       (subst (λ (l : LogSight). Reaches old.boot l.kept.forced) (sym log) h.boot);
   promises = subst (λ n. AllByRecursion (IsReached place n) (records_of new.log.kept)) (sym boot)
-      (subst (λ (l : LogSight). AllByRecursion (IsReached place old.boot) (records_of l.kept)) (sym log) h.promises);
+      (subst (λ (l : LogSight). AllByRecursion (IsReached place old.boot) (records_of l.kept))
+      (sym log) h.promises);
   front = front_same place old.log new.log _ log h.front;
 }
 
@@ -326,7 +338,12 @@ wrote_longer l ws ls = by_test (is_any_forced ws)
   where
     by_test : (b : Bool) → length l.kept.forced ≤ length (if b
         then record l { kept = record { forced = records_of l.kept ++ ls; unforced = [] }; behind = 0 }
-        else record l { kept = record { forced = l.kept.forced; unforced = l.kept.unforced ++ ls } }).kept.forced
+        else record l {
+          kept = record {
+            forced = l.kept.forced;
+            unforced = l.kept.unforced ++ ls;
+          };
+        }).kept.forced
     by_test true = omega (
       arith,
       length-append (records_of l.kept) ls,
@@ -335,7 +352,8 @@ wrote_longer l ws ls = by_test (is_any_forced ws)
     by_test false = omega arith
 
 -- these records were written
-pub wrote_reached : {f : Front} (place : Place) (old new : ManagerSight) (ws : List Written) (ls : List LogRecord)
+pub wrote_reached : {f : Front} (place : Place) (old new : ManagerSight) (ws : List Written)
+    (ls : List LogRecord)
     → HasReached f place old → new.boot ≡ old.boot → new.log ≡ wrote old.log ws ls
     → AllByRecursion (IsReached place old.boot) ls → HasReached f place new
 wrote_reached place old new ws ls h boot log each =
@@ -345,7 +363,8 @@ wrote_reached place old new ws ls h boot log each =
     (wrote_longer old.log ws ls)) each
 
 -- a call made its row of a live branch
-pub finishes_reached : {f : Front} (s : SubState) (c : Case) (b : LiveBranch) (k : Call) (m : ManagerSight) → IsTied f s
+pub finishes_reached : {f : Front} (s : SubState) (c : Case) (b : LiveBranch) (k : Call) (m : ManagerSight)
+    → IsTied f s
     → branch_in s.table c ≡ Some b → FinishesWork s.manager m b.xid k → HasReached f (place_of s) m
 finishes_reached s c b k m tied at f =
     wrote_reached (place_of s) s.manager m (written_for s.manager b.xid k)
@@ -353,7 +372,8 @@ finishes_reached s c b k m tied at f =
     (call_reached s c b.xid k (tied.named c b at) (tied.given_before c b at))
 
 -- an operator decided a live branch
-pub decides_reached : {f : Front} (s : SubState) (c : Case) (b : LiveBranch) (o : Outcome) (m : ManagerSight) → IsTied f s
+pub decides_reached : {f : Front} (s : SubState) (c : Case) (b : LiveBranch) (o : Outcome) (m : ManagerSight)
+    → IsTied f s
     → branch_in s.table c ≡ Some b → DecidesWork s.manager m b.xid o → HasReached f (place_of s) m
 decides_reached s c b o m tied at made =
     wrote_reached (place_of s) s.manager m (decision_writes b.xid o)
@@ -370,7 +390,8 @@ broke_reached place old new ls n h boot all longer each =
     more place old new (take n ls) h boot all longer (all_taken (IsReached place old.boot) n ls each)
 
 -- it failed under a restart
-pub restart_broke_reached : {f : Front} (place : Place) (old new : ManagerSight) (keep b n : ℕ) → HasReached f place old
+pub restart_broke_reached : {f : Front} (place : Place) (old new : ManagerSight) (keep b n : ℕ)
+    → HasReached f place old
     → new.boot ≡ old.boot
     → records_of new.log.kept ≡ left_by old.log keep ++ take n (boot_record b ∷ [])
     → length old.log.kept.forced ≤ length new.log.kept.forced → HasReached f place new
@@ -391,20 +412,24 @@ new_reached place m form failures boot log front = record {
   front = front;
   boot = subst (λ n. Reaches n m.log.kept.forced) (sym boot)
       (subst (λ (l : LogSight). Reaches 1 l.kept.forced) (sym log) (inl (omega arith)));
-  promises = subst (λ (l : LogSight). AllByRecursion (IsReached place m.boot) (records_of l.kept)) (sym log) (tt, tt);
+  promises = subst (λ (l : LogSight). AllByRecursion (IsReached place m.boot) (records_of l.kept))
+      (sym log) (tt, tt);
 }
 
 -- a manager that restarted over these records
-pub restarted_reached : {f : Front} (place : Place) (m : ManagerSight) (form : LogForm) (left : List LogRecord) (failures b : ℕ)
+pub restarted_reached : {f : Front} (place : Place) (m : ManagerSight) (form : LogForm)
+    (left : List LogRecord) (failures b : ℕ)
     → m.boot ≡ next_boot left → m.log ≡ forced_sight form (with_boot left) failures
-    → b ≤ next_boot left → AllByRecursion (IsReached place b) left → IsFrontOf place m.log f → HasReached f place m
+    → b ≤ next_boot left → AllByRecursion (IsReached place b) left → IsFrontOf place m.log f
+    → HasReached f place m
 restarted_reached place m form left failures b boot log le each front = record {
   front = front;
   boot = subst (λ n. Reaches n m.log.kept.forced) (sym boot)
       (subst (λ (l : LogSight). Reaches (next_boot left) l.kept.forced) (sym log)
       (reaches_last left (next_boot left)));
   promises = subst (λ n. AllByRecursion (IsReached place n) (records_of m.log.kept)) (sym boot)
-      (subst (λ (l : LogSight). AllByRecursion (IsReached place (next_boot left)) (records_of l.kept)) (sym log)
+      (subst (λ (l : LogSight). AllByRecursion (IsReached place (next_boot left)) (records_of l.kept))
+      (sym log)
       (subst (AllByRecursion (IsReached place (next_boot left))) (sym (append-nil (with_boot left)))
       (all_append (IsReached place (next_boot left)) left (boot_record (next_boot left) ∷ [])
       (reached_later place b (next_boot left) left le each) (tt, tt))));
@@ -447,7 +472,8 @@ trim_all place boot ls h =
     (tt, pairs_reached place boot (data_of ls).pairs)
 
 -- what a trim leaves
-trim_reached : {f : Front} (place : Place) (old new : ManagerSight) → HasReached f place old → AreInOrder (records_of old.log.kept)
+trim_reached : {f : Front} (place : Place) (old new : ManagerSight) → HasReached f place old
+    → AreInOrder (records_of old.log.kept)
     → new.boot ≡ old.boot → new.log.kept ≡ record { forced = trimmed old.log; unforced = [] }
     → IsFrontOf place new.log f → HasReached f place new
 trim_reached place old new h order boot kept front = record {
@@ -464,9 +490,11 @@ trim_reached place old new h order boot kept front = record {
 
 pub trimmed_reached : {f : Front} (place : Place) (old new : ManagerSight) → HasReached f place old
     → AreInOrder (records_of old.log.kept) → new.boot ≡ old.boot
-    → new.log ≡ forced_sight old.log.form (trimmed old.log) old.log.failures → IsHeader f → HasReached f place new
+    → new.log ≡ forced_sight old.log.form (trimmed old.log) old.log.failures → IsHeader f
+    → HasReached f place new
 trimmed_reached place old new h order boot log header =
-    trim_reached place old new h order boot (ap (λ (l : LogSight). l.kept) log) (header_front place new.log _ header)
+    trim_reached place old new h order boot (ap (λ (l : LogSight). l.kept) log)
+    (header_front place new.log _ header)
 
 pub trim_broke_reached : {f : Front} (place : Place) (old new : ManagerSight) → HasReached f place old
     → AreInOrder (records_of old.log.kept) → ManagerTrimFails old new → IsHeader f → HasReached f place new
@@ -485,7 +513,8 @@ trim_broke_reached place old new h order fails header = elim fails.either [
 
 -- a subordinate can have written what a crash leaves of its log
 pub left_fit : {f : Front} (s : SubState) (keep : ℕ) → HasReached f (place_of s) s.manager
-    → AllByRecursion (IsSound Manager) (records_of s.manager.log.kept) → AreInOrder (records_of s.manager.log.kept)
+    → AllByRecursion (IsSound Manager) (records_of s.manager.log.kept)
+    → AreInOrder (records_of s.manager.log.kept)
     → AreFit (place_of s) (left_by s.manager.log keep)
 left_fit s keep h sound order =
     let rest = left_rest s.manager.log keep in

@@ -38,7 +38,8 @@ before_last : (ls : List LogRecord) (l : LogRecord)
 before_last ls l = take_at ls (l ∷ []) (length (ls ++ l ∷ []) - 1) (omega (arith, length-append ls (l ∷ [])))
 
 -- all records that are forced are left
-all_forced : (form : LogForm) (ls : List LogRecord) (failures : ℕ) → left_by (forced_sight form ls failures) 0 ≡ ls
+all_forced : (form : LogForm) (ls : List LogRecord) (failures : ℕ)
+    → left_by (forced_sight form ls failures) 0 ≡ ls
 unfolding whole_within
 all_forced form ls failures = append-nil ls
 
@@ -48,7 +49,8 @@ pub left_is : (before mid : ManagerSight) (all : ℕ) → RestartsManager before
 left_is before mid all h =
     let ls = left_by before.log all in
     let log : left_by mid.log 0 ≡ with_boot ls =
-    ap (λ (l : LogSight). left_by l 0) h.log ∙ all_forced before.log.form (with_boot ls) before.log.failures in
+    ap (λ (l : LogSight). left_by l 0) h.log ∙ all_forced before.log.form (with_boot ls) before.log.failures
+    in
     ap (λ (rs : List LogRecord). take (length rs - 1) rs) log
     ∙ before_last ls (boot_record (next_boot ls))
 

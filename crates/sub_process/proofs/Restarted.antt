@@ -77,7 +77,8 @@ shown_restart boot messages =
 -- the data are those that the records leave
 pub promises_left : (old mid m : ManagerSight) (keep : ℕ) (refuses : Code → Type 0) (answer : Code)
     → RestartsManager old mid keep
-    → ManagerCalls mid m (refuses answer) (λ s t. OpensManager s t 0 false answer) → PromisesLeft (left_by old.log keep) m
+    → ManagerCalls mid m (refuses answer) (λ s t. OpensManager s t 0 false answer)
+    → PromisesLeft (left_by old.log keep) m
 promises_left old mid m keep refuses answer restarts calls = record {
   writes = λ x. calls.rest.writes x ∙ restarts.writes x;
   held = record {
@@ -143,14 +144,16 @@ module _ (s : SubState) (keep : ℕ) (r : RebuiltBranches) (mid m : ManagerSight
       }
 
   -- what the records say of a case is what they say of its XID
-  mark_is : (c : Case) (b : LiveBranch) → IsBranchLeft (leaf_place s.me s.parent s.tree) s.parent rs r.boot c b
+  mark_is : (c : Case) (b : LiveBranch) → IsBranchLeft (leaf_place s.me s.parent s.tree)
+      s.parent rs r.boot c b
       → mark_at (left_by s.manager.log keep) b.xid ≡ mark_of (CaseBranch c) rs
   mark_is c b d =
       ap (λ (x : Xid). mark_at (left_by s.manager.log keep) x)
       (left_xid s.parent c b (mark_of (CaseBranch c) rs) d.kept)
       ∙ marks_alike s.me s.parent s.tree c d.own.own d.own.reads (left_by s.manager.log keep) made.reads
 
-  state_is : (c : Case) (b : LiveBranch) → IsBranchLeft (leaf_place s.me s.parent s.tree) s.parent rs r.boot c b
+  state_is : (c : Case) (b : LiveBranch) → IsBranchLeft (leaf_place s.me s.parent s.tree)
+      s.parent rs r.boot c b
       → state_at mid.tables b.xid ≡ stage_state b.stage
   state_is c b d =
       restarts.states b.xid ∙ ap marked_state (mark_is c b d)
@@ -209,9 +212,11 @@ module _ (s : SubState) (keep : ℕ) (r : RebuiltBranches) (mid m : ManagerSight
   reopened_front f sized says =
       restarted_front (place_of s) m.log s.manager.log.form (with_boot (left_by s.manager.log keep))
       s.manager.log.failures f (calls.log ∙ restarts.log) sized
-      (λ p leaf. subst (λ (q : ProcessId). RemembersBranches (place_of s) q (with_boot (left_by s.manager.log keep)) f.remembered)
+      (λ p leaf. subst (λ (q : ProcessId). RemembersBranches (place_of s) q
+      (with_boot (left_by s.manager.log keep)) f.remembered)
       (parent_is p leaf)
-      (subst (λ n. RemembersBranches (place_of s) s.parent (left_by s.manager.log keep ++ boot_record n ∷ []) f.remembered)
+      (subst (λ n. RemembersBranches (place_of s) s.parent
+      (left_by s.manager.log keep ++ boot_record n ∷ []) f.remembered)
       (ap (λ n. n + 1) made.boot ∙ sym boots) says))
     where
       parent_is : (p : ProcessId) → AtLeaf s.parent ≡ AtLeaf p → s.parent ≡ p
@@ -225,7 +230,8 @@ module _ (s : SubState) (keep : ℕ) (r : RebuiltBranches) (mid m : ManagerSight
     stands = λ c b e. stands c b (made.live c b e);
     told = λ c b e. agrees c b (made.live c b e);
     given_before = λ c b e. given_by c b (made.live c b e);
-    reached = restarted_reached (place_of s) m s.manager.log.form (left_by s.manager.log keep) s.manager.log.failures
+    reached = restarted_reached (place_of s) m s.manager.log.form (left_by s.manager.log keep)
+        s.manager.log.failures
         r.boot (calls.boot ∙ restarts.boot) (calls.log ∙ restarts.log) reached_before made.reached front;
   }
 
@@ -263,7 +269,8 @@ module _ (s : SubState) (keep : ℕ) (r : RebuiltBranches) (mid m : ManagerSight
   unfolding case_decision
   boot_decides c ks n = fold-append (decision_after c) None ks (Opened n ∷ [])
 
-  log_is : m.log ≡ forced_sight (form_of (core_of s).place) (restarted_log (core_of s) keep) s.manager.log.failures
+  log_is : m.log ≡ forced_sight (form_of (core_of s).place) (restarted_log (core_of s) keep)
+      s.manager.log.failures
   log_is = calls.log ∙ restarts.log
       ∙ ap (λ n. forced_sight s.manager.log.form (left_by s.manager.log keep ++ boot_record n ∷ [])
       s.manager.log.failures) boots
@@ -296,13 +303,15 @@ module _ (s : SubState) (keep : ℕ) (r : RebuiltBranches) (mid m : ManagerSight
 
 -- The device failed.
 
-pub broken_tied : {f : Front} (s : SubState) (m : ManagerSight) (keep : ℕ) → IsTied f s → ManagerRestartFails s.manager m keep
+pub broken_tied : {f : Front} (s : SubState) (m : ManagerSight) (keep : ℕ) → IsTied f s
+    → ManagerRestartFails s.manager m keep
     → IsTied f (behind s s.table m)
 broken_tied s m keep tied fails =
     still_tied s m tied (same_idle s.manager m fails.tables tied.idle)
     (λ y. ap (λ (bs : List (Xid × BranchState)). state_in bs y)
     fails.tables.branches.branches) fails.decided fails.boot fails.log.form
-    (restart_broke_reached (place_of s) s.manager m keep (next_boot (left_by s.manager.log keep)) fails.log.appended
+    (restart_broke_reached (place_of s) s.manager m keep (next_boot (left_by s.manager.log keep))
+    fails.log.appended
     tied.reached fails.boot fails.log.stand fails.log.no_less)
 
 pub broken : (s : SubState) (m : ManagerSight) (keep : ℕ) → ManagerRestartFails s.manager m keep
@@ -321,5 +330,11 @@ pub boots_used : (s : SubState) (m : ManagerSight) (keep : ℕ) → SameManager 
     → ProcessNotRestarted (core_of s) keep (core_of (behind s s.table m)) step_error.Exhausted
 boots_used s m keep same used = (
   (same_keeps s m same).core,
-  λ held. absurd (omega (arith, used, held.0.1, boots_alike s.me s.parent s.tree (left_by s.manager.log keep))),
+  λ held. absurd (omega (
+    arith,
+    used,
+    held.0.1,
+    boots_alike s.me s.parent s.tree
+        (left_by s.manager.log keep),
+  )),
 )

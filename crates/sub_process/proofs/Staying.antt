@@ -65,8 +65,10 @@ pub rests : (m : ManagerSight) → Data.DataRests (manager_data m) (manager_data
 rests m = record { keeps = record { writes = λ y. refl; holders = λ k. refl }; known = λ y. refl }
 
 -- a message of which the data rest leaves them
-pub data_rest : (s : SubState) (m : Message) → message_data (core_of s) (answer_for s m) m ≡ Rests → MovesWrites s s m
-data_rest s m is = subst (λ (t : DataTurn). MovesData (manager_data s.manager) (manager_data s.manager) (λ c. xid_of s c) t) (sym is)
+pub data_rest : (s : SubState) (m : Message) → message_data (core_of s) (answer_for s m) m ≡ Rests
+    → MovesWrites s s m
+data_rest s m is = subst (λ (t : DataTurn). MovesData (manager_data s.manager) (manager_data s.manager)
+    (λ c. xid_of s c) t) (sym is)
     (rests s.manager)
 
 -- the ticket of a case that is not live is active no longer

@@ -84,7 +84,8 @@ asked s c b at is =
     }
 
 -- and any other is not
-pub not_asked : (s : SubState) (c : Case) (b : LiveBranch) → Some b ≡ branch_in s.table c → awaits b.stage ≡ false
+pub not_asked : (s : SubState) (c : Case) (b : LiveBranch) → Some b ≡ branch_in s.table c
+    → awaits b.stage ≡ false
     → NotActed s s (Ask c) NotInDoubt
 not_asked s c b at is =
     let l : Leaf = leaf_in (core_of s) s.parent c in
@@ -198,7 +199,8 @@ kept_by old new turn _ t other = t.0.manager
 
 pub act_ok : (s t : SubState) (a : Act) (r : Result Reaction StepError)
     → act_is_listed s.tree (ActInput a) ≡ true → s.manager.log.failed ≡ false
-    → IfOk r (Acts s t a) → IfOk r (ProcessMakes (core_of s) (core_of t) (data_answer s (ActInput a)) (ActInput a))
+    → IfOk r (Acts s t a) → IfOk r (ProcessMakes (core_of s) (core_of t)
+    (data_answer s (ActInput a)) (ActInput a))
 act_ok s t a (Ok reaction) listed works acts =
     made s t _ (ActInput a) (turn_at s a) reaction (up s _ (ActInput a) listed works) acts.turns
 act_ok s t a (Err e) listed works acts = acts
@@ -223,7 +225,8 @@ act_kept s t a (Err e) acts = kept_by s t (turn_at s a) e acts
 
 pub hear_ok : (old new : SubState) (k : ℕ) (m : Message) (r : Result Reaction StepError)
     → old.manager.log.failed ≡ false → IfOk r (Hears old new m)
-    → IfOk r (ProcessMakes (core_of old) (core_of new) (data_answer old (MessageInput k m)) (MessageInput k m))
+    → IfOk r (ProcessMakes (core_of old) (core_of new) (data_answer old (MessageInput k m))
+    (MessageInput k m))
 hear_ok old new k m (Ok reaction) works h = made old new _ (MessageInput k m) (turn_for old m) reaction
     (up old _ (MessageInput k m) refl works) (h.turns k)
 hear_ok old new k m (Err e) works h = h
@@ -246,7 +249,8 @@ hear_kept old new m (Ok reaction) h = h
 hear_kept old new m (Err e) h = kept_by old new (turn_for old m) e h
 
 -- a message that says nothing to a manager
-pub unheard : (s : SubState) (m : Message) → turn_for s m ≡ Says [] → MovesWrites s s m → Hears s s m (shown [] [])
+pub unheard : (s : SubState) (m : Message) → turn_for s m ≡ Says [] → MovesWrites s s m
+    → Hears s s m (shown [] [])
 unheard s m is writes = record {
   turns = λ k. subst (λ (t : Turn). Turns s s (MessageInput k m) t (shown [] [])) (sym is)
       (record { moves = stays_core s; effect = sends_only []; does = refl; shown = refl });
@@ -267,7 +271,9 @@ unheard_of s (Joined d t) no_join no_work no_prepare no_commit no_abort =
     unheard s (Joined d t) refl (rests s.manager)
 unheard_of s (Yes c) no_join no_work no_prepare no_commit no_abort = unheard s (Yes c) refl (rests s.manager)
 unheard_of s (No c) no_join no_work no_prepare no_commit no_abort = unheard s (No c) refl (rests s.manager)
-unheard_of s (Read c) no_join no_work no_prepare no_commit no_abort = unheard s (Read c) refl (rests s.manager)
-unheard_of s (Ack c o fs) no_join no_work no_prepare no_commit no_abort = unheard s (Ack c o fs) refl (rests s.manager)
+unheard_of s (Read c) no_join no_work no_prepare no_commit no_abort =
+    unheard s (Read c) refl (rests s.manager)
+unheard_of s (Ack c o fs) no_join no_work no_prepare no_commit no_abort =
+    unheard s (Ack c o fs) refl (rests s.manager)
 unheard_of s (Inquire c) no_join no_work no_prepare no_commit no_abort =
     unheard s (Inquire c) refl (rests s.manager)

@@ -68,7 +68,8 @@ KeepsDecided s t m i = (d : Case) → (view_in t d).standing ≡ Heuristic
     → decided_at m (branch_in t d) ≡ decided_by i d (decided_at s.manager (branch_in s.table d))
 
 -- one branch moved, and of the others what operators decided stays
-module _ {f : Front} (s : SubState) (t : BranchTable) (m : ManagerSight) (owner : Case) (b : LiveBranch) (v : Option LiveBranch)
+module _ {f : Front} (s : SubState) (t : BranchTable) (m : ManagerSight) (owner : Case) (b : LiveBranch)
+    (v : Option LiveBranch)
     (tied : IsTied f s) (at : branch_in s.table owner ≡ Some b)
     (moves : MovesValue s.table.branches t.branches owner v)
     (others : OthersStayDecided s.manager m b.xid) where
@@ -107,7 +108,8 @@ module _ {f : Front} (s : SubState) (t : BranchTable) (m : ManagerSight) (owner 
           (one owner c e) here h
 
 -- a case was given its ticket, where the manager's boot stays
-given_still : (s : SubState) (t : BranchTable) (m : ManagerSight) (c : Case) → m.boot ≡ s.manager.boot → IsGiven s c
+given_still : (s : SubState) (t : BranchTable) (m : ManagerSight) (c : Case) → m.boot ≡ s.manager.boot
+    → IsGiven s c
     → IsGiven (behind s t m) c
 given_still s t m c boot g = record {
   ticket = g.ticket;
@@ -117,7 +119,8 @@ given_still s t m c boot g = record {
 }
 
 -- one branch moved, here and at the manager
-module _ {f : Front} (s : SubState) (t : BranchTable) (m : ManagerSight) (owner : Case) (b : LiveBranch) (v : Option LiveBranch)
+module _ {f : Front} (s : SubState) (t : BranchTable) (m : ManagerSight) (owner : Case) (b : LiveBranch)
+    (v : Option LiveBranch)
     (st : BranchState) (tied : IsTied f s)
     (at : branch_in s.table owner ≡ Some b) (moves : MovesValue s.table.branches t.branches owner v)
     (fits : Fits v b st (m.decided b.xid)) (comes : BranchComes s.manager m b.xid st) where

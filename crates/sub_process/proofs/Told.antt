@@ -81,7 +81,8 @@ pub left_state : (p : ProcessId) (c : Case) (b : LiveBranch) (m : Mark) → bran
     → marked_state m ≡ stage_state b.stage
 left_state p c b Unmarked e = absurd (cc)
 left_state p c b Finished e = absurd (cc)
-left_state p c b Promised e = ap (λ (v : LiveBranch). stage_state v.stage) (some_same (kept_at p c Prepared) b e)
+left_state p c b Promised e = ap (λ (v : LiveBranch). stage_state v.stage)
+    (some_same (kept_at p c Prepared) b e)
 left_state p c b Decided e = ap (λ (v : LiveBranch). stage_state v.stage)
     (some_same (kept_at p c (Heuristic None)) b e)
 left_state p c b (ToldOf o) e = ap (λ (v : LiveBranch). stage_state v.stage)

@@ -136,7 +136,8 @@ module _ (me p : ProcessId) (tree : List TreeProcess) where
   stored_one d e (Cleared c) q h k = absurd h.1
 
   stored_from : (d e : Data) (ls : List LogRecord) → AllByRecursion (IsSound Manager) ls → Alike d e
-      → Alike (fold stored_after d (own_records (leaf_place me p tree) ls)) (fold stored_after e (map by_xid ls))
+      → Alike (fold stored_after d (own_records (leaf_place me p tree) ls))
+      (fold stored_after e (map by_xid ls))
   unfolding own_records
   stored_from d e [] h k = k
   stored_from d e (l ∷ ls) h k =
@@ -199,7 +200,8 @@ module _ (s : SubState) (m : ManagerSight) (sound : AllByRecursion (IsSound Mana
 
   -- The device failed.
 
-  breaks : ManagerTrimFails s.manager m → ProcessNotTrimmed (core_of s) (core_of (behind s s.table m)) error.Device
+  breaks : ManagerTrimFails s.manager m → ProcessNotTrimmed (core_of s)
+      (core_of (behind s s.table m)) error.Device
   breaks h = record {
     either = elim h.either [
       | inl stands ↦ inl stands
@@ -241,15 +243,18 @@ module _ (s : SubState) (m : ManagerSight) (sound : AllByRecursion (IsSound Mana
 
 -- The tie.
 
-module _ {f : Front} (s : SubState) (m : ManagerSight) (order : AreInOrder (records_of s.manager.log.kept)) (tied : IsTied f s) where
-  pub trimmed_tied : IsHeader f → (remain : ℕ) → ManagerTrims s.manager m remain → IsTied f (behind s s.table m)
+module _ {f : Front} (s : SubState) (m : ManagerSight) (order : AreInOrder (records_of s.manager.log.kept))
+    (tied : IsTied f s) where
+  pub trimmed_tied : IsHeader f → (remain : ℕ) → ManagerTrims s.manager m remain
+      → IsTied f (behind s s.table m)
   trimmed_tied header remain h =
       still_tied s m tied (same_idle s.manager m h.tables tied.idle)
       (λ y. ap (λ (bs : List (Xid × BranchState)). state_in bs y) h.tables.branches.branches)
       h.rest.decided h.boot (ap (λ (l : LogSight). l.form) h.log)
       (trimmed_reached (place_of s) s.manager m tied.reached order h.boot h.log header)
 
-  pub untrimmed_tied : IsHeader f → (e : TrimError) → ManagerNotTrimmed s.manager m e → IsTied f (behind s s.table m)
+  pub untrimmed_tied : IsHeader f → (e : TrimError) → ManagerNotTrimmed s.manager m e
+      → IsTied f (behind s s.table m)
   untrimmed_tied header trim_error.Memory h = same_tied s m tied h
   untrimmed_tied header trim_error.Failed h = same_tied s m tied h.0
   untrimmed_tied header trim_error.Device h =

@@ -154,7 +154,8 @@ module _ {f : Front} (s : SubState) (key : ℕ) (c g : Case) (n : ℕ) (x : Xid)
             (λ d. r.tickets d ∙ retired_prepare k n c d (ticket_in s.table d))
             (keeps_decided s t m c (active x g n false) v tied at.live r.branches f.comes.others_decided
             (MessageInput k (Prepare c n)) (λ d o apart. refl) (λ e. absurd (undecided e))) f.comes.boot);
-        writes = subst (λ (t : DataTurn). MovesData (manager_data s.manager) (manager_data m) (λ c. xid_of s c) t) (sym data_is)
+        writes = subst (λ (t : DataTurn). MovesData (manager_data s.manager) (manager_data m)
+            (λ c. xid_of s c) t) (sym data_is)
             (voted_data m ws writes_is f);
       }
 
@@ -204,14 +205,16 @@ module _ {f : Front} (s : SubState) (key : ℕ) (c g : Case) (n : ℕ) (x : Xid)
           (voted t m (promised (active x g n false)) (retires_at s.table t key promised c (active x g n false)
           at r) (ap (λ (q : LeafRow). q.view) (sym row_is)) (λ e. cc) f)
 
-  finished_reached : (m : ManagerSight) → FinishesWork s.manager m x call.Prepare → HasReached f (place_of s) m
+  finished_reached : (m : ManagerSight) → FinishesWork s.manager m x call.Prepare
+      → HasReached f (place_of s) m
   finished_reached m f = finishes_reached s c (active x g n false) call.Prepare m tied at.live f
 
   pub read_tied : (t : BranchTable) (m : ManagerSight) → Retires s.table t key nothing
       → FinishesWork s.manager m x call.Prepare → IsTied f (behind s t m)
   read_tied t m r f =
       moved_tied s t m c (active x g n false) None _ tied at.live
-      (retires_at s.table t key nothing c (active x g n false) at r).branches tt f.comes (finished_reached m f)
+      (retires_at s.table t key nothing c (active x g n false) at r).branches tt f.comes
+      (finished_reached m f)
 
   pub yes_tied : (t : BranchTable) (m : ManagerSight) → Retires s.table t key promised
       → Yes ≡ vote_of (s.manager.writes x) → FinishesWork s.manager m x call.Prepare

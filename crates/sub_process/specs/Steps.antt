@@ -35,10 +35,11 @@ abbrev pub data_answer : SubState → Input → DataAnswer
 data_answer s (ActInput a) = no_answer
 data_answer s (MessageInput k m) = answer_for s m
 
--- what an act leaves of the writes and of the keys that are held: a branch that an operator decides has none of
--- them any more
+-- what an act leaves of the writes and of the keys that are held: a branch that an operator decides has none
+-- of them any more
 abbrev pub ActLeaves : Act → SubState → SubState → Type 0
-ActLeaves a old new = MovesData (manager_data old.manager) (manager_data new.manager) (λ c. xid_of old c) (act_data (core_of old) a)
+ActLeaves a old new = MovesData (manager_data old.manager) (manager_data new.manager) (λ c. xid_of old c)
+    (act_data (core_of old) a)
 
 -- what an input leaves of them
 abbrev pub InputLeaves : Input → SubState → SubState → Type 0
@@ -70,8 +71,8 @@ abbrev pub left_before : ManagerSight → List LogRecord
 left_before m = take (length (left_by m.log 0) - 1) (left_by m.log 0)
 
 -- where these records were left, each branch that is in doubt by them has the writes that it promised, and no
--- other branch has any; it holds their keys, and nothing else is held; and those in doubt and those that an operator
--- decided are known
+-- other branch has any; it holds their keys, and nothing else is held; and those in doubt and those that an
+-- operator decided are known
 pub record PromisesLeft (left : List LogRecord) (m : ManagerSight) : Type 0 where
   pub writes : (x : Xid) → m.writes x ≡ writes_left left x
   pub held : HoldWrites (writes_left left) m.holders
@@ -81,15 +82,15 @@ pub record PromisesLeft (left : List LogRecord) (m : ManagerSight) : Type 0 wher
 abbrev pub LeavesPromises : SubState → ℕ → SubState → Type 0
 LeavesPromises old keep new = PromisesLeft (left_by old.manager.log keep) new.manager
 
--- why no restart was made ready where these records are left: boots are used up where none below 2^63 comes after
--- the last one
+-- why no restart was made ready where these records are left: boots are used up where none below 2^63 comes
+-- after the last one
 abbrev pub NotReady : Place → List LogRecord → StepError → Type 0
 NotReady place ls step_error.Memory = ⊤
 NotReady place ls step_error.Exhausted = 2 ^ 63 ≤ boot_of (own_records place ls) + 1
 NotReady place ls e = ⊥
 
--- why no process goes on over the log of a manager that restarted, but for want of memory: no such process can have
--- written the records that were left
+-- why no process goes on over the log of a manager that restarted, but for want of memory: no such process
+-- can have written the records that were left
 abbrev pub NotReopenedOver : Place → ManagerSight → RebuildError → Type 0
 NotReopenedOver place m rebuilds.Memory = ⊤
 NotReopenedOver place m rebuilds.Unfit = AreFit place (left_before m) → ⊥

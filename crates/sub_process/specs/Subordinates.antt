@@ -162,16 +162,16 @@ abbrev pub Reaches : ℕ → List LogRecord → Type 0
 Reaches n [] = n ≤ 0
 Reaches n (l ∷ ls) = (n ≤ boot_after 0 l.entry) ⊎ Reaches n ls
 
--- the forced records of a manager's log have reached its boot, the cases of the process's own that promise in it
--- do so by tickets of boots that were reached, and what is remembered of its front is what that says
+-- the forced records of a manager's log have reached its boot, the cases of the process's own that promise in
+-- it do so by tickets of boots that were reached, and what is remembered of its front is what that says
 pub record HasReached (f : Front) (place : Place) (m : ManagerSight) : Type 0 where
   pub boot : Reaches m.boot m.log.kept.forced
   pub promises : AllByRecursion (IsReached place m.boot) (records_of m.log.kept)
   pub front : IsFrontOf place m.log f
 
--- the manager's log is this process's, it is idle, and each live branch is there as the subordinate keeps
--- it, under its case's XID, with what it was told after an operator's decision; and the log has reached the boots of
--- the tickets by which cases of its own promise, and begins with the front that is remembered
+-- the manager's log is this process's, it is idle, and each live branch is there as the subordinate keeps it,
+-- under its case's XID, with what it was told after an operator's decision; and the log has reached the boots
+-- of the tickets by which cases of its own promise, and begins with the front that is remembered
 pub record IsTied (f : Front) (s : SubState) : Type 0 where
   pub own : s.manager.log.form ≡ log_form s.me Manager
   pub idle : IsIdle s.manager
@@ -197,7 +197,8 @@ pub record KeepsProcess (old new : SubState) : Type 0 where
   pub core : SameCore (core_of old) (core_of new)
   pub manager : KeepsManager old.manager new.manager
 
--- why a turn was not made, and what that leaves: numbers are used up where the manager has met a limit of its own
+-- why a turn was not made, and what that leaves: numbers are used up where the manager has met a limit of its
+-- own
 abbrev pub NotTurned : SubState → SubState → Turn → StepError → Type 0
 NotTurned old new turn Memory = KeepsProcess old new
 NotTurned old new turn Device = BreaksIn (core_of old) (core_of new) turn
@@ -213,7 +214,8 @@ turn_for s m = manager_turn (core_of s) s.parent (answer_for s m) m
 -- what a message leaves of the writes and of the keys that are held
 abbrev pub MovesWrites : SubState → SubState → Message → Type 0
 MovesWrites old new m =
-    MovesData (manager_data old.manager) (manager_data new.manager) (λ c. xid_of old c) (message_data (core_of old) (answer_for old m) m)
+    MovesData (manager_data old.manager) (manager_data new.manager) (λ c. xid_of old c)
+    (message_data (core_of old) (answer_for old m) m)
 
 -- a message was heard, with what it leaves of the writes, and this is the reaction to show
 pub record Hears (old new : SubState) (m : Message) (reaction : Reaction) : Type 0 where

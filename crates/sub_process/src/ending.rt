@@ -88,7 +88,8 @@ impl<M: ResourceManager> Subordinate<M> {
         xid: &Xid,
     ) -> Result<Reaction, StepError>
         requires up { (M.sight self.old.manager).log.failed ≡ false }
-        requires at { (g : AnyCase) × (n : ℕ) × (p : Bool) × IsAt self.old.table key case (active xid.now g n p)
+        requires at { (g : AnyCase) × (n : ℕ) × (p : Bool)
+            × IsAt self.old.table key case (active xid.now g n p)
             × (((n == works) && not p) ≡ false) }
         ensures ok { IfOk result (Hears (seen M.sight self.old) (seen M.sight self.new)
             (message.Prepare case works)) }
@@ -113,7 +114,8 @@ impl<M: ResourceManager> Subordinate<M> {
         xid: &Xid,
     ) -> Result<Reaction, StepError>
         requires up { (M.sight self.old.manager).log.failed ≡ false }
-        requires at { (g : AnyCase) × (n : ℕ) × (p : Bool) × IsAt self.old.table key case (active xid.now g n p) }
+        requires at { (g : AnyCase) × (n : ℕ) × (p : Bool)
+            × IsAt self.old.table key case (active xid.now g n p) }
         ensures ok { IfOk result (Hears (seen M.sight self.old)
             (seen M.sight self.new) (message.Abort case)) }
         ensures err { IfErr result (NotHeard (seen M.sight self.old)

@@ -60,19 +60,22 @@ fn reopen<M: ResourceManager>(manager: &mut M, keep: usize) -> Result<(), Restar
 }
 
 impl<M: ResourceManager> Subordinate<M> {
-    /// What the records leave that a crash would leave, which it wrote itself, and what is to be remembered of them and
-    /// of the record of the boot after them. It reads on from this front. Exhausted: no boot below 2^63 comes
-    /// after the last one.
+    /// What the records leave that a crash would leave, which it wrote itself, and what is to be remembered
+    /// of them and of the record of the boot after them. It reads on from this front. Exhausted: no boot
+    /// below 2^63 comes after the last one.
     fn rebuilt(
         &self,
         front: Front,
         keep: usize,
     ) -> Result<(RebuiltBranches, RememberedBranches), StepError>
-        requires { IsFrontOf (leaf_place self.now.me self.now.parent self.now.tree) (M.sight self.now.manager).log
+        requires { IsFrontOf (leaf_place self.now.me self.now.parent self.now.tree)
+            (M.sight self.now.manager).log
             front }
-        ensures ok { IfOk result (λ r. RebuildsBranches (leaf_place self.now.me self.now.parent self.now.tree) self.now.parent
+        ensures ok { IfOk result (λ r. RebuildsBranches
+            (leaf_place self.now.me self.now.parent self.now.tree) self.now.parent
             (left_by (M.sight self.now.manager).log keep) r.0) }
-        ensures remembered { IfOk result (λ r. RemembersBranches (leaf_place self.now.me self.now.parent self.now.tree)
+        ensures remembered { IfOk result (λ r. RemembersBranches
+            (leaf_place self.now.me self.now.parent self.now.tree)
             self.now.parent
             (left_by (M.sight self.now.manager).log keep ++ boot_record (r.0.boot + 1) ∷ []) r.1) }
         ensures err { IfErr result (NotReady (leaf_place self.now.me self.now.parent self.now.tree)
@@ -104,7 +107,8 @@ impl<M: ResourceManager> Subordinate<M> {
         front: Front,
         keep: usize,
     ) -> Result<(RebuiltBranches, Sequence<ShownRecord>, RememberedBranches), StepError>
-        requires { IsFrontOf (leaf_place self.now.me self.now.parent self.now.tree) (M.sight self.now.manager).log
+        requires { IsFrontOf (leaf_place self.now.me self.now.parent self.now.tree)
+            (M.sight self.now.manager).log
             front }
         ensures ok { IfOk result (λ ready. RebuildsBranches
             (leaf_place self.now.me self.now.parent self.now.tree) self.now.parent
@@ -122,15 +126,16 @@ impl<M: ResourceManager> Subordinate<M> {
         Ok((rebuilt, written, remembered))
     }
 
-    /// Restarts after a crash that keeps N of the log's unforced bytes: each case in doubt asks for
-    /// its outcome, and so does one that an operator decided and that was not told. All memory is taken
-    /// before the crash. The records are gone through that came after its last restart, or all of them after a trim. Its own
-    /// records are never refused. Memory: nothing changed. Exhausted: no boot below 2^63
-    /// comes after the last one; nothing changed. Device: it has failed until it is restarted.
+    /// Restarts after a crash that keeps N of the log's unforced bytes: each case in doubt asks for its
+    /// outcome, and so does one that an operator decided and that was not told. All memory is taken before
+    /// the crash. The records are gone through that came after its last restart, or all of them after a trim.
+    /// Its own records are never refused. Memory: nothing changed. Exhausted: no boot below 2^63 comes after
+    /// the last one; nothing changed. Device: it has failed until it is restarted.
     pub fn restart(&mut self, keep: usize) -> Result<Reaction, StepError>
         ensures ok { IfOk result (ProcessRestarts (state M.sight self.old) keep (state M.sight self.new)) }
         ensures writes { OnOk result (LeavesPromises (seen M.sight self.old) keep (seen M.sight self.new)) }
-        ensures err { IfErr result (ProcessNotRestarted (state M.sight self.old) keep (state M.sight self.new)) }
+        ensures err { IfErr result (ProcessNotRestarted (state M.sight self.old) keep
+            (state M.sight self.new)) }
         ensures kept { IfErr result (λ e. e ≢ StepError.Device
             → KeepsManager (M.sight self.old.manager) (M.sight self.new.manager)) }
     {
@@ -202,8 +207,10 @@ fn rebuilt_before<M: ResourceManager>(
     tree: &Tree,
     manager: &M,
 ) -> Result<RebuiltBranches, RebuildError>
-    ensures ok { IfOk result (RebuildsBranches (leaf_place me parent tree.now) parent (left_before (M.sight manager.now))) }
-    ensures err { IfErr result (BranchesNotRebuilt (leaf_place me parent tree.now) (left_before (M.sight manager.now))) }
+    ensures ok { IfOk result (RebuildsBranches (leaf_place me parent tree.now) parent
+        (left_before (M.sight manager.now))) }
+    ensures err { IfErr result (BranchesNotRebuilt (leaf_place me parent tree.now)
+        (left_before (M.sight manager.now))) }
 {
     let records = left_before(manager)?;
     match rebuild(
@@ -234,7 +241,8 @@ fn ready_before<M: ResourceManager>(
         (left_before (M.sight manager.now)) ready.0) }
     ensures written { IfOk result (λ ready.
         ready.1 ≡ record { kind = kind.Opened; subject = subject.Boot (ready.0.boot + 1); forced = true } ∷ []) }
-    ensures err { IfErr result (BranchesNotRebuilt (leaf_place me parent tree.now) (left_before (M.sight manager.now))) }
+    ensures err { IfErr result (BranchesNotRebuilt (leaf_place me parent tree.now)
+        (left_before (M.sight manager.now))) }
 {
     let rebuilt = rebuilt_before(alloc, me, parent, tree, manager)?;
     let written = opened(rebuilt.boot + 1, alloc)?;
@@ -243,9 +251,9 @@ fn ready_before<M: ResourceManager>(
 
 impl<M: ResourceManager + Drop> Subordinate<M> {
     /// The manager `me` of this tree below this parent, as it restarts over the log that an earlier one left:
-    /// it drives a manager that restarted over that log, and opens it. Unfit: no such process can have written the
-    /// records that were left, as with a ticket of a boot that they have not reached. Exhausted: never, since the
-    /// manager had a boot left. With a refusal the manager is handed back.
+    /// it drives a manager that restarted over that log, and opens it. Unfit: no such process can have
+    /// written the records that were left, as with a ticket of a boot that they have not reached. Exhausted:
+    /// never, since the manager had a boot left. With a refusal the manager is handed back.
     pub fn reopen(
         alloc: Global,
         me: ProcessId,

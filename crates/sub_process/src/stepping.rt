@@ -39,7 +39,8 @@ impl<M: ResourceManager> Subordinate<M> {
         requires numbers { HasNumbers (state M.sight self.old) }
         ensures ok { IfOk result (ProcessMakes (state M.sight self.old) (state M.sight self.new)
             (data_answer (seen M.sight self.old) (input_of input.entry)) (input_of input.entry)) }
-        ensures writes { OnOk result (InputLeaves (input_of input.entry) (seen M.sight self.old) (seen M.sight self.new)) }
+        ensures writes { OnOk result (InputLeaves (input_of input.entry) (seen M.sight self.old)
+            (seen M.sight self.new)) }
         ensures err { IfErr result (NotMade (state M.sight self.old) (state M.sight self.new)
             (data_answer (seen M.sight self.old) (input_of input.entry)) (input_of input.entry)) }
         ensures kept { IfErr result (λ e. e ≢ StepError.Device

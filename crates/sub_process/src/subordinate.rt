@@ -58,7 +58,8 @@ pub struct Subordinate<M: ResourceManager> {
     pub(crate) given: u64,
     pub(crate) branches: LiveBranches,
     pub(crate) manager: M,
-    /// What its last restart remembers of the log: the header alone after a trim, and after a restart that was refused.
+    /// What its last restart remembers of the log: the header alone after a trim, and after a restart that
+    /// was refused.
     pub(crate) front: Front,
 }
 
@@ -98,7 +99,8 @@ impl<M: ResourceManager> Subordinate<M> {
     ) -> Subordinate<M>
         requires new { IsNewManager (M.sight manager) }
         requires own { (M.sight manager).log.form ≡ log_form me kind.Manager }
-        ensures opened { IsOpenedProcess (state M.sight result) (record { me = me; role = AtLeaf parent; tree = tree })
+        ensures opened { IsOpenedProcess (state M.sight result)
+            (record { me = me; role = AtLeaf parent; tree = tree })
             (M.sight manager).log.failures }
         ensures empty { DataRests no_data (manager_data (M.sight result.manager)) }
     {
@@ -168,7 +170,8 @@ impl<M: ResourceManager> Subordinate<M> {
 
     /// What it takes for the answers of the manager's data are those that they give.
     pub fn data_answers(&self)
-        ensures { (i : Input) → AnswersInput (state M.sight self.now) (manager_data (M.sight self.now.manager))
+        ensures { (i : Input) → AnswersInput (state M.sight self.now)
+            (manager_data (M.sight self.now.manager))
             (case_xid self.now.parent) i (data_answer (seen M.sight self.now) i) }
     {
         self.manager.branches_are_listed_once();

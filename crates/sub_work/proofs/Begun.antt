@@ -100,7 +100,8 @@ each_listed bs (x ∷ xs) begun h = (sym (known_is bs x begun) ∙ h.0, each_lis
 
 -- A start.
 
-module _ (m : ManagerSight) (x : Xid) (idle : IsIdle m) (once : AreBranchesListedOnce m.tables.branches.branches) where
+module _ (m : ManagerSight) (x : Xid) (idle : IsIdle m)
+    (once : AreBranchesListedOnce m.tables.branches.branches) where
   abbrev bs : List (Xid × BranchState)
   bs = m.tables.branches.branches
 

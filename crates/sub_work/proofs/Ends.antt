@@ -115,7 +115,8 @@ module _ (old new : ManagerSight) (v : Verb) (x : Xid) (flags : ℕ) (c : Call)
   finished answer works spare (Made u d e a makes) =
       let one = ok_is d c _ e is in (
         subst (λ (k : Call). answer ≡ (row_for old x k).0) one a,
-        made_deed old new x c idle (subst (λ (k : Call). BranchMakes old new x k (row_for old x k)) one makes),
+        made_deed old new x c idle (subst (λ (k : Call). BranchMakes old new x k (row_for old x k)) one
+            makes),
       )
   finished answer works spare (Broke u d e a fails) = absurd (works a)
 
@@ -235,7 +236,8 @@ module _ (old new : ManagerSight) (v : Verb) (x : Xid) (c : Call) (s : BranchSta
   is_listed = subst (λ (q : BranchState). Contains (branch_rows q c)
       (row_of c q (old.writes x) (old.decided x))) (sym row.at) row.listed
 
-  pub finishes : (answer : Code) → answer ≢ code.RmFail → answer ≢ code.RmErr → ManagerFinishes old new v x 0 answer
+  pub finishes : (answer : Code) → answer ≢ code.RmFail → answer ≢ code.RmErr
+      → ManagerFinishes old new v x 0 answer
       → (answer ≡ (row_for old x c).0) × FinishesWork old new x c
   finishes answer works spare a = finished old new v x 0 c up idle is_ready is_listed answer works spare a
 

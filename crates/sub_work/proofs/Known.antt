@@ -12,7 +12,10 @@ use Rattle.sub_work.specs.Deeds.{BranchComes, KeepsManager}
 -- the branch that came to a state is known by that
 pub comes_known : (old new : ManagerSight) (x : Xid) (s : BranchState) → BranchComes old new x s
     → KnowsBranch (manager_data old) (manager_data new) x (is_begun s)
-comes_known old new x s c = record { own = ap is_begun c.own; others = λ y apart. ap is_begun (c.others y apart) }
+comes_known old new x s c = record {
+  own = ap is_begun c.own;
+  others = λ y apart. ap is_begun (c.others y apart);
+}
 
 listed_known : (old new : List (Xid × BranchState)) (y : Xid) → new ≡ old
     → is_begun (state_in new y) ≡ is_begun (state_in old y)
@@ -23,6 +26,7 @@ pub same_known : (old new : ManagerSight) → SameStates old.tables new.tables
 same_known old new same y = listed_known old.tables.branches.branches new.tables.branches.branches y
     same.branches.branches
 
-pub kept_known : (old new : ManagerSight) → KeepsManager old new → StayKnown (manager_data old) (manager_data new)
+pub kept_known : (old new : ManagerSight) → KeepsManager old new
+    → StayKnown (manager_data old) (manager_data new)
 kept_known old new keeps y =
     listed_known old.tables.branches.branches new.tables.branches.branches y keeps.branches

@@ -66,8 +66,8 @@ pub record BreaksUnder (old new : ManagerSight) (ls : List LogRecord) : Type 0 w
   pub idle : IsIdle new
   pub boot : new.boot ≡ old.boot
 
--- why a piece of work was not done that writes these records: for memory nothing changed, nor where the manager has
--- met a limit of its own; or the device failed
+-- why a piece of work was not done that writes these records: for memory nothing changed, nor where the
+-- manager has met a limit of its own; or the device failed
 abbrev pub NotDone : ManagerSight → ManagerSight → List LogRecord → StepError → Type 0
 NotDone old new ls Memory = SameManager old new
 NotDone old new ls Device = BreaksUnder old new ls
@@ -80,7 +80,8 @@ NotFinished old new x c e = NotDone old new (logged_under x (written_for old x c
 
 -- Decisions.
 
--- an operator decided a prepared branch: the decision is forced, and the branch has let its writes and its keys go
+-- an operator decided a prepared branch: the decision is forced, and the branch has let its writes and its
+-- keys go
 pub record DecidesWork (old new : ManagerSight) (x : Xid) (o : Outcome) : Type 0 where
   pub comes : BranchComes old new x S5
   pub log : new.log ≡ wrote old.log (decision_writes x o) (logged_under x (decision_writes x o))

@@ -86,7 +86,8 @@ pub fn rollback<M: ResourceManager>(manager: &mut M, xid: &Xid) -> Result<(), St
     requires up { (M.sight manager.old).log.failed ≡ false }
     requires named { xid.now ≢ null_xid }
     requires state { can_roll_back (state_at (M.sight manager.old).tables xid.now) ≡ true }
-    ensures ok { OnOk result (FinishesWork (M.sight manager.old) (M.sight manager.new) xid.now call.Rollback) }
+    ensures ok { OnOk result (FinishesWork (M.sight manager.old) (M.sight manager.new) xid.now
+        call.Rollback) }
     ensures err { IfErr result (NotFinished (M.sight manager.old)
         (M.sight manager.new) xid.now call.Rollback) }
 {

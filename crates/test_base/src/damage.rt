@@ -80,8 +80,8 @@ fn pinned_damage(rt: HostRuntime) {
     assert!(rt; answer_to(&long, alloc) == Some(Answer::Records(1)));
 }
 
-/// Whether a text with one byte set to a value is answered as it must: the header's damage is at 0, but for the
-/// first format's number, any other at a frame's first byte up to that place.
+/// Whether a text with one byte set to a value is answered as it must: the header's damage is at 0, but for
+/// the first format's number, any other at a frame's first byte up to that place.
 fn is_answered(place: usize, value: u8, alloc: Global) -> bool
     requires { place < 126 }
 {

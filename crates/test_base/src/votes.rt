@@ -126,8 +126,8 @@ fn votes_follow_the_work(rt: HostRuntime) -> Result<(), Fail> {
     Ok(())
 }
 
-/// A process obeys another manager, too: it refuses to prepare what the manager was told to refuse, and votes YES where it
-/// was told nothing.
+/// A process obeys another manager, too: it refuses to prepare what the manager was told to refuse, and votes
+/// YES where it was told nothing.
 #[test]
 fn another_manager_is_obeyed(rt: HostRuntime) -> Result<(), Fail> {
     let alloc = rt.alloc();

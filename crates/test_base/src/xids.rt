@@ -48,10 +48,12 @@ fn parts_that_are_too_long_or_negative(rt: HostRuntime) {
     assert_eq!(rt; refusal_of(&[255, 255, 255, 255, 0, 0]), 0);
 }
 
-/// The bytes of a name's format, the lengths of its two parts, and the first part: the root, its boot and the sequence.
+/// The bytes of a name's format, the lengths of its two parts, and the first part: the root, its boot and the
+/// sequence.
 const FRONT: &[u8] = b"\0\0\x0f\xa2\x14\x18\0\0\0\x01\0\0\0\0\0\0\0\x02\0\0\0\0\0\0\0\x03";
 
-/// The bytes of its second part, below the root: the parent, the child, the child's boot and the number of its ticket.
+/// The bytes of its second part, below the root: the parent, the child, the child's boot and the number of
+/// its ticket.
 const BEHIND: &[u8] = b"\0\0\0\x01\0\0\0\x04\0\0\0\0\0\0\0\x05\0\0\0\0\0\0\0\x06";
 
 /// The XIDs of a transaction's case at the root, whose second part is empty, and of one below it.

@@ -75,7 +75,8 @@ fn is_first(answered: &mut [bool], number: usize) -> bool {
     }
 }
 
-/// Whether the journal has one entry for each answer, at the place that was answered, and no two answers share one.
+/// Whether the journal has one entry for each answer, at the place that was answered, and no two answers
+/// share one.
 fn are_answered(alloc: Global, journal: &ClosedJournal, answers: &[Answer]) -> Option<bool> {
     let entries = length(journal);
     let mut answered = Vec::new(alloc);

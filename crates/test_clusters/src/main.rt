@@ -1,10 +1,10 @@
 //! Floor: engines and program.
 //!
-//! Runs clusters. Standard input lists the rows, a row a line. `run NAME WORKERS STATUS` is a tree script
-//! of the folder data/, NAME.tree, run by N workers: the text that is written, NAME.told, and the
-//! exit status. What no script can show is a row `edge NAME`, a function of that name: two processes step
-//! at the same time, each answered call is in the journal, each message is delivered once, works of a
-//! case keep their order, restarts come under way, and a journal is full. Each holds by itself, whatever the schedule.
+//! Runs clusters. Standard input lists the rows, a row a line. `run NAME WORKERS STATUS` is a tree script of
+//! the folder data/, NAME.tree, run by N workers: the text that is written, NAME.told, and the exit status.
+//! What no script can show is a row `edge NAME`, a function of that name: two processes step at the same
+//! time, each answered call is in the journal, each message is delivered once, works of a case keep their
+//! order, restarts come under way, and a journal is full. Each holds by itself, whatever the schedule.
 #![tactic(auto)]
 
 mod callers;

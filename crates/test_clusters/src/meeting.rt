@@ -28,7 +28,8 @@ fn wait_a_turn() {
     }
 }
 
-/// A gate that holds a step of process 2 until process 3 has stepped, and a step of process 3 until process 2 has.
+/// A gate that holds a step of process 2 until process 3 has stepped, and a step of process 3 until process 2
+/// has.
 #[derive(Drop)]
 struct Meeting {
     first: AtomicBool,
@@ -65,7 +66,8 @@ impl Gate for Meeting {
     }
 }
 
-/// The root invites two managers, and workers deliver: the step of each is held until that of the other is made.
+/// The root invites two managers, and workers deliver: the step of each is held until that of the other is
+/// made.
 fn deliver_two<N: Seats + Send + Sync, R: Threads + Wait + Sync>(
     rt: &R,
     cluster: &Cluster<N>,

@@ -147,7 +147,8 @@ fn commit_by<N: Seats + Send + Sync, R: Threads + Wait + Sync>(
     Some(made.is_some() && committed(&journal) == AT_ONCE.saturating_mul(ROUNDS))
 }
 
-/// Whether 600 transactions of 16 works a manager commit: a work that overtakes another has its manager vote NO.
+/// Whether 600 transactions of 16 works a manager commit: a work that overtakes another has its manager vote
+/// NO.
 pub fn works_keep_their_order<R: Threads + Wait + Sync>(
     rt: &R,
     alloc: Global,

@@ -58,8 +58,8 @@ pub(crate) struct Run {
     pub(crate) calls: Calls,
 }
 
-/// A run of these lines over a new log, if they are read N bytes at once: with one byte no line is at hand but the
-/// one that is read.
+/// A run of these lines over a new log, if they are read N bytes at once: with one byte no line is at hand
+/// but the one that is read.
 pub(crate) fn run_lines(
     rt: &HostRuntime,
     tree: &Tree,

@@ -21,8 +21,8 @@ ok
 error
 ";
 
-/// A JOINED that is accepted, one that comes again, one of another ticket, one of no child, one for another process, and
-/// one of nothing.
+/// A JOINED that is accepted, one that comes again, one of another ticket, one of no child, one for another
+/// process, and one of nothing.
 pub(crate) const JOINED: &str = "\
 begin pa
 join a1.1 4

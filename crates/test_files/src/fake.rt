@@ -6,8 +6,8 @@ use log_file::LogFile;
 use std::io;
 use std::io::ErrorKind;
 
-/// A file in memory: what it holds, how much of that is safe, how many calls it makes before one fails, and how many
-/// fail then. One that fails does part of its work.
+/// A file in memory: what it holds, how much of that is safe, how many calls it makes before one fails, and
+/// how many fail then. One that fails does part of its work.
 #[derive(Drop)]
 pub struct FakeFile {
     pub held: Vec<u8>,

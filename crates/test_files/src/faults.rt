@@ -142,8 +142,8 @@ fn fault(alloc: Global, calls: u64, part: usize) -> Result<Option<u64>, AllocErr
     ends(alloc, &file, &safe)
 }
 
-/// Whether a store of which one call of the device fails goes on: what stands and what is appended is in the file after
-/// the next force, all of it safe.
+/// Whether a store of which one call of the device fails goes on: what stands and what is appended is in the
+/// file after the next force, all of it safe.
 fn goes_on(alloc: Global, calls: u64, part: usize) -> Result<bool, AllocError> {
     let Some(mut store) = opened(alloc, calls, 1, part) else {
         return Ok(calls == 0);

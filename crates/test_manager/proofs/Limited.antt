@@ -49,7 +49,8 @@ calls_limited old new refuses Moves h = record {
 
 -- The calls that finish a branch.
 
-makes_limited : (old new : ManagerSight) (x : Xid) (c : Call) (row : Code × BranchState) → BranchMakes old new x c row
+makes_limited : (old new : ManagerSight) (x : Xid) (c : Call) (row : Code × BranchState)
+    → BranchMakes old new x c row
     → BranchMakes (limited old) (limited new) x c row
 makes_limited old new x c row h = record {
   listed = h.listed;
@@ -63,7 +64,8 @@ makes_limited old new x c row h = record {
   boot = h.boot;
 }
 
-fails_limited : (old new : ManagerSight) (x : Xid) (c : Call) → BranchFails old new x c → BranchFails (limited old) (limited new) x c
+fails_limited : (old new : ManagerSight) (x : Xid) (c : Call) → BranchFails old new x c
+    → BranchFails (limited old) (limited new) x c
 fails_limited old new x c h = record {
   log = h.log;
   tables = h.tables;
@@ -74,9 +76,11 @@ fails_limited old new x c h = record {
 
 pub finishes_limited : (old new : ManagerSight) (v : Verb) (x : Xid) (flags : ℕ) (answer : Code)
     → ManagerFinishes old new v x flags answer → ManagerFinishes (limited old) (limited new) v x flags answer
-finishes_limited old new v x flags answer (Failed failed is same) = Failed failed is (same_limited old new same)
+finishes_limited old new v x flags answer (Failed failed is same) =
+    Failed failed is (same_limited old new same)
 finishes_limited old new v x flags answer (Refused up is same) = Refused up is (same_limited old new same)
-finishes_limited old new v x flags answer (Limited up spent is same) = Limited up refl is (same_limited old new same)
+finishes_limited old new v x flags answer (Limited up spent is same) =
+    Limited up refl is (same_limited old new same)
 finishes_limited old new v x flags answer (Unlisted up c is none what same) =
     Unlisted up c is none what (same_limited old new same)
 finishes_limited old new v x flags answer (Made up c is what makes) =
@@ -86,7 +90,8 @@ finishes_limited old new v x flags answer (Broke up c is what fails) =
 
 -- Work.
 
-pub works_limited : (old new : ManagerSight) (t : ℕ) (op : Op) → ThreadWorks old new t op → ThreadWorks (limited old) (limited new) t op
+pub works_limited : (old new : ManagerSight) (t : ℕ) (op : Op) → ThreadWorks old new t op
+    → ThreadWorks (limited old) (limited new) t op
 works_limited old new t op h = record {
   allowed = h.allowed;
   branch = h.branch;
@@ -212,7 +217,8 @@ restarts_limited old new keep h = record {
   log = h.log;
 }
 
-pub not_restarted_limited : (old new : ManagerSight) (keep : ℕ) (e : RestartError) → ManagerNotRestarted old new keep e
+pub not_restarted_limited : (old new : ManagerSight) (keep : ℕ) (e : RestartError)
+    → ManagerNotRestarted old new keep e
     → ManagerNotRestarted (limited old) (limited new) keep e
 not_restarted_limited old new keep restarts.Memory h = same_limited old new h
 not_restarted_limited old new keep restarts.Device h = record {

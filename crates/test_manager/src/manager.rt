@@ -15,8 +15,9 @@ use xa_codes::{Code, Flags};
 use xa_tables::Verb;
 use xa_xid::Xid;
 
-/// A resource manager over another: it refuses to prepare some branches, by XAER_RMERR, as a manager does that meets a
-/// limit of its own, so that its process refuses the PREPARE as Exhausted. In all else it is the other one.
+/// A resource manager over another: it refuses to prepare some branches, by XAER_RMERR, as a manager does
+/// that meets a limit of its own, so that its process refuses the PREPARE as Exhausted. In all else it is the
+/// other one.
 #[derive(Drop)]
 pub struct RefusingManager<M: ResourceManager> {
     pub(crate) manager: M,
@@ -40,18 +41,20 @@ impl<M: ResourceManager> RefusingManager<M> {
         self.refused.contains(xid)
     }
 
-    /// A branch promises as at the other manager, unless it was told to refuse it: then RmErr, and nothing changed. A
-    /// failed manager answers RmFail first.
+    /// A branch promises as at the other manager, unless it was told to refuse it: then RmErr, and nothing
+    /// changed. A failed manager answers RmFail first.
     pub(crate) fn prepare_told(
         &mut self,
         thread: u32,
         xid: &Xid,
         flags: Flags,
     ) -> Result<Code, AllocError>
-        ensures told { RefusesIt (M.sight self.old.manager) (list_any (λ x. same x xid.now) self.old.refused.items)
+        ensures told { RefusesIt (M.sight self.old.manager)
+            (list_any (λ x. same x xid.now) self.old.refused.items)
             → (result ≡ Ok code.RmErr) × SameManager (M.sight self.old.manager) (M.sight self.new.manager) }
         ensures others { list_any (λ x. same x xid.now) self.old.refused.items ≡ false
-            → IfOk result (ManagerFinishes (M.sight self.old.manager) (M.sight self.new.manager) Verb.Prepare xid.now flags.0) }
+            → IfOk result (ManagerFinishes (M.sight self.old.manager) (M.sight self.new.manager) Verb.Prepare
+            xid.now flags.0) }
         ensures refused { self.new.refused ≡ self.old.refused }
         ensures answer { IfOk result (ManagerFinishes (limited (M.sight self.old.manager))
             (limited (M.sight self.new.manager)) Verb.Prepare xid.now flags.0) }

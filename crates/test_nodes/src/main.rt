@@ -1,7 +1,7 @@
 //! Floor: engines and program.
 //!
-//! Runs trees of nodes: over stores in memory, joined by a net that loses, repeats and reorders, where nodes end
-//! and others start over what a crash leaves of their logs; and one node over a file of the system.
+//! Runs trees of nodes: over stores in memory, joined by a net that loses, repeats and reorders, where nodes
+//! end and others start over what a crash leaves of their logs; and one node over a file of the system.
 #![tactic(auto)]
 
 mod chance;

@@ -92,7 +92,8 @@ impl Net {
         Some(self.mail.remove(place))
     }
 
-    /// A message on its way, any of them. It stays on its way, once in seven times, and is lost, once in twenty.
+    /// A message on its way, any of them. It stays on its way, once in seven times, and is lost, once in
+    /// twenty.
     pub fn pick(&mut self, chance: &mut Chance) -> Option<Mail> {
         if self.mail.is_empty() {
             return None;

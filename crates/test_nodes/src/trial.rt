@@ -53,7 +53,8 @@ struct Trial {
     ends: u64,
 }
 
-/// Lets a node go. One function does it: what letting go of one means is proved once, and not at each way out.
+/// Lets a node go. One function does it: what letting go of one means is proved once, and not at each way
+/// out.
 fn let_go(_node: Node) {}
 
 /// A node of the tree over a log of these bytes, and what it did as it opened.

@@ -22,7 +22,8 @@ enum Called {
     Refused,
 }
 
-/// Lets a manager go. One function does it: what letting go of one means is proved once, and not at each way out.
+/// Lets a manager go. One function does it: what letting go of one means is proved once, and not at each way
+/// out.
 fn let_go(_manager: Manager) {}
 
 /// Lets an answer go, likewise.
@@ -155,8 +156,8 @@ fn sweep_request(
     None
 }
 
-/// Makes each request of a script with the first allocation refused, the second, and so on, until a call meets
-/// no refusal; once, where there is nothing that refuses.
+/// Makes each request of a script with the first allocation refused, the second, and so on, until a call
+/// meets no refusal; once, where there is nothing that refuses.
 pub(crate) fn sweep_requests(alloc: Global, refuser: &mut Refuser, input: &[u8]) -> Option<Met> {
     let requests = requests_of(alloc, input).ok()?.ok()?;
     let answers = answers(alloc, &requests)?;

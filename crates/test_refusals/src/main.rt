@@ -2,8 +2,8 @@
 //!
 //! Runs scripts, and each of them again and again with one allocation refused: the first, the second, and so
 //! on, until a run meets none. What is refused changes nothing, and what is asked once more is done. Standard
-//! input lists the scripts, a line each: `tree NAME`, `xa NAME`, or `reopened NAME` of a tree script that begins its
-//! events with logs, over which the tree opens again and again.
+//! input lists the scripts, a line each: `tree NAME`, `xa NAME`, or `reopened NAME` of a tree script that
+//! begins its events with logs, over which the tree opens again and again.
 //!
 //! The refusal comes from outside (`tools/refuse.c`, preloaded). Without it each script is run once.
 #![tactic(auto)]

@@ -19,8 +19,8 @@ struct Script {
     events: Vec<Event>,
 }
 
-/// What is seen of a tree when all events are made: the lines of its trace but those of records, which name boots, and
-/// the number of live cases of each process.
+/// What is seen of a tree when all events are made: the lines of its trace but those of records, which name
+/// boots, and the number of live cases of each process.
 #[derive(Drop, PartialEq, Eq)]
 struct Course {
     lines: Vec<u8>,
@@ -32,8 +32,8 @@ struct Course {
 enum Ended {
     /// No allocation was refused, and the tree opened and went on as one of which nothing was refused.
     Whole,
-    /// One was, and all was as it has to be: the answer is Memory, or, if less room was enough, the tree opened; it
-    /// went on so, at once or over the stores that were handed back.
+    /// One was, and all was as it has to be: the answer is Memory, or, if less room was enough, the tree
+    /// opened; it went on so, at once or over the stores that were handed back.
     Refused,
 }
 
@@ -148,8 +148,8 @@ fn open_refused(
 /// More allocations than an opening makes.
 const MOST_ALLOCATIONS: usize = 1 << 20;
 
-/// Opens the tree of a script over its logs with the first allocation refused, the second, and so on, until an opening
-/// meets no refusal; once, if there is nothing that refuses.
+/// Opens the tree of a script over its logs with the first allocation refused, the second, and so on, until
+/// an opening meets no refusal; once, if there is nothing that refuses.
 pub(crate) fn sweep_reopening(alloc: Global, refuser: &mut Refuser, input: &[u8]) -> Option<Met> {
     let (tree, logs, events) = read_reopen(alloc, input).ok()?;
     let script = Script {

@@ -16,8 +16,8 @@ struct Script {
     events: Vec<Event>,
 }
 
-/// All that is seen of a tree: its trace, which has each message and record, and the log and the number of live
-/// cases of each process.
+/// All that is seen of a tree: its trace, which has each message and record, and the log and the number of
+/// live cases of each process.
 #[derive(Drop, PartialEq, Eq)]
 struct Sight {
     trace: Vec<u8>,
@@ -30,7 +30,8 @@ struct Sight {
 enum Ended {
     /// No allocation was refused, and it ended as a run without refusals.
     Whole,
-    /// One was, and all was as it has to be: the answer is Memory, or, where less room was enough, the whole run.
+    /// One was, and all was as it has to be: the answer is Memory, or, where less room was enough, the whole
+    /// run.
     Refused,
 }
 
@@ -159,8 +160,8 @@ fn open_and_run(
 /// More allocations than a script makes.
 const MOST_ALLOCATIONS: usize = 1 << 20;
 
-/// Runs a script with the first allocation refused, the second, and so on, until a run meets no refusal; once,
-/// where there is nothing that refuses.
+/// Runs a script with the first allocation refused, the second, and so on, until a run meets no refusal;
+/// once, where there is nothing that refuses.
 pub(crate) fn sweep_events(alloc: Global, refuser: &mut Refuser, input: &[u8]) -> Option<Met> {
     let (tree, events) = read(alloc, input).ok()?;
     let script = Script { tree, events };

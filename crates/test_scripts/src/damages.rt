@@ -1,5 +1,5 @@
-//! Logs of which one byte is set to each value, and a script that is cut at each byte: what is answered to each,
-//! as a table in which equal answers stand together.
+//! Logs of which one byte is set to each value, and a script that is cut at each byte: what is answered to
+//! each, as a table in which equal answers stand together.
 
 use log_records::{LogOpenError, RecLog};
 use log_script::read_logs;

@@ -8,7 +8,8 @@ use protocol::{
 use std::alloc::{AllocError, Global};
 use tree_world::World;
 
-/// A store without bytes, whose device fails at the nth call of this kind, and leaves the first `keep` bytes of it.
+/// A store without bytes, whose device fails at the nth call of this kind, and leaves the first `keep` bytes
+/// of it.
 fn breaking(alloc: Global, call: StoreCall, nth: u64, keep: usize) -> FaultStore {
     FaultStore::new(MemoryStore::new(alloc), call, nth, keep)
 }
@@ -38,7 +39,8 @@ struct Wanted {
     forced: u64,
 }
 
-/// Whether a device fails in this event, and the trace then ends with that step, after all steps that were made.
+/// Whether a device fails in this event, and the trace then ends with that step, after all steps that were
+/// made.
 fn shows(world: &mut World<FaultStore>, event: Event, wanted: &Wanted) -> Option<bool> {
     let fails = world.apply(event) == Err(StepError::Device);
     let trace = world.trace().ok()?;
@@ -67,7 +69,8 @@ fn written(
     }
 }
 
-/// An act: the root's device fails under its Collecting, of which nothing, the record, or the record forced is left.
+/// An act: the root's device fails under its Collecting, of which nothing, the record, or the record forced
+/// is left.
 fn acts(alloc: Global, call: StoreCall, keep: usize, wanted: &Wanted) -> Option<bool> {
     let root = breaking(alloc, call, 2, keep);
     let (mut world, txn) = written(alloc, Presumption::PresumeCommit, root, sound_store(alloc))?;

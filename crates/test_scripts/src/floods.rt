@@ -46,8 +46,8 @@ fn push_begins(script: &mut String) -> Result<(), AllocError> {
     Ok(())
 }
 
-/// A line for each transaction: a process of it, which is the root where it has no ticket, invites a child, or
-/// gives it a write.
+/// A line for each transaction: a process of it, which is the root where it has no ticket, invites a child,
+/// or gives it a write.
 fn push_each(
     alloc: Global,
     script: &mut String,
@@ -72,8 +72,8 @@ fn push_each(
     Ok(())
 }
 
-/// Each of these pairs of a parent and a child, the root's without a number, in all transactions; and then all is
-/// delivered.
+/// Each of these pairs of a parent and a child, the root's without a number, in all transactions; and then
+/// all is delivered.
 fn push_pairs(
     alloc: Global,
     script: &mut String,
@@ -133,16 +133,16 @@ fn any_restart(series: &mut Series, tree: &Tree) -> Option<Event> {
     Some(Event::Restart(entry.id, keep))
 }
 
-/// How many deliveries there are, how often a process restarts between them, and how often a transaction is to
-/// be committed.
+/// How many deliveries there are, how often a process restarts between them, and how often a transaction is
+/// to be committed.
 const DELIVERIES: u64 = 10_000;
 
 const RESTART_EACH: u64 = 100;
 
 const COMMIT_EACH: u64 = 5;
 
-/// One delivery out of as many is of the next message in order of sending, so that the transactions go on; the
-/// others are of any message.
+/// One delivery out of as many is of the next message in order of sending, so that the transactions go on;
+/// the others are of any message.
 const IN_ORDER_EACH: u64 = 2;
 
 /// The transaction of this number.
@@ -351,8 +351,8 @@ fn is_true(fates: &[Fate], doubts: &[Case], answer: Option<(Case, Outcome)>) -> 
     }
 }
 
-/// Whether no two records say different outcomes of a transaction, commit is told to those alone who voted for
-/// it, and each answer that finds its case in doubt tells the outcome.
+/// Whether no two records say different outcomes of a transaction, commit is told to those alone who voted
+/// for it, and each answer that finds its case in doubt tells the outcome.
 fn is_sound(alloc: Global, world: &Running, fates: &[Fate]) -> Option<bool> {
     let mut voted: Vec<Case> = Vec::new(alloc);
     let mut doubts: Vec<Case> = Vec::new(alloc);

@@ -1,5 +1,5 @@
-//! Rows of transcripts that are judged, and of plans of calls. A transcript is what the lines of a row's input are; a
-//! plan's input is a line `SEED N`.
+//! Rows of transcripts that are judged, and of plans of calls. A transcript is what the lines of a row's
+//! input are; a plan's input is a line `SEED N`.
 
 use judge_engine::{Extent, JudgeStatus, run_judge, run_plan};
 use report_io::Failure;
@@ -22,7 +22,8 @@ pub fn planned(alloc: Global, input: &[u8], out: &mut Vec<u8>) -> Option<u8> {
     Some(0)
 }
 
-/// The transcript of a script of calls and of its answers, of a manager that does not force what ends a branch.
+/// The transcript of a script of calls and of its answers, of a manager that does not force what ends a
+/// branch.
 fn transcript(alloc: Global, calls: &str, answers: &str) -> Result<Vec<u8>, AllocError> {
     let mut text = Vec::new(alloc);
     text.extend_from_slice(b"lacks forced\n")?;

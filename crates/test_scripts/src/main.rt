@@ -119,8 +119,8 @@ fn doubted(alloc: Global, input: &[u8], out: &mut Vec<u8>) -> Option<u8> {
     Some(status_by(audited, count))
 }
 
-/// What a script that names messages comes to; the sentence of what is wrong with it, with status 1. No status where it
-/// fails.
+/// What a script that names messages comes to; the sentence of what is wrong with it, with status 1. No
+/// status where it fails.
 fn expanded(alloc: Global, input: &[u8], out: &mut Vec<u8>) -> Option<u8> {
     match expand(alloc, input).ok()? {
         Ok(text) => {

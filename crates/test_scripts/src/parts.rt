@@ -1,4 +1,5 @@
-//! Rows of pictures of parts of runs. A row's input is a line `whole`, `case TXN` or `events A-B`, and the script.
+//! Rows of pictures of parts of runs. A row's input is a line `whole`, `case TXN` or `events A-B`, and the
+//! script.
 
 use picture_parts::{PartFault, PicturePart, picture_of, range_of, whole_fault};
 use protocol::ProcessId;
@@ -35,8 +36,8 @@ fn drawn_whole(alloc: Global, mut script: &[u8], out: &mut Vec<u8>) -> Option<u8
     }
 }
 
-/// Draws a part of the run of a script: the exit status, and the picture, or the sentence that says why there is none. No
-/// status where it fails.
+/// Draws a part of the run of a script: the exit status, and the picture, or the sentence that says why there
+/// is none. No status where it fails.
 pub fn drawn(alloc: Global, input: &[u8], out: &mut Vec<u8>) -> Option<u8> {
     let text = str::from_utf8(input).ok()?;
     let (first, script) = text.split_once('\n')?;

@@ -1,4 +1,5 @@
-//! A tree that opens over the logs of an earlier run, and a device that stops at each of its calls under that.
+//! A tree that opens over the logs of an earlier run, and a device that stops at each of its calls under
+//! that.
 
 use crate::stops::{CALLS, cases_in_doubt, has_one_outcome_each};
 use audit_tree::audit;
@@ -8,8 +9,8 @@ use protocol::{Event, ProcessId, Tree};
 use std::alloc::Global;
 use tree_world::{TreeReopenError, World, copied_tree, logs_left};
 
-/// A root, a coordinator and a manager below it, by the first format: the root has committed, and the manager has
-/// promised.
+/// A root, a coordinator and a manager below it, by the first format: the root has committed, and the manager
+/// has promised.
 const LEFT: &str = "\
 [[process]]
 id = 1
@@ -108,8 +109,8 @@ fn opened(
     Some(World::reopen(alloc, tree, stores))
 }
 
-/// Lets all messages be delivered, and answers whether the logs then show no case in doubt, no mismatch and one
-/// outcome of each transaction.
+/// Lets all messages be delivered, and answers whether the logs then show no case in doubt, no mismatch and
+/// one outcome of each transaction.
 fn settles(alloc: Global, tree: &Tree, world: &mut World<FaultStore>) -> Option<bool> {
     world.apply(Event::Settle).ok()?;
     tree.check().ok()?;
@@ -157,8 +158,8 @@ const MOST_BYTES: usize = 260;
 
 const MOST_CALLS: u64 = 8;
 
-/// The calls of one kind of a process's device, each stopped with each number of its bytes done: how many calls
-/// there are.
+/// The calls of one kind of a process's device, each stopped with each number of its bytes done: how many
+/// calls there are.
 fn sweep(alloc: Global, left: &Left, process: ProcessId, call: StoreCall) -> Option<usize> {
     let mut calls = 0usize;
     for nth in 1u64..MOST_CALLS {
@@ -189,10 +190,10 @@ fn sweep_all(alloc: Global, left: &Left) -> Option<usize> {
     Some(calls)
 }
 
-/// A tree opens over logs of the first format while one of its devices stops at each of its calls, with each number
-/// of the call's bytes done: it is refused for that device, and the stores that are handed back hold logs over which
-/// it opens and settles, whether a crash leaves all their bytes or those that are forced. Each process
-/// migrates its log, appends its Opened, and forces it.
+/// A tree opens over logs of the first format while one of its devices stops at each of its calls, with each
+/// number of the call's bytes done: it is refused for that device, and the stores that are handed back hold
+/// logs over which it opens and settles, whether a crash leaves all their bytes or those that are forced.
+/// Each process migrates its log, appends its Opened, and forces it.
 pub(crate) fn a_reopening_that_stops_at_each_write(alloc: Global) -> Option<bool> {
     let (tree, logs) = read_logs(alloc, LEFT.as_bytes()).ok()?;
     let calls = sweep_all(alloc, &Left { tree, logs })?;

@@ -1,5 +1,5 @@
-//! Rows of names that are resolved by logs. A row's input is a line `FORM TRUST NAME`, the names, one a line, an empty
-//! line, and the logs.
+//! Rows of names that are resolved by logs. A row's input is a line `FORM TRUST NAME`, the names, one a line,
+//! an empty line, and the logs.
 
 use report_io::Failure;
 use resolve_engine::{AnswerForm, Database, ResolveInput, Trust, run_resolve};

@@ -1,5 +1,5 @@
-//! A device that stops at each of its calls in turn, with each part of the call done: what the run answers, and
-//! that it goes on after a restart.
+//! A device that stops at each of its calls in turn, with each part of the call done: what the run answers,
+//! and that it goes on after a restart.
 
 use crate::scripts::FLAT_PA_COMMIT;
 use audit_tree::{Own, Report, ReportLine, audit};
@@ -202,7 +202,8 @@ fn audited_behind(
     audited_now(alloc, tree, world)
 }
 
-/// Makes the events of a script while no device fails, and audits the logs after each. None if the audit finds a fault.
+/// Makes the events of a script while no device fails, and audits the logs after each. None if the audit
+/// finds a fault.
 fn runs_audited(alloc: Global, script: &Script) -> Option<()> {
     let root = script.tree.entries().first()?.id;
     let mut world = opened(alloc, &script.tree, sound(root))?.ok()?;
@@ -273,7 +274,8 @@ fn recovers(
     )
 }
 
-/// How the run ends whose device stops so, where its process restarts with these bytes after its forced front.
+/// How the run ends whose device stops so, where its process restarts with these bytes after its forced
+/// front.
 fn run_on(alloc: Global, script: &Script, stop: Stop, kept: Option<u64>) -> Option<Ending> {
     let mut world = opened(alloc, &script.tree, stop)?.ok()?;
     let ending = recovers(alloc, script, &mut world, stop, kept);
@@ -458,9 +460,9 @@ fn sweep(alloc: Global, script: &Script, out: &mut Vec<u8>) -> Option<Met> {
 }
 
 /// Stops each device of a script's tree at each of its calls, with each number of the call's bytes done, and
-/// writes what was met. The logs are audited after each event: of the events before a stop once, since they leave the same
-/// logs whichever stop comes after them. None if a run does not answer Device at the stop or Failed after it, does not
-/// go on after its restart, has two outcomes, or has one that is not the root's.
+/// writes what was met. The logs are audited after each event: of the events before a stop once, since they
+/// leave the same logs whichever stop comes after them. None if a run does not answer Device at the stop or
+/// Failed after it, does not go on after its restart, has two outcomes, or has one that is not the root's.
 pub(crate) fn run_stops(alloc: Global, input: &[u8], out: &mut Vec<u8>) -> Option<()> {
     let (tree, events) = read(alloc, input).ok()?;
     let script = Script { tree, events };

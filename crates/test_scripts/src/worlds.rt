@@ -76,8 +76,8 @@ fn is_refused(
     }
 }
 
-/// A process without a store is refused, and one with bytes, and one whose device fails. The stores are handed
-/// back: one whose process had opened has its header and its first record, 23 bytes.
+/// A process without a store is refused, and one with bytes, and one whose device fails. The stores are
+/// handed back: one whose process had opened has its header and its first record, 23 bytes.
 pub(crate) fn stores_are_refused(alloc: Global) -> Result<bool, AllocError> {
     let one = vec![in alloc; sound_store(alloc)]?;
     let written = vec![in alloc; store_of(alloc, b"x")?, sound_store(alloc)]?;

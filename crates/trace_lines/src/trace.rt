@@ -124,8 +124,8 @@ pub fn push_case_word(out: &mut Vec<u8>, case: &Case) -> Result<(), AllocError>
     push_case(out, case)
 }
 
-/// Writes a message's number, its sender and its receiver, as `7 1->2 `, so that they end at `end`: where they
-/// begin.
+/// Writes a message's number, its sender and its receiver, as `7 1->2 `, so that they end at `end`: where
+/// they begin.
 #[tactic(auto, unfolding(crate::specs::Trace::way_text))]
 fn write_way(number: u64, envelope: &Envelope, line: &mut [u8], end: usize) -> usize
     requires { (WAY ≤ end) × (end ≤ length line.old) }

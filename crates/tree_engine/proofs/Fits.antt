@@ -73,8 +73,10 @@ start_fits from (r ∷ rs) h = first_fits from r.counts (start_fits (together fr
 
 rows_fit : (from : Counts) (rows : List ProcessCounts) → Fit (summed from rows) → AllFit rows
 rows_fit from [] h = tt
-rows_fit from (r ∷ rs) h =
-    (second_fits from r.counts (start_fits (together from r.counts) rs h), rows_fit (together from r.counts) rs h)
+rows_fit from (r ∷ rs) h = (
+  second_fits from r.counts (start_fits (together from r.counts) rs h),
+  rows_fit (together from r.counts) rs h,
+)
 
 until_fits : (from : Counts) (rows : List ProcessCounts) (k : ℕ) (d : ProcessCounts) → k < length rows
     → Fit (summed from rows) → Fit (together (summed from (take k rows)) (get_or rows k d).counts)
@@ -128,7 +130,8 @@ not_counted (Ok x) view items old e shown value none = none
 not_counted (Err why) view items old e shown value none = (
   none.0,
   λ tree es so fit.
-      none.1 (subst (λ (rows : List ProcessCounts). AllFit (map (row_behind e) rows)) (sym (value ∙ shown ∙ so))
+      none.1 (subst (λ (rows : List ProcessCounts). AllFit (map (row_behind e) rows))
+      (sym (value ∙ shown ∙ so))
       (subst AllFit (sym (step_more tree es e)) fit)),
 )
 
@@ -138,15 +141,19 @@ row_front : (es : List JournalEntry) (k : ℕ) (p : TreeProcess) → Fit (row_of
 row_front es k p fit =
     let first = take k es in
     let rest = drop k es in
-    let written = flat_map-append (λ (e : JournalEntry). if same_process e.step.process p.id then e.reaction.written else [])
+    let written = flat_map-append (λ (e : JournalEntry). if same_process e.step.process p.id
+    then e.reaction.written else [])
     first rest in
-    let sent = flat_map-append (λ (e : JournalEntry). if same_process e.step.process p.id then e.reaction.messages else [])
+    let sent = flat_map-append (λ (e : JournalEntry). if same_process e.step.process p.id
+    then e.reaction.messages else [])
     first rest in
     first_fits (row_of first p).counts (row_of rest p).counts
     (subst Fit (ap (λ (xs : List JournalEntry). counts_of (written_by p.id xs) (sent_by p.id xs))
-    (sym (take-append-drop k es)) ∙ ap (λ (ws : List ShownRecord). counts_of ws (sent_by p.id (first ++ rest))) written
+    (sym (take-append-drop k es)) ∙ ap (λ (ws : List ShownRecord).
+    counts_of ws (sent_by p.id (first ++ rest))) written
     ∙ ap (counts_of (written_by p.id first ++ written_by p.id rest)) sent
-    ∙ counts_of_both (written_by p.id first) (written_by p.id rest) (sent_by p.id first) (sent_by p.id rest)) fit)
+    ∙ counts_of_both (written_by p.id first) (written_by p.id rest) (sent_by p.id first) (sent_by p.id rest))
+    fit)
 
 rows_front : (tree : List TreeProcess) (es : List JournalEntry) (k : ℕ) → AllFit (map (row_of es) tree)
     → AllFit (map (row_of (take k es)) tree)
@@ -154,7 +161,8 @@ rows_front [] es k fit = tt
 rows_front (p ∷ ps) es k fit = (row_front es k p fit.0, rows_front ps es k fit.1)
 
 -- the counts of all steps do not fit, where those of the first ones and the next do not
-pub not_all_counted : (tree : List TreeProcess) (es : List JournalEntry) (k : ℕ) (e : JournalEntry) → slice_get es k ≡ Some e
+pub not_all_counted : (tree : List TreeProcess) (es : List JournalEntry) (k : ℕ) (e : JournalEntry)
+    → slice_get es k ≡ Some e
     → (AllFit (rows_of tree (take k es ++ e ∷ [])) → ⊥) → Fit (total_of (rows_of tree es)) → ⊥
 unfolding rows_of
 not_all_counted tree es k e at none fit =

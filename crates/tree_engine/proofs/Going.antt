@@ -18,7 +18,8 @@ use Rattle.tree_engine.specs.Failures.{BreaksOff, CannotMake}
 use Rattle.tree_engine.specs.Runs.{ComesTo, IsFailure}
 use Rattle.tree_engine.specs.Trees.{Plays}
 
-leads_on : (s m e : WorldState) (xs ys : List Event) → EventsLead s xs m → EventsLead m ys e → EventsLead s (xs ++ ys) e
+leads_on : (s m e : WorldState) (xs ys : List Event) → EventsLead s xs m → EventsLead m ys e
+    → EventsLead s (xs ++ ys) e
 leads_on s m e [] ys same led = subst (λ w. EventsLead w ys e) same led
 leads_on s m e (x ∷ xs) ys first led = (first.0, first.1, leads_on first.0 m e xs ys first.2 led)
 
@@ -160,7 +161,8 @@ pub cannot_all : (s : WorldState) (given events : List Event) (k : ℕ) (event :
     → CannotMake s ((given ++ take k events) ++ event ∷ []) why → CannotMake s (given ++ events) why
 cannot_all s given events k event rest why next h =
     subst (λ (xs : List Event). CannotMake s xs why)
-    (append_assoc (given ++ take k events) (event ∷ []) rest ∙ append_assoc given (take k events) (event ∷ rest)
+    (append_assoc (given ++ take k events) (event ∷ []) rest
+    ∙ append_assoc given (take k events) (event ∷ rest)
     ∙ ap (λ (xs : List Event). given ++ (take k events ++ xs)) (sym next)
     ∙ ap (λ (xs : List Event). given ++ xs) (take-append-drop k events))
     (cannot_longer s ((given ++ take k events) ++ event ∷ []) rest why h)

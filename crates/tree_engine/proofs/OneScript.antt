@@ -35,7 +35,8 @@ first_fault es Empty h = first_is es (faults_before Empty)
     (TooMany ∷ TwoParents ∷ Unknown ∷ Cycle ∷ Roots ∷ ManagerWithChildren ∷ TooDeep ∷ []) Empty h.none_before
     h.is_there
 first_fault es TooMany h = first_is es (faults_before TooMany)
-    (TwoParents ∷ Unknown ∷ Cycle ∷ Roots ∷ ManagerWithChildren ∷ TooDeep ∷ []) TooMany h.none_before h.is_there
+    (TwoParents ∷ Unknown ∷ Cycle ∷ Roots ∷ ManagerWithChildren ∷ TooDeep ∷ []) TooMany
+    h.none_before h.is_there
 first_fault es TwoParents h = first_is es (faults_before TwoParents)
     (Unknown ∷ Cycle ∷ Roots ∷ ManagerWithChildren ∷ TooDeep ∷ []) TwoParents h.none_before h.is_there
 first_fault es Unknown h = first_is es (faults_before Unknown)
@@ -74,17 +75,20 @@ events_in p = script_events p.fronts p.behind p.tree
 
 one_tree : (input : List ℕ) (p q : Parts input) → q.tree ≡ p.tree
 one_tree input p q =
-    let (fronts, behind, tree) = text_is_one input q.fronts q.behind p.fronts p.behind q.tree p.tree q.text p.text
+    let (fronts, behind, tree) = text_is_one input q.fronts q.behind p.fronts p.behind q.tree
+    p.tree q.text p.text
     in tree
 
 one_asked : (input : List ℕ) (p q : Parts input) → asked q ≡ asked p
 one_asked input p q =
-    let (fronts, behind, tree) = text_is_one input q.fronts q.behind p.fronts p.behind q.tree p.tree q.text p.text
+    let (fronts, behind, tree) = text_is_one input q.fronts q.behind p.fronts p.behind q.tree
+    p.tree q.text p.text
     in ap (λ (ls : List (List ℕ)). asked_in (lines_of_parts ls)) behind
 
 one_events : (input : List ℕ) (p q : Parts input) → events_in q ≡ events_in p
 one_events input p q =
-    let (fronts, behind, tree) = text_is_one input q.fronts q.behind p.fronts p.behind q.tree p.tree q.text p.text
+    let (fronts, behind, tree) = text_is_one input q.fronts q.behind p.fronts p.behind q.tree
+    p.tree q.text p.text
     in ap (λ (ls : List (List ℕ)). script_events ls q.behind q.tree) fronts
     ∙ ap (λ (ls : List (List ℕ)). script_events p.fronts ls q.tree) behind
     ∙ ap (λ (es : List TreeProcess). script_events p.fronts p.behind es) tree
@@ -119,7 +123,8 @@ no_fault input es xs TooLong (f, b, text, is, few, asks) (g, c, fs, text', is', 
     let same = one_asked input (parts f b es text) (parts g c fs text') in
     omega (arith, same, few, many)
 no_fault input es xs (Line n) (f, b, text, is, few, asks) (g, c, fs, text', is', few', wrong) =
-    let both : Ok xs ≡ Err n = sym asks ∙ sym (one_events input (parts f b es text) (parts g c fs text')) ∙ wrong
+    let both : Ok xs ≡ Err n = sym asks ∙ sym (one_events input (parts f b es text) (parts g c fs text'))
+    ∙ wrong
     in absurd cc
 
 pub one_fault : (input : List ℕ) (a b : ScriptFault) → IsScriptFault input a → IsScriptFault input b → b ≡ a
@@ -137,7 +142,8 @@ one_fault input (Tree d) Utf8 (g, c, fs, text, first) k = absurd (k text.text)
 one_fault input (Tree d) TreeText (g, c, fs, text, first) k = absurd (k.1 g c fs text)
 one_fault input (Tree d) (Tree e) (g, c, fs, text, first) (g', c', fs', text', first') =
     ap Tree (one_cause fs d e first
-    (subst (λ (es : List TreeProcess). IsFirstFault es e) (one_tree input (parts g c fs text) (parts g' c' fs' text'))
+    (subst (λ (es : List TreeProcess). IsFirstFault es e)
+    (one_tree input (parts g c fs text) (parts g' c' fs' text'))
     first'))
 one_fault input (Tree d) TooLong (g, c, fs, text, first) (g', c', fs', text', is, many) =
     absurd (unchecked input (parts g c fs text) (parts g' c' fs' text') d first is)

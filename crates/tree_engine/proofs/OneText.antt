@@ -32,8 +32,10 @@ one_count v w tree entries =
     ∙ ap (λ (es : List JournalEntry). counts_text (record w { tree = v.tree; entries = es })) entries
 
 -- what is told of two states that show the same is the same
-told : (output : TreeOutput) (es fs : List Event) (v w : WorldState) (r s : Refusal) (text second : List ℕ) → IsTrace output
-    → w.tree ≡ v.tree → w.entries ≡ v.entries → s ≡ r → Tells false output es v r text → Tells false output fs w s second
+told : (output : TreeOutput) (es fs : List Event) (v w : WorldState) (r s : Refusal) (text second : List ℕ)
+    → IsTrace output
+    → w.tree ≡ v.tree → w.entries ≡ v.entries → s ≡ r → Tells false output es v r text
+    → Tells false output fs w s second
     → second ≡ text
 told Trace es fs v w r s text second is tree entries same h k =
     k ∙ ap (λ (t : List ℕ). t ++ last_line s) (one_trace v w tree entries)
@@ -55,7 +57,8 @@ runs_alike output status other input text second is h k =
     let opens : IsOpenedTree k.runs.start h.tree =
     subst (λ (es : List TreeProcess). IsOpenedTree k.runs.start es) one.0 k.runs.opens in
     let same = one_text h.tree h.runs.start k.runs.start h.runs.end k.runs.end h.events h.runs.refusal
-    k.runs.refusal (script_tree input h.tree h.events h.script) h.runs.opens opens h.runs.leads leads h.runs.itself
+    k.runs.refusal (script_tree input h.tree h.events h.script) h.runs.opens opens h.runs.leads
+    leads h.runs.itself
     k.runs.itself in (
       k.runs.status_is ∙ ap ending same.0 ∙ sym h.runs.status_is,
       told output h.events k.events h.runs.end k.runs.end h.runs.refusal k.runs.refusal text second is
@@ -67,7 +70,8 @@ refused_alike : (input text second : List ℕ) → RefusesScript input text → 
 refused_alike input text second h k =
     k.line ∙ ap fault_text (one_fault input h.fault k.fault h.there k.there) ∙ sym h.line
 
-not_both : (output : TreeOutput) (status : Status) (input text second : List ℕ) → RunsScript output status input text
+not_both : (output : TreeOutput) (status : Status) (input text second : List ℕ)
+    → RunsScript output status input text
     → RefusesScript input second → ⊥
 not_both output status input text second h k = no_fault input h.tree h.events k.fault h.script k.there
 
@@ -78,7 +82,8 @@ IsPlain output Stopped input text = RunsScript output Stopped input text
 IsPlain output Refused input text = RefusesScript input text
 
 module _ (output : TreeOutput) (input text : List ℕ) (none : BeginsWithNone input) where
-  runs_plain : (status : Status) → RunsScript output status input text ⊎ ReopensScript output status input text
+  runs_plain : (status : Status) → RunsScript output status input text
+      ⊎ ReopensScript output status input text
       → RunsScript output status input text
   runs_plain status (inl runs) = runs
   runs_plain status (inr r) = absurd (none_begin input r.tree r.logs r.events none r.script)
@@ -88,20 +93,26 @@ module _ (output : TreeOutput) (input text : List ℕ) (none : BeginsWithNone in
   plain Stopped r = runs_plain Stopped r
   plain Refused (inl r) =
       record { fault = r.fault; there = faults_alike.there input r.fault none r.there; line = r.line }
-  plain Refused (inr d) = absurd (none_begin input d.there.tree d.there.logs d.there.events none d.there.script)
+  plain Refused (inr d) = absurd (none_begin input d.there.tree d.there.logs d.there.events
+      none d.there.script)
 
 one_plain : (output : TreeOutput) (status other : Status) (input text second : List ℕ) → IsTrace output
-    → IsPlain output status input text → IsPlain output other input second → (other ≡ status) × (second ≡ text)
+    → IsPlain output status input text → IsPlain output other input second → (other ≡ status)
+    × (second ≡ text)
 one_plain output Ended Ended input text second is h k = runs_alike output Ended Ended input text second is h k
-one_plain output Ended Stopped input text second is h k = runs_alike output Ended Stopped input text second is h k
-one_plain output Stopped Ended input text second is h k = runs_alike output Stopped Ended input text second is h k
+one_plain output Ended Stopped input text second is h k =
+    runs_alike output Ended Stopped input text second is h k
+one_plain output Stopped Ended input text second is h k =
+    runs_alike output Stopped Ended input text second is h k
 one_plain output Stopped Stopped input text second is h k =
     runs_alike output Stopped Stopped input text second is h k
 one_plain output Refused Refused input text second is h k = (refl, refused_alike input text second h k)
 one_plain output Ended Refused input text second is h k = absurd (not_both output Ended input text second h k)
-one_plain output Stopped Refused input text second is h k = absurd (not_both output Stopped input text second h k)
+one_plain output Stopped Refused input text second is h k =
+    absurd (not_both output Stopped input text second h k)
 one_plain output Refused Ended input text second is h k = absurd (not_both output Ended input second text k h)
-one_plain output Refused Stopped input text second is h k = absurd (not_both output Stopped input second text k h)
+one_plain output Refused Stopped input text second is h k =
+    absurd (not_both output Stopped input second text k h)
 
 pub one_input : InputsHaveOneText
 one_input output status other input text second is none h k =

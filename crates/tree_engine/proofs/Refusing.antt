@@ -104,7 +104,8 @@ module _ (past : Earlier) (es : List Made) (w : World) (s : WorldState) (f : Fol
       rw listed (ap refusal_in (refuses_any (place_of s.tree q) (w.at q) q i why.0 d e made))
 
   -- what a process refuses, the model refuses so
-  refused_so : (q : ProcessId) (i : Input) (e : StepError) → RefusesAt (s.node_at q) i e → RefusesSo s.tree w q i e
+  refused_so : (q : ProcessId) (i : Input) (e : StepError) → RefusesAt (s.node_at q) i e
+      → RefusesSo s.tree w q i e
   refused_so q i e why = refused_by q (s.node_at q) i e refl why
 
   refused_message : (k : ℕ) (o : Option Envelope) (e : StepError) → RefusesMessage s k o e
@@ -142,8 +143,10 @@ module _ (past : Earlier) (es : List Made) (w : World) (s : WorldState) (f : Fol
   not_trimmed t q step_error.NoSuch itself h = (h.0, nobody (quiet_move q Trimming None) h.1)
   not_trimmed t q step_error.Exhausted itself h = absurd (itself.numbers refl)
 
--- An event that was refused for itself left a state that stands for both parts, of which the model refuses it so.
-pub record StoppedSince (past : Earlier) (tree : List TreeProcess) (es : List Made) (w : World) (t : WorldState)
+-- An event that was refused for itself left a state that stands for both parts, of which the model refuses it
+-- so.
+pub record StoppedSince (past : Earlier) (tree : List TreeProcess) (es : List Made) (w : World)
+    (t : WorldState)
     (event : Event) (e : StepError) : Type 0 where
   pub goes : GoesIn past tree es w t
   pub refuses : RefusesSince tree goes.goes_on_so.world t.net t.delivered event e
@@ -189,10 +192,12 @@ module _ (past : Earlier) (tree : List TreeProcess) (is_tree : IsTree tree) wher
             (sym (ap (least_open 1) why.0.delivered ∙ least))
             (subst (λ net. RefusesDelivery tree so.world k (sent_as net k) e) (sym why.0.net)
             (subst (λ z. RefusesDelivery z so.world k (sent_as before.net k) e) g.tree_stays
-            (refused_message past (so.later ++ es) so.world before so.follows k (sent_as before.net k) e why.1)));
+            (refused_message past (so.later ++ es) so.world before so.follows k
+            (sent_as before.net k) e why.1)));
       }
 
-  stopped_since : (s t : WorldState) (event : Event) (e : StepError) (es : List Made) (w : World) → s.tree ≡ tree
+  stopped_since : (s t : WorldState) (event : Event) (e : StepError) (es : List Made) (w : World)
+      → s.tree ≡ tree
       → ForItself e → FollowsSince past es w s → Stops s event e t → StoppedSince past tree es w t event e
   stopped_since s t (ActOf a) e es w is itself f h =
       let why = not_acted s t (process_of_act (root_of s.tree) a) a e itself h in
@@ -216,13 +221,15 @@ module _ (past : Earlier) (tree : List TreeProcess) (is_tree : IsTree tree) wher
       stays_so s t (Trim q) e es w is f why.0 why.1
 
   -- the same after other events
-  pub until_since : (s t : WorldState) (events : List Event) (n : ℕ) (e : StepError) (es : List Made) (w : World)
+  pub until_since : (s t : WorldState) (events : List Event) (n : ℕ) (e : StepError)
+      (es : List Made) (w : World)
       → s.tree ≡ tree → ForItself e → FollowsSince past es w s → (h : LeadsUntil s events n e t)
       → StoppedSince past tree es w t h.event e
   until_since s t events n e es w is itself f h =
       let first = leads_on past tree is_tree s h.before (take n events) es w is f h.leads in
       let one = first.goes_on_so in
-      let last = stopped_since h.before t h.event e (one.later ++ es) one.world first.tree_stays itself one.follows
+      let last = stopped_since h.before t h.event e (one.later ++ es) one.world first.tree_stays
+      itself one.follows
       h.stops in
       let so = last.goes.goes_on_so in
       record {

@@ -39,7 +39,8 @@ module _ (tree : List TreeProcess) (logs : List ProcessLog) (is_tree : IsTree tr
     pub goes : GoesIn o start.tree es w now
     pub refuses : RefusesAfter start.tree goes.goes_on_so.world now events refusal
 
-  pub goes_to : (refusal : Refusal) → LeadsTo start events refusal now → IsForItself refusal → (o : Earlier) (es : List Made)
+  pub goes_to : (refusal : Refusal) → LeadsTo start events refusal now → IsForItself refusal
+      → (o : Earlier) (es : List Made)
       (w : World) → FollowsSince o es w start → GoesTo refusal o es w
   goes_to None leads itself o es w f =
       record { goes = leads_on o start.tree starts start now events es w refl f leads; refuses = tt }
@@ -55,7 +56,8 @@ module _ (tree : List TreeProcess) (logs : List ProcessLog) (is_tree : IsTree tr
   stays None leads = led_stays start now events leads ∙ reopened.tree_is
   stays (Some r) leads = led_until_stays start now events r.0 r.1 leads ∙ reopened.tree_is
 
-  pub goes_from : (refusal : Refusal) → LeadsTo start events refusal now → IsForItself refusal → (es : List Made)
+  pub goes_from : (refusal : Refusal) → LeadsTo start events refusal now → IsForItself refusal
+      → (es : List Made)
       (w : World) → IsRun tree es w → AreLogsLeft tree w (records_by tree logs)
       → GoesOnFrom tree es w events refusal now
   goes_from refusal leads itself es w run left =
@@ -145,7 +147,8 @@ module _ {L : Type 0} (bytes : L → List ℕ) where
   }
 
   -- a process has a store, which does not fail
-  has_store : (failures : L → ℕ) → ((s : L) → failures s ≡ 0) → (es : List TreeProcess) (ss : List L) (q : ProcessId)
+  has_store : (failures : L → ℕ) → ((s : L) → failures s ≡ 0)
+      → (es : List TreeProcess) (ss : List L) (q : ProcessId)
       → is_listed es q ≡ true → length ss ≡ length es → FailsIn failures (store_of es ss q) → ⊥
   unfolding is_listed
   has_store failures works [] ss q listed long h = absurd (cc)

@@ -20,7 +20,8 @@ pub one_more : (es : List JournalEntry) (k : ℕ) (e : JournalEntry) → slice_g
 one_more es k e at =
     ap message_count (taken_at es k e at)
     ∙ ap length (flat_map-append (λ (e : JournalEntry). e.reaction.messages) (take k es) (e ∷ []))
-    ∙ length-append (flat_map (λ (e : JournalEntry). e.reaction.messages) (take k es)) (e.reaction.messages ++ [])
+    ∙ length-append (flat_map (λ (e : JournalEntry). e.reaction.messages) (take k es))
+    (e.reaction.messages ++ [])
     ∙ ap (λ n. message_count (take k es) + n) (length-append e.reaction.messages [] ∙ omega arith)
 
 -- the first steps send no more than all
@@ -29,7 +30,8 @@ within_all [] zero = omega arith
 within_all [] (suc k) = omega arith
 within_all (e ∷ es) zero = omega arith
 within_all (e ∷ es) (suc k) =
-    let some = length-append e.reaction.messages (flat_map (λ (e : JournalEntry). e.reaction.messages) (take k es)) in
+    let some = length-append e.reaction.messages
+    (flat_map (λ (e : JournalEntry). e.reaction.messages) (take k es)) in
     let all = length-append e.reaction.messages (flat_map (λ (e : JournalEntry). e.reaction.messages) es) in
     let rest = within_all es k in
     omega (arith, some, all, rest)
@@ -45,7 +47,8 @@ sent_behind es k before next old new (Some e) at adds so =
     omega (arith, so, more, count)
 
 -- where the messages of the next step come to 2^64 those of all do
-pub all_past : (es : List JournalEntry) (k before : ℕ) (o : Option JournalEntry) → slice_get es k ≡ o → PassesLast before o
+pub all_past : (es : List JournalEntry) (k before : ℕ) (o : Option JournalEntry) → slice_get es k ≡ o
+    → PassesLast before o
     → before ≡ message_count (take k es) → 2 ^ 64 ≤ message_count es
 all_past es k before None at past so = absurd past
 all_past es k before (Some e) at past so =

@@ -44,7 +44,8 @@ counts_of_both ws vs ms ns =
     cc
 
 -- what a process's steps give, with one step more
-with_one : {X : Type 0} (f : JournalEntry → List X) (es : List JournalEntry) (e : JournalEntry) (q : ProcessId) (own : Bool)
+with_one : {X : Type 0} (f : JournalEntry → List X) (es : List JournalEntry) (e : JournalEntry)
+    (q : ProcessId) (own : Bool)
     → same_process e.step.process q ≡ own
     → flat_map (λ e. if same_process e.step.process q then f e else []) (es ++ e ∷ [])
     ≡ flat_map (λ e. if same_process e.step.process q then f e else []) es ++ (if own then f e else [])
@@ -53,7 +54,8 @@ with_one f es e q own is =
     ∙ ap (λ b. flat_map (λ e. if same_process e.step.process q then f e else []) es
     ++ (if b then f e else [])) is
 
-one_row : (es : List JournalEntry) (e : JournalEntry) (p : TreeProcess) (own : Bool) → same_process e.step.process p.id ≡ own
+one_row : (es : List JournalEntry) (e : JournalEntry) (p : TreeProcess) (own : Bool)
+    → same_process e.step.process p.id ≡ own
     → row_behind e (row_of es p) ≡ row_of (es ++ e ∷ []) p
 one_row es e p true is =
     let written = with_one (λ e. e.reaction.written) es e p.id true is in

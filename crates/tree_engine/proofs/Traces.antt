@@ -61,7 +61,8 @@ step_added es k sent next old new all (Some e) is adds so =
     ∙ ap (λ xs. old ++ entries_text sent xs) (sym (dropped_at es k e is)) ∙ so
 
 -- the text if there is no step more
-pub none_added : (es : List JournalEntry) (k sent : ℕ) (old new all : List ℕ) (o : Option JournalEntry) → slice_get es k ≡ o
+pub none_added : (es : List JournalEntry) (k sent : ℕ) (old new all : List ℕ) (o : Option JournalEntry)
+    → slice_get es k ≡ o
     → AddsStep o old new sent None → old ++ entries_text sent (drop k es) ≡ all → new ≡ all
 none_added es k sent old new all (Some e) is adds so = absurd adds
 none_added es k sent old new all None is adds so =
@@ -76,7 +77,8 @@ all_added es k sent old all past so =
 
 -- The step at a place, as the journal shows it.
 
-pub adds_shown : (o : Option JournalEntry) (shown : Option ShownStep) (step : ShownStep) (old new : List ℕ) (sent next : ℕ)
+pub adds_shown : (o : Option JournalEntry) (shown : Option ShownStep) (step : ShownStep)
+    (old new : List ℕ) (sent next : ℕ)
     → shown ≡ Some step → option_map shown_part shown ≡ option_map entry_part o
     → next ≡ sent + length step.messages.now → new ≡ old ++ part_text sent (shown_part step)
     → AddsStep o old new sent (Some next)

@@ -43,12 +43,14 @@ use Rattle.tree_engine.proofs.Replaying.{replayed}
 
 -- A run that has just begun.
 
-pub begun_by : (tree : List TreeProcess) (logs : Option (List ProcessLog)) (first : Run) → BeginsBy tree logs first
+pub begun_by : (tree : List TreeProcess) (logs : Option (List ProcessLog)) (first : Run)
+    → BeginsBy tree logs first
     → HasCome (state first.world) [] first
 begun_by tree None first b = b.begins
 begun_by tree (Some logs) first b = b.begins
 
-pub starts_by : (tree : List TreeProcess) (logs : Option (List ProcessLog)) (first : Run) → BeginsBy tree logs first
+pub starts_by : (tree : List TreeProcess) (logs : Option (List ProcessLog)) (first : Run)
+    → BeginsBy tree logs first
     → StartsBy tree logs (state first.world)
 starts_by tree None first b = b.opened
 starts_by tree (Some logs) first b = b.reopened
@@ -58,7 +60,8 @@ over_by : (tree : List TreeProcess) (logs : Option (List ProcessLog)) (first : R
 over_by tree None first b = b.first
 over_by tree (Some logs) first b = b.over
 
-unfoldable pub ran_by : (tree : List TreeProcess) (logs : Option (List ProcessLog)) (first : Run) (now : WorldState)
+unfoldable pub ran_by : (tree : List TreeProcess) (logs : Option (List ProcessLog)) (first : Run)
+    (now : WorldState)
     (events : List Event) (refusal : Refusal) (n : ℕ) → BeginsBy tree logs first
     → ComesTo (state first.world) events refusal n now → PlaysBy tree logs events refusal now
 ran_by tree None first now events refusal n b h =
@@ -67,8 +70,10 @@ ran_by tree (Some logs) first now events refusal n b h =
     replayed tree logs b.is_tree (state first.world) now b.reopened events refusal n h
 
 -- what the lines of a script lead an opened tree to is a run of the script
-pub plays_script : (input : List ℕ) (tree : List TreeProcess) (logs : Option (List ProcessLog)) (lines : LinesState)
-    (first run : Run) → IsOpenReopen input tree logs lines → BeginsBy tree logs first → HasPlayed first run lines
+pub plays_script : (input : List ℕ) (tree : List TreeProcess) (logs : Option (List ProcessLog))
+    (lines : LinesState)
+    (first run : Run) → IsOpenReopen input tree logs lines → BeginsBy tree logs first
+    → HasPlayed first run lines
     → PlaysScript input run
 plays_script input tree logs lines first run opened begins made = record {
   tree = tree;
@@ -81,7 +86,8 @@ plays_script input tree logs lines first run opened begins made = record {
 }
 
 -- a log that a run does not open over is damaged in the script
-pub damage_there : (input : List ℕ) (tree : List TreeProcess) (logs : Option (List ProcessLog)) (events : List Event)
+pub damage_there : (input : List ℕ) (tree : List TreeProcess) (logs : Option (List ProcessLog))
+    (events : List Event)
     (process : ProcessId) (place : ℕ) → IsReopenScript input tree logs events
     → IsDamageBy tree logs process place → IsDamaged input process place
 damage_there input tree None events process place script damage = absurd damage
@@ -96,7 +102,8 @@ pub fault_there : (input : List ℕ) (error : ScriptError) (fault : ScriptFault)
 fault_there input error fault is there = subst (IsReopenError input) is there
 
 -- the first line that is not an event is what is wrong with a script as far as its lines
-pub line_fault : (input : List ℕ) (tree : List TreeProcess) (logs : Option (List ProcessLog)) (lines : LinesState)
+pub line_fault : (input : List ℕ) (tree : List TreeProcess) (logs : Option (List ProcessLog))
+    (lines : LinesState)
     (fault : ScriptFault) → IsOpenReopen input tree logs lines → IsLineError (Fault fault) (asked_by lines)
     → IsReopenFault input fault
 line_fault input tree logs lines (Line n) opened wrong = record {
@@ -112,7 +119,8 @@ line_fault input tree logs lines (Tree cause) opened wrong = absurd wrong
 line_fault input tree logs lines TooLong opened wrong = absurd wrong
 
 -- what is first wrong with a script one of whose logs is damaged is what is wrong with it
-pub first_there : (input : List ℕ) (tree : List TreeProcess) (logs : Option (List ProcessLog)) (lines : LinesState)
+pub first_there : (input : List ℕ) (tree : List TreeProcess) (logs : Option (List ProcessLog))
+    (lines : LinesState)
     (process : ProcessId) (place : ℕ) (fault : InputFault) → IsOpenReopen input tree logs lines
     → IsDamageBy tree logs process place → IsFirstFault process place (asked_by lines) fault
     → IsInputFault input fault
@@ -127,25 +135,29 @@ first_there input tree logs lines process place (inputs.Damaged p at) opened dam
     asked_so (Ok events) is (same, there) =
         subst (λ (q : ProcessId). IsDamaged input q at) (sym same)
         (subst (λ (k : ℕ). IsDamaged input process k) (sym there)
-        (damage_there input tree logs events process place (script_of input tree logs lines events opened is) damage))
+        (damage_there input tree logs events process place
+        (script_of input tree logs lines events opened is) damage))
 
 -- the lines of an opened script all ask for events, so that its damaged log is what is first wrong
 pub log_first : (process : ProcessId) (place : ℕ) (asked : Result (List Event) ℕ) (events : List Event)
     → asked ≡ Ok events → IsFirstFault process place asked (inputs.Damaged process place)
 log_first process place asked events is =
-    subst (λ (r : Result (List Event) ℕ). IsFirstFault process place r (inputs.Damaged process place)) (sym is)
+    subst (λ (r : Result (List Event) ℕ). IsFirstFault process place r (inputs.Damaged process place))
+    (sym is)
     (refl, refl)
 
 -- Reports.
 
 -- the line of a fault is the report of an input with which that is wrong
-pub fault_reported : (output : TreeOutput) (input text : List ℕ) (fault : ScriptFault) → IsReopenFault input fault
+pub fault_reported : (output : TreeOutput) (input text : List ℕ) (fault : ScriptFault)
+    → IsReopenFault input fault
     → text ≡ fault_text fault → IsTreeReport output Refused input text
 fault_reported output input text fault there line = inl (record { fault = fault; there = there; line = line })
 
 -- the line of a damaged log is the report of an input that begins its events with it
 pub damage_reported : (output : TreeOutput) (input text : List ℕ) (process : ProcessId) (place : ℕ)
-    → IsDamaged input process place → text ≡ damage_text process place → IsTreeReport output Refused input text
+    → IsDamaged input process place → text ≡ damage_text process place
+    → IsTreeReport output Refused input text
 damage_reported output input text process place there line =
     inr (record { process = process; place = place; there = there; line = line })
 
@@ -209,7 +221,8 @@ pub reported : {A E : Type 0} (text_of : A × Status → List ℕ) (output : Tre
     (input : List ℕ) (tree : List TreeProcess) (logs : Option (List ProcessLog))
     (events : List Event) (refusal : Refusal) (end : WorldState) (over : Bool) (made : Result (A × Status) E)
     → IsReopenScript input tree logs events → PlaysBy tree logs events refusal end → over ≡ is_some logs
-    → IfOk made (λ r. (given : List Event) → Tells over output given end refusal (text_of r)) → IfOk made (λ r. r.1 ≡ ending refusal)
+    → IfOk made (λ r. (given : List Event) → Tells over output given end refusal (text_of r))
+    → IfOk made (λ r. r.1 ≡ ending refusal)
     → IfOk made (λ r. IsTreeReport output r.1 input (text_of r))
 reported text_of output input tree logs events refusal end over (Err e) script plays is text status = text
 reported text_of output input tree logs events refusal end over (Ok r) script plays is text status =
@@ -229,7 +242,8 @@ drawn_reported text_of input tree logs events first (Ok r) script begins draws =
     draws.status_is
 
 -- the tree of a script passed its check
-pub script_tree : (input : List ℕ) (tree : List TreeProcess) (events : List Event) → IsScript input tree events
+pub script_tree : (input : List ℕ) (tree : List TreeProcess) (events : List Event)
+    → IsScript input tree events
     → IsTree tree
 script_tree input tree events (fronts, behind, text, is, few, asks) = is
 
@@ -237,7 +251,9 @@ script_tree input tree events (fronts, behind, text, is, few, asks) = is
 pub draws_run : {A E : Type 0} (text_of : A × Status → List ℕ) (events : List Event)
     (first run : Run) (made : Result (A × Status) E)
     → HasCome (state first.world) events run
-    → IfOk made (λ r. r.1 ≡ ending run.refusal) → IfOk made (λ r. IsPicture (state run.world).tree (length events) (state run.world).entries (refused_in events run.refusal) (text_of r))
+    → IfOk made (λ r. r.1 ≡ ending run.refusal)
+    → IfOk made (λ r. IsPicture (state run.world).tree (length events) (state run.world).entries
+    (refused_in events run.refusal) (text_of r))
     → IfOk made (λ r. Draws (state first.world) events r.1 (text_of r))
 draws_run text_of events first run (Err e) come is drawn = is
 draws_run text_of events first run (Ok r) come is drawn = record {
@@ -282,7 +298,8 @@ script_breaks_off input tree logs lines first why script begins (count, events, 
 }
 
 -- likewise, where memory may be refused
-pub lines_break : (input : List ℕ) (tree : List TreeProcess) (logs : Option (List ProcessLog)) (lines : LinesState)
+pub lines_break : (input : List ℕ) (tree : List TreeProcess) (logs : Option (List ProcessLog))
+    (lines : LinesState)
     (first : Run) (why : Failure) → IsOpenReopen input tree logs lines → BeginsBy tree logs first
     → (why ≡ failure.Memory) ⊎ ((count : ℕ) × (events : List Event) × AsksFirst lines count events
     × BreaksOff (state first.world) events why)
@@ -292,7 +309,8 @@ lines_break input tree logs lines first why script begins (inr breaks) =
     inr (script_breaks_off input tree logs lines first why script begins breaks)
 
 -- why a script's run is not drawn is why there is no report of it
-pub not_drawn : (input : List ℕ) (tree : List TreeProcess) (logs : Option (List ProcessLog)) (events : List Event)
+pub not_drawn : (input : List ℕ) (tree : List TreeProcess) (logs : Option (List ProcessLog))
+    (events : List Event)
     (first : Run) (why : Failure) → IsReopenScript input tree logs events → BeginsBy tree logs first
     → (why ≡ failure.Memory) ⊎ (BreaksOff (state first.world) events why
     ⊎ ((why ≡ failure.Exhausted) × DrawsTooLong (state first.world) events))
@@ -320,10 +338,12 @@ not_drawn input tree logs events first why script begins (inr (inr (exhausted, l
     ))
 
 -- why a script's run is not told is why there is no report of it
-pub not_told : (output : TreeOutput) (input : List ℕ) (tree : List TreeProcess) (logs : Option (List ProcessLog))
+pub not_told : (output : TreeOutput) (input : List ℕ) (tree : List TreeProcess)
+    (logs : Option (List ProcessLog))
     (events : List Event) (refusal : Refusal) (end : WorldState) (why : Failure)
     → IsReopenScript input tree logs events → PlaysBy tree logs events refusal end
-    → (why ≡ failure.Memory) ⊎ ((why ≡ failure.Exhausted) × ((given : List Event) → IsBeyond output given end))
+    → (why ≡ failure.Memory) ⊎ ((why ≡ failure.Exhausted)
+    × ((given : List Event) → IsBeyond output given end))
     → (why ≡ failure.Memory) ⊎ CannotReport output input why
 not_told output input tree logs events refusal end why script plays (inl memory) = inl memory
 not_told output input tree logs events refusal end why script plays (inr (exhausted, beyond)) =

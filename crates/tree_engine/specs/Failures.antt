@@ -35,8 +35,8 @@ abbrev pub CannotMake : WorldState → List Event → Failure → Type 0
 CannotMake start events why =
     BreaksOff start events why ⊎ ((why ≡ Exhausted) × (2 ^ 64 ≤ length events))
 
--- The input is a script as far as its lines, of these logs or of none. The first of the lines after them ask for
--- events of which one, in a tree that has opened over these logs, is not made for this reason.
+-- The input is a script as far as its lines, of these logs or of none. The first of the lines after them ask
+-- for events of which one, in a tree that has opened over these logs, is not made for this reason.
 pub record ScriptBreaksOff (input : List ℕ) (why : Failure) : Type 0 where
   pub tree : List TreeProcess
   pub logs : Option (List ProcessLog)
@@ -64,16 +64,16 @@ PassesLast sent (Some e) = 2 ^ 64 ≤ sent + length e.reaction.messages
 abbrev pub IsUncounted : WorldState → Type 0
 IsUncounted w = Fit (total_of (rows_of w.tree w.entries)) → ⊥
 
--- numbers are used up for what is written of a state, to which these events led: its messages come to 2^64 or more,
--- or a sum of its counts does, or its picture would be too long
+-- numbers are used up for what is written of a state, to which these events led: its messages come to 2^64 or
+-- more, or a sum of its counts does, or its picture would be too long
 abbrev pub IsBeyond : TreeOutput → List Event → WorldState → Type 0
 IsBeyond Trace events w = 2 ^ 64 ≤ message_count w.entries
 IsBeyond Logs events w = 2 ^ 64 ≤ message_count w.entries
 IsBeyond Counts events w = (2 ^ 64 ≤ message_count w.entries) ⊎ IsUncounted w
 IsBeyond Picture events w = IsLong w.tree (length events) w.entries
 
--- these events led the tree, opened over these logs or over empty ones, to a state of which nothing is written, for
--- numbers are used up
+-- these events led the tree, opened over these logs or over empty ones, to a state of which nothing is
+-- written, for numbers are used up
 pub record CannotTell (output : TreeOutput) (tree : List TreeProcess) (logs : Option (List ProcessLog))
     (events : List Event) : Type 0 where
   pub refusal : Refusal

@@ -5,8 +5,8 @@ use Rattle.log_script.specs.Trees.{logs_text}
 use Rattle.tree_state.specs.Worlds.{WorldState}
 use Rattle.tree_world.specs.LogsLeft.{AreByteLogs, AreLogs, LogsStand}
 
--- the text is that of the tree and of the log of each process, each of bytes; and each record can be in its log, and a
--- manager's may follow one another
+-- the text is that of the tree and of the log of each process, each of bytes; and each record can be in its
+-- log, and a manager's may follow one another
 pub record LeavesLogs (w : WorldState) (text : List ℕ) : Type 0 where
   pub logs : List ProcessLog
   pub are : AreLogs w w.tree logs

@@ -12,10 +12,11 @@ IsTrace Trace = ⊤
 IsTrace Counts = ⊤
 IsTrace _ = ⊥
 
--- what is written of an input without logs ahead of its events is one text and one status: of a script the trace of
--- its run, with the counts or without; of any other input the line of its fault
+-- what is written of an input without logs ahead of its events is one text and one status: of a script the
+-- trace of its run, with the counts or without; of any other input the line of its fault
 abbrev pub InputsHaveOneText : Type 0
-InputsHaveOneText = (output : TreeOutput) (status other : Status) (input text second : List ℕ) → IsTrace output
+InputsHaveOneText = (output : TreeOutput) (status other : Status) (input text second : List ℕ)
+    → IsTrace output
     → BeginsWithNone input
     → IsTreeReport output status input text → IsTreeReport output other input second
     → (other ≡ status) × (second ≡ text)

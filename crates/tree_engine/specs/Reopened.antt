@@ -38,22 +38,25 @@ records_by tree logs = logs_in these tree (bytes_in tree logs)
 
 -- the log of this process is damaged there, as bytes or as a log of the process in this tree
 abbrev pub IsDamage : List TreeProcess → List ProcessLog → ProcessId → ℕ → Type 0
-IsDamage tree logs process place = TreeNotReopened these never tree (bytes_in tree logs) (Damaged process place)
+IsDamage tree logs process place = TreeNotReopened these never tree (bytes_in tree logs)
+    (Damaged process place)
 
 -- the model refuses to deliver the message with this number among these, which is the next one of a settle
 abbrev pub RefusesNextSince : List TreeProcess → World → List Envelope → Option ℕ → StepError → Type 0
 RefusesNextSince tree w sent None e = ⊥
 RefusesNextSince tree w sent (Some k) e = RefusesDelivery tree w k (sent_as sent k) e
 
--- the model refuses the event so, where these messages were sent since the tree was opened over logs, and these of
--- them delivered: a delivery of the message that has the number among them
+-- the model refuses the event so, where these messages were sent since the tree was opened over logs, and
+-- these of them delivered: a delivery of the message that has the number among them
 abbrev pub RefusesSince : List TreeProcess → World → List Envelope → List Bool → Event → StepError → Type 0
 RefusesSince tree w sent delivered (Deliver k) e = RefusesDelivery tree w k (sent_as sent k) e
 RefusesSince tree w sent delivered Settle e = RefusesNextSince tree w sent (least_open 1 delivered) e
 RefusesSince tree w sent delivered event e = RefusesEvent tree w delivered event e
 
--- the event after those that were made is one that the model refuses so in this world, which the state stands for
-pub record RefusesThere (tree : List TreeProcess) (w : World) (end : WorldState) (events : List Event) (made : ℕ)
+-- the event after those that were made is one that the model refuses so in this world, which the state stands
+-- for
+pub record RefusesThere (tree : List TreeProcess) (w : World) (end : WorldState)
+    (events : List Event) (made : ℕ)
     (e : StepError) : Type 0 where
   pub event : Event
   pub next : slice_get events made ≡ Some event
@@ -64,10 +67,12 @@ abbrev pub RefusesAfter : List TreeProcess → World → WorldState → List Eve
 RefusesAfter tree w end events None = ⊤
 RefusesAfter tree w end events (Some refused) = RefusesThere tree w end events refused.0 refused.1
 
--- The state stands for a run that goes on from these moves: first every process went down by a crash, and then came
--- what was made since. Both parts are one run, of which the headline holds, and each End of the root in the later part
--- reports mismatches truly. A refused event is one that the model refuses there by that number.
-pub record GoesOnFrom (tree : List TreeProcess) (es : List Made) (w : World) (events : List Event) (refusal : Refusal)
+-- The state stands for a run that goes on from these moves: first every process went down by a crash, and
+-- then came what was made since. Both parts are one run, of which the headline holds, and each End of the
+-- root in the later part reports mismatches truly. A refused event is one that the model refuses there by
+-- that number.
+pub record GoesOnFrom (tree : List TreeProcess) (es : List Made) (w : World) (events : List Event)
+    (refusal : Refusal)
     (end : WorldState) : Type 0 where
   pub crashes : List Made
   pub down : World
@@ -78,10 +83,11 @@ pub record GoesOnFrom (tree : List TreeProcess) (es : List Made) (w : World) (ev
   pub keeps : KeepsBoth (record { moves = crashes ++ es; world = down }) later world end follows
   pub refuses : RefusesAfter tree world end events refusal
 
--- a tree was opened over these logs, and these events led it, up to the refused one, to this state; the refused one
--- was refused for itself; and from each run, whichever version made each of its moves, of which these logs are what a
--- crash leaves, the state goes on
-pub record Replays (tree : List TreeProcess) (logs : List ProcessLog) (events : List Event) (refusal : Refusal)
+-- a tree was opened over these logs, and these events led it, up to the refused one, to this state; the
+-- refused one was refused for itself; and from each run, whichever version made each of its moves, of which
+-- these logs are what a crash leaves, the state goes on
+pub record Replays (tree : List TreeProcess) (logs : List ProcessLog) (events : List Event)
+    (refusal : Refusal)
     (end : WorldState) : Type 0 where
   pub start : WorldState
   pub reopens : IsReopened tree (records_by tree logs) start

@@ -19,8 +19,10 @@ use Rattle.tree_engine.specs.declared.tree.TreeOutput.{TreeOutput}
 use Rattle.tree_engine.specs.Reopened.{IsDamage, Replays}
 use Rattle.tree_engine.specs.Trees.{RunsScript, Tells, ending, fault_text}
 
--- The text is that of the run of just these events over just these logs, and tells the state to which it came.
-pub record ReopensOver (output : TreeOutput) (tree : List TreeProcess) (logs : List ProcessLog) (events : List Event)
+-- The text is that of the run of just these events over just these logs, and tells the state to which it
+-- came.
+pub record ReopensOver (output : TreeOutput) (tree : List TreeProcess) (logs : List ProcessLog)
+    (events : List Event)
     (status : Status) (text : List ℕ) : Type 0 where
   pub refusal : Refusal
   pub end : WorldState
@@ -62,8 +64,8 @@ abbrev pub IsInputFault : List ℕ → InputFault → Type 0
 IsInputFault input (inputs.Script fault) = IsReopenFault input fault
 IsInputFault input (inputs.Damaged process place) = IsDamaged input process place
 
--- what is first wrong with a script one of whose logs is damaged there, if its lines ask for this: a line that is not an event,
--- or the log
+-- what is first wrong with a script one of whose logs is damaged there, if its lines ask for this: a line
+-- that is not an event, or the log
 abbrev pub IsFirstFault : ProcessId → ℕ → Result (List Event) ℕ → InputFault → Type 0
 IsFirstFault process place asked (inputs.Script fault) = IsLineError (Fault fault) asked
 IsFirstFault process place (Ok events) (inputs.Damaged p at) = (p ≡ process) × (at ≡ place)
@@ -71,6 +73,8 @@ IsFirstFault process place (Err n) (inputs.Damaged p at) = ⊥
 
 -- what is written of an input, by how the run ends
 abbrev pub IsTreeReport : TreeOutput → Status → List ℕ → List ℕ → Type 0
-IsTreeReport output Ended input text = RunsScript output Ended input text ⊎ ReopensScript output Ended input text
-IsTreeReport output Stopped input text = RunsScript output Stopped input text ⊎ ReopensScript output Stopped input text
+IsTreeReport output Ended input text = RunsScript output Ended input text
+    ⊎ ReopensScript output Ended input text
+IsTreeReport output Stopped input text = RunsScript output Stopped input text
+    ⊎ ReopensScript output Stopped input text
 IsTreeReport output Refused input text = RefusesInput input text ⊎ TellsLogDamage input text

@@ -45,8 +45,8 @@ opened_text tree = flat_map (λ e. opening_text e.id.0) tree
 abbrev pub trace_of : WorldState → List ℕ
 trace_of w = opened_text w.tree ++ entries_text 0 w.entries
 
--- likewise, of a tree that was opened over logs or not: over logs the first steps are the restarts of its processes, and
--- they have the lines of their opening
+-- likewise, of a tree that was opened over logs or not: over logs the first steps are the restarts of its
+-- processes, and they have the lines of their opening
 abbrev pub trace_by : Bool → WorldState → List ℕ
 trace_by false w = trace_of w
 trace_by true w = entries_text 0 w.entries
@@ -71,8 +71,8 @@ abbrev pub IsNumberedRefusal : Refusal → Type 0
 IsNumberedRefusal None = Unit {0}
 IsNumberedRefusal (Some refused) = refused.0 + 1 < 2 ^ 64
 
--- a tree opened, these events led it, up to the refused one, to this state, and that is a run of the model; the
--- refused one was refused for itself
+-- a tree opened, these events led it, up to the refused one, to this state, and that is a run of the model;
+-- the refused one was refused for itself
 pub record Plays (tree : List TreeProcess) (events : List Event) (refusal : Refusal)
     (end : WorldState) : Type 0 where
   pub start : WorldState
@@ -101,19 +101,21 @@ output_of lines.Trace = Trace
 output_of lines.Logs = Logs
 output_of lines.Counts = Counts
 
--- what is written of a run of these events that ended so, of a tree that was opened over logs or not: its trace and the last line, or
--- these and the counts, or a picture of its steps and of the refused event, or, where it was to its end, the logs it leaves
+-- what is written of a run of these events that ended so, of a tree that was opened over logs or not: its
+-- trace and the last line, or these and the counts, or a picture of its steps and of the refused event, or,
+-- where it was to its end, the logs it leaves
 abbrev pub Tells : Bool → TreeOutput → List Event → WorldState → Refusal → List ℕ → Type 0
 Tells over Logs events w None text = LeavesLogs w text
 Tells over Logs events w (Some refused) text = text ≡ trace_by over w ++ last_line (Some refused)
 Tells over Trace events w refusal text = text ≡ trace_by over w ++ last_line refusal
-Tells over Picture events w refusal text = IsPicture w.tree (length events) w.entries (refused_in events refusal) text
+Tells over Picture events w refusal text = IsPicture w.tree (length events) w.entries
+    (refused_in events refusal) text
 Tells over Counts events w refusal text = text ≡ (trace_by over w ++ last_line refusal) ++ counts_text w
 
 -- The text is that of the run of just these events: they led the tree, opened, to a state that stands for a
--- run of the model, with its journal, its messages and its processes; of this run the headline holds, each End
--- of the root in it reports mismatches truly, and the text tells that state. A refused event is one that the
--- model refuses there by that number; it was refused neither for memory nor because a device failed.
+-- run of the model, with its journal, its messages and its processes; of this run the headline holds, each
+-- End of the root in it reports mismatches truly, and the text tells that state. A refused event is one that
+-- the model refuses there by that number; it was refused neither for memory nor because a device failed.
 pub record RunsOver (output : TreeOutput) (tree : List TreeProcess) (events : List Event) (status : Status)
     (text : List ℕ) : Type 0 where
   pub refusal : Refusal

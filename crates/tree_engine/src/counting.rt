@@ -19,7 +19,8 @@ use tree_world::World;
 /// Lets go of a step.
 fn discard(_entry: JournalEntry) {}
 
-/// The counts of all steps that were made, each of which is made again once. Exhausted: a sum is 2^64 or more.
+/// The counts of all steps that were made, each of which is made again once. Exhausted: a sum is 2^64 or
+/// more.
 fn counted(alloc: Global, world: &World<MemoryStore>) -> Result<RunCounts, Failure>
     ensures counts { IfOk result (λ counts. counts
         ≡ rows_of (state world.now).tree (state world.now).entries) }

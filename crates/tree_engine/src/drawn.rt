@@ -90,7 +90,8 @@ fn drawn(
     turns: &[EventSteps],
     logs: &[Vec<LogRecord>],
 ) -> Result<Vec<u8>, Failure>
-    ensures text { IfOk result (λ text. IsPicture (state world.now).tree (length events.now) (state world.now).entries
+    ensures text { IfOk result (λ text. IsPicture (state world.now).tree (length events.now)
+        (state world.now).entries
         (refused_in events.now refusal) text.items) }
     ensures err { IfErr result (λ why. (why ≡ Failure.Memory) ⊎ ((why ≡ Failure.Exhausted)
         × IsLong (state world.now).tree (length turns.now) (state world.now).entries)) }
@@ -120,7 +121,8 @@ fn drawn_run(
     turns: &[EventSteps],
     logs: &[Vec<LogRecord>],
 ) -> Result<(Vec<u8>, Status), Failure>
-    ensures text { IfOk result (λ r. IsPicture (state run.now.world).tree (length events.now) (state run.now.world).entries
+    ensures text { IfOk result (λ r. IsPicture (state run.now.world).tree (length events.now)
+        (state run.now.world).entries
         (refused_in events.now run.now.refusal) r.0.items) }
     ensures status { IfOk result (λ r. r.1 ≡ ending run.now.refusal) }
     ensures err { IfErr result (λ why. (why ≡ Failure.Memory) ⊎ ((why ≡ Failure.Exhausted)

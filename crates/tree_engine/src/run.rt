@@ -76,8 +76,8 @@ impl Run {
         }
     }
 
-    /// A tree that opens over these logs, in memory; or the first of them that is damaged, as bytes or as the log of
-    /// its process in this tree, and where. The tree is one that passed its check.
+    /// A tree that opens over these logs, in memory; or the first of them that is damaged, as bytes or as the
+    /// log of its process in this tree, and where. The tree is one that passed its check.
     pub fn reopen(
         alloc: Global,
         tree: Tree,

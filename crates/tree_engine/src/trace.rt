@@ -16,9 +16,9 @@ use trace_lines::{push_begun, push_conclusion, push_kept, push_messages, push_wr
 use tree_journal::ShownStep;
 use tree_world::World;
 
-/// The trace of what the tree has come to, and how its run ended: of a tree that was opened over logs its first
-/// steps are the restarts of its processes, and they show what each opened. Exhausted: 2^64 messages or more were
-/// sent.
+/// The trace of what the tree has come to, and how its run ended: of a tree that was opened over logs its
+/// first steps are the restarts of its processes, and they show what each opened. Exhausted: 2^64 messages or
+/// more were sent.
 pub fn trace_text(
     alloc: Global,
     world: &World<MemoryStore>,
@@ -110,8 +110,8 @@ fn push_step(out: &mut Vec<u8>, sent: u64, step: &ShownStep) -> Result<u64, Fail
     Ok(next)
 }
 
-/// Adds the lines of the step at a place, before which N messages were sent, and tells how many are sent with its own.
-/// None: there is no such step, and nothing is added. Exhausted: 2^64 messages or more were sent.
+/// Adds the lines of the step at a place, before which N messages were sent, and tells how many are sent with
+/// its own. None: there is no such step, and nothing is added. Exhausted: 2^64 messages or more were sent.
 pub fn push_place(
     out: &mut Vec<u8>,
     world: &World<MemoryStore>,

@@ -109,7 +109,8 @@ fn report(alloc: Global, output: TreeOutput, input: &[u8]) -> Result<(Vec<u8>, S
 /// The picture of the run of a script, or what is wrong with it.
 fn picture_report(alloc: Global, input: &[u8]) -> Result<(Vec<u8>, Status), Failure>
     ensures report { IfOk result (λ r. IsTreeReport TreeOutput.Picture r.1 input.now r.0.items) }
-    ensures err { IfErr result (λ why. (why ≡ Failure.Memory) ⊎ CannotReport TreeOutput.Picture input.now why) }
+    ensures err { IfErr result (λ why. (why ≡ Failure.Memory)
+        ⊎ CannotReport TreeOutput.Picture input.now why) }
     ensures why { IfErr result IsOfRun }
 {
     let (tree, logs, events) = match read_reopen(alloc, input) {
@@ -194,8 +195,8 @@ enum InputFault {
     Damaged(ProcessId, usize),
 }
 
-/// A tree that opens over these logs, or over empty ones if there are none; or the first log that is damaged, and
-/// where. The tree is one that passed its check.
+/// A tree that opens over these logs, or over empty ones if there are none; or the first log that is damaged,
+/// and where. The tree is one that passed its check.
 pub fn opened(
     alloc: Global,
     tree: Tree,
@@ -233,7 +234,8 @@ fn play(alloc: Global, input: &[u8]) -> Result<Result<Run, InputFault>, Failure>
     }
 }
 
-/// Makes the event of each of these lines in a tree that has just opened; or tells the first line that is not an event.
+/// Makes the event of each of these lines in a tree that has just opened; or tells the first line that is not
+/// an event.
 fn play_lines(alloc: Global, run: Run, lines: &Lines) -> Result<Result<Run, ScriptFault>, Failure>
     requires { HasCome (state run.world) [] run }
     ensures run { IfOk result (λ played. IfOk played (λ end. HasPlayed run end lines.now)) }

@@ -15,7 +15,8 @@ use Rattle.tree_faults.proofs.Grown.{Grows, applied_grows, stopped_grows}
 
 -- Weaving from the start.
 
-order_at : (fs : List FailedStep) (es : List JournalEntry) → AreInOrder 0 fs (length es) → AreInOrder 0 fs (0 + length es)
+order_at : (fs : List FailedStep) (es : List JournalEntry) → AreInOrder 0 fs (length es)
+    → AreInOrder 0 fs (0 + length es)
 order_at fs es order = subst (AreInOrder 0 fs) (omega arith) order
 
 place_at : (es : List JournalEntry) → length es ≡ 0 + length es
@@ -45,14 +46,19 @@ module _ (s t : WorldState) (f g : FaultsSight) (places : AreInPlace s f) (grows
   pub places_on : AreInPlace t g
   places_on = subst (λ fs. AreInOrder 0 fs (length t.entries)) (sym counted)
       (order_on 0 f.counted (length s.entries) (length t.entries)
-      (omega (arith, ap (λ (xs : List JournalEntry). length xs) grows.grown, length-append s.entries grows.entered)) places)
+      (omega (
+        arith,
+        ap (λ (xs : List JournalEntry). length xs) grows.grown,
+        length-append s.entries grows.entered,
+      )) places)
 
   pub adds_more : (more : List JournalEntry) → f.last ≡ None → last_in t g ≡ more → AddsToTrace s f t g more
   adds_more more none last = record {
     entered = grows.entered;
     grown = grows.grown;
     trace = (λ i. woven 0 (grows.grown i) (counted i) ++ last i)
-        ∙ ap (λ xs. xs ++ more) (woven_on 0 s.entries grows.entered f.counted (order_at f.counted s.entries places))
+        ∙ ap (λ xs. xs ++ more) (woven_on 0 s.entries grows.entered f.counted
+        (order_at f.counted s.entries places))
         ∙ ap (λ xs. (xs ++ grows.entered) ++ more)
         (sym (append-nil (woven 0 s.entries f.counted))
         ∙ ap (λ o. woven 0 s.entries f.counted ++ failed_entries (last_step s.net s.node_at o)) (sym none));
@@ -67,7 +73,8 @@ adds_nothing s f g same = record {
 }
 
 -- the same, from another state of the faults by which the trace is the same
-pub adds_from : (s t : WorldState) (f e g : FaultsSight) (more : List JournalEntry) → trace_by s e ≡ trace_by s f
+pub adds_from : (s t : WorldState) (f e g : FaultsSight) (more : List JournalEntry)
+    → trace_by s e ≡ trace_by s f
     → AddsToTrace s e t g more → AddsToTrace s f t g more
 adds_from s t f e g more same adds = record {
   entered = adds.entered;
@@ -152,11 +159,13 @@ module _ (s t : WorldState) (f e g : FaultsSight) (event : Event) (made : Result
     (ok : OnOk made (Applies s event t)) (err : IfErr made (λ x. Stops s event x t))
     (stay : OnOk made (g ≡ e)) (noted : IfErr made (NotedUntil s e event t g)) where
   -- what is added by an event that ended so
-  added : (r : Result (Unit {0}) StepError) → OnOk r (Applies s event t) → OnOk r (g ≡ e) → OnOk r (AddsToTrace s f t g [])
+  added : (r : Result (Unit {0}) StepError) → OnOk r (Applies s event t) → OnOk r (g ≡ e)
+      → OnOk r (AddsToTrace s f t g [])
   added (Err x) ok stay = tt
   added (Ok u) ok stay =
       adds_from s t f e g [] same
-      (adds_more s t e g places (applied_grows s t event ok) (ap (λ (h : FaultsSight). h.counted) stay) [] none
+      (adds_more s t e g places (applied_grows s t event ok)
+      (ap (λ (h : FaultsSight). h.counted) stay) [] none
       (none_last t e g none stay))
 
   shown : (x : StepError) → Stops s event x t → NotedUntil s e event t g x → (x ≡ Device) ⊎ (x ≢ Device)
@@ -173,10 +182,12 @@ module _ (s t : WorldState) (f e g : FaultsSight) (event : Event) (made : Result
       let stay = not_noted s t e g event x works noted in
       adds_until s t f g event x works
       (adds_from s t f e g [] same
-      (adds_more s t e g places (stopped_grows s t event x stops) (ap (λ (h : FaultsSight). h.counted) stay) [] none
+      (adds_more s t e g places (stopped_grows s t event x stops)
+      (ap (λ (h : FaultsSight). h.counted) stay) [] none
       (none_last t e g none stay)))
 
-  until : (r : Result (Unit {0}) StepError) → IfErr r (λ x. Stops s event x t) → IfErr r (NotedUntil s e event t g)
+  until : (r : Result (Unit {0}) StepError) → IfErr r (λ x. Stops s event x t)
+      → IfErr r (NotedUntil s e event t g)
       → IfErr r (AddsUntil s f event t g)
   until (Ok u) err noted = tt
   until (Err x) err noted = shown x err noted (device_or x)
@@ -207,7 +218,8 @@ module _ (s t : WorldState) (f e g : FaultsSight) (event : Event) (made : Result
 -- Lists of events.
 
 -- the next event of a list, after N that were made
-pub until_after : (s mid t : WorldState) (f g h : FaultsSight) (events : List Event) (n : ℕ) (event : Event) (x : StepError)
+pub until_after : (s mid t : WorldState) (f g h : FaultsSight) (events : List Event) (n : ℕ)
+    (event : Event) (x : StepError)
     → slice_get events n ≡ Some event → EventsLead s (take n events) mid → AddsToTrace s f mid g []
     → AddsUntil mid g event t h x → AddsAfter s f events t h n x
 until_after s mid t f g h events n event x next leads first ends = by_error (device_or x)

@@ -52,7 +52,11 @@ wrote_count l ws ls long = by_test (is_any_forced ws) refl
         front = length-append (records_of l.kept) ls
 
         whole : length ((records_of l.kept ++ ls) ++ []) ≡ length (records_of l.kept) + length ls
-        whole = omega (arith, length-append (records_of l.kept ++ ls) [], length-append (records_of l.kept) ls)
+        whole = omega (
+          arith,
+          length-append (records_of l.kept ++ ls) [],
+          length-append (records_of l.kept) ls,
+        )
     by_test false none =
         ap (λ b. count_of (if b
         then record l { kept = record { forced = records_of l.kept ++ ls; unforced = [] }; behind = 0 }
@@ -107,7 +111,8 @@ module _ (old new : CoreState) (i : Input) where
   by_turn (Says ls) e moves does = quiet (sends_only ls) e refl moves.log does
 
 -- an input that was made
-pub made_count : (old new : CoreState) (a : DataAnswer) (i : Input) (r : Reaction) → ProcessMakes old new a i r
+pub made_count : (old new : CoreState) (a : DataAnswer) (i : Input) (r : Reaction)
+    → ProcessMakes old new a i r
     → count_in new ≡ after_written (count_in old) r.written
 made_count old new a i r makes =
     by_turn old new i (turn_of old a makes.found i) makes.effect makes.moves makes.does
@@ -128,7 +133,8 @@ restarted_count old new keep r restarts =
         ∙ sym (length-map (forced_all (reopened old keep)) logged_of ∙ length-map (reopened old keep) _)
 
     front : length (restarted_log old keep)
-        ≡ ((count_in old).forced + records_kept old keep) + length (map logged_of (forced_all (reopened old keep)))
+        ≡ ((count_in old).forced + records_kept old keep)
+        + length (map logged_of (forced_all (reopened old keep)))
     front = omega (
       arith,
       length-append (left_by old.log keep) (logged old (reopened old keep)),
@@ -137,11 +143,13 @@ restarted_count old new keep r restarts =
     )
 
     whole : length (restarted_log old keep ++ [])
-        ≡ ((count_in old).forced + records_kept old keep) + length (map logged_of (forced_all (reopened old keep)))
+        ≡ ((count_in old).forced + records_kept old keep)
+        + length (map logged_of (forced_all (reopened old keep)))
     whole = ap (λ (xs : List LogRecord). length xs) (append-nil (restarted_log old keep)) ∙ front
 
 -- a trim
-pub trimmed_count : (old new : CoreState) (remain : ℕ) → ProcessTrims old new remain → count_in new ≡ all_forced remain
+pub trimmed_count : (old new : CoreState) (remain : ℕ) → ProcessTrims old new remain
+    → count_in new ≡ all_forced remain
 trimmed_count old new remain trims =
     ap count_of trims.log
     ∙ (λ j. record { records = whole j; forced = sym trims.counts j })
@@ -155,11 +163,13 @@ all_within : (s : CoreState) (keep : ℕ) → left_by s.log keep ≡ records_of 
     → records_kept s keep ≡ length s.log.kept.unforced
 all_within s keep all = ap (λ (xs : List LogRecord). length xs) (append_cancel_left s.log.kept.forced _ _ all)
 
-pub kept_alike : (s : CoreState) (bytes : Option ℕ) (one other : ℕ) → KeepsBytes s bytes one → KeepsBytes s bytes other
+pub kept_alike : (s : CoreState) (bytes : Option ℕ) (one other : ℕ) → KeepsBytes s bytes one
+    → KeepsBytes s bytes other
     → records_kept s one ≡ records_kept s other
 kept_alike s (Some n) one other is so = ap (records_kept s) (is ∙ sym so)
 kept_alike s None one other is so = all_within s one is ∙ sym (all_within s other so)
 
 -- N records are left
-pub left_count : (s : CoreState) (keep : ℕ) → length (left_by s.log keep) ≡ (count_in s).forced + records_kept s keep
+pub left_count : (s : CoreState) (keep : ℕ) → length (left_by s.log keep)
+    ≡ (count_in s).forced + records_kept s keep
 left_count s keep = length-append s.log.kept.forced (whole_within (s.log.behind + keep) s.log.kept.unforced)

@@ -32,7 +32,8 @@ pub applied_grows : (s t : WorldState) (event : Event) → Applies s event t →
 applied_grows s t event made =
     let a = applies_again s t [] event made in record { entered = a.entered; grown = a.grown }
 
-acted : (s t : WorldState) (q : ProcessId) (a : Act) (e : StepError) → NotActed s t q a e → t.entries ≡ s.entries
+acted : (s t : WorldState) (q : ProcessId) (a : Act) (e : StepError) → NotActed s t q a e
+    → t.entries ≡ s.entries
 acted s t q a Memory h = h.entries
 acted s t q a Device h = h.entries
 acted s t q a UnknownTxn h = h.0.entries
@@ -60,7 +61,8 @@ delivered s t k Failed h = h.0.entries
 delivered s t k NoSuch h = h.0.entries
 delivered s t k Exhausted h = h.0.entries
 
-restarted : (s t : WorldState) (q : ProcessId) (bytes : Option ℕ) (e : StepError) → NotRestartedAt s t q bytes e
+restarted : (s t : WorldState) (q : ProcessId) (bytes : Option ℕ) (e : StepError)
+    → NotRestartedAt s t q bytes e
     → t.entries ≡ s.entries
 restarted s t q bytes Memory h = h.entries
 restarted s t q bytes Device h = h.entries
@@ -85,7 +87,8 @@ trimmed s t q Failed h = h.0.entries
 trimmed s t q NoSuch h = h.0.entries
 trimmed s t q Exhausted h = absurd h
 
-none_delivered : (s t : WorldState) (e : StepError) (o : Option ℕ) → NoneDelivered s t e o → t.entries ≡ s.entries
+none_delivered : (s t : WorldState) (e : StepError) (o : Option ℕ) → NoneDelivered s t e o
+    → t.entries ≡ s.entries
 none_delivered s t e None h = h.1.entries
 none_delivered s t e (Some k) h = delivered s t k e h
 

@@ -20,7 +20,8 @@ use Rattle.tree_faults.proofs.Adding.{device_or}
 module _ (s t : WorldState) (f g : FaultsSight) where
   -- what the law says of a trace that was added to so
   goes_so : (more : List JournalEntry) → AddsToTrace s f t g more
-      → ((es : List Made) (w : World) → Follows es w (with_trace s (trace_by s f)) → TraceGoesOn es w s (trace_by s f) t more)
+      → ((es : List Made) (w : World) → Follows es w (with_trace s (trace_by s f))
+      → TraceGoesOn es w s (trace_by s f) t more)
       → TraceGoesOnFrom s (trace_by s f) t (trace_by t g)
   goes_so more adds law es w follows =
       let on = law es w follows in
@@ -85,9 +86,11 @@ module _ (s t : WorldState) (f g : FaultsSight) where
         (λ es w follows. led_until s t events n x es w (trace_by s f) is_tree works follows leads)
 
     -- after a list of events
-    pub ran_traced : (events : List Event) (made : Result (Unit {0}) (ℕ × StepError)) → OnOk made (EventsLead s events t)
+    pub ran_traced : (events : List Event) (made : Result (Unit {0}) (ℕ × StepError))
+        → OnOk made (EventsLead s events t)
         → IfErr made (λ r. LeadsUntil s events r.0 r.1 t) → OnOk made (AddsToTrace s f t g [])
-        → IfErr made (λ r. AddsAfter s f events t g r.0 r.1) → TraceGoesOnFrom s (trace_by s f) t (trace_by t g)
+        → IfErr made (λ r. AddsAfter s f events t g r.0 r.1)
+        → TraceGoesOnFrom s (trace_by s f) t (trace_by t g)
     ran_traced events (Ok u) ok err adds until =
         goes_so [] adds (λ es w follows. led s t events es w (trace_by s f) is_tree follows ok)
     ran_traced events (Err r) ok err adds until = after_error events r.0 r.1 err until (device_or r.1)
@@ -112,6 +115,7 @@ pub kept_opened : (tree : List TreeProcess) (s : WorldState) → IsOpenedTree s 
     → KeepsTrace false s (trace_by s (record { counted = []; last = None }))
 kept_opened tree s is = subst (TraceIsRun s) (sym (no_trace s is.entries)) (opened_traced tree s is)
 
-pub trace_run : (b : Bool) (s : WorldState) (trace : List JournalEntry) → KeepsTrace b s trace → b ≡ false → TraceIsRun s trace
+pub trace_run : (b : Bool) (s : WorldState) (trace : List JournalEntry) → KeepsTrace b s trace → b ≡ false
+    → TraceIsRun s trace
 trace_run false s trace keeps is = keeps
 trace_run true s trace keeps is = absurd (cc)

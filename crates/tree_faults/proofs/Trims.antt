@@ -39,7 +39,8 @@ kept_by j k all front = λ i. record { forced = same_front i; unforced = same_ba
         ∙ drop-append_seam k.forced k.unforced
 
 module _ (old new : CoreState) (text : List ℕ) (bytes : AreBytes (drop 5 text))
-    (spells : ReadsAs (form_of old.place) text (records_of old.log.kept) old.log.failed) (works : old.log.failed ≡ false)
+    (spells : ReadsAs (form_of old.place) text (records_of old.log.kept) old.log.failed)
+    (works : old.log.failed ≡ false)
     (place : new.place ≡ old.place) (sound : KeepsSoundLog new) where
   abbrev f : LogForm
   f = form_of old.place
@@ -55,7 +56,8 @@ module _ (old new : CoreState) (text : List ℕ) (bytes : AreBytes (drop 5 text)
 
   -- where the log is as it was, so are its bytes
   stays : new.log.kept ≡ old.log.kept → text ≡ log_bytes new
-  stays same = text_is ∙ ap (λ (k : Kept). header Second ++ records_text f (records_of k)) (sym same) ∙ sym now_is
+  stays same = text_is ∙ ap (λ (k : Kept). header Second ++ records_text f (records_of k)) (sym same)
+      ∙ sym now_is
 
   -- and where its bytes are, so are its records
   alike : text ≡ log_bytes new → records_of new.log.kept ≡ records_of old.log.kept
@@ -66,8 +68,10 @@ module _ (old new : CoreState) (text : List ℕ) (bytes : AreBytes (drop 5 text)
       ∙ spells.read
 
   -- so it is told which log stands
-  pub trim_leaves : TrimBreaks old new → TrimLeaves old new (trim_left text (log_bytes new) (count_in old) (count_in new))
-  trim_leaves breaks = by_tests (bytes_eq text (log_bytes new)) (nat_eq (length old.log.kept.forced) (length new.log.kept.forced))
+  pub trim_leaves : TrimBreaks old new → TrimLeaves old new
+      (trim_left text (log_bytes new) (count_in old) (count_in new))
+  trim_leaves breaks = by_tests (bytes_eq text (log_bytes new))
+      (nat_eq (length old.log.kept.forced) (length new.log.kept.forced))
       refl refl
     where
       left : Bool → Bool → ℕ
@@ -76,16 +80,19 @@ module _ (old new : CoreState) (text : List ℕ) (bytes : AreBytes (drop 5 text)
       other : (new.log.kept ≡ old.log.kept → ⊥) → TrimLeaves old new 1
       other apart = by_cases breaks.either
         where
-          by_cases : (new.log.kept ≡ old.log.kept) ⊎ (new.log.kept ≡ record { forced = trimmed_log old; unforced = [] })
+          by_cases : (new.log.kept ≡ old.log.kept)
+              ⊎ (new.log.kept ≡ record { forced = trimmed_log old; unforced = [] })
               → TrimLeaves old new 1
           by_cases (inl same) = absurd (apart same)
           by_cases (inr trimmed) = (trimmed, apart)
 
       by_tests : (b c : Bool) → bytes_eq text (log_bytes new) ≡ b
-          → nat_eq (length old.log.kept.forced) (length new.log.kept.forced) ≡ c → TrimLeaves old new (left b c)
+          → nat_eq (length old.log.kept.forced) (length new.log.kept.forced) ≡ c
+          → TrimLeaves old new (left b c)
       by_tests true true same front =
           kept_by new.log.kept old.log.kept (alike (search rules)) (search rules)
       by_tests true false same front = other (λ is.
-          let forced : length old.log.kept.forced ≡ length new.log.kept.forced = ap (λ (k : Kept). length k.forced) (sym is) in
+          let forced : length old.log.kept.forced ≡ length new.log.kept.forced =
+          ap (λ (k : Kept). length k.forced) (sym is) in
           absurd (search rules))
       by_tests false c same front = other (λ is. let all = stays is in absurd (search rules))

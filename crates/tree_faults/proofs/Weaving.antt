@@ -49,14 +49,16 @@ woven_on k es more [] order = refl
 woven_on k es more (f ∷ fs) order =
     let cut = f.made - k in
     let front : take cut (es ++ more) ≡ take cut es = take-append-le cut es more (within k es f fs order) in
-    let back : drop cut (es ++ more) ≡ drop cut es ++ more = drop-append-le cut es more (within k es f fs order) in
+    let back : drop cut (es ++ more) ≡ drop cut es ++ more =
+    drop-append-le cut es more (within k es f fs order) in
     (λ i. front i ++ failed_entry f.step ∷ woven f.made (back i) fs)
     ∙ ap (λ t. take cut es ++ failed_entry f.step ∷ t)
     (woven_on f.made (drop cut es) more fs (rest_order k es f fs order))
     ∙ sym (append_assoc (take cut es) (failed_entry f.step ∷ woven f.made (drop cut es) fs) more)
 
 -- A trace with one fault more, after all steps.
-pub woven_more : (k : ℕ) (es : List JournalEntry) (fs : List FailedStep) (step : Option Step) → AreInOrder k fs (k + length es)
+pub woven_more : (k : ℕ) (es : List JournalEntry) (fs : List FailedStep) (step : Option Step)
+    → AreInOrder k fs (k + length es)
     → woven k es (fs ++ placed_in (k + length es) step) ≡ woven k es fs ++ failed_entries step
 unfolding woven
 woven_more k es fs None order = ap (woven k es) (append-nil fs) ∙ sym (append-nil (woven k es fs))
@@ -72,23 +74,29 @@ woven_more k es (f ∷ fs) (Some step) order =
     let cut = f.made - k in
     let end : k + length es ≡ f.made + length (drop cut es) =
     omega (arith, length-drop cut es, order.0, reaches f.made fs (k + length es) order.1) in
-    ap (λ n. take cut es ++ failed_entry f.step ∷ woven f.made (drop cut es) (fs ++ placed_in n (Some step))) end
+    ap (λ n. take cut es ++ failed_entry f.step ∷ woven f.made (drop cut es) (fs ++ placed_in n (Some step)))
+    end
     ∙ ap (λ t. take cut es ++ failed_entry f.step ∷ t)
     (woven_more f.made (drop cut es) fs (Some step) (rest_order k es f fs order))
-    ∙ sym (append_assoc (take cut es) (failed_entry f.step ∷ woven f.made (drop cut es) fs) (failed_entry step ∷ []))
+    ∙ sym (append_assoc (take cut es) (failed_entry f.step ∷ woven f.made (drop cut es) fs)
+    (failed_entry step ∷ []))
 
 -- How far a trace is told.
 
 -- the steps before a fault, and it, are told
-pub told_to : (k : ℕ) (es : List JournalEntry) (f : FailedStep) (fs : List FailedStep) (told whole : List JournalEntry)
+pub told_to : (k : ℕ) (es : List JournalEntry) (f : FailedStep) (fs : List FailedStep)
+    (told whole : List JournalEntry)
     → k ≤ f.made → told ++ woven k (drop k es) (f ∷ fs) ≡ whole
     → ((told ++ take (f.made - k) (drop k es)) ++ failed_entry f.step ∷ [])
     ++ woven f.made (drop f.made es) fs ≡ whole
 unfolding woven
 told_to k es f fs told whole le is =
-    append_assoc (told ++ take (f.made - k) (drop k es)) (failed_entry f.step ∷ []) (woven f.made (drop f.made es) fs)
-    ∙ append_assoc told (take (f.made - k) (drop k es)) (failed_entry f.step ∷ woven f.made (drop f.made es) fs)
-    ∙ ap (λ xs. told ++ (take (f.made - k) (drop k es) ++ failed_entry f.step ∷ woven f.made xs fs)) (sym behind)
+    append_assoc (told ++ take (f.made - k) (drop k es)) (failed_entry f.step ∷ [])
+    (woven f.made (drop f.made es) fs)
+    ∙ append_assoc told (take (f.made - k) (drop k es))
+    (failed_entry f.step ∷ woven f.made (drop f.made es) fs)
+    ∙ ap (λ xs. told ++ (take (f.made - k) (drop k es) ++ failed_entry f.step ∷ woven f.made xs fs))
+    (sym behind)
     ∙ is
   where
     behind : drop (f.made - k) (drop k es) ≡ drop f.made es
@@ -106,7 +114,8 @@ told_all k es told whole is =
 
 -- one step more is told
 
-taken : (es : List JournalEntry) (n : ℕ) (e : JournalEntry) → slice_get es n ≡ Some e → take (suc n) es ≡ take n es ++ e ∷ []
+taken : (es : List JournalEntry) (n : ℕ) (e : JournalEntry) → slice_get es n ≡ Some e
+    → take (suc n) es ≡ take n es ++ e ∷ []
 taken [] n e is = absurd (cc)
 taken (x ∷ es) zero e is = let same : x ≡ e = search rules in ap (λ y. y ∷ []) same
 taken (x ∷ es) (suc n) e is = ap (λ t. x ∷ t) (taken es n e is)
@@ -117,17 +126,20 @@ dropped [] (suc start) n = refl
 dropped (x ∷ es) (suc start) n =
     dropped es start n ∙ ap (slice_get (x ∷ es)) (let e : suc (start + n) ≡ suc start + n = omega arith in e)
 
-pub told_more : (es : List JournalEntry) (start place : ℕ) (e : JournalEntry) → start ≤ place → slice_get es place ≡ Some e
+pub told_more : (es : List JournalEntry) (start place : ℕ) (e : JournalEntry) → start ≤ place
+    → slice_get es place ≡ Some e
     → take (place - start) (drop start es) ++ e ∷ [] ≡ take ((place + 1) - start) (drop start es)
 told_more es start place e le is =
     let at : start + (place - start) ≡ place = omega (arith, le) in
     let next : suc (place - start) ≡ (place + 1) - start = omega (arith, le) in
-    sym (taken (drop start es) (place - start) e (dropped es start (place - start) ∙ ap (slice_get es) at ∙ is))
+    sym (taken (drop start es) (place - start) e
+    (dropped es start (place - start) ∙ ap (slice_get es) at ∙ is))
     ∙ ap (λ n. take n (drop start es)) next
 
 -- the next fault
 
-cut_at : (fs : List FailedStep) (i : ℕ) (f : FailedStep) → slice_get fs i ≡ Some f → drop i fs ≡ f ∷ drop (suc i) fs
+cut_at : (fs : List FailedStep) (i : ℕ) (f : FailedStep) → slice_get fs i ≡ Some f
+    → drop i fs ≡ f ∷ drop (suc i) fs
 cut_at [] i f is = absurd (cc)
 cut_at (g ∷ fs) zero f is = let same : g ≡ f = search rules in ap (λ y. y ∷ fs) same
 cut_at (g ∷ fs) (suc i) f is = cut_at fs i f is

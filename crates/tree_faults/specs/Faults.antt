@@ -38,7 +38,8 @@ placed_in n (Some step) = record { made = n; step = step } ∷ []
 abbrev pub failed_entry : Step → JournalEntry
 failed_entry step = record { step = step; reaction = reaction_of no_effect }
 
--- the entries of these steps, the first of which is the one after N, with each fault after those that were made before it
+-- the entries of these steps, the first of which is the one after N, with each fault after those that were
+-- made before it
 unfoldable pub woven : ℕ → List JournalEntry → List FailedStep → List JournalEntry
 woven n es [] = es
 woven n es (f ∷ fs) =

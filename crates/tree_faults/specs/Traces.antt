@@ -24,14 +24,16 @@ abbrev pub AreInPlace : WorldState → FaultsSight → Type 0
 AreInPlace s f = AreInOrder 0 f.counted (length s.entries)
 
 -- what was entered and these steps after it are added to the trace
-pub record AddsToTrace (old : WorldState) (f : FaultsSight) (new : WorldState) (g : FaultsSight) (more : List JournalEntry)
+pub record AddsToTrace (old : WorldState) (f : FaultsSight) (new : WorldState) (g : FaultsSight)
+    (more : List JournalEntry)
     : Type 0 where
   pub entered : List JournalEntry
   pub grown : new.entries ≡ old.entries ++ entered
   pub trace : trace_by new g ≡ (trace_by old f ++ entered) ++ more
 
 -- where the device failed in an event, the entry of that step is in the trace after what was entered
-pub record ShowsFault (old : WorldState) (f : FaultsSight) (event : Event) (new : WorldState) (g : FaultsSight)
+pub record ShowsFault (old : WorldState) (f : FaultsSight) (event : Event) (new : WorldState)
+    (g : FaultsSight)
     : Type 0 where
   pub entry : JournalEntry
   pub fails : FailsAt old event new entry
@@ -43,21 +45,24 @@ AddsUntil old f event new g Device = ShowsFault old f event new g
 AddsUntil old f event new g _ = AddsToTrace old f new g []
 
 -- the same of a list of events, N of which were made
-pub record ShowsFaultAfter (old : WorldState) (f : FaultsSight) (events : List Event) (n : ℕ) (new : WorldState)
+pub record ShowsFaultAfter (old : WorldState) (f : FaultsSight) (events : List Event) (n : ℕ)
+    (new : WorldState)
     (g : FaultsSight) : Type 0 where
   pub entry : JournalEntry
   pub fails : FailsAfter old events n new entry
   pub adds : AddsToTrace old f new g (entry ∷ [])
 
 -- what is added where the event after N that were made was not made
-abbrev pub AddsAfter : WorldState → FaultsSight → List Event → WorldState → FaultsSight → ℕ → StepError → Type 0
+abbrev pub AddsAfter : WorldState → FaultsSight → List Event → WorldState → FaultsSight → ℕ → StepError
+    → Type 0
 AddsAfter old f events new g n Device = ShowsFaultAfter old f events n new g
 AddsAfter old f events new g n _ = AddsToTrace old f new g []
 
 -- What is noted of a fault, before what it left is counted.
 
 -- the device failed in an event, and the fault is noted
-pub record NotesFault (old : WorldState) (f : FaultsSight) (event : Event) (new : WorldState) (g : FaultsSight)
+pub record NotesFault (old : WorldState) (f : FaultsSight) (event : Event) (new : WorldState)
+    (g : FaultsSight)
     : Type 0 where
   pub counted : g.counted ≡ f.counted
   pub entry : JournalEntry

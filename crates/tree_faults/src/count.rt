@@ -39,8 +39,8 @@ impl Count {
         Some(Count { records, forced })
     }
 
-    /// That of the log once a restart has kept N records after the forced ones and written these; None if the number is
-    /// 2^64 or more.
+    /// That of the log once a restart has kept N records after the forced ones and written these; None if the
+    /// number is 2^64 or more.
     pub fn after_restart(self, kept: u64, written: &[ShownRecord]) -> Option<Count>
         ensures some { IfSome result (λ count. count ≡ all_forced (self.forced + kept + length written.now)) }
         ensures none { IfNone result (2 ^ 64 ≤ self.forced + kept + length written.now) }
@@ -71,7 +71,8 @@ impl Count {
         }
     }
 
-    /// What a failed trim left of a log whose bytes were these before, where those are of the records that it has now.
+    /// What a failed trim left of a log whose bytes were these before, where those are of the records that it
+    /// has now.
     pub fn left_by_trim(self, before: &[u8], bytes: &[u8], now: Count) -> Fault
         ensures { result ≡ trim_fault (trim_left before.now bytes.now self now) }
     {

@@ -81,7 +81,8 @@ finds_entry_of (Some h) i p q f g e is =
 
 finds_entry : (ps qs : Parts) → Grows ps qs → (y : PlacedStep) → Finds (entry_in ps y) (entry_in qs y)
 finds_entry ps qs g y =
-    finds_entry_of (happening_in ps y.cause) _ (option_map (λ r. (process_of y.cause, r)) (reaction_in ps y)) _
+    finds_entry_of (happening_in ps y.cause) _
+    (option_map (λ r. (process_of y.cause, r)) (reaction_in ps y)) _
     (finds_happening ps qs g y.cause)
     (finds_mapped (λ r. (process_of y.cause, r)) (reaction_in ps y) (reaction_in qs y)
     (finds_reaction ps qs g y))
@@ -171,7 +172,8 @@ pub begun : (ps : Parts) (xs : List PlacedStep) (q : ProcessId) (h : Happening) 
     ≡ entries_of ps xs None ++ step_entry q h r ∷ [])
     × IsWhole (parts_begun ps h r) xs (Some (last_step ps q h r))
 begun ps xs q h r w sent =
-    let steps : map (entry_in ps) xs ≡ map Some w.entries = sym (append-nil (map (entry_in ps) xs)) ∙ w.read in
+    let steps : map (entry_in ps) xs ≡ map Some w.entries = sym (append-nil (map (entry_in ps) xs)) ∙ w.read
+    in
     let whole : IsWhole (parts_begun ps h r) xs (Some (last_step ps q h r)) = record {
       entries = w.entries ++ step_entry q h r ∷ [];
       read = ap (λ o. map (entry_in (parts_begun ps h r)) xs ++ o ∷ []) (begun_entry ps q h r sent)
@@ -232,7 +234,8 @@ placed_entry ps l e is =
     (finds_happening ps (parts_placed ps l) (placed_grows ps l) l.cause) (λ p h. h) e is)
 
 -- what is read of the steps, and of the last one
-split_last : (os : List (Option JournalEntry)) (o : Option JournalEntry) (es : List JournalEntry) → os ++ o ∷ [] ≡ map Some es
+split_last : (os : List (Option JournalEntry)) (o : Option JournalEntry) (es : List JournalEntry)
+    → os ++ o ∷ [] ≡ map Some es
     → (fs : List JournalEntry) × (f : JournalEntry) × (os ≡ map Some fs) × (o ≡ Some f) × (es ≡ fs ++ f ∷ [])
 split_last [] o [] is = absurd (cc)
 split_last [] o (e ∷ []) is = let same : o ≡ Some e = cc in ([], e, refl, same, refl)
@@ -280,7 +283,8 @@ placed_last ps xs (Some l) y is w = let same : l ≡ y = cc in rw (sym same) (pl
 
 -- The entry at a place.
 
-read_length : (os : List (Option JournalEntry)) (es : List JournalEntry) → os ≡ map Some es → length es ≡ length os
+read_length : (os : List (Option JournalEntry)) (es : List JournalEntry) → os ≡ map Some es
+    → length es ≡ length os
 read_length os [] is = rw is refl
 read_length os (e ∷ es) is = rw is (ap (λ n. suc n) (read_length (map Some es) es refl))
 
@@ -303,11 +307,13 @@ pub as_many_last : (ps : Parts) (xs : List PlacedStep) (l : Option LastStep) (y 
 as_many_last ps xs None y w is = absurd (cc)
 as_many_last ps xs (Some l) y w is = omega (arith, as_many ps xs (Some l) w)
 
-read_at : (os : List (Option JournalEntry)) (es : List JournalEntry) (k : ℕ) (o : Option JournalEntry) → os ≡ map Some es
+read_at : (os : List (Option JournalEntry)) (es : List JournalEntry) (k : ℕ) (o : Option JournalEntry)
+    → os ≡ map Some es
     → slice_get os k ≡ Some o → o ≡ slice_get es k
 read_at [] es k o read is = absurd (cc)
 read_at (p ∷ os) [] k o read is = absurd (cc)
-read_at (p ∷ os) (e ∷ es) zero o read is = let first : p ≡ Some e = cc in let same : p ≡ o = cc in sym same ∙ first
+read_at (p ∷ os) (e ∷ es) zero o read is =
+    let first : p ≡ Some e = cc in let same : p ≡ o = cc in sym same ∙ first
 read_at (p ∷ os) (e ∷ es) (suc k) o read is =
     let others : os ≡ map Some es = cc in read_at os es k o others is
 
@@ -321,7 +327,8 @@ step_at (y ∷ xs) ps os (suc k) x is = step_at xs ps os k x is
 pub entry_found : (ps : Parts) (xs : List PlacedStep) (l : Option LastStep) (k : ℕ) (x : PlacedStep)
     → IsWhole ps xs l → slice_get xs k ≡ Some x → entry_in ps x ≡ slice_get (entries_of ps xs l) k
 entry_found ps xs l k x w is =
-    read_at (all_entries ps xs l) w.entries k (entry_in ps x) w.read (step_at xs ps (last_entries ps l) k x is)
+    read_at (all_entries ps xs l) w.entries k (entry_in ps x) w.read
+    (step_at xs ps (last_entries ps l) k x is)
     ∙ ap (λ es. slice_get es k) (sym (entries_are ps xs l w))
 
 last_at : (xs : List PlacedStep) (ps : Parts) (o : Option JournalEntry)
@@ -354,12 +361,14 @@ entry_past_last ps xs l y k w is past other =
 -- What a step shows.
 
 part_of_entry : (h : Option Happening) (p : Option (ProcessId × Reaction))
-    (o : Option JournalEntry) (e : JournalEntry) → entry_of_part h p ≡ o → o ≡ Some e → p ≡ option_map entry_part o
+    (o : Option JournalEntry) (e : JournalEntry) → entry_of_part h p ≡ o → o ≡ Some e
+    → p ≡ option_map entry_part o
 part_of_entry None p o e is some = absurd (cc)
 part_of_entry (Some h) None o e is some = absurd (cc)
 part_of_entry (Some h) (Some p) o e is some = ap (option_map entry_part) is
 
-read_some : (os : List (Option JournalEntry)) (es : List JournalEntry) (k : ℕ) (o : Option JournalEntry) → os ≡ map Some es
+read_some : (os : List (Option JournalEntry)) (es : List JournalEntry) (k : ℕ) (o : Option JournalEntry)
+    → os ≡ map Some es
     → slice_get os k ≡ Some o → (e : JournalEntry) × (o ≡ Some e)
 read_some [] es k o read is = absurd (cc)
 read_some (p ∷ os) [] k o read is = absurd (cc)

@@ -9,8 +9,8 @@ use Rattle.protocol_words.specs.Variants.{ActInput, MessageInput}
 use Rattle.tree_state.specs.Worlds.{entry_at, marks, undelivered}
 use Rattle.tree_journal.specs.Kept.{HasStepRoom, Room}
 
--- Every message ever sent, with the mark whether it was delivered, and every step that was made; the room for a
--- step more, and how many messages have a mark of their own.
+-- Every message ever sent, with the mark whether it was delivered, and every step that was made; the room for
+-- a step more, and how many messages have a mark of their own.
 pub record JournalState : Type 0 where
   pub net : List Envelope
   pub delivered : List Bool

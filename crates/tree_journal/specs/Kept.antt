@@ -38,15 +38,15 @@ abbrev pub waiting_in : Option LastStep → List Envelope
 waiting_in None = []
 waiting_in (Some l) = l.messages
 
--- what says whether a step can be entered without a growth: whether the last step is placed, and how many acts
--- and asides more there is room for
+-- what says whether a step can be entered without a growth: whether the last step is placed, and how many
+-- acts and asides more there is room for
 pub record Room : Type 0 where
   pub is_placed : Bool
   pub acts : ℕ
   pub asides : ℕ
 
--- The messages that are placed, those of the last step that are not, and the entries of all steps; the room for
--- a step more.
+-- The messages that are placed, those of the last step that are not, and the entries of all steps; the room
+-- for a step more.
 pub record StepsState : Type 0 where
   pub sent : List Envelope
   pub waiting : List Envelope

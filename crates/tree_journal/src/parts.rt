@@ -217,7 +217,8 @@ impl Parts {
         }
     }
 
-    /// Keeps the records and the messages of the last step, for which there is room: what is kept of the step.
+    /// Keeps the records and the messages of the last step, for which there is room: what is kept of the
+    /// step.
     pub(crate) fn place(&mut self, last: LastStep) -> ShortStep
         requires { CanPlace self.old last }
         ensures step { result ≡ short_step (parts_of self.old) last }

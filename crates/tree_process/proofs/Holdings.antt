@@ -172,7 +172,8 @@ nothing_kept (Err e) = λ _. rests no_data
 pub manager_restarts : (s t : SubState) (keep : ℕ) (r : Result Reaction StepError)
     → OnOk r (LeavesPromises s keep t)
     → OnOk r (HoldsPromises (left_by s.manager.log keep) (manager_data t.manager))
-manager_restarts s t keep (Ok r) leaves = record { writes = leaves.writes; held = leaves.held; known = leaves.known }
+manager_restarts s t keep (Ok r) leaves =
+    record { writes = leaves.writes; held = leaves.held; known = leaves.known }
 manager_restarts s t keep (Err e) leaves = tt
 
 pub manager_trims : (s t : SubState) (r : Result ℕ StepError) → OnOk r (KeepsManager s.manager t.manager)
@@ -187,13 +188,15 @@ manager_kept s t (Ok a) keeps = tt
 manager_kept s t (Err e) keeps = kept_by s t e keeps
 
 pub no_restart_so : (s t : CoreState) (d f : ManagerData) (keep : ℕ) (bytes : Option ℕ) (e : StepError)
-    → KeepsBytes s bytes keep → ProcessNotRestarted s keep t e → KeepsDataUnlessFailed d f e → NoRestart s t d f bytes e
+    → KeepsBytes s bytes keep → ProcessNotRestarted s keep t e → KeepsDataUnlessFailed d f e
+    → NoRestart s t d f bytes e
 no_restart_so s t d f keep bytes Memory k h keeps = (h, keeps (λ is. absurd cc))
 no_restart_so s t d f keep bytes Device k h keeps = record { keep = keep; keeps = k; broken = h }
 no_restart_so s t d f keep bytes Exhausted k h keeps = (h.0, keeps (λ is. absurd cc), (keep, k, h.1))
 no_restart_so s t d f keep bytes _ k h keeps = absurd h
 
-pub no_trim_so : (s t : CoreState) (d f : ManagerData) (e : StepError) → s.log.failed ≡ false → KeepsSoundLog s
+pub no_trim_so : (s t : CoreState) (d f : ManagerData) (e : StepError) → s.log.failed ≡ false
+    → KeepsSoundLog s
     → ProcessNotTrimmed s t e → KeepsDataUnlessFailed d f e → NoTrim s t d f e
 no_trim_so s t d f Memory works sound h keeps = (h, keeps (λ is. absurd cc))
 no_trim_so s t d f Device works sound h keeps = record { works = works; sound = sound; broken = h }

@@ -53,7 +53,8 @@ log_refused bytes forced failures k p old new logs.OldFormat empty h =
     absurd (empty_is_new (bytes old) empty h.1)
 
 -- the store that is handed back with that
-pub log_handed_back : {S : Type 0} (bytes : S → List ℕ) (forced failures : S → ℕ) (k : LogForm) (p : ProcessId)
+pub log_handed_back : {S : Type 0} (bytes : S → List ℕ) (forced failures : S → ℕ)
+    (k : LogForm) (p : ProcessId)
     (old new : S) (e : LogOpenError) → bytes old ≡ []
     → LogNotOpened bytes forced failures k old new e
     → HandsStoreBack failures old new (error_of_log p e)
@@ -83,7 +84,8 @@ pub coordinator_handed_back : {S : Type 0} (failures : S → ℕ) (p : ProcessId
     → HandsStoreBack failures old new (error_of_step p e)
 coordinator_handed_back failures p old new opened left step_error.Memory at to h =
     sym to ∙ ap (λ (s : LogSight). s.failures) h ∙ at
-coordinator_handed_back failures p old new opened left step_error.Device at to h = omega (arith, at, to, h.cause)
+coordinator_handed_back failures p old new opened left step_error.Device at to h =
+    omega (arith, at, to, h.cause)
 coordinator_handed_back failures p old new opened left e at to h = absurd h
 
 -- Managers.
@@ -152,7 +154,8 @@ records_refused : {S : Type 0} (bytes : S → List ℕ) (forced failures : S →
 records_refused bytes forced failures p old new restarts.Memory empty h = tt
 records_refused bytes forced failures p old new restarts.Device empty h =
     let to : h.left_as.sight.failures ≡ failures new = ap (λ (s : LogSight). s.failures) h.holds in
-    let more : MoreFailures (failures old) (failures new) = omega (arith, h.opens.failures_stay, to, h.why.2.cause) in
+    let more : MoreFailures (failures old) (failures new) =
+    omega (arith, h.opens.failures_stay, to, h.why.2.cause) in
     (refl, record { empty = empty; left = new; more = more })
 records_refused bytes forced failures p old new restarts.Unfit empty h =
     absurd (never_unfit (as_none bytes forced failures p old new restarts.Unfit empty h h.why.0))

@@ -50,7 +50,8 @@ before log s = record {
   boot = s.boot;
 }
 
-pub all_left : (form : LogForm) (ls : List LogRecord) (failures : ℕ) → left_by (forced_sight form ls failures) 0 ≡ ls
+pub all_left : (form : LogForm) (ls : List LogRecord) (failures : ℕ)
+    → left_by (forced_sight form ls failures) 0 ≡ ls
 unfolding whole_within
 all_left form ls failures = append-nil ls
 
@@ -81,7 +82,8 @@ over_restarted log s h = record {
   restarts = starts_over log s h;
 }
 
-module _ (me parent : ProcessId) (tree : List TreeProcess) (bytes : List ℕ) (forced failures : ℕ) (s : KvSight)
+module _ (me parent : ProcessId) (tree : List TreeProcess) (bytes : List ℕ)
+    (forced failures : ℕ) (s : KvSight)
     (core : CoreState) (m : ManagerSight) (reaction : Reaction)
     (r : RestoredFrom me bytes forced failures s)
     (restarts : (old : ManagerSight) (all : ℕ) → RestartsManager old (sight_of s) all
@@ -99,7 +101,8 @@ module _ (me parent : ProcessId) (tree : List TreeProcess) (bytes : List ℕ) (f
   left = all_left r.log.sight.form ls r.log.sight.failures
 
   -- it is the restart of whatever manager left those records
-  pub manager_left : Reopens (log_form me Manager) (record { me = me; role = AtLeaf parent; tree = tree }) bytes forced failures
+  pub manager_left : Reopens (log_form me Manager) (record { me = me; role = AtLeaf parent; tree = tree })
+      bytes forced failures
       core (manager_data m) reaction
   manager_left =
       let p : PromisesLeft ls m = subst (λ (rs : List LogRecord). PromisesLeft rs m) left
@@ -131,7 +134,8 @@ pub coordinator_left : (me : ProcessId) (parent : Option ProcessId) (tree : List
     → ((old : CoreState) → LeftSo old (record { me = me; role = role_below parent; tree = tree })
     log.sight.failures
     → (keep : ℕ) → left_by old.log keep ≡ records_of log.sight.kept → ProcessRestarts old keep core reaction)
-    → Reopens (log_form me Coordinator) (record { me = me; role = role_by Coordinator parent; tree = tree }) bytes forced
+    → Reopens (log_form me Coordinator) (record { me = me; role = role_by Coordinator parent; tree = tree })
+    bytes forced
     failures core no_data reaction
 coordinator_left me parent tree bytes forced failures log core reaction opens restarts = record {
   log = log;
@@ -156,9 +160,11 @@ log_fails bytes forced failures k old new logs.Device h = record { left = new; m
 log_fails bytes forced failures k old new (logs.Damaged place) h = h.2
 log_fails bytes forced failures k old new logs.OldFormat h = h.1
 
-pub coordinator_fails : {S : Type 0} (bytes : S → List ℕ) (forced failures : S → ℕ) (place : Place) (old new : S)
+pub coordinator_fails : {S : Type 0} (bytes : S → List ℕ) (forced failures : S → ℕ)
+    (place : Place) (old new : S)
     (opened left : LogState) (e : CoordinatorReopenError)
-    → OpensLog (log_form place.me Coordinator) (bytes old) (forced old) (failures old) opened → left.sight.failures ≡ failures new
+    → OpensLog (log_form place.me Coordinator) (bytes old) (forced old) (failures old) opened
+    → left.sight.failures ≡ failures new
     → CoordinatorNotReopened place opened.sight left.sight e
     → NotLeft bytes forced failures (log_form place.me Coordinator) old (error_of_coordinator e)
 coordinator_fails bytes forced failures place old new opened left coordinators.Memory opens to h = tt
@@ -195,15 +201,18 @@ manager_fails bytes forced failures p old new (restores.Records restarts.Exhaust
     record { log = h.opened_as; opens = h.opens; why = inr h.why.0 }
 
 -- the records that the key store restarted over
-read_before : (log : LogState) (s : KvSight) → StartsOver log s → left_before (sight_of s) ≡ records_of log.sight.kept
+read_before : (log : LogState) (s : KvSight) → StartsOver log s
+    → left_before (sight_of s) ≡ records_of log.sight.kept
 read_before log s h =
     left_is (sight_of (before log s)) (sight_of s) 0 (starts_over log s h)
     ∙ all_left log.sight.form (records_of log.sight.kept) log.sight.failures
 
-pub subordinate_fails : {S : Type 0} (bytes : S → List ℕ) (forced failures : S → ℕ) (place : Place) (store : S)
+pub subordinate_fails : {S : Type 0} (bytes : S → List ℕ) (forced failures : S → ℕ)
+    (place : Place) (store : S)
     (s : KvSight) → RestoredFrom place.me (bytes store) (forced store) (failures store) s → (e : RebuildError)
     → NotReopenedOver place (sight_of s) e
-    → ProcessNotReopened bytes forced failures (log_form place.me Manager) place store (error_of_subordinate e)
+    → ProcessNotReopened bytes forced failures (log_form place.me Manager) place store
+    (error_of_subordinate e)
 subordinate_fails bytes forced failures place store s r rebuilds.Memory h = inl tt
 subordinate_fails bytes forced failures place store s r rebuilds.Unfit h = inr (
   refl,
@@ -229,10 +238,12 @@ log_handed_back bytes forced failures k old new logs.Memory h = inl h
 log_handed_back bytes forced failures k old new logs.Device h = h.breaks.cause
 log_handed_back bytes forced failures k old new (logs.Damaged place) h =
     inl (same_store bytes forced failures old new h.0)
-log_handed_back bytes forced failures k old new logs.OldFormat h = inl (same_store bytes forced failures old new h.0)
+log_handed_back bytes forced failures k old new logs.OldFormat h =
+    inl (same_store bytes forced failures old new h.0)
 
 -- a log that opened is in the store, with these records after its own
-holds_on : {S : Type 0} (bytes : S → List ℕ) (forced failures : S → ℕ) (k : LogForm) (old new : S) (opened : LogState)
+holds_on : {S : Type 0} (bytes : S → List ℕ) (forced failures : S → ℕ) (k : LogForm) (old new : S)
+    (opened : LogState)
     (kept : Kept) (more : List LogRecord) → OpensLog k (bytes old) (forced old) (failures old) opened
     → kept_of k (bytes new) (forced new) ≡ kept → records_of kept ≡ records_of opened.sight.kept ++ more
     → HoldsOn bytes forced failures k old new
@@ -255,9 +266,11 @@ holds_left : {S : Type 0} (bytes : S → List ℕ) (forced failures : S → ℕ)
     → HoldsOn bytes forced failures k old new
 holds_left bytes forced failures k old new opened left opens is same =
     holds_same bytes forced failures k old new opened left opens
-    (ap (λ f. kept_of f (bytes new) (forced new)) (sym (ap (λ (l : LogSight). l.form) same ∙ opens.form)) ∙ is) same
+    (ap (λ f. kept_of f (bytes new) (forced new)) (sym (ap (λ (l : LogSight). l.form) same ∙ opens.form))
+    ∙ is) same
 
-pub coordinator_handed_back : {S : Type 0} (bytes : S → List ℕ) (forced failures : S → ℕ) (place : Place) (old new : S)
+pub coordinator_handed_back : {S : Type 0} (bytes : S → List ℕ) (forced failures : S → ℕ)
+    (place : Place) (old new : S)
     (opened left : LogState) (e : CoordinatorReopenError)
     → OpensLog (log_form place.me Coordinator) (bytes old) (forced old) (failures old) opened
     → left.sight.failures ≡ failures new
@@ -274,7 +287,8 @@ coordinator_handed_back bytes forced failures place old new opened left coordina
 coordinator_handed_back bytes forced failures place old new opened left coordinators.Exhausted opens to is h =
     inr (holds_left bytes forced failures (log_form place.me Coordinator) old new opened left opens is h.0)
 
-records_handed_back : {S : Type 0} (bytes : S → List ℕ) (forced failures : S → ℕ) (p : ProcessId) (old new : S)
+records_handed_back : {S : Type 0} (bytes : S → List ℕ) (forced failures : S → ℕ)
+    (p : ProcessId) (old new : S)
     (e : RecordsError) → RecordsHandBack bytes forced failures p old new e
     → HandsLogBack bytes forced failures (log_form p Manager) old new (error_of_manager (restores.Records e))
 records_handed_back bytes forced failures p old new restarts.Memory h =
@@ -290,7 +304,8 @@ records_handed_back bytes forced failures p old new restarts.Exhausted h =
     inr (holds_same bytes forced failures (log_form p Manager) old new h.opened_as h.left_as h.opens
     (ap (λ (l : LogSight). l.kept) (sym h.holds)) h.why.1)
 
-pub manager_handed_back : {S : Type 0} (bytes : S → List ℕ) (forced failures : S → ℕ) (p : ProcessId) (old new : S)
+pub manager_handed_back : {S : Type 0} (bytes : S → List ℕ) (forced failures : S → ℕ)
+    (p : ProcessId) (old new : S)
     (e : RestoreError) → NotRestored bytes forced failures p old new e
     → HandsLogBack bytes forced failures (log_form p Manager) old new (error_of_manager e)
 manager_handed_back bytes forced failures p old new (restores.Log e) h =
@@ -299,7 +314,8 @@ manager_handed_back bytes forced failures p old new (restores.Records e) h =
     records_handed_back bytes forced failures p old new e h
 
 -- the store of a manager that restarted holds its boot, too
-pub subordinate_handed_back : {S : Type 0} (bytes : S → List ℕ) (forced failures : S → ℕ) (me : ProcessId) (old new : S)
+pub subordinate_handed_back : {S : Type 0} (bytes : S → List ℕ) (forced failures : S → ℕ)
+    (me : ProcessId) (old new : S)
     (s : KvSight) → RestoredFrom me (bytes old) (forced old) (failures old) s
     → kept_of s.log.sight.form (bytes new) (forced new) ≡ s.log.sight.kept → (e : RebuildError)
     → HandsLogBack bytes forced failures (log_form me Manager) old new (error_of_subordinate e)
@@ -316,7 +332,8 @@ subordinate_handed_back bytes forced failures me old new s r is e = by_error e
         ∙ r.starts.forced
 
     holds : HoldsOn bytes forced failures (log_form me Manager) old new
-    holds = holds_on bytes forced failures (log_form me Manager) old new r.log s.log.sight.kept (opened s.boot ∷ []) r.opens
+    holds = holds_on bytes forced failures (log_form me Manager) old new r.log s.log.sight.kept
+        (opened s.boot ∷ []) r.opens
         (ap (λ f. kept_of f (bytes new) (forced new)) (sym form) ∙ is) all
 
     by_error : (e : RebuildError)

@@ -46,8 +46,8 @@ ProcessNotOpened bytes failures p store Memory = ⊤
 ProcessNotOpened bytes failures p store (Device q) = (q ≡ p) × IsSomeAnd store (DeviceFailed bytes failures)
 ProcessNotOpened bytes failures p store (Store q) = (q ≡ p) × IsNoEmptyStore bytes store
 
--- the store that is handed back where its process did not open: its device failed in that, or did not; one that
--- had bytes is as it was
+-- the store that is handed back where its process did not open: its device failed in that, or did not; one
+-- that had bytes is as it was
 abbrev pub HandsStoreBack : {L : Type 0} → (L → ℕ) → L → L → ProcessOpenError → Type 0
 HandsStoreBack failures old new Memory = failures new ≡ failures old
 HandsStoreBack failures old new (Device p) = MoreFailures (failures old) (failures new)

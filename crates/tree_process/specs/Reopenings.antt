@@ -31,9 +31,9 @@ use Rattle.sub_branches.specs.Rebuilt.{AreFit}
 use Rattle.tree_process.specs.declared.reopening.ProcessReopenError.{ProcessReopenError}
 use Rattle.tree_process.specs.declared.reopening.ProcessReopenError.TheVariants.{Memory, Device, Damaged, Unfit, OldFormat}
 
--- The process is the restart of whatever process left these records: the bytes are a log of them, and of every
--- process that sat here, and of whose log a crash left them, this is the restart, with what that shows. A
--- manager's branches in doubt have the writes that they promised.
+-- The process is the restart of whatever process left these records: the bytes are a log of them, and of
+-- every process that sat here, and of whose log a crash left them, this is the restart, with what that shows.
+-- A manager's branches in doubt have the writes that they promised.
 pub record Reopens (p : LogForm) (place : Place) (bytes : List ℕ) (forced failures : ℕ) (s : CoreState)
     (values : ManagerData) (reaction : Reaction) : Type 0 where
   pub log : LogState
@@ -56,7 +56,8 @@ abbrev pub place_by : List TreeProcess → TreeProcess → Place
 place_by tree e = record { me = e.id; role = role_by e.kind e.parent; tree = tree }
 
 -- the same of the process of an entry of the tree
-abbrev pub ReopensAs : List TreeProcess → TreeProcess → List ℕ → ℕ → ℕ → CoreState → ManagerData → Reaction → Type 0
+abbrev pub ReopensAs : List TreeProcess → TreeProcess → List ℕ → ℕ → ℕ → CoreState → ManagerData → Reaction
+    → Type 0
 ReopensAs tree e bytes forced failures s values reaction =
     Reopens (form_by e) (place_by tree e) bytes forced failures s values reaction
 
@@ -88,20 +89,22 @@ abbrev pub LeavesNone : Kind → LogForm → List ℕ → ℕ → ℕ → Type 0
 LeavesNone Coordinator p bytes forced failures = LeavesNoCoordinator p bytes forced failures
 LeavesNone Manager p bytes forced failures = LeavesNoManager p bytes forced failures
 
--- the device failed: there is a store that has more failures, as a failure leaves one, or whose count is at its
--- top
+-- the device failed: there is a store that has more failures, as a failure leaves one, or whose count is at
+-- its top
 pub record FailsOver {L : Type 0} (failures : L → ℕ) (store : L) : Type 0 where
   pub left : L
   pub more : MoreFailures (failures store) (failures left)
 
--- why no process goes on over the log in a store, whose records do not leave one of this kind; want of memory may
--- come at any time
-abbrev pub NotLeft : {L : Type 0} → (L → List ℕ) → (L → ℕ) → (L → ℕ) → LogForm → L → ProcessReopenError → Type 0
+-- why no process goes on over the log in a store, whose records do not leave one of this kind; want of memory
+-- may come at any time
+abbrev pub NotLeft : {L : Type 0} → (L → List ℕ) → (L → ℕ) → (L → ℕ) → LogForm → L → ProcessReopenError
+    → Type 0
 NotLeft bytes forced failures p store Memory = ⊤
 NotLeft bytes forced failures p store Device = FailsOver failures store
 NotLeft bytes forced failures p store (Damaged place) = read_log p (bytes store) ≡ DamagedLog place
 NotLeft bytes forced failures p store OldFormat = is_old (bytes store) ≡ true
-NotLeft bytes forced failures p store Unfit = LeavesNone p.kind p (bytes store) (forced store) (failures store)
+NotLeft bytes forced failures p store Unfit = LeavesNone p.kind p (bytes store) (forced store)
+    (failures store)
 
 -- the bytes are the log of records that no subordinate which sits here can have written
 pub record NoneWrote (p : LogForm) (place : Place) (bytes : List ℕ) (forced failures : ℕ) : Type 0 where
@@ -110,13 +113,16 @@ pub record NoneWrote (p : LogForm) (place : Place) (bytes : List ℕ) (forced fa
   pub unfit : AreFit place (records_of log.sight.kept) → ⊥
 
 -- the same, as a refusal
-abbrev pub NotWritten : {L : Type 0} → (L → List ℕ) → (L → ℕ) → (L → ℕ) → LogForm → Place → L → ProcessReopenError → Type 0
-NotWritten bytes forced failures p place store Unfit = NoneWrote p place (bytes store) (forced store) (failures store)
+abbrev pub NotWritten : {L : Type 0} → (L → List ℕ) → (L → ℕ) → (L → ℕ) → LogForm → Place → L
+    → ProcessReopenError → Type 0
+NotWritten bytes forced failures p place store Unfit =
+    NoneWrote p place (bytes store) (forced store) (failures store)
 NotWritten bytes forced failures p place store e = ⊥
 
--- why no process goes on here over the log in a store: its records leave none, or it is a manager's and no subordinate
--- which sits here can have written them
-abbrev pub ProcessNotReopened : {L : Type 0} → (L → List ℕ) → (L → ℕ) → (L → ℕ) → LogForm → Place → L → ProcessReopenError
+-- why no process goes on here over the log in a store: its records leave none, or it is a manager's and no
+-- subordinate which sits here can have written them
+abbrev pub ProcessNotReopened : {L : Type 0} → (L → List ℕ) → (L → ℕ) → (L → ℕ) → LogForm → Place → L
+    → ProcessReopenError
     → Type 0
 ProcessNotReopened bytes forced failures p place store e =
     NotLeft bytes forced failures p store e
@@ -125,14 +131,16 @@ ProcessNotReopened bytes forced failures p place store e =
 -- The store that is handed back with a refusal.
 
 -- its log opened, and these records are in it: those that were read, and perhaps that of a boot after them
-pub record HoldsOn {L : Type 0} (bytes : L → List ℕ) (forced failures : L → ℕ) (p : LogForm) (old new : L) : Type 0 where
+pub record HoldsOn {L : Type 0} (bytes : L → List ℕ) (forced failures : L → ℕ) (p : LogForm)
+    (old new : L) : Type 0 where
   pub log : LogState
   pub opens : OpensLog p (bytes old) (forced old) (failures old) log
   pub appended : List LogRecord
   pub records : records_of (kept_of p (bytes new) (forced new)) ≡ records_of log.sight.kept ++ appended
 
 -- it is as it was, or its records are in it; or its device failed
-abbrev pub HandsLogBack : {L : Type 0} → (L → List ℕ) → (L → ℕ) → (L → ℕ) → LogForm → L → L → ProcessReopenError → Type 0
+abbrev pub HandsLogBack : {L : Type 0} → (L → List ℕ) → (L → ℕ) → (L → ℕ) → LogForm → L → L
+    → ProcessReopenError → Type 0
 HandsLogBack bytes forced failures p old new Device = MoreFailures (failures old) (failures new)
 HandsLogBack bytes forced failures p old new e =
     SameStore bytes forced failures old new ⊎ HoldsOn bytes forced failures p old new

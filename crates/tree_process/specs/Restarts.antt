@@ -11,7 +11,8 @@ use Rattle.resource_manager.specs.Data.{ManagerData, DataRests}
 use Rattle.log_records.specs.Sights.{left_by}
 
 -- the process restarts, and keeps N of its unforced records
-pub record RestartsNode (before behind : CoreState) (after : ManagerData) (bytes : Option ℕ) (made : ℕ × Reaction) : Type 0 where
+pub record RestartsNode (before behind : CoreState) (after : ManagerData) (bytes : Option ℕ)
+    (made : ℕ × Reaction) : Type 0 where
   pub keep : ℕ
   pub keeps : KeepsBytes before bytes keep
   pub restarts : ProcessRestarts before keep behind made.1

@@ -104,8 +104,8 @@ impl<L: LogStore> Process<L> {
     }
 
     /// Handles an input. The refusals of the reaction table, as `StepError` says them, change nothing, nor
-    /// does Memory, nor Exhausted: numbers that the input wants are used up. Device: the device failed under the
-    /// record of the input, which stands or not, and the process answers Failed until its restart.
+    /// does Memory, nor Exhausted: numbers that the input wants are used up. Device: the device failed under
+    /// the record of the input, which stands or not, and the process answers Failed until its restart.
     pub fn step(&mut self, input: InputRef<'_>) -> Result<Reaction, StepError>
         requires numbers { HasNumbers (core_of self.old) }
         ensures ok { IfOk result (HandlesInput (core_of self.old) (core_of self.new)

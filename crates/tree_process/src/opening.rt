@@ -185,7 +185,8 @@ fn open_manager<L: LogStore + Drop>(
     }
 }
 
-/// Opens the process of an entry over an empty store. A process without a parent is the root, whatever its kind.
+/// Opens the process of an entry over an empty store. A process without a parent is the root, whatever its
+/// kind.
 ///
 /// With a refusal the store is handed back. Memory: a growth was refused; no record is in the store, though
 /// a header may. Device: the device of the store failed.

@@ -119,8 +119,10 @@ fn left_log<L: LogStore + Drop>(
 ) -> Result<RecLog<L>, (ProcessReopenError, L)>
     ensures ok { IfOk result (OpensLog (log_form me kind.Coordinator) (L.bytes store) (L.forced store)
         (L.failures store)) }
-    ensures err { IfErr result (λ e. NotLeft L.bytes L.forced L.failures (log_form me kind.Coordinator) store e.0) }
-    ensures handed_back { IfErr result (λ e. HandsLogBack L.bytes L.forced L.failures (log_form me kind.Coordinator) store e.1 e.0) }
+    ensures err { IfErr result (λ e. NotLeft L.bytes L.forced L.failures
+        (log_form me kind.Coordinator) store e.0) }
+    ensures handed_back { IfErr result (λ e. HandsLogBack L.bytes L.forced L.failures
+        (log_form me kind.Coordinator) store e.1 e.0) }
 {
     match RecLog::open(store, me, Kind::Coordinator, alloc) {
         Ok(log) => Ok(log),
@@ -135,8 +137,10 @@ fn left_manager<L: LogStore + Drop>(
     store: L,
 ) -> Result<KvManager<L>, (ProcessReopenError, L)>
     ensures ok { IfOk result (RestoredFrom me (L.bytes store) (L.forced store) (L.failures store)) }
-    ensures err { IfErr result (λ e. NotLeft L.bytes L.forced L.failures (log_form me kind.Manager) store e.0) }
-    ensures handed_back { IfErr result (λ e. HandsLogBack L.bytes L.forced L.failures (log_form me kind.Manager) store e.1 e.0) }
+    ensures err { IfErr result (λ e. NotLeft L.bytes L.forced L.failures
+        (log_form me kind.Manager) store e.0) }
+    ensures handed_back { IfErr result (λ e. HandsLogBack L.bytes L.forced L.failures
+        (log_form me kind.Manager) store e.1 e.0) }
 {
     match KvManager::restore(store, me, alloc) {
         Ok(manager) => Ok(manager),
@@ -155,8 +159,10 @@ fn reopen_coordinator<L: LogStore + Drop>(
     ensures ok { IfOk result (λ made. Reopens (log_form me kind.Coordinator)
         (record { me = me; role = role_by kind.Coordinator parent; tree = tree })
         (L.bytes store) (L.forced store) (L.failures store) (core_of made.0) (data_of made.0) made.1) }
-    ensures err { IfErr result (λ e. NotLeft L.bytes L.forced L.failures (log_form me kind.Coordinator) store e.0) }
-    ensures handed_back { IfErr result (λ e. HandsLogBack L.bytes L.forced L.failures (log_form me kind.Coordinator) store e.1 e.0) }
+    ensures err { IfErr result (λ e. NotLeft L.bytes L.forced L.failures
+        (log_form me kind.Coordinator) store e.0) }
+    ensures handed_back { IfErr result (λ e. HandsLogBack L.bytes L.forced L.failures
+        (log_form me kind.Coordinator) store e.1 e.0) }
 {
     let log = left_log(alloc, me, store)?;
     match Coordinator::reopen(alloc, me, parent, tree, log) {
@@ -178,7 +184,8 @@ fn reopen_manager<L: LogStore + Drop>(
         (L.bytes store) (L.forced store) (L.failures store) (core_of made.0) (data_of made.0) made.1) }
     ensures err { IfErr result (λ e. ProcessNotReopened L.bytes L.forced L.failures (log_form me kind.Manager)
         (leaf_place me parent tree) store e.0) }
-    ensures handed_back { IfErr result (λ e. HandsLogBack L.bytes L.forced L.failures (log_form me kind.Manager) store e.1 e.0) }
+    ensures handed_back { IfErr result (λ e. HandsLogBack L.bytes L.forced L.failures
+        (log_form me kind.Manager) store e.1 e.0) }
 {
     let manager = match left_manager(alloc, me, store) {
         Ok(manager) => manager,
@@ -190,13 +197,14 @@ fn reopen_manager<L: LogStore + Drop>(
     }
 }
 
-/// The process of an entry over the log in a store: it restarts as whatever process left that log would, and a
-/// log without a record is that of a process which never opened. What it logs and sends as it restarts comes
-/// with it. A process without a parent is the root, whatever its kind.
+/// The process of an entry over the log in a store: it restarts as whatever process left that log would, and
+/// a log without a record is that of a process which never opened. What it logs and sends as it restarts
+/// comes with it. A process without a parent is the root, whatever its kind.
 ///
-/// Memory: a growth was refused. Device: the device of the store failed. Damaged: the bytes are no log of such a
-/// process. OldFormat: they are a log of the first format. Unfit: the records leave no manager, or no subordinate can
-/// have written them; or numbers are used up after them. With a refusal the store is handed back.
+/// Memory: a growth was refused. Device: the device of the store failed. Damaged: the bytes are no log of
+/// such a process. OldFormat: they are a log of the first format. Unfit: the records leave no manager, or no
+/// subordinate can have written them; or numbers are used up after them. With a refusal the store is handed
+/// back.
 pub fn reopen_over<L: LogStore + Drop>(
     alloc: Global,
     entry: &TreeProcess,
@@ -207,7 +215,8 @@ pub fn reopen_over<L: LogStore + Drop>(
         (L.bytes store) (L.forced store) (L.failures store) (core_of made.0) (data_of made.0) made.1) }
     ensures err { IfErr result (λ e. ProcessNotReopened L.bytes L.forced L.failures
         (form_by entry.now) (place_by tree entry.now) store e.0) }
-    ensures handed_back { IfErr result (λ e. HandsLogBack L.bytes L.forced L.failures (form_by entry.now) store e.1 e.0) }
+    ensures handed_back { IfErr result (λ e. HandsLogBack L.bytes L.forced L.failures (form_by entry.now)
+        store e.1 e.0) }
 {
     match (entry.kind, entry.parent) {
         (Kind::Manager, Some(parent)) => reopen_manager(alloc, entry.id, parent, tree, store),

@@ -189,7 +189,8 @@ fn trim_coordinator<L: LogStore>(coordinator: &mut Coordinator<L>) -> Result<u64
 
 /// The log of a manager is trimmed, and its data stay.
 fn trim_manager<L: LogStore>(manager: &mut Subordinate<KvManager<L>>) -> Result<u64, StepError>
-    ensures ok { IfOk result (ProcessTrims (manager_state sight_of manager.old) (manager_state sight_of manager.new)) }
+    ensures ok { IfOk result (ProcessTrims (manager_state sight_of manager.old)
+        (manager_state sight_of manager.new)) }
     ensures holdings { OnOk result (TrimsData (manager_state sight_of manager.old).place.role
         (manager_data (sight_of manager.old.manager)) (manager_data (sight_of manager.new.manager))) }
     ensures err { IfErr result (ProcessNotTrimmed (manager_state sight_of manager.old)

@@ -10,7 +10,8 @@ pub at_line : (read : List ℕ → Option Event) (n : ℕ) (l : List ℕ) (ls : 
 unfolding events_at
 at_line read n l ls e = rw e refl
 
-pub at_skipped : (read : List ℕ → Option Event) (n : ℕ) (l : List ℕ) (ls : List (List ℕ)) → is_skipped l ≡ true
+pub at_skipped : (read : List ℕ → Option Event) (n : ℕ) (l : List ℕ) (ls : List (List ℕ))
+    → is_skipped l ≡ true
     → events_at read n (l ∷ ls) ≡ events_at read (n + 1) ls
 unfolding events_at
 at_skipped read n l ls e = rw e refl

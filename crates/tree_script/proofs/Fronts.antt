@@ -24,7 +24,8 @@ then_more n (Some e) (Ok more) s es fs on is =
 -- a line after these and the one before them
 behind_one : (read : List ℕ → Option Event) (n : ℕ) (x l : List ℕ) (ls : List (List ℕ)) (es fs : List Event)
     (b : Bool) → is_skipped x ≡ b
-    → ((m : ℕ) (gs : List Event) → events_at read m ls ≡ Ok gs → events_at read m (ls ++ l ∷ []) ≡ Ok (gs ++ fs))
+    → ((m : ℕ) (gs : List Event) → events_at read m ls ≡ Ok gs
+    → events_at read m (ls ++ l ∷ []) ≡ Ok (gs ++ fs))
     → events_at read n (x ∷ ls) ≡ Ok es → events_at read n (x ∷ (ls ++ l ∷ [])) ≡ Ok (es ++ fs)
 behind_one read n x l ls es fs true is on h =
     at_skipped read n x (ls ++ l ∷ []) is ∙ on (n + 1) es (sym (at_skipped read n x ls is) ∙ h)

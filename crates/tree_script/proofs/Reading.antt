@@ -20,7 +20,8 @@ HasRead s i es = with_front es (events_at (event_at s.root) (s.before + i + 1) (
 -- the line at a place within
 line_at : (ls : List (List ℕ)) (i : ℕ) → i < length ls → slice_get ls i ≡ Some (get_or ls i [])
 line_at ls i within =
-    slice_get_read ls (length ls) i (get_or ls i []) refl within (get_or_default ls i [] (get_or ls i []) within)
+    slice_get_read ls (length ls) i (get_or ls i []) refl within
+    (get_or_default ls i [] (get_or ls i []) within)
 
 pub asked_here : (s : LinesState) (i : ℕ) (r : Result (Option Event) ScriptError) → i < length s.lines
     → Asks s.root (s.before + i + 1) (slice_get s.lines i) r
@@ -35,7 +36,8 @@ reads_nothing s i None es within asks is so_far =
     skips (event_at s.root) es s.lines (s.before + i + 1) (s.before + (i + 1) + 1) i (asked_by s) within
     (asked_here s i (Ok None) within asks) (omega arith) so_far
 
-pub reads_event : (s : LinesState) (i : ℕ) (o : Option Event) (e : Event) (es : List Event) → i < length s.lines
+pub reads_event : (s : LinesState) (i : ℕ) (o : Option Event) (e : Event) (es : List Event)
+    → i < length s.lines
     → Asks s.root (s.before + i + 1) (slice_get s.lines i) (Ok o) → o ≡ Some e
     → HasRead s i es → HasRead s (i + 1) (es ++ e ∷ [])
 reads_event s i o e es within asks is so_far =

@@ -45,8 +45,8 @@ pub data AreGiven (tree : List TreeProcess) : List JournalEntry → Type 0 where
       → IsGivenEntry tree (net_of xs) x
       → AreGiven tree (xs ++ x ∷ [])
 
--- The entries of each process are those of moves that it made, alone and by the version that processes have, which
--- leave it so; and each entry may come where it does.
+-- The entries of each process are those of moves that it made, alone and by the version that processes have,
+-- which leave it so; and each entry may come where it does.
 pub record IsCut (tree : List TreeProcess) (xs : List JournalEntry) (left : ProcessId → Node) : Type 0 where
   pub moves : ProcessId → List Made
   pub made : (q : ProcessId) → IsNodeRun (place_of tree q) (moves q) (left q)
@@ -55,7 +55,8 @@ pub record IsCut (tree : List TreeProcess) (xs : List JournalEntry) (left : Proc
   pub given : AreGiven tree xs
 
 -- the entries are those of a run, which leaves each process so
-pub record IsOneRun (tree : List TreeProcess) (xs : List JournalEntry) (left : ProcessId → Node) : Type 0 where
+pub record IsOneRun (tree : List TreeProcess) (xs : List JournalEntry)
+    (left : ProcessId → Node) : Type 0 where
   pub moves : List Made
   pub world : World
   pub is_run : IsRun tree moves world
@@ -66,7 +67,8 @@ pub record IsOneRun (tree : List TreeProcess) (xs : List JournalEntry) (left : P
 
 -- A journal that is cut so is a run.
 abbrev pub CutsAreRuns : Type 0
-CutsAreRuns = (tree : List TreeProcess) (xs : List JournalEntry) (left : ProcessId → Node) → IsCut tree xs left
+CutsAreRuns = (tree : List TreeProcess) (xs : List JournalEntry) (left : ProcessId → Node)
+    → IsCut tree xs left
     → IsOneRun tree xs left
 
 -- What a process made after these entries of its own: one entry more.
@@ -91,7 +93,8 @@ pub record LeavesOne (q : ProcessId) (n' : Node) (old new : ProcessId → Node) 
 -- What a process made after its entries in the journal may be entered there, whatever the others have
 -- entered meanwhile: the journal is cut as before.
 abbrev pub CutsGrow : Type 0
-CutsGrow = (tree : List TreeProcess) (xs : List JournalEntry) (old : ProcessId → Node) (q : ProcessId) (x : JournalEntry)
+CutsGrow = (tree : List TreeProcess) (xs : List JournalEntry) (old : ProcessId → Node) (q : ProcessId)
+    (x : JournalEntry)
     (n' : Node) → IsCut tree xs old
     → MakesOne tree q (entries_of q xs) x n' → IsGivenEntry tree (net_of xs) x
     → (new : ProcessId → Node) × IsCut tree (xs ++ x ∷ []) new × LeavesOne q n' old new

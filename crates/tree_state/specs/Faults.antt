@@ -9,8 +9,8 @@ use Rattle.log_records.specs.Sights.{LogSight, left_by, records_of}
 use Rattle.process_state.specs.States.{CoreState}
 use Rattle.process_state.specs.Restarting.{trimmed_log}
 
--- the fault of a step before whose records N stood in the log: how many of its records stand, and how many records more
--- are forced than were
+-- the fault of a step before whose records N stood in the log: how many of its records stand, and how many
+-- records more are forced than were
 abbrev pub fault_of : ℕ → LogSight → LogSight → Fault
 fault_of stood old new = record {
   appended = length (records_of new.kept) - stood;

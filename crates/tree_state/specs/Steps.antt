@@ -50,7 +50,8 @@ InputsAreMoves = (n : Node) (old new : CoreState) (a : DataAnswer) (i : Input) (
 -- for it
 abbrev pub RefusalsAreMoves : Type 0
 RefusalsAreMoves = (n : Node) (old new : CoreState) (a : DataAnswer) (i : Input) (e : StepError)
-    → StandsFor n old → (n.failed ≡ false → NodeFits old.place.role old.place n) → IsRefusedInput old new a i e
+    → StandsFor n old → (n.failed ≡ false → NodeFits old.place.role old.place n)
+    → IsRefusedInput old new a i e
     → (node_makes old.place n (input_move old.place.me i None a) ≡ Refuses e) × StandsFor n new
 
 -- The model's process makes the move too with some fault in it, and the process stands for what that leaves.

@@ -90,7 +90,8 @@ pub record Enters (old new : WorldState) (q : ProcessId) (happening : Happening)
   pub entries : new.entries ≡ old.entries ++ step_entry q happening reaction ∷ []
 
 -- a process handles an input, and the step is entered
-pub record TreeSteps (old new : WorldState) (q : ProcessId) (input : Input) (marked : List Bool) : Type 0 where
+pub record TreeSteps (old new : WorldState) (q : ProcessId) (input : Input)
+    (marked : List Bool) : Type 0 where
   pub before : CoreState
   pub behind : CoreState
   pub reaction : Reaction
@@ -103,8 +104,9 @@ abbrev pub KeepsBytes : CoreState → Option ℕ → ℕ → Type 0
 KeepsBytes s (Some bytes) keep = keep ≡ bytes
 KeepsBytes s None keep = left_by s.log keep ≡ records_of s.log.kept
 
--- after a restart where these records are left, each branch of a manager that is in doubt has written and holds
--- what it promised, and nothing else is written or held; those in doubt and those that an operator decided are known
+-- after a restart where these records are left, each branch of a manager that is in doubt has written and
+-- holds what it promised, and nothing else is written or held; those in doubt and those that an operator
+-- decided are known
 pub record HoldsPromises (left : List LogRecord) (behind : ManagerData) : Type 0 where
   pub writes : (x : Xid) → behind.writes x ≡ writes_left left x
   pub held : HoldWrites (writes_left left) behind.holders
@@ -199,8 +201,8 @@ pub record SameTree (old new : WorldState) : Type 0 where
   pub delivered : new.delivered ≡ old.delivered
   pub entries : new.entries ≡ old.entries
 
--- Why a process refuses an input: there is no such process, or the input meets this refusal. Whatever the data
--- answer, it is the same.
+-- Why a process refuses an input: there is no such process, or the input meets this refusal. Whatever the
+-- data answer, it is the same.
 abbrev pub RefusesAt : Option CoreState → Input → StepError → Type 0
 RefusesAt None i e = e ≡ NoSuch
 RefusesAt (Some s) i e = (a : DataAnswer) × (found : Option Case) × FindsChildCase s (asked_by i) found
@@ -238,8 +240,8 @@ abbrev pub WantsNumbersFor : WorldState → ℕ → Option Envelope → Type 0
 WantsNumbersFor w k None = ⊥
 WantsNumbersFor w k (Some l) = WantsNumbersAt (w.node_at l.to) (w.data_at l.to) (MessageInput k l.message)
 
--- why one message was not delivered, and what that leaves: Memory, numbers that are used up and a refusal change
--- nothing
+-- why one message was not delivered, and what that leaves: Memory, numbers that are used up and a refusal
+-- change nothing
 abbrev pub NotDelivered : WorldState → WorldState → ℕ → StepError → Type 0
 NotDelivered old new k Memory = SameTree old new
 NotDelivered old new k Device = DeviceFailsUnder old new k (sent_as old.net k)
@@ -250,7 +252,8 @@ NotDelivered old new k e = SameTree old new × RefusesMessage old k (sent_as old
 abbrev pub NotActed : WorldState → WorldState → ProcessId → Act → StepError → Type 0
 NotActed old new q a Memory = SameTree old new
 NotActed old new q a Device = DeviceFails old new q (ActInput a)
-NotActed old new q a Exhausted = SameTree old new × WantsNumbersAt (old.node_at q) (old.data_at q) (ActInput a)
+NotActed old new q a Exhausted = SameTree old new
+    × WantsNumbersAt (old.node_at q) (old.data_at q) (ActInput a)
 NotActed old new q a e = SameTree old new × RefusesAt (old.node_at q) (ActInput a) e
 
 -- a settle went no further: for memory, also as it looked for the next message, or as that one was not

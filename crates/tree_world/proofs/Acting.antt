@@ -21,7 +21,8 @@ kept j = record { net = refl; delivered = refl; entries = refl }
 
 -- it was entered, in a journal that kept all
 pub world_steps : (tree : List TreeProcess) (nodes after : NodesSight) (j k l : JournalState)
-    (q : ProcessId) (i : Input) (r : Reaction) → SameJournal j k → StepsAt nodes after q i r → EntersJournal k l q i r
+    (q : ProcessId) (i : Input) (r : Reaction) → SameJournal j k → StepsAt nodes after q i r
+    → EntersJournal k l q i r
     → TreeSteps (world tree nodes j) (world tree after l) q i (marked_by i j.delivered)
 world_steps tree nodes after j k l q i r keeps steps enters = record {
   before = steps.before;
@@ -85,7 +86,8 @@ not_acted tree nodes after j k q a NotAChild keeps stops = (same tree nodes afte
 not_acted tree nodes after j k q a Closed keeps stops = (same tree nodes after j k keeps stops.0, stops.1)
 not_acted tree nodes after j k q a Failed keeps stops = (same tree nodes after j k keeps stops.0, stops.1)
 not_acted tree nodes after j k q a NotInDoubt keeps stops = (same tree nodes after j k keeps stops.0, stops.1)
-not_acted tree nodes after j k q a NothingToForget keeps stops = (same tree nodes after j k keeps stops.0, stops.1)
+not_acted tree nodes after j k q a NothingToForget keeps stops =
+    (same tree nodes after j k keeps stops.0, stops.1)
 not_acted tree nodes after j k q a NoSuch keeps stops = (same tree nodes after j k keeps stops.0, stops.1)
 not_acted tree nodes after j k q a Exhausted keeps stops = (same tree nodes after j k keeps stops.0, stops.1)
 
@@ -137,7 +139,8 @@ pub acted : (tree : List TreeProcess) (nodes after : NodesSight) (j k l : Journa
     → OnOk closed (TreeSteps (world tree nodes j) (world tree after l) q (ActInput a) j.delivered)
 acted tree nodes after j k l q p a made (Err e) at keeps steps ends = tt
 acted tree nodes after j k l q p a made (Ok u) at keeps steps ends =
-    subst (λ (x : ProcessId). TreeSteps (world tree nodes j) (world tree after l) x (ActInput a) j.delivered) at
+    subst (λ (x : ProcessId). TreeSteps (world tree nodes j) (world tree after l) x (ActInput a) j.delivered)
+    at
     (world_steps tree nodes after j k l p (ActInput a) ends.0 keeps
     (made_so nodes after p (ActInput a) made ends.0 ends.1 steps) ends.2)
 
@@ -155,7 +158,8 @@ act_stopped tree nodes after j k l q p a made (Err e) at keeps stops ends =
 
 pub delivered : (tree : List TreeProcess) (nodes after : NodesSight) (j k l : JournalState)
     (n : ℕ) (m : Envelope) (made : Result Reaction StepError) (closed : Result (Unit {0}) StepError)
-    → SameJournal j k → sent_as k.net n ≡ Some m → IfOk made (StepsAt nodes after m.to (MessageInput n m.message))
+    → SameJournal j k → sent_as k.net n ≡ Some m
+    → IfOk made (StepsAt nodes after m.to (MessageInput n m.message))
     → OnOk closed (IfSome (sent_as k.net n) (λ m2. (r : Reaction) × (made ≡ Ok r)
     × EntersJournal k l m.to (MessageInput n m2.message) r))
     → OnOk closed (Delivers (world tree nodes j) (world tree after l) n)

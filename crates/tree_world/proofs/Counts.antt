@@ -70,7 +70,8 @@ pub trimmed_so : (s t : CoreState) (d e : ManagerData) (made : Result ℕ StepEr
 trimmed_so s t d e made None ok counts none = tt
 trimmed_so s t d e (Err x) (Some k) ok counts none = absurd (let wrong : Some k ≡ None = none in cc)
 trimmed_so s t d e (Ok n) (Some k) ok counts none =
-    subst (λ (o : Option Count). IfSome o (λ x. x ≡ count_in t)) (sym counts) (sym (trimmed_count s t n ok.trims))
+    subst (λ (o : Option Count). IfSome o (λ x. x ≡ count_in t)) (sym counts)
+    (sym (trimmed_count s t n ok.trims))
 
 -- each record that can be in a log fits a frame
 pub sound_fit : (k : Kind) (ls : List LogRecord) → AllByRecursion (IsSound k) ls → All FitsFrame ls

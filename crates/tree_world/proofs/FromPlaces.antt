@@ -36,7 +36,8 @@ none_from tree i entries past empty = rw (drop_all i tree past, empty) (none tre
 module _ {L : Type 0} (bytes : L → List ℕ) (forced failures : L → ℕ) (tree : List TreeProcess) (i : ℕ)
     (e : TreeProcess) (lt : i < length tree) (is : e ≡ get_or tree i e) where
   -- there is no store for the process
-  pub no_store_at : (items : List L) → items ≡ [] → TreeNotOpened bytes failures (drop i tree) (reverse items) (Store e.id)
+  pub no_store_at : (items : List L) → items ≡ [] → TreeNotOpened bytes failures (drop i tree) (reverse items)
+      (Store e.id)
   no_store_at items empty = rw (drop_at tree i e lt is, empty) (no_store bytes failures e (drop (i + 1) tree))
 
   pub none_handed_back_at : (old new : List L) (why : ProcessOpenError) → old ≡ [] → new ≡ []
@@ -45,12 +46,14 @@ module _ {L : Type 0} (bytes : L → List ℕ) (forced failures : L → ℕ) (tr
 
   -- the process did not open over its store
   pub refused_at : (items behind : List L) (s : L) (why : ProcessOpenError) → items ≡ behind ++ s ∷ []
-      → ProcessNotOpened bytes failures e.id (Some s) why → TreeNotOpened bytes failures (drop i tree) (reverse items) why
+      → ProcessNotOpened bytes failures e.id (Some s) why
+      → TreeNotOpened bytes failures (drop i tree) (reverse items) why
   refused_at items behind s why taken h =
       rw (drop_at tree i e lt is, taken, from_end behind s)
       (refused_here bytes failures e (drop (i + 1) tree) s (reverse behind) why h)
 
-  pub handed_back_at : (items behind left : List L) (s l : L) (why : ProcessOpenError) → items ≡ behind ++ s ∷ []
+  pub handed_back_at : (items behind left : List L) (s l : L) (why : ProcessOpenError)
+      → items ≡ behind ++ s ∷ []
       → left ≡ behind ++ l ∷ [] → HandsStoreBack failures s l why
       → AreHandedBack bytes forced failures (drop i tree) (reverse items) (reverse left) why
   handed_back_at items behind left s l why taken put h =
@@ -58,7 +61,8 @@ module _ {L : Type 0} (bytes : L → List ℕ) (forced failures : L → ℕ) (tr
       (handed_back_here bytes forced failures e (drop (i + 1) tree) behind s l why h)
 
   -- one after it did not
-  pub refused_from : (items behind : List L) (s : L) (why : ProcessOpenError) → IsTree tree → items ≡ behind ++ s ∷ []
+  pub refused_from : (items behind : List L) (s : L) (why : ProcessOpenError) → IsTree tree
+      → items ≡ behind ++ s ∷ []
       → TreeNotOpened bytes failures (drop (i + 1) tree) (reverse behind) why
       → TreeNotOpened bytes failures (drop i tree) (reverse items) why
   refused_from items behind s why t taken h =
@@ -77,7 +81,8 @@ module _ {L : Type 0} (bytes : L → List ℕ) (forced failures : L → ℕ) (tr
       (holds_first bytes forced failures tree e (core_of n) l opened holds) h)
 
 -- the process at the place is open beside those after it
-pub opened_from : {L : Type 0} (tree : List TreeProcess) (i : ℕ) (e : TreeProcess) (old new : List (ProcessId × Process L))
+pub opened_from : {L : Type 0} (tree : List TreeProcess) (i : ℕ) (e : TreeProcess)
+    (old new : List (ProcessId × Process L))
     (n : Process L) → IsTree tree → i < length tree → e ≡ get_or tree i e → OpenedAs tree e (core_of n)
     → DataRests no_data (data_of n) → lookup (processes.ghosts.eq e.id) new ≡ Some n
     → ((q : ProcessId) → same_process e.id q ≡ false

@@ -28,7 +28,8 @@ use Rattle.tree_world.proofs.StorePlaces.{not_again}
 -- the entry that is found at a place of the tree's entries
 pub found_in : (es tree : List TreeProcess) (i : ℕ) (x : Bor TreeProcess) → es ≡ tree → IsItemAt es i (Some x)
     → (i < length tree) × (x.now ≡ get_or tree i x.now)
-found_in es tree i x same h = found_at tree i x (subst (λ (ts : List TreeProcess). IsItemAt ts i (Some x)) same h)
+found_in es tree i x same h = found_at tree i x
+    (subst (λ (ts : List TreeProcess). IsItemAt ts i (Some x)) same h)
 
 pub past_in : (es tree : List TreeProcess) (i : ℕ) → es ≡ tree → length es ≤ i → length tree ≤ i
 past_in es tree i same h = subst (λ (ts : List TreeProcess). length ts ≤ i) same h
@@ -44,7 +45,8 @@ second_false true b h = absurd (cc)
 second_false false b h = h
 
 -- a process of a tree without a parent is a coordinator, so the log of each is of its kind
-pub own_kind : (tree : List TreeProcess) (i : ℕ) (e : TreeProcess) → IsTree tree → i < length tree → e ≡ get_or tree i e
+pub own_kind : (tree : List TreeProcess) (i : ℕ) (e : TreeProcess) → IsTree tree → i < length tree
+    → e ≡ get_or tree i e
     → kind_by e.kind e.parent ≡ e.kind
 unfolding has_wrong_roots
 own_kind tree i e t lt is = by_kind e.kind e.parent refl refl
@@ -72,7 +74,8 @@ or_true : (b c : Bool) → c ≡ true → (b || c) ≡ true
 or_true true c h = refl
 or_true false c h = h
 
-pub listed_behind : (e : TreeProcess) (es : List TreeProcess) (p : ProcessId) → is_listed es p ≡ true → is_listed (e ∷ es) p ≡ true
+pub listed_behind : (e : TreeProcess) (es : List TreeProcess) (p : ProcessId) → is_listed es p ≡ true
+    → is_listed (e ∷ es) p ≡ true
 unfolding is_listed
 listed_behind e es p h = or_true (same_process e.id p) _ h
 
@@ -80,14 +83,17 @@ listed_behind e es p h = or_true (same_process e.id p) _ h
 
 module _ {L : Type 0} (failures : L → ℕ) (e : TreeProcess) (es : List TreeProcess) (s : L) (ss : List L) where
   pub fails_first : FailsIn failures (Some s) → FailsIn failures (store_of (e ∷ es) (s ∷ ss) e.id)
-  fails_first h = subst (FailsIn failures) (ap (λ b. if b then Some s else store_of es ss e.id) (sym (itself e.id))) h
+  fails_first h = subst (FailsIn failures)
+      (ap (λ b. if b then Some s else store_of es ss e.id) (sym (itself e.id))) h
 
   pub fails_behind : (p : ProcessId) → same_process e.id p ≡ false → FailsIn failures (store_of es ss p)
       → FailsIn failures (store_of (e ∷ es) (s ∷ ss) p)
-  fails_behind p apart h = subst (FailsIn failures) (ap (λ b. if b then Some s else store_of es ss p) (sym apart)) h
+  fails_behind p apart h = subst (FailsIn failures)
+      (ap (λ b. if b then Some s else store_of es ss p) (sym apart)) h
 
 -- the stores that were not come to are as they were
-pub all_returned : {L : Type 0} (bytes : L → List ℕ) (forced failures : L → ℕ) (es : List TreeProcess) (ss : List L)
+pub all_returned : {L : Type 0} (bytes : L → List ℕ) (forced failures : L → ℕ)
+    (es : List TreeProcess) (ss : List L)
     (why : TreeReopenError) → AreReturned bytes forced failures es ss ss why
 all_returned bytes forced failures [] ss why = refl
 all_returned bytes forced failures (e ∷ es) [] why = refl
@@ -109,7 +115,8 @@ module _ {L : Type 0} (bytes : L → List ℕ) (failures : L → ℕ) (tree : Li
       ap (λ o. fault_or e.id o (faults_from bytes tree es ss)) h.1 ∙ ap (λ q. Some (q, place)) (sym h.0)
 
   -- and why one after it was not
-  not_readied_later : (why : TreeReopenError) → ((q : ProcessId) → is_listed es q ≡ true → same_process e.id q ≡ false)
+  not_readied_later : (why : TreeReopenError)
+      → ((q : ProcessId) → is_listed es q ≡ true → same_process e.id q ≡ false)
       → fault_of tree e (bytes s) ≡ None → AreNotReadied bytes failures tree es ss why
       → AreNotReadied bytes failures tree (e ∷ es) (s ∷ ss) why
   not_readied_later Memory apart sound h = tt
@@ -120,7 +127,8 @@ module _ {L : Type 0} (bytes : L → List ℕ) (failures : L → ℕ) (tree : Li
 
 -- From a place on.
 
-pub none_readied : {L : Type 0} (bytes : L → List ℕ) (failures : L → ℕ) (tree : List TreeProcess) (i : ℕ) (items : List L)
+pub none_readied : {L : Type 0} (bytes : L → List ℕ) (failures : L → ℕ) (tree : List TreeProcess) (i : ℕ)
+    (items : List L)
     → length tree ≤ i → AreReadied bytes failures tree (drop i tree) (reverse items) (reverse items)
 none_readied bytes failures tree i items past = rw (drop_all i tree past) refl
 
@@ -152,7 +160,8 @@ module _ {L : Type 0} (bytes : L → List ℕ) (forced failures : L → ℕ) (tr
       (h, all_returned bytes forced failures (drop (i + 1) tree) (reverse behind) why)
 
   -- it was made ready, and those after it too
-  pub readied_from : (items behind left all : List L) (s l : L) → items ≡ behind ++ s ∷ [] → all ≡ left ++ l ∷ []
+  pub readied_from : (items behind left all : List L) (s l : L) → items ≡ behind ++ s ∷ []
+      → all ≡ left ++ l ∷ []
       → IsReadied bytes failures tree e s l
       → AreReadied bytes failures tree (drop (i + 1) tree) (reverse behind) (reverse left)
       → AreReadied bytes failures tree (drop i tree) (reverse items) (reverse all)
@@ -160,7 +169,8 @@ module _ {L : Type 0} (bytes : L → List ℕ) (forced failures : L → ℕ) (tr
       rw (drop_at tree i e lt is, taken, put, from_end behind s, from_end left l) (h, hs)
 
   -- it was, and one after it was not
-  pub not_readied_from : (items behind : List L) (s l : L) (why : TreeReopenError) → IsTree tree → items ≡ behind ++ s ∷ []
+  pub not_readied_from : (items behind : List L) (s l : L) (why : TreeReopenError) → IsTree tree
+      → items ≡ behind ++ s ∷ []
       → IsReadied bytes failures tree e s l
       → AreNotReadied bytes failures tree (drop (i + 1) tree) (reverse behind) why
       → AreNotReadied bytes failures tree (drop i tree) (reverse items) why
@@ -169,10 +179,14 @@ module _ {L : Type 0} (bytes : L → List ℕ) (forced failures : L → ℕ) (tr
       (not_readied_later bytes failures tree e (drop (i + 1) tree) s (reverse behind) why
       (λ q listed. not_again tree i e q t lt is listed) ready.sound h)
 
-  pub returned_from : (items behind left all : List L) (s l : L) (why : TreeReopenError) → items ≡ behind ++ s ∷ []
+  pub returned_from : (items behind left all : List L) (s l : L) (why : TreeReopenError)
+      → items ≡ behind ++ s ∷ []
       → all ≡ left ++ l ∷ [] → IsReadied bytes failures tree e s l
       → AreReturned bytes forced failures (drop (i + 1) tree) (reverse behind) (reverse left) why
       → AreReturned bytes forced failures (drop i tree) (reverse items) (reverse all) why
   returned_from items behind left all s l why taken put ready h =
-      rw (drop_at tree i e lt is, taken, put, from_end behind s, from_end left l)
-      (returned_by bytes forced failures tree e s l why (inr (ready_holds bytes forced failures tree e s l ready)), h)
+      rw (drop_at tree i e lt is, taken, put, from_end behind s, from_end left l) (
+        returned_by bytes forced failures tree e s l why
+            (inr (ready_holds bytes forced failures tree e s l ready)),
+        h,
+      )

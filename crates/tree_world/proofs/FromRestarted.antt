@@ -50,14 +50,17 @@ use Rattle.tree_world.proofs.StorePlaces.{new_at, not_again}
 
 -- The place of a process.
 
-place_at : (tree : List TreeProcess) (i : ℕ) (e : TreeProcess) → IsTree tree → i < length tree → e ≡ get_or tree i e
+place_at : (tree : List TreeProcess) (i : ℕ) (e : TreeProcess) → IsTree tree → i < length tree
+    → e ≡ get_or tree i e
     → place_by tree e ≡ place_of tree e.id
 place_at tree i e t lt is =
-    ap (λ (r : Role). record { me = e.id; role = r; tree = tree }) (sym (first_role tree i e lt is (new_at tree i e t lt is)))
+    ap (λ (r : Role). record { me = e.id; role = r; tree = tree })
+    (sym (first_role tree i e lt is (new_at tree i e t lt is)))
 
 -- One process.
 
-module _ {L : Type 0} (bytes : L → List ℕ) (forced failures : L → ℕ) (tree : List TreeProcess) (e : TreeProcess) (store : L) where
+module _ {L : Type 0} (bytes : L → List ℕ) (forced failures : L → ℕ) (tree : List TreeProcess)
+    (e : TreeProcess) (store : L) where
   abbrev ls : List LogRecord
   ls = records_read (read_log (form_by e) (bytes store))
 
@@ -72,7 +75,8 @@ module _ {L : Type 0} (bytes : L → List ℕ) (forced failures : L → ℕ) (tr
 
   -- why no process restarts over records that leave none of its kind
   none_left : (k : Kind) → (forms : form_by e ≡ log_form e.id k)
-      → LeavesNone k (form_by e) (bytes store) (forced store) (failures store) → NoneRestarts (place_by tree e) ls
+      → LeavesNone k (form_by e) (bytes store) (forced store) (failures store)
+      → NoneRestarts (place_by tree e) ls
   none_left Coordinator forms h =
       let is : ls ≡ records_of h.log.sight.kept = ap records_read h.opens.read in
       subst (NoneRestarts (place_by tree e)) (sym is) (inl (
@@ -91,13 +95,16 @@ module _ {L : Type 0} (bytes : L → List ℕ) (forced failures : L → ℕ) (tr
   -- the process restarted, by a copy of the tree
   pub restarts_in : (copy : List TreeProcess) (core : CoreState) (values : ManagerData) (reaction : Reaction)
       (old mid new : JournalState) → copy ≡ tree
-      → ReopensAs copy e (bytes store) (forced store) (failures store) core values reaction → SameJournal old mid
-      → new.net ≡ mid.net ++ reaction.messages → new.delivered ≡ mid.delivered ++ undelivered reaction.messages
+      → ReopensAs copy e (bytes store) (forced store) (failures store) core values reaction
+      → SameJournal old mid
+      → new.net ≡ mid.net ++ reaction.messages → new.delivered ≡ mid.delivered
+      ++ undelivered reaction.messages
       → new.entries ≡ mid.entries ++ step_entry e.id (Restart 0) reaction ∷ []
       → RestartsIn bytes forced failures tree e store core values old new
   restarts_in copy core values reaction old mid new same h keeps net delivered entries = record {
     reaction = reaction;
-    reopens = subst (λ t. ReopensAs t e (bytes store) (forced store) (failures store) core values reaction) same h;
+    reopens = subst (λ t. ReopensAs t e (bytes store) (forced store) (failures store) core values reaction)
+        same h;
     enters = record {
       net = net ∙ ap (λ xs. xs ++ reaction.messages) keeps.net;
       delivered = delivered ∙ ap (λ xs. xs ++ undelivered reaction.messages) keeps.delivered;
@@ -121,7 +128,8 @@ module _ {L : Type 0} (bytes : L → List ℕ) (forced failures : L → ℕ) (tr
       (refl, refl, subst (NoneRestarts (place_by tree e)) (sym is) (inr (inr (inr h.1.unfit))))
 
   -- it did not
-  pub not_restarted_by : (copy : List TreeProcess) → copy ≡ tree → IsReady bytes e store → (why : ProcessReopenError)
+  pub not_restarted_by : (copy : List TreeProcess) → copy ≡ tree → IsReady bytes e store
+      → (why : ProcessReopenError)
       → ProcessNotReopened bytes forced failures (form_by e) (place_by copy e) store why
       → TreeNotRestarted bytes failures tree e store (error_of_node e.id why)
   not_restarted_by copy same r why h = not_restarted r why
@@ -170,10 +178,12 @@ module _ {L : Type 0} (bytes : L → List ℕ) (forced failures : L → ℕ) (tr
           place = place_by tree e;
           log = forced_sight (form_by e) left (failures store);
         } in
-        let again : ProcessRestarts old 0 core reaction = h.restarts old (record { place_is = refl; failures_are = refl }) 0
+        let again : ProcessRestarts old 0 core reaction =
+        h.restarts old (record { place_is = refl; failures_are = refl }) 0
         (all_left (form_by e) left (failures store)) in
         let more : List LogRecord = logged old (reopened old 0) in
-        let form : form_of core.place ≡ form_by e = ap form_of again.place ∙ ap (log_form e.id) (kind_of e.kind e.parent) in
+        let form : form_of core.place ≡ form_by e = ap form_of again.place
+        ∙ ap (log_form e.id) (kind_of e.kind e.parent) in
         record {
           appended = more;
           records = ap (λ f. records_of (kept_of f (bytes new) (forced new))) (sym form)
@@ -182,13 +192,15 @@ module _ {L : Type 0} (bytes : L → List ℕ) (forced failures : L → ℕ) (tr
               ∙ ap (λ xs. xs ++ more) (all_left (form_by e) left (failures store) ∙ sym is);
         }
 
-    pub given_by : (why : TreeReopenError) → HoldsOn bytes forced e ls new → IsGivenBack bytes forced failures e store new why
+    pub given_by : (why : TreeReopenError) → HoldsOn bytes forced e ls new
+        → IsGivenBack bytes forced failures e store new why
     given_by Memory h = h
     given_by (Device p) h = inr h
     given_by (DamagedError p place) h = h
 
 -- the stores that were not come to are as they were
-pub all_given : {L : Type 0} (bytes : L → List ℕ) (forced failures : L → ℕ) (tree es : List TreeProcess) (ss : List L)
+pub all_given : {L : Type 0} (bytes : L → List ℕ) (forced failures : L → ℕ)
+    (tree es : List TreeProcess) (ss : List L)
     (why : TreeReopenError) → AreReady bytes es ss → AreGivenBack bytes forced failures es ss ss why
 all_given bytes forced failures tree [] ss why r = refl
 all_given bytes forced failures tree (e ∷ es) [] why r = refl
@@ -207,7 +219,8 @@ undelivered_more a b = map-append (λ l. false) a b
 module _ {L : Type 0} (bytes : L → List ℕ) (failures : L → ℕ) (tree : List TreeProcess) (e : TreeProcess)
     (es : List TreeProcess) (s : L) (ss : List L) where
   logs_first : ready_logs bytes (e ∷ es) (s ∷ ss) e.id ≡ records_read (read_log (form_by e) (bytes s))
-  logs_first = ap (λ b. if b then records_read (read_log (form_by e) (bytes s)) else ready_logs bytes es ss e.id) (itself e.id)
+  logs_first = ap (λ b. if b then records_read (read_log (form_by e) (bytes s))
+      else ready_logs bytes es ss e.id) (itself e.id)
 
   logs_behind : (p : ProcessId) → same_process e.id p ≡ false
       → ready_logs bytes (e ∷ es) (s ∷ ss) p ≡ ready_logs bytes es ss p
@@ -215,7 +228,8 @@ module _ {L : Type 0} (bytes : L → List ℕ) (failures : L → ℕ) (tree : Li
       ap (λ b. if b then records_read (read_log (form_by e) (bytes s)) else ready_logs bytes es ss p) apart
 
   not_restarted_first : (why : TreeReopenError) → place_by tree e ≡ place_of tree e.id
-      → TreeNotRestarted bytes failures tree e s why → AreNotRestarted bytes failures tree (e ∷ es) (s ∷ ss) why
+      → TreeNotRestarted bytes failures tree e s why → AreNotRestarted bytes failures tree (e ∷ es) (s ∷ ss)
+      why
   not_restarted_first Memory at h = tt
   not_restarted_first (Device p) at h =
       subst (λ q. (is_listed (e ∷ es) q ≡ true) × FailsIn failures (store_of (e ∷ es) (s ∷ ss) q)) (sym h.0)
@@ -229,8 +243,10 @@ module _ {L : Type 0} (bytes : L → List ℕ) (failures : L → ℕ) (tree : Li
             (subst (NoneRestarts (place_by tree e)) (sym logs_first) h.2),
       )
 
-  not_restarted_later : (why : TreeReopenError) → ((q : ProcessId) → is_listed es q ≡ true → same_process e.id q ≡ false)
-      → AreNotRestarted bytes failures tree es ss why → AreNotRestarted bytes failures tree (e ∷ es) (s ∷ ss) why
+  not_restarted_later : (why : TreeReopenError)
+      → ((q : ProcessId) → is_listed es q ≡ true → same_process e.id q ≡ false)
+      → AreNotRestarted bytes failures tree es ss why → AreNotRestarted bytes failures tree (e ∷ es) (s ∷ ss)
+      why
   not_restarted_later Memory apart h = tt
   not_restarted_later (Device p) apart h =
       (listed_behind e es p h.0, fails_behind failures e es s ss p (apart p h.0) h.1)
@@ -303,12 +319,14 @@ module _ {L : Type 0} (bytes : L → List ℕ) (forced failures : L → ℕ) (tr
       let parts = ready_parts items behind s taken r in parts.1
 
   -- the process did not restart
-  pub not_restarted_at : (items behind : List L) (s : L) (why : TreeReopenError) → IsTree tree → items ≡ behind ++ s ∷ []
+  pub not_restarted_at : (items behind : List L) (s : L) (why : TreeReopenError) → IsTree tree
+      → items ≡ behind ++ s ∷ []
       → TreeNotRestarted bytes failures tree e s why
       → AreNotRestarted bytes failures tree (drop i tree) (reverse items) why
   not_restarted_at items behind s why t taken h =
       rw (drop_at tree i e lt is, taken, from_end behind s)
-      (not_restarted_first bytes failures tree e (drop (i + 1) tree) s (reverse behind) why (place_at tree i e t lt is) h)
+      (not_restarted_first bytes failures tree e (drop (i + 1) tree) s (reverse behind) why
+      (place_at tree i e t lt is) h)
 
   pub given_at : (items behind left : List L) (s l : L) (why : TreeReopenError) → items ≡ behind ++ s ∷ []
       → left ≡ behind ++ l ∷ [] → AreReady bytes (drop (i + 1) tree) (reverse behind)
@@ -319,7 +337,8 @@ module _ {L : Type 0} (bytes : L → List ℕ) (forced failures : L → ℕ) (tr
       (h, all_given bytes forced failures tree (drop (i + 1) tree) (reverse behind) why r)
 
   -- it restarted, and so did those after it
-  pub restarted_from : (items behind : List L) (s : L) (n : Process L) (old new : List (ProcessId × Process L))
+  pub restarted_from : (items behind : List L) (s : L) (n : Process L)
+      (old new : List (ProcessId × Process L))
       (j k l : JournalState) → IsTree tree → items ≡ behind ++ s ∷ []
       → RestartsIn bytes forced failures tree e s (core_of n) (data_of n) j k
       → lookup (processes.ghosts.eq e.id) new ≡ Some n
@@ -331,11 +350,14 @@ module _ {L : Type 0} (bytes : L → List ℕ) (forced failures : L → ℕ) (tr
       rw (drop_at tree i e lt is, taken, from_end behind s) (record {
         sent = here.reaction.messages ++ h.sent;
         made = step_entry e.id (Restart 0) here.reaction ∷ h.made;
-        restarted = restarted_more bytes tree e (drop (i + 1) tree) s (reverse behind) (kept_at old) (kept_at new)
+        restarted = restarted_more bytes tree e (drop (i + 1) tree) s (reverse behind)
+            (kept_at old) (kept_at new)
             (core_of n) here.reaction (failures s) (ap (option_map core_of) own) over
-            (λ q apart. ap (option_map core_of) (others q apart)) (λ q apart. ap (data_in {L = L}) (others q apart))
+            (λ q apart. ap (option_map core_of) (others q apart))
+            (λ q apart. ap (data_in {L = L}) (others q apart))
             (λ q listed. not_again tree i e q t lt is listed) h.sent h.made h.restarted;
-        net = h.net ∙ ap (λ ys. ys ++ h.sent) here.enters.net ∙ append_assoc j.net here.reaction.messages h.sent;
+        net = h.net ∙ ap (λ ys. ys ++ h.sent) here.enters.net
+            ∙ append_assoc j.net here.reaction.messages h.sent;
         delivered = h.delivered ∙ ap (λ ys. ys ++ undelivered h.sent) here.enters.delivered
             ∙ append_assoc j.delivered (undelivered here.reaction.messages) (undelivered h.sent)
             ∙ ap (λ ys. j.delivered ++ ys) (sym (undelivered_more here.reaction.messages h.sent));
@@ -345,13 +367,15 @@ module _ {L : Type 0} (bytes : L → List ℕ) (forced failures : L → ℕ) (tr
     where
       over : RestartsOver tree e.id (records_read (read_log (form_by e) (bytes s))) (failures s) (core_of n)
           (data_in (lookup (processes.ghosts.eq e.id) new)) here.reaction
-      over = subst (λ (o : Option (Process L)). RestartsOver tree e.id (records_read (read_log (form_by e) (bytes s)))
+      over = subst (λ (o : Option (Process L)). RestartsOver tree e.id
+          (records_read (read_log (form_by e) (bytes s)))
           (failures s) (core_of n) (data_in o) here.reaction) (sym own)
           (restarts_over tree e (bytes s) (forced s) (failures s) (core_of n) (data_of n) here.reaction
           (place_at tree i e t lt is) here.reopens)
 
   -- it restarted, and one after it did not
-  pub not_restarted_from : (items behind : List L) (s : L) (why : TreeReopenError) → IsTree tree → items ≡ behind ++ s ∷ []
+  pub not_restarted_from : (items behind : List L) (s : L) (why : TreeReopenError) → IsTree tree
+      → items ≡ behind ++ s ∷ []
       → AreNotRestarted bytes failures tree (drop (i + 1) tree) (reverse behind) why
       → AreNotRestarted bytes failures tree (drop i tree) (reverse items) why
   not_restarted_from items behind s why t taken h =
@@ -359,7 +383,8 @@ module _ {L : Type 0} (bytes : L → List ℕ) (forced failures : L → ℕ) (tr
       (not_restarted_later bytes failures tree e (drop (i + 1) tree) s (reverse behind) why
       (λ q listed. not_again tree i e q t lt is listed) h)
 
-  pub given_from : (items behind left all : List L) (s l : L) (n : Process L) (j k : JournalState) (why : TreeReopenError)
+  pub given_from : (items behind left all : List L) (s l : L) (n : Process L) (j k : JournalState)
+      (why : TreeReopenError)
       → items ≡ behind ++ s ∷ [] → all ≡ left ++ l ∷ []
       → RestartsIn bytes forced failures tree e s (core_of n) (data_of n) j k
       → HoldsLog bytes forced failures (core_of n) l
@@ -368,6 +393,7 @@ module _ {L : Type 0} (bytes : L → List ℕ) (forced failures : L → ℕ) (tr
   given_from items behind left all s l n j k why taken put here stands h =
       rw (drop_at tree i e lt is, taken, put, from_end behind s, from_end left l) (
         given_by bytes forced failures tree e s l why
-            (restarted_holds bytes forced failures tree e s l (core_of n) (data_of n) here.reaction here.reopens stands),
+            (restarted_holds bytes forced failures tree e s l (core_of n) (data_of n) here.reaction
+            here.reopens stands),
         h,
       )

@@ -38,14 +38,16 @@ from_end items s = reverse-append items (s ∷ [])
 
 -- the store of the process that did not open was put back
 pub handed_back_here : {L : Type 0} (bytes : L → List ℕ) (forced failures : L → ℕ) (e : TreeProcess)
-    (es : List TreeProcess) (items : List L) (s l : L) (why : ProcessOpenError) → HandsStoreBack failures s l why
+    (es : List TreeProcess) (items : List L) (s l : L) (why : ProcessOpenError)
+    → HandsStoreBack failures s l why
     → AreHandedBack bytes forced failures (e ∷ es) (reverse (items ++ s ∷ [])) (reverse (items ++ l ∷ [])) why
 handed_back_here bytes forced failures e es items s l why h =
     rw (from_end items s, from_end items l) (inl (h, refl))
 
 -- the store of one that had opened was put back
 pub handed_back_behind : {L : Type 0} (bytes : L → List ℕ) (forced failures : L → ℕ) (e : TreeProcess)
-    (es : List TreeProcess) (items left : List L) (s l : L) (why : ProcessOpenError) → HoldsFirst bytes forced e l
+    (es : List TreeProcess) (items left : List L) (s l : L) (why : ProcessOpenError)
+    → HoldsFirst bytes forced e l
     → AreHandedBack bytes forced failures es (reverse items) (reverse left) why
     → AreHandedBack bytes forced failures (e ∷ es) (reverse (items ++ s ∷ [])) (reverse (left ++ l ∷ [])) why
 handed_back_behind bytes forced failures e es items left s l why first h =

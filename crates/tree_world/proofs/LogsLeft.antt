@@ -37,7 +37,8 @@ bytes_more ls more l is bytes all = subst AreByteLogs (sym is) (behind ls all)
     behind (m ∷ ls) h = (h.0, behind ls h.1)
 
 -- one log more that stands
-pub stands_more : (w : WorldState) (es : List TreeProcess) (i : ℕ) (e : TreeProcess) → i < length es → e ≡ get_or es i e
+pub stands_more : (w : WorldState) (es : List TreeProcess) (i : ℕ) (e : TreeProcess) → i < length es
+    → e ≡ get_or es i e
     → LogStandsBy (w.node_at e.id) → LogsStand w (take i es) → LogsStand w (take (i + 1) es)
 stands_more w es i e lt is stands h = rw (take_more es i e lt, ← is) (behind (take i es) h)
   where

@@ -13,10 +13,12 @@ use Rattle.tree_faults.proofs.Adding.{adds_nothing, counted_places, counted_trac
 
 -- One event, after the last fault was counted.
 
-module _ (s m t : WorldState) (f e g : FaultsSight) (event : Event) (made : Result (Unit {0}) StepError) (state : m ≡ s)
+module _ (s m t : WorldState) (f e g : FaultsSight) (event : Event)
+    (made : Result (Unit {0}) StepError) (state : m ≡ s)
     (places : AreInPlace s f) (none : e.last ≡ None)
     (counted : e.counted ≡ f.counted ++ placed_in (length s.entries) (last_step s.net s.node_at f.last))
-    (ok : OnOk made (Applies m event t)) (err : IfErr made (λ x. Stops m event x t)) (stay : OnOk made (g ≡ e))
+    (ok : OnOk made (Applies m event t)) (err : IfErr made (λ x. Stops m event x t))
+    (stay : OnOk made (g ≡ e))
     (noted : IfErr made (NotedUntil m e event t g)) where
   stand : AreInPlace m e
   stand = subst (λ w. AreInPlace w e) (sym state) (counted_places s f e places none counted)
@@ -50,7 +52,8 @@ nothing_moves s t f g state same places =
     subst (λ w. AreInPlace w g) (sym state) (subst (AreInPlace s) (sym same) places)
 
 -- a settle ends with a delivery that is not made
-pub settle_noted : (i : ℕ) (first before now new : WorldState) (k : ℕ) (f g : FaultsSight) (e : StepError) → i < 10000
+pub settle_noted : (i : ℕ) (first before now new : WorldState) (k : ℕ) (f g : FaultsSight) (e : StepError)
+    → i < 10000
     → before ≡ now → Settles i first now → Some k ≡ least_open 1 now.delivered
     → NotedUntil before f (Deliver k) new g e → NotedUntil first f Settle new g e
 settle_noted i first before now new k f g Device within same made is noted =
@@ -65,7 +68,8 @@ settle_noted i first before now new k f g Device within same made is noted =
         settles = made;
         number = k;
         next = sym is;
-        fails = subst (λ (w : WorldState). MessageFails w new k (sent_as w.net k) noted.entry) same noted.fails;
+        fails = subst (λ (w : WorldState). MessageFails w new k (sent_as w.net k) noted.entry)
+            same noted.fails;
       };
     }
 settle_noted i first before now new k f g Memory within same made is h = h

@@ -72,7 +72,8 @@ pub is_tree_of : (b : Bool) (s : WorldState) → KeepsRun b s → IsTree s.tree
 is_tree_of false s m = m.is_tree
 is_tree_of true s m = m
 
-pub stays_kept : (b : Bool) (s t : WorldState) → KeepsRun b s → t.tree ≡ s.tree → GoesOnFrom s t → KeepsRun b t
+pub stays_kept : (b : Bool) (s t : WorldState) → KeepsRun b s → t.tree ≡ s.tree → GoesOnFrom s t
+    → KeepsRun b t
 stays_kept false s t m same goes = stays_modelled s t m goes
 stays_kept true s t m same goes = subst IsTree (sym same) m
 
@@ -91,9 +92,11 @@ pub ran_tree : (s t : WorldState) (events : List Event) (made : Result (Unit {0}
 ran_tree s t events (Ok done) ok err = led_stays s t events ok
 ran_tree s t events (Err refusal) ok err = led_until_stays s t events refusal.0 refusal.1 err
 
--- from every run since the tree was opened for which the first state stands, the second stands for one that goes on
+-- from every run since the tree was opened for which the first state stands, the second stands for one that
+-- goes on
 abbrev pub KeepsOnFrom : WorldState → WorldState → Type 0
-KeepsOnFrom s t = (past : Earlier) (es : List Made) (w : World) → FollowsSince past es w s → GoesOnKeeping past es w t
+KeepsOnFrom s t = (past : Earlier) (es : List Made) (w : World) → FollowsSince past es w s
+    → GoesOnKeeping past es w t
 
 keeping : (past : Earlier) (es : List Made) (w : World) (s t : WorldState) → IsTree s.tree
     → GoesIn past s.tree es w t → GoesOnKeeping past es w t
@@ -101,7 +104,8 @@ keeping past es w s t is_tree g =
     let on = g.goes_on_so in
     record {
       goes_on = on;
-      keeps = both_parts past t (on.later ++ es) on.world (subst IsTree (sym g.tree_stays) is_tree) on.follows;
+      keeps = both_parts past t (on.later ++ es) on.world
+          (subst IsTree (sym g.tree_stays) is_tree) on.follows;
     }
 
 pub applied_since : (s t : WorldState) (event : Event) (made : Result (Unit {0}) StepError) → IsTree s.tree
@@ -111,7 +115,8 @@ applied_since s t event (Ok done) is_tree ok err past es w f =
 applied_since s t event (Err e) is_tree ok err past es w f =
     keeping past es w s t is_tree (stopped_on_since past s.tree is_tree s t event e es w refl f err)
 
-pub ran_since : (s t : WorldState) (events : List Event) (made : Result (Unit {0}) (ℕ × StepError)) → IsTree s.tree
+pub ran_since : (s t : WorldState) (events : List Event) (made : Result (Unit {0}) (ℕ × StepError))
+    → IsTree s.tree
     → OnOk made (EventsLead s events t) → IfErr made (λ refusal. LeadsUntil s events refusal.0 refusal.1 t)
     → KeepsOnFrom s t
 ran_since s t events (Ok done) is_tree ok err past es w f =

@@ -40,7 +40,8 @@ use Rattle.tree_world.proofs.Acting.{not_acted, not_delivered, refused_so}
 use Rattle.tree_world.proofs.Handling.{world}
 
 -- what is told of the last fault, where it is known what was to happen and how the process stands
-last_told : (s : WorldState) (f : FaultsSight) (x : LastFault) (h : Happening) (c : CoreState) → f.last ≡ Some x
+last_told : (s : WorldState) (f : FaultsSight) (x : LastFault) (h : Happening) (c : CoreState)
+    → f.last ≡ Some x
     → happening_by s.net x.cause ≡ Some h → s.node_at x.process ≡ Some c
     → last_in s f ≡ fault_entry x.process h (fault_by x.cause x.before c) ∷ []
 last_told s f x h c last happens stands =
@@ -96,11 +97,15 @@ pub record RestartNoted (s t : WorldState) (g : FaultsSight) (q : ProcessId) (by
   pub last : last_in t g ≡ entry ∷ []
   pub fails : RestartBreaksOff s t q bytes entry
 
-pub restart_noted : (tree : List TreeProcess) (nodes after : NodesSight) (j k : JournalState) (g : FaultsSight)
-    (x : LastFault) (bytes : Option ℕ) (kept : ℕ) → SameJournal j k → RestartBreaksAt nodes after x.process bytes
-    → CountsAt x.before (nodes.node_at x.process) → KeepsAt bytes (nodes.node_at x.process) kept → g.last ≡ Some x
+pub restart_noted : (tree : List TreeProcess) (nodes after : NodesSight) (j k : JournalState)
+    (g : FaultsSight)
+    (x : LastFault) (bytes : Option ℕ) (kept : ℕ) → SameJournal j k
+    → RestartBreaksAt nodes after x.process bytes
+    → CountsAt x.before (nodes.node_at x.process) → KeepsAt bytes (nodes.node_at x.process) kept
+    → g.last ≡ Some x
     → happening_by k.net x.cause ≡ Some (Restarting kept)
-    → ((c : CoreState) → fault_by x.cause x.before c ≡ left_since (x.before.forced + kept) x.before (count_in c))
+    → ((c : CoreState) → fault_by x.cause x.before c ≡ left_since (x.before.forced + kept)
+    x.before (count_in c))
     → RestartNoted (world tree nodes j) (world tree after k) g x.process bytes
 restart_noted tree nodes after j k g x bytes kept keeps breaks counts left last happens numbers =
     let before = breaks.before in
@@ -148,8 +153,10 @@ pub record TrimNoted (s t : WorldState) (g : FaultsSight) (q : ProcessId) : Type
 
 pub trim_noted : (tree : List TreeProcess) (nodes after : NodesSight) (j k : JournalState) (g : FaultsSight)
     (x : LastFault) (text : List ℕ) → SameJournal j k → (breaks : TrimBreaksAt nodes after x.process)
-    → CountsAt x.before (nodes.node_at x.process) → g.last ≡ Some x → happening_by k.net x.cause ≡ Some Trimming
-    → ((c : CoreState) → fault_by x.cause x.before c ≡ trim_fault (trim_left text (log_bytes c) x.before (count_in c)))
+    → CountsAt x.before (nodes.node_at x.process) → g.last ≡ Some x
+    → happening_by k.net x.cause ≡ Some Trimming
+    → ((c : CoreState) → fault_by x.cause x.before c ≡ trim_fault
+    (trim_left text (log_bytes c) x.before (count_in c)))
     → TrimLeaves breaks.before breaks.behind
     (trim_left text (log_bytes breaks.behind) (count_in breaks.before) (count_in breaks.behind))
     → TrimNoted (world tree nodes j) (world tree after k) g x.process
@@ -181,19 +188,22 @@ trim_noted tree nodes after j k g x text keeps breaks counts last happens number
         left = trim_left text (log_bytes behind) (count_in before) (count_in behind);
         leaves = leaves;
         entry = ap (fault_entry x.process Trimming)
-            (numbers behind ∙ ap (λ c. trim_fault (trim_left text (log_bytes behind) c (count_in behind))) is);
+            (numbers behind ∙ ap (λ c. trim_fault (trim_left text (log_bytes behind) c (count_in behind)))
+            is);
       };
     }
 
 -- What a call leaves where the device failed.
 
 -- what is said of each error is said of this one
-pub with_device : {T : Type 0} (made : Result T StepError) (P : StepError → Type 0) → made ≡ Err Device → IfErr made P
+pub with_device : {T : Type 0} (made : Result T StepError) (P : StepError → Type 0) → made ≡ Err Device
+    → IfErr made P
     → P Device
 with_device made P is h = subst (λ (m : Result _ StepError). IfErr m P) is h
 
 -- what is said of each success is said of this one
-pub with_ok : {T : Type 0} (made : Result T StepError) (x : T) (P : T → Type 0) → made ≡ Ok x → IfOk made P → P x
+pub with_ok : {T : Type 0} (made : Result T StepError) (x : T) (P : T → Type 0) → made ≡ Ok x → IfOk made P
+    → P x
 with_ok made x P is h = subst (λ (m : Result _ StepError). IfOk m P) is h
 
 -- and what is said of this one alone
@@ -202,15 +212,18 @@ pub where_failed : {T : Type 0} (made : Result T StepError) (P : Type 0) → mad
 where_failed made P is h = with_device made (λ e. e ≡ Device → P) is h refl
 
 -- an act
-pub act_fails : (tree : List TreeProcess) (nodes after : NodesSight) (j k : JournalState) (q p : ProcessId) (a : Act)
+pub act_fails : (tree : List TreeProcess) (nodes after : NodesSight) (j k : JournalState)
+    (q p : ProcessId) (a : Act)
     (made : Result Reaction StepError) → p ≡ q → SameJournal j k → made ≡ Err Device
     → IfErr made (NoStepAt nodes after p (ActInput a))
     → NotActed (world tree nodes j) (world tree after k) q a Device
 act_fails tree nodes after j k q p a made at keeps is stops =
     subst (λ (x : ProcessId). NotActed (world tree nodes j) (world tree after k) x a Device) at
-    (not_acted tree nodes after j k p a Device keeps (refused_so nodes after p (ActInput a) made Device is stops))
+    (not_acted tree nodes after j k p a Device keeps
+    (refused_so nodes after p (ActInput a) made Device is stops))
 
-pub delivery_fails : (tree : List TreeProcess) (nodes after : NodesSight) (j k : JournalState) (n : ℕ) (m : Envelope)
+pub delivery_fails : (tree : List TreeProcess) (nodes after : NodesSight) (j k : JournalState)
+    (n : ℕ) (m : Envelope)
     (made : Result Reaction StepError) → SameJournal j k → sent_as k.net n ≡ Some m → made ≡ Err Device
     → IfErr made (NoStepAt nodes after m.to (MessageInput n m.message))
     → NotDelivered (world tree nodes j) (world tree after k) n Device
@@ -219,32 +232,43 @@ delivery_fails tree nodes after j k n m made keeps sent is stops =
     (refused_so nodes after m.to (MessageInput n m.message) made Device is stops)
 
 pub act_noted : (tree : List TreeProcess) (nodes after : NodesSight) (j k : JournalState) (f g : FaultsSight)
-    (q : ProcessId) (a : Act) (c : Count) (made : Result Reaction StepError) → q ≡ process_of_act (root_of tree) a
-    → SameJournal j k → made ≡ Err Device → IfErr made (λ e. e ≡ Device → BreaksUnder nodes after q (ActInput a))
-    → CountsAt c (nodes.node_at q) → g ≡ record f { last = Some (record { process = q; cause = ActCause a; before = c }) }
+    (q : ProcessId) (a : Act) (c : Count) (made : Result Reaction StepError)
+    → q ≡ process_of_act (root_of tree) a
+    → SameJournal j k → made ≡ Err Device → IfErr made
+    (λ e. e ≡ Device → BreaksUnder nodes after q (ActInput a))
+    → CountsAt c (nodes.node_at q) → g ≡ record f {
+      last =
+          Some (record { process = q; cause = ActCause a; before = c });
+    }
     → NotesFault (world tree nodes j) f (ActOf a) (world tree after k) g
 act_noted tree nodes after j k f g q a c made at keeps is under counts noted =
     let x : LastFault = record { process = q; cause = ActCause a; before = c } in
-    let n = input_noted tree nodes after j k g x (ActInput a) keeps (where_failed made (BreaksUnder nodes after q (ActInput a)) is under)
+    let n = input_noted tree nodes after j k g x (ActInput a) keeps
+    (where_failed made (BreaksUnder nodes after q (ActInput a)) is under)
     counts (ap (λ (h : FaultsSight). h.last) noted) refl (λ s. refl) in
     record {
       counted = ap (λ (h : FaultsSight). h.counted) noted;
       entry = n.entry;
       last = n.last;
-      fails = subst (λ p. InputFails (world tree nodes j) (world tree after k) p (ActInput a) n.entry) at n.fails;
+      fails = subst (λ p. InputFails (world tree nodes j) (world tree after k) p (ActInput a) n.entry) at
+          n.fails;
     }
 
 -- a delivery
-pub delivery_noted : (tree : List TreeProcess) (nodes after : NodesSight) (j k : JournalState) (f g : FaultsSight)
-    (n : ℕ) (m : Envelope) (c : Count) (made : Result Reaction StepError) → SameJournal j k → sent_as k.net n ≡ Some m
-    → made ≡ Err Device → IfErr made (λ e. e ≡ Device → BreaksUnder nodes after m.to (MessageInput n m.message))
+pub delivery_noted : (tree : List TreeProcess) (nodes after : NodesSight) (j k : JournalState)
+    (f g : FaultsSight)
+    (n : ℕ) (m : Envelope) (c : Count) (made : Result Reaction StepError) → SameJournal j k
+    → sent_as k.net n ≡ Some m
+    → made ≡ Err Device → IfErr made (λ e. e ≡ Device
+    → BreaksUnder nodes after m.to (MessageInput n m.message))
     → CountsAt c (nodes.node_at m.to)
     → g ≡ record f { last = Some (record { process = m.to; cause = MessageCause n; before = c }) }
     → NotesFault (world tree nodes j) f (Deliver n) (world tree after k) g
 delivery_noted tree nodes after j k f g n m c made keeps sent is under counts noted =
     let x : LastFault = record { process = m.to; cause = MessageCause n; before = c } in
     let i : Input = MessageInput n m.message in
-    let note = input_noted tree nodes after j k g x i keeps (where_failed made (BreaksUnder nodes after m.to i) is under)
+    let note = input_noted tree nodes after j k g x i keeps
+    (where_failed made (BreaksUnder nodes after m.to i) is under)
     counts (ap (λ (h : FaultsSight). h.last) noted)
     (ap (option_map (λ (l : Envelope). Handles (MessageInput n l.message))) sent) (λ s. refl) in
     record {
@@ -256,8 +280,10 @@ delivery_noted tree nodes after j k f g n m c made keeps sent is under counts no
     }
 
 -- a restart
-pub restart_fault : (tree : List TreeProcess) (nodes after : NodesSight) (j k : JournalState) (f g : FaultsSight)
-    (q : ProcessId) (bytes : Option ℕ) (kept : ℕ) (c : Count) → SameJournal j k → RestartBreaksAt nodes after q bytes
+pub restart_fault : (tree : List TreeProcess) (nodes after : NodesSight) (j k : JournalState)
+    (f g : FaultsSight)
+    (q : ProcessId) (bytes : Option ℕ) (kept : ℕ) (c : Count) → SameJournal j k
+    → RestartBreaksAt nodes after q bytes
     → CountsAt c (nodes.node_at q) → KeepsAt bytes (nodes.node_at q) kept
     → g ≡ record f { last = Some (record { process = q; cause = RestartCause kept; before = c }) }
     → NotesFault (world tree nodes j) f (Restart q bytes) (world tree after k) g
@@ -273,21 +299,28 @@ restart_fault tree nodes after j k f g q bytes kept c keeps breaks counts left n
     }
 
 -- a trim, where the bytes of the log before it are known
-pub trim_fault_noted : (tree : List TreeProcess) (nodes after : NodesSight) (j k : JournalState) (f g : FaultsSight)
-    (q : ProcessId) (cause : FaultCause) (text : List ℕ) (c : Count) → SameJournal j k → TrimBreaksAt nodes after q
-    → CountsAt c (nodes.node_at q) → SpellsLogBy (nodes.node_at q) text → AreBytes text → LogStandsBy (after.node_at q)
+pub trim_fault_noted : (tree : List TreeProcess) (nodes after : NodesSight) (j k : JournalState)
+    (f g : FaultsSight)
+    (q : ProcessId) (cause : FaultCause) (text : List ℕ) (c : Count) → SameJournal j k
+    → TrimBreaksAt nodes after q
+    → CountsAt c (nodes.node_at q) → SpellsLogBy (nodes.node_at q) text → AreBytes text
+    → LogStandsBy (after.node_at q)
     → happening_by k.net cause ≡ Some Trimming
-    → ((b : Count) (s : CoreState) → fault_by cause b s ≡ trim_fault (trim_left text (log_bytes s) b (count_in s)))
+    → ((b : Count) (s : CoreState) → fault_by cause b s
+    ≡ trim_fault (trim_left text (log_bytes s) b (count_in s)))
     → g ≡ record f { last = Some (record { process = q; cause = cause; before = c }) }
     → NotesFault (world tree nodes j) f (Trim q) (world tree after k) g
-trim_fault_noted tree nodes after j k f g q cause text c keeps breaks counts spelled bytes stand happens numbers noted =
+trim_fault_noted tree nodes after j k f g q cause text c keeps breaks counts spelled bytes stand
+    happens numbers noted =
     let x : LastFault = record { process = q; cause = cause; before = c } in
     let spells = subst (λ (o : Option CoreState). SpellsLogBy o text) breaks.moves.stood spelled in
     let stands = subst LogStandsBy breaks.moves.stands stand in
     let broken = breaks.breaks.broken in
-    let leaves = trim_leaves breaks.before breaks.behind text (bytes_behind 5 text bytes) spells breaks.breaks.works
+    let leaves = trim_leaves breaks.before breaks.behind text (bytes_behind 5 text bytes) spells
+    breaks.breaks.works
     broken.place stands.sound broken in
-    let n = trim_noted tree nodes after j k g x text keeps breaks counts (ap (λ (h : FaultsSight). h.last) noted)
+    let n = trim_noted tree nodes after j k g x text keeps breaks counts
+    (ap (λ (h : FaultsSight). h.last) noted)
     happens (numbers c) leaves in
     record {
       counted = ap (λ (h : FaultsSight). h.counted) noted;

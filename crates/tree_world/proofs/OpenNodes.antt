@@ -55,14 +55,17 @@ none tree ns empty bare = record {
     no_some : (o : Option CoreState) (s : CoreState) → o ≡ None → o ≡ Some s → ⊥
     no_some o s e f = absurd (cc)
 
--- the entries from a place on begin with the one that is there, and after it come those from the next place on
-drop_behind : (es : List TreeProcess) (i j : ℕ) (e : TreeProcess) → j ≡ suc i → i < length es → e ≡ get_or es i e
+-- the entries from a place on begin with the one that is there, and after it come those from the next place
+-- on
+drop_behind : (es : List TreeProcess) (i j : ℕ) (e : TreeProcess) → j ≡ suc i → i < length es
+    → e ≡ get_or es i e
     → drop i es ≡ e ∷ drop j es
 drop_behind [] i j e next lt is = absurd (omega (arith, lt))
 drop_behind (x ∷ es) zero j e next lt is =
     subst (λ k. (x ∷ es) ≡ e ∷ drop k (x ∷ es)) (sym next) (ap (λ (y : TreeProcess). y ∷ es) (sym is))
 drop_behind (x ∷ es) (suc i) j e next lt is =
-    subst (λ k. drop i es ≡ e ∷ drop k (x ∷ es)) (sym next) (drop_behind es i (suc i) e refl (omega (arith, lt)) is)
+    subst (λ k. drop i es ≡ e ∷ drop k (x ∷ es)) (sym next)
+    (drop_behind es i (suc i) e refl (omega (arith, lt)) is)
 
 -- the entries from a place on begin with the one that is there
 pub drop_at : (es : List TreeProcess) (i : ℕ) (e : TreeProcess) → i < length es → e ≡ get_or es i e

@@ -31,14 +31,16 @@ use Rattle.tree_world.specs.declared.reopening.TreeReopenError.TheVariants.{Memo
 one : (a b : List LogRecord) (n m : ℕ) → Whole a n ≡ Whole b m → a ≡ b
 one a b n m e = cc
 
-whole_first : (l : LogRecord) (r : LogReading) (ls : List LogRecord) (torn : ℕ) → with_first l r ≡ Whole ls torn
+whole_first : (l : LogRecord) (r : LogReading) (ls : List LogRecord) (torn : ℕ)
+    → with_first l r ≡ Whole ls torn
     → (ms : List LogRecord) × (r ≡ Whole ms torn) × (ls ≡ l ∷ ms)
 whole_first l (Whole ms n) ls torn e = (ms, cc, cc)
 whole_first l (Damaged place) ls torn e = absurd (cc)
 
 -- where the bytes read as records, from whatever place on, these may follow what was seen
 abbrev Follow : LogForm → List ℕ → Type 0
-Follow p bs = (at : ℕ) (t : SeenLog) (k : ℕ) (ls : List LogRecord) (torn : ℕ) → read_frames p at t k bs ≡ Whole ls torn
+Follow p bs = (at : ℕ) (t : SeenLog) (k : ℕ) (ls : List LogRecord) (torn : ℕ)
+    → read_frames p at t k bs ≡ Whole ls torn
     → is_some (admitted t ls) ≡ true
 
 follow : (p : LogForm) (place : ℕ) (s : SeenLog) (k : ℕ) (bytes : List ℕ) (ls : List LogRecord) (torn : ℕ)
@@ -50,18 +52,22 @@ follow p place s zero (b ∷ bs) ls torn e =
     by_frame (first_frame p.format (b ∷ bs)) (λ at t k xs n h. follow p at t k bs xs n h) e
   where
     by_seen : (c : Cut) (l : LogRecord) (o : Option SeenLog) → after s l ≡ o → Follow p bs
-        → seen_by place l o (λ t. read_frames p (place + suc (size_bytes p.format) + length c.1) t (size_bytes p.format + length c.1) bs)
+        → seen_by place l o (λ t. read_frames p (place + suc (size_bytes p.format) + length c.1) t
+        (size_bytes p.format + length c.1) bs)
         ≡ Whole ls torn → is_some (admitted s ls) ≡ true
     by_seen c l None is more h = absurd (cc)
     by_seen c l (Some t) is more h =
-        let w = whole_first l (read_frames p (place + suc (size_bytes p.format) + length c.1) t (size_bytes p.format + length c.1) bs)
+        let w = whole_first l (read_frames p (place + suc (size_bytes p.format) + length c.1) t
+        (size_bytes p.format + length c.1) bs)
         ls torn h in
         subst (λ xs. is_some (admitted s xs) ≡ true) (sym w.2)
         (ap (λ o. is_some (and_then o (λ u. admitted u w.0))) is
-        ∙ more (place + suc (size_bytes p.format) + length c.1) t (size_bytes p.format + length c.1) w.0 torn w.1)
+        ∙ more (place + suc (size_bytes p.format) + length c.1) t
+        (size_bytes p.format + length c.1) w.0 torn w.1)
 
     by_record : (c : Cut) (o : Option LogRecord) → Follow p bs
-        → record_by place s o (λ t. read_frames p (place + suc (size_bytes p.format) + length c.1) t (size_bytes p.format + length c.1) bs)
+        → record_by place s o (λ t. read_frames p (place + suc (size_bytes p.format) + length c.1) t
+        (size_bytes p.format + length c.1) bs)
         ≡ Whole ls torn → is_some (admitted s ls) ≡ true
     by_record c None more h = absurd (cc)
     by_record c (Some l) more h = by_seen c l (after s l) refl more h
@@ -69,7 +75,8 @@ follow p place s zero (b ∷ bs) ls torn e =
     by_frame : (o : Option Cut) → Follow p bs
         → frame_by p place s (suc (length bs)) o (λ at t k. read_frames p at t k bs) ≡ Whole ls torn
         → is_some (admitted s ls) ≡ true
-    by_frame None more h = subst (λ xs. is_some (admitted s xs) ≡ true) (one [] ls (suc (length bs)) torn h) refl
+    by_frame None more h = subst (λ xs. is_some (admitted s xs) ≡ true)
+        (one [] ls (suc (length bs)) torn h) refl
     by_frame (Some c) more h = by_record c (read_record p c.0 c.1) more h
 
 none_follow : is_some (admitted nothing_seen []) ≡ true
@@ -78,15 +85,18 @@ none_follow = refl
 
 by_size : (few begins is : Bool) (r : LogReading) (ls : List LogRecord) (torn : ℕ)
     → (r ≡ Whole ls torn → is_some (admitted nothing_seen ls) ≡ true)
-    → (if few then (if begins then Whole [] 0 else Damaged 0) else if is then r else Damaged 0) ≡ Whole ls torn
+    → (if few then (if begins then Whole [] 0 else Damaged 0) else if is then r else Damaged 0)
+    ≡ Whole ls torn
     → is_some (admitted nothing_seen ls) ≡ true
-by_size true true is r ls torn more e = subst (λ xs. is_some (admitted nothing_seen xs) ≡ true) (one [] ls 0 torn e) none_follow
+by_size true true is r ls torn more e = subst (λ xs. is_some (admitted nothing_seen xs) ≡ true)
+    (one [] ls 0 torn e) none_follow
 by_size true false is r ls torn more e = absurd (cc)
 by_size false begins true r ls torn more e = more e
 by_size false begins false r ls torn more e = absurd (cc)
 
 -- the records of a log that is sound may follow one another
-pub log_follows : (p : LogForm) (bytes : List ℕ) (ls : List LogRecord) (torn : ℕ) → read_log p bytes ≡ Whole ls torn
+pub log_follows : (p : LogForm) (bytes : List ℕ) (ls : List LogRecord) (torn : ℕ)
+    → read_log p bytes ≡ Whole ls torn
     → is_some (admitted nothing_seen ls) ≡ true
 unfolding read_log
 log_follows p bytes ls torn e =
@@ -96,12 +106,15 @@ log_follows p bytes ls torn e =
 
 -- a text that was settled reads as its records
 settled_reads : (p : LogForm) (old text : List ℕ) (forced failures forced' failures' : ℕ)
-    → SettlesText p old forced failures text forced' failures' → read_log p text ≡ Whole (records_in p 0 (drop 5 text)) 0
+    → SettlesText p old forced failures text forced' failures'
+    → read_log p text ≡ Whole (records_in p 0 (drop 5 text)) 0
 settled_reads p old text forced failures forced' failures' h =
-    ordered_log_is_read p text h.begins h.whole (log_follows p old (records_in p 0 (drop 5 text)) h.torn h.read)
+    ordered_log_is_read p text h.begins h.whole
+    (log_follows p old (records_in p 0 (drop 5 text)) h.torn h.read)
 
 -- a log with its header reads as the records after that
-pub read_behind : (p : LogForm) (bytes : List ℕ) (ls : List LogRecord) (torn : ℕ) → take 5 bytes ≡ header p.format
+pub read_behind : (p : LogForm) (bytes : List ℕ) (ls : List LogRecord) (torn : ℕ)
+    → take 5 bytes ≡ header p.format
     → read_log p bytes ≡ Whole ls torn → records_in p 0 (drop 5 bytes) ≡ ls
 read_behind p bytes ls torn begins read =
     read_records p (drop 5 bytes) 5 nothing_seen ls torn
@@ -125,16 +138,19 @@ read_either e bytes true is = read_by_first bytes e.id e.kind is
 read_either e bytes false is = read_by_second bytes e.id e.kind is
 
 -- what was seen of the bytes that a store lends is so of its bytes
-pub fault_seen : (tree : List TreeProcess) (e : TreeProcess) (bytes lent : List ℕ) (found is : Option ℕ) → lent ≡ bytes
+pub fault_seen : (tree : List TreeProcess) (e : TreeProcess) (bytes lent : List ℕ) (found is : Option ℕ)
+    → lent ≡ bytes
     → found ≡ fault_of tree e lent → found ≡ is → fault_of tree e bytes ≡ is
 fault_seen tree e bytes lent found is same seen so = ap (fault_of tree e) (sym same) ∙ sym seen ∙ so
 
 -- One process's log is made ready.
 
-module _ {L : Type 0} (bytes : L → List ℕ) (forced failures : L → ℕ) (tree : List TreeProcess) (e : TreeProcess)
+module _ {L : Type 0} (bytes : L → List ℕ) (forced failures : L → ℕ) (tree : List TreeProcess)
+    (e : TreeProcess)
     (old new : L) where
   pub readied : kind_by e.kind e.parent ≡ e.kind → fault_of tree e (bytes old) ≡ None
-      → Migrates bytes forced failures (log_form e.id e.kind) old new → IsReadied bytes failures tree e old new
+      → Migrates bytes forced failures (log_form e.id e.kind) old new
+      → IsReadied bytes failures tree e old new
   readied kind sound m = by_old (is_old (bytes old)) refl m
     where
       form : form_by e ≡ log_form e.id e.kind
@@ -154,7 +170,8 @@ module _ {L : Type 0} (bytes : L → List ℕ) (forced failures : L → ℕ) (tr
         sound = sound;
         begins = h.begins;
         reads = ap (λ p. read_log p (bytes new)) form
-            ∙ settled_reads (log_form e.id e.kind) (bytes old) (bytes new) (forced old) (failures old) (forced new)
+            ∙ settled_reads (log_form e.id e.kind) (bytes old) (bytes new) (forced old)
+            (failures old) (forced new)
             (failures new) h
             ∙ ap (λ r. Whole (records_read r) 0) (sym (read_by_second (bytes old) e.id e.kind is ∙ h.read));
         failures_stay = h.failures_stay;
@@ -176,7 +193,11 @@ module _ {L : Type 0} (bytes : L → List ℕ) (forced failures : L → ℕ) (tr
       absurd (no_place (is_old (bytes old)) refl place sound h.1)
 
   pub as_it_was : new ≡ old → KeepsLog bytes forced failures e old new
-  as_it_was h = inl (record { bytes_stay = ap bytes h; forced_stays = ap forced h; failures_stay = ap failures h })
+  as_it_was h = inl (record {
+    bytes_stay = ap bytes h;
+    forced_stays = ap forced h;
+    failures_stay = ap failures h;
+  })
 
   -- what store is handed back then
   pub migration_returned : (why : MigrateError)
@@ -193,11 +214,13 @@ module _ {L : Type 0} (bytes : L → List ℕ) (forced failures : L → ℕ) (tr
   returned_by (DamagedError p place) k = k
 
   -- a store that is ready has the records that it had
-  pub ready_holds : IsReadied bytes failures tree e old new → HoldsOn bytes forced e (records_read (read_as e.id e.kind (bytes old))) new
+  pub ready_holds : IsReadied bytes failures tree e old new
+      → HoldsOn bytes forced e (records_read (read_as e.id e.kind (bytes old))) new
   ready_holds h = record {
     appended = [];
     records = records_stand (form_by e) (bytes new) (forced new)
-        ∙ read_behind (form_by e) (bytes new) (records_read (read_as e.id e.kind (bytes old))) 0 h.begins h.reads
+        ∙ read_behind (form_by e) (bytes new) (records_read (read_as e.id e.kind (bytes old))) 0
+        h.begins h.reads
         ∙ sym (append-nil (records_read (read_as e.id e.kind (bytes old))));
   }
 

@@ -55,7 +55,11 @@ module _ {L : Type 0} (bytes : L → List ℕ) (forced failures : L → ℕ) (tr
 
   -- a device that failed then has failed since
   fails_since : (s l : L) → failures l ≡ failures s → FailsOver failures l → FailsOver failures s
-  fails_since s l same h = record { left = h.left; more = subst (λ n. MoreFailures n (failures h.left)) same h.more }
+  fails_since s l same h = record {
+    left = h.left;
+    more = subst (λ n. MoreFailures n (failures h.left)) same
+        h.more;
+  }
 
   failed_since : (es : List TreeProcess) (olds news : List L) (p : ProcessId)
       → AreReadied bytes failures tree es olds news → FailsIn failures (store_of es news p)
@@ -102,13 +106,15 @@ module _ {L : Type 0} (bytes : L → List ℕ) (forced failures : L → ℕ) (tr
       (returned_since e s l m why h.0 g.0, all_returned_since es ss ls ms why h.1 g.1)
 
   -- why it was not opened
-  pub not_readied : (stores : List L) (why : TreeReopenError) → AreNotReadied bytes failures tree tree stores why
+  pub not_readied : (stores : List L) (why : TreeReopenError)
+      → AreNotReadied bytes failures tree tree stores why
       → TreeNotReopened bytes failures tree stores why
   not_readied stores Memory h = tt
   not_readied stores (Device p) h = h
   not_readied stores (DamagedError p place) h = inl h
 
-  pub not_restarted : (olds news : List L) (why : TreeReopenError) → AreReadied bytes failures tree tree olds news
+  pub not_restarted : (olds news : List L) (why : TreeReopenError)
+      → AreReadied bytes failures tree tree olds news
       → AreNotRestarted bytes failures tree tree news why → TreeNotReopened bytes failures tree olds why
   not_restarted olds news Memory r h = tt
   not_restarted olds news (Device p) r h = (h.0, failed_since tree olds news p r h.1)
@@ -148,14 +154,16 @@ module _ {L : Type 0} (bytes : L → List ℕ) (forced failures : L → ℕ) (tr
     first P h = subst (P tree) (ap reverse turns ∙ reverse-reverse stores)
         (subst (λ es. P es (reverse turned)) (from_first tree) h)
 
-    pub readied_first : (news : List L) → AreReadied bytes failures tree (drop 0 tree) (reverse turned) (reverse news)
+    pub readied_first : (news : List L) → AreReadied bytes failures tree (drop 0 tree)
+        (reverse turned) (reverse news)
         → AreReadied bytes failures tree tree stores (reverse news)
     readied_first news h = first (λ es ss. AreReadied bytes failures tree es ss (reverse news)) h
 
     pub not_readied_first : (why : TreeReopenError)
         → AreNotReadied bytes failures tree (drop 0 tree) (reverse turned) why
         → TreeNotReopened bytes failures tree stores why
-    not_readied_first why h = not_readied stores why (first (λ es ss. AreNotReadied bytes failures tree es ss why) h)
+    not_readied_first why h = not_readied stores why
+        (first (λ es ss. AreNotReadied bytes failures tree es ss why) h)
 
     pub returned_first : (news lasts : List L) (why : TreeReopenError) → lasts ≡ reverse news
         → AreReturned bytes forced failures (drop 0 tree) (reverse turned) (reverse news) why
@@ -186,7 +194,8 @@ module _ {L : Type 0} (bytes : L → List ℕ) (forced failures : L → ℕ) (tr
       given_first left lasts why turn h =
           subst (λ ls. AreReturned bytes forced failures tree stores ls why) (sym turn)
           (all_returned_since tree stores (reverse news) (reverse left) why (readied_first news ready)
-          (subst (λ es. AreGivenBack bytes forced failures es (reverse news) (reverse left) why) (from_first tree) h))
+          (subst (λ es. AreGivenBack bytes forced failures es (reverse news) (reverse left) why)
+          (from_first tree) h))
 
       pub reopened_first : (ns : NodesSight) (old new : JournalState)
           → AllRestart bytes tree (drop 0 tree) (reverse news) ns old new
@@ -194,4 +203,5 @@ module _ {L : Type 0} (bytes : L → List ℕ) (forced failures : L → ℕ) (tr
           → IsReopened tree (logs_in bytes tree stores) (world tree ns new)
       reopened_first ns old new h net delivered entries =
           reopened stores (reverse news) ns old new (readied_first news ready)
-          (subst (λ es. AllRestart bytes tree es (reverse news) ns old new) (from_first tree) h) net delivered entries
+          (subst (λ es. AllRestart bytes tree es (reverse news) ns old new) (from_first tree) h) net
+          delivered entries

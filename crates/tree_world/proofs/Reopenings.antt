@@ -23,7 +23,8 @@ use Rattle.tree_world.specs.Reopenings.{AreRestarted, ready_logs, records_read}
 use Rattle.tree_world.proofs.Processes.{itself}
 
 -- a process that goes on over the log in a store restarts over its records
-pub restarts_over : (tree : List TreeProcess) (e : TreeProcess) (bytes : List ℕ) (forced failures : ℕ) (c : CoreState)
+pub restarts_over : (tree : List TreeProcess) (e : TreeProcess) (bytes : List ℕ)
+    (forced failures : ℕ) (c : CoreState)
     (d : ManagerData) (r : Reaction) → place_by tree e ≡ place_of tree e.id
     → ReopensAs tree e bytes forced failures c d r
     → RestartsOver tree e.id (records_read (read_log (form_by e) bytes)) failures c d r
@@ -49,10 +50,12 @@ second_apart true b h = refl
 second_apart false b h = h
 
 -- one process more, in front of the others
-module _ {L : Type 0} (bytes : L → List ℕ) (tree : List TreeProcess) (e : TreeProcess) (es : List TreeProcess) (s : L)
+module _ {L : Type 0} (bytes : L → List ℕ) (tree : List TreeProcess) (e : TreeProcess)
+    (es : List TreeProcess) (s : L)
     (ss : List L) (old new : NodesSight) (c : CoreState) (r : Reaction) (failures : ℕ)
     (here : new.node_at e.id ≡ Some c)
-    (over : RestartsOver tree e.id (records_read (read_log (form_by e) (bytes s))) failures c (new.data_at e.id) r)
+    (over : RestartsOver tree e.id (records_read (read_log (form_by e) (bytes s))) failures c
+    (new.data_at e.id) r)
     (others : (q : ProcessId) → same_process e.id q ≡ false → new.node_at q ≡ old.node_at q)
     (others_data : (q : ProcessId) → same_process e.id q ≡ false → new.data_at q ≡ old.data_at q)
     (apart : (q : ProcessId) → is_listed es q ≡ true → same_process e.id q ≡ false)
@@ -67,10 +70,12 @@ module _ {L : Type 0} (bytes : L → List ℕ) (tree : List TreeProcess) (e : Tr
   log = records_read (read_log (form_by e) (bytes s))
 
   restarts_by : (q : ProcessId) (d : CoreState) (b : Bool) → same_process e.id q ≡ b
-      → RestartsOver tree q (if b then log else ready_logs bytes es ss q) (if b then failures else h.failed q) d
+      → RestartsOver tree q (if b then log else ready_logs bytes es ss q)
+      (if b then failures else h.failed q) d
       (new.data_at q) (if b then r else h.opening q)
       → RestartsOver tree q (ready_logs bytes (e ∷ es) (s ∷ ss) q) (failed q) d (new.data_at q) (opening q)
-  restarts_by q d b is k = subst (λ (a : Bool). RestartsOver tree q (if a then log else ready_logs bytes es ss q)
+  restarts_by q d b is k = subst (λ (a : Bool). RestartsOver tree q
+      (if a then log else ready_logs bytes es ss q)
       (if a then failures else h.failed q) d (new.data_at q) (if a then r else h.opening q)) (sym is) k
 
   nodes_more : (q : ProcessId) (d : CoreState) → new.node_at q ≡ Some d
@@ -81,7 +86,8 @@ module _ {L : Type 0} (bytes : L → List ℕ) (tree : List TreeProcess) (e : Tr
         (subst (λ (x : CoreState). RestartsOver tree e.id log failures x (new.data_at e.id) r)
         (some_one c d (sym here ∙ (ap new.node_at t.1 ∙ there))) over))
     | inr z ↦ restarts_by q d false z.0
-        (subst (λ (v : ManagerData). RestartsOver tree q (ready_logs bytes es ss q) (h.failed q) d v (h.opening q))
+        (subst (λ (v : ManagerData). RestartsOver tree q (ready_logs bytes es ss q) (h.failed q) d
+        v (h.opening q))
         (sym (others_data q z.0)) (h.nodes q d (sym (others q z.0) ∙ there)))
   ]
 
@@ -100,24 +106,29 @@ module _ {L : Type 0} (bytes : L → List ℕ) (tree : List TreeProcess) (e : Tr
   opening_here = ap (λ (b : Bool). if b then r else h.opening e.id) (itself e.id)
 
   -- the processes after show what they showed
-  same_sent : (xs : List TreeProcess) → ((q : ProcessId) → is_listed xs q ≡ true → same_process e.id q ≡ false)
+  same_sent : (xs : List TreeProcess) → ((q : ProcessId) → is_listed xs q ≡ true
+      → same_process e.id q ≡ false)
       → flat_map (λ x. (h.opening x.id).messages) xs ≡ flat_map (λ x. (opening x.id).messages) xs
   unfolding is_listed
   same_sent [] away = refl
   same_sent (x ∷ xs) away =
       ap (λ (y : Reaction). y.messages ++ flat_map (λ x. (h.opening x.id).messages) xs)
-      (sym (opening_behind x.id (away x.id (first_apart (same_process x.id x.id) (is_listed xs x.id) (itself x.id)))))
+      (sym (opening_behind x.id (away x.id (first_apart (same_process x.id x.id) (is_listed xs x.id)
+      (itself x.id)))))
       ∙ ap (λ ys. (opening x.id).messages ++ ys)
       (same_sent xs (λ q k. away q (second_apart (same_process x.id q) (is_listed xs q) k)))
 
-  same_made : (xs : List TreeProcess) → ((q : ProcessId) → is_listed xs q ≡ true → same_process e.id q ≡ false)
+  same_made : (xs : List TreeProcess) → ((q : ProcessId) → is_listed xs q ≡ true
+      → same_process e.id q ≡ false)
       → map (λ x. step_entry x.id (Restart 0) (h.opening x.id)) xs
       ≡ map (λ x. step_entry x.id (Restart 0) (opening x.id)) xs
   unfolding is_listed
   same_made [] away = refl
   same_made (x ∷ xs) away =
-      ap (λ (y : Reaction). step_entry x.id (Restart 0) y ∷ map (λ x. step_entry x.id (Restart 0) (h.opening x.id)) xs)
-      (sym (opening_behind x.id (away x.id (first_apart (same_process x.id x.id) (is_listed xs x.id) (itself x.id)))))
+      ap (λ (y : Reaction). step_entry x.id (Restart 0) y
+      ∷ map (λ x. step_entry x.id (Restart 0) (h.opening x.id)) xs)
+      (sym (opening_behind x.id (away x.id (first_apart (same_process x.id x.id) (is_listed xs x.id)
+      (itself x.id)))))
       ∙ ap (λ ys. step_entry x.id (Restart 0) (opening x.id) ∷ ys)
       (same_made xs (λ q k. away q (second_apart (same_process x.id q) (is_listed xs q) k)))
 
@@ -131,6 +142,7 @@ module _ {L : Type 0} (bytes : L → List ℕ) (tree : List TreeProcess) (e : Tr
     sent_by = ap (λ ys. r.messages ++ ys) (h.sent_by ∙ same_sent es apart)
         ∙ ap (λ (y : Reaction). y.messages ++ flat_map (λ x. (opening x.id).messages) es) (sym opening_here);
     made_so = ap (λ ys. step_entry e.id (Restart 0) r ∷ ys) (h.made_so ∙ same_made es apart)
-        ∙ ap (λ (y : Reaction). step_entry e.id (Restart 0) y ∷ map (λ x. step_entry x.id (Restart 0) (opening x.id)) es)
+        ∙ ap (λ (y : Reaction). step_entry e.id (Restart 0) y
+        ∷ map (λ x. step_entry x.id (Restart 0) (opening x.id)) es)
         (sym opening_here);
   }

@@ -188,7 +188,8 @@ pub record Unentered (old new : WorldState) : Type 0 where
   pub delivered : new.delivered ≡ old.delivered
   pub entries : new.entries ≡ old.entries
 
-same_tree : (old new : WorldState) → SameNodes (sight_in old) (sight_in new) → Unentered old new → SameTree old new
+same_tree : (old new : WorldState) → SameNodes (sight_in old) (sight_in new) → Unentered old new
+    → SameTree old new
 same_tree old new nodes stays =
     record {
       tree = stays.tree;

@@ -40,7 +40,8 @@ pub data_stood : {L : Type 0} (es : List (ProcessId × Process L)) (q : ProcessI
 data_stood es q n stood = ap data_in stood
 
 -- data that were kept, among all
-pub kept_data : {L : Type 0} (es fs : List (ProcessId × Process L)) (q : ProcessId) (before behind : Process L)
+pub kept_data : {L : Type 0} (es fs : List (ProcessId × Process L)) (q : ProcessId)
+    (before behind : Process L)
     → node_in es q ≡ Some before → node_in fs q ≡ Some behind → DataRests (data_of before) (data_of behind)
     → DataRests ((kept_at es).data_at q) ((kept_at fs).data_at q)
 kept_data es fs q before behind stood stands keeps =
@@ -116,7 +117,8 @@ refused_at old new q i e s t a moves keeps refused = (
 stopped_by : (old new : NodesSight) (q : ProcessId) (i : Input)
     (e : StepError) (s t : CoreState)
     → MovesAt old new q s t → NotHandled s t (old.data_at q) (new.data_at q) i e → NoStepAt old new q i e
-stopped_by old new q i Memory s t moves h = same_nodes old new q s t moves h.not_made (h.keeps (λ is. absurd cc))
+stopped_by old new q i Memory s t moves h = same_nodes old new q s t moves h.not_made
+    (h.keeps (λ is. absurd cc))
 stopped_by old new q i Device s t moves h = record {
   before = s;
   behind = t;
@@ -171,5 +173,6 @@ broken_under es fs q i before behind (Err e) stood stands others h = λ is. reco
   before = core_of before;
   behind = core_of behind;
   moves = moves_at es fs q before behind stood stands others;
-  fails = subst (λ d. FailsUnder (core_of before) (core_of behind) d i) (sym (data_stood es q before stood)) (h is);
+  fails = subst (λ d. FailsUnder (core_of before) (core_of behind) d i)
+      (sym (data_stood es q before stood)) (h is);
 }

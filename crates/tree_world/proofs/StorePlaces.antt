@@ -59,7 +59,8 @@ new_at tree i e t lt is =
     (sum_by-take-le (λ y. cond (test y) 1 0) tree (i + 1)))
 
 -- a process that is listed after a place of a tree is not the one that is listed there
-pub not_again : (tree : List TreeProcess) (i : ℕ) (e : TreeProcess) (q : ProcessId) → IsTree tree → i < length tree
+pub not_again : (tree : List TreeProcess) (i : ℕ) (e : TreeProcess) (q : ProcessId) → IsTree tree
+    → i < length tree
     → e ≡ get_or tree i e → is_listed (drop (i + 1) tree) q ≡ true → same_process e.id q ≡ false
 unfolding is_listed lists_twice times_listed
 not_again tree i e q t lt is listed = by_case (same_process_tells e.id q)
@@ -105,7 +106,8 @@ no_store bytes failures e es = record {
 }
 
 -- the process at the place did not open over its store
-pub refused_here : {L : Type 0} (bytes : L → List ℕ) (failures : L → ℕ) (e : TreeProcess) (es : List TreeProcess)
+pub refused_here : {L : Type 0} (bytes : L → List ℕ) (failures : L → ℕ) (e : TreeProcess)
+    (es : List TreeProcess)
     (s : L) (ss : List L) (why : ProcessOpenError) → ProcessNotOpened bytes failures e.id (Some s) why
     → TreeNotOpened bytes failures (e ∷ es) (s ∷ ss) why
 unfolding is_listed
@@ -117,7 +119,8 @@ refused_here bytes failures e es s ss why h = record {
 }
 
 -- a process after it did not open
-pub refused_behind : {L : Type 0} (bytes : L → List ℕ) (failures : L → ℕ) (e : TreeProcess) (es : List TreeProcess)
+pub refused_behind : {L : Type 0} (bytes : L → List ℕ) (failures : L → ℕ) (e : TreeProcess)
+    (es : List TreeProcess)
     (s : L) (ss : List L) (why : ProcessOpenError)
     → ((q : ProcessId) → is_listed es q ≡ true → same_process e.id q ≡ false)
     → TreeNotOpened bytes failures es ss why → TreeNotOpened bytes failures (e ∷ es) (s ∷ ss) why
@@ -134,7 +137,8 @@ refused_behind bytes failures e es s ss why apart h = record {
     or_true false c h = h
 
 -- before any process opened, want of memory is why the tree did not
-pub none_open : {L : Type 0} (bytes : L → List ℕ) (failures : L → ℕ) (tree : List TreeProcess) (stores : List L)
+pub none_open : {L : Type 0} (bytes : L → List ℕ) (failures : L → ℕ) (tree : List TreeProcess)
+    (stores : List L)
     → IsTree tree → TreeNotOpened bytes failures tree stores Memory
 unfolding is_listed
 none_open bytes failures [] stores t = absurd (let no = t.not_empty in cc)

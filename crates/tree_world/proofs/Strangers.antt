@@ -16,7 +16,8 @@ unfolding first_stranger
 none_strange home boot xs all e h = sym (ap (first_stranger home boot) e) ∙ h
 
 -- a record that may be there is passed over
-pub home_goes_on : (home : ℕ → LogRecord → Bool) (boot next : ℕ) (xs more : List Placed) (place : ℕ) (l : LogRecord)
+pub home_goes_on : (home : ℕ → LogRecord → Bool) (boot next : ℕ) (xs more : List Placed)
+    (place : ℕ) (l : LogRecord)
     (all : Option ℕ) → xs ≡ placed place l ∷ more → home boot l ≡ true → next ≡ boot_after boot l.entry
     → first_stranger home boot xs ≡ all → first_stranger home next more ≡ all
 unfolding first_stranger
@@ -26,7 +27,8 @@ home_goes_on home boot next xs more place l all e at goes h =
     ∙ ap (λ b. stranger_or b place (first_stranger home (boot_after boot l.entry) more)) at) ∙ h
 
 -- one that may not is the first
-pub stranger_there : (home : ℕ → LogRecord → Bool) (boot : ℕ) (xs more : List Placed) (place : ℕ) (l : LogRecord)
+pub stranger_there : (home : ℕ → LogRecord → Bool) (boot : ℕ) (xs more : List Placed)
+    (place : ℕ) (l : LogRecord)
     (all : Option ℕ) → xs ≡ placed place l ∷ more → home boot l ≡ false → first_stranger home boot xs ≡ all
     → Some place ≡ all
 unfolding first_stranger
@@ -35,7 +37,8 @@ stranger_there home boot xs more place l all e away h =
     ∙ ap (λ b. stranger_or b place (first_stranger home (boot_after boot l.entry) more)) away) ∙ h
 
 -- What is looked for in the bytes before the damage, by the form that the bytes name, is the first stranger.
-module _ (tree : List TreeProcess) (e : TreeProcess) (bytes frames sound : List ℕ) (form : LogForm) (damage found : Option ℕ)
+module _ (tree : List TreeProcess) (e : TreeProcess) (bytes frames sound : List ℕ) (form : LogForm)
+    (damage found : Option ℕ)
     (by : form ≡ form_in bytes e.id e.kind) (damaged : damage ≡ damage_in (read_log form bytes))
     (before : sound ≡ sound_to damage bytes) (behind : frames ≡ drop 5 sound)
     (first : found ≡ first_stranger (is_at_home tree e) 0 (placed_in form 5 0 frames)) where

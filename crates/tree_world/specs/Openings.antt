@@ -40,9 +40,10 @@ abbrev pub HoldsFirst : {L : Type 0} → (L → List ℕ) → (L → ℕ) → Tr
 HoldsFirst bytes forced e store =
     kept_of (form_by e) (bytes store) (forced store) ≡ record { forced = first_opened ∷ []; unforced = [] }
 
--- the stores that are handed back where a tree does not open, in the order of its processes: each process before
--- one had opened, that one had not, and those after it are as they were
-abbrev pub AreHandedBack : {L : Type 0} → (L → List ℕ) → (L → ℕ) → (L → ℕ) → List TreeProcess → List L → List L
+-- the stores that are handed back where a tree does not open, in the order of its processes: each process
+-- before one had opened, that one had not, and those after it are as they were
+abbrev pub AreHandedBack : {L : Type 0} → (L → List ℕ) → (L → ℕ) → (L → ℕ) → List TreeProcess → List L
+    → List L
     → ProcessOpenError → Type 0
 AreHandedBack bytes forced failures (e ∷ es) (s ∷ ss) (l ∷ ls) why =
     (HandsStoreBack failures s l why × (ls ≡ ss))

@@ -65,8 +65,8 @@ has_own_names tree me (Abort c ts) = list_all (is_of_child tree me) ts
 has_own_names tree me (End c (Some r)) = reports_those_below tree me r
 has_own_names tree me _ = true
 
--- a manager writes of no case that was numbered in a boot which its log had not reached by then; a coordinator is
--- restarted also over a record of such a case
+-- a manager writes of no case that was numbered in a boot which its log had not reached by then; a
+-- coordinator is restarted also over a record of such a case
 abbrev pub is_reached_by : Kind → ℕ → Record → Bool
 is_reached_by Manager boot r = is_reached boot (record_case r)
 is_reached_by Coordinator boot r = true
@@ -110,7 +110,8 @@ stranger_of tree e bytes =
     first_stranger (is_at_home tree e) 0
     (placed_records (form_in bytes e.id e.kind) (sound_to (damage_in (read_as e.id e.kind bytes)) bytes))
 
--- The place of the first frame, in the order of the bytes, that is wrong in the log of the process of this entry, 0 for
--- the header: a record that may not be there, or damage. None if the log is sound and each record may stand.
+-- The place of the first frame, in the order of the bytes, that is wrong in the log of the process of this
+-- entry, 0 for the header: a record that may not be there, or damage. None if the log is sound and each
+-- record may stand.
 abbrev pub fault_of : List TreeProcess → TreeProcess → List ℕ → Option ℕ
 fault_of tree e bytes = place_or (stranger_of tree e bytes) (damage_in (read_as e.id e.kind bytes))

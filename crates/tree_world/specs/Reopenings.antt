@@ -36,7 +36,8 @@ abbrev pub records_read : LogReading → List LogRecord
 records_read (Whole ls torn) = ls
 records_read (Damaged place) = []
 
--- the log of each process of the tree, as the bytes of the store at its place read by the format that they name
+-- the log of each process of the tree, as the bytes of the store at its place read by the format that they
+-- name
 abbrev pub logs_in : {L : Type 0} → (L → List ℕ) → List TreeProcess → List L → ProcessId → List LogRecord
 logs_in bytes [] stores q = []
 logs_in bytes (e ∷ es) [] q = []
@@ -50,8 +51,8 @@ ready_logs bytes (e ∷ es) [] q = []
 ready_logs bytes (e ∷ es) (s ∷ ss) q =
     if same_process e.id q then records_read (read_log (form_by e) (bytes s)) else ready_logs bytes es ss q
 
--- each of these processes of the tree restarted over the store at its place, one after another: these messages were
--- sent in it, and these steps entered
+-- each of these processes of the tree restarted over the store at its place, one after another: these
+-- messages were sent in it, and these steps entered
 pub record AreRestarted {L : Type 0} (bytes : L → List ℕ) (tree listed : List TreeProcess) (stores : List L)
     (ns : NodesSight) (sent : List Envelope) (made : List JournalEntry) : Type 0 where
   pub failed : ProcessId → ℕ
@@ -69,9 +70,10 @@ abbrev pub fault_or : ProcessId → Option ℕ → Option (ProcessId × ℕ) →
 fault_or p (Some place) more = Some (p, place)
 fault_or p None more = more
 
--- the first of these processes of the tree whose log has a fault, and its place; each log is in the store at the
--- place of its process
-abbrev pub faults_from : {L : Type 0} → (L → List ℕ) → List TreeProcess → List TreeProcess → List L → Option (ProcessId × ℕ)
+-- the first of these processes of the tree whose log has a fault, and its place; each log is in the store at
+-- the place of its process
+abbrev pub faults_from : {L : Type 0} → (L → List ℕ) → List TreeProcess → List TreeProcess → List L
+    → Option (ProcessId × ℕ)
 faults_from bytes tree [] stores = None
 faults_from bytes tree (e ∷ es) [] = None
 faults_from bytes tree (e ∷ es) (s ∷ ss) =
@@ -86,8 +88,9 @@ abbrev pub FailsIn : {L : Type 0} → (L → ℕ) → Option L → Type 0
 FailsIn failures None = ⊤
 FailsIn failures (Some store) = FailsOver failures store
 
--- no process that sits there restarts over these records: a process of which a crash left them cannot append what its
--- restart would; or they leave no manager, or no number comes after them; or no subordinate can have written them
+-- no process that sits there restarts over these records: a process of which a crash left them cannot append
+-- what its restart would; or they leave no manager, or no number comes after them; or no subordinate can have
+-- written them
 abbrev pub NoneRestarts : Place → List LogRecord → Type 0
 NoneRestarts place ls =
     ((old : CoreState) × (keep : ℕ) × (left_by old.log keep ≡ ls) × CannotReopen old keep)
@@ -99,10 +102,12 @@ pub record NoneRestartsOver {L : Type 0} (bytes : L → List ℕ) (tree : List T
   pub listed : is_listed tree p ≡ true
   pub none : NoneRestarts (place_of tree p) (logs_in bytes tree stores p)
 
--- Why a tree was not opened over the logs in these stores. Want of memory may come at any time. The device of a
--- process's store failed, or there is no store for it. The first fault in the logs is this one; or no log has a fault,
--- and yet no process restarts over the log of one, which is then said of its header: no run leaves such a log.
-abbrev pub TreeNotReopened : {L : Type 0} → (L → List ℕ) → (L → ℕ) → List TreeProcess → List L → TreeReopenError → Type 0
+-- Why a tree was not opened over the logs in these stores. Want of memory may come at any time. The device of
+-- a process's store failed, or there is no store for it. The first fault in the logs is this one; or no log
+-- has a fault, and yet no process restarts over the log of one, which is then said of its header: no run
+-- leaves such a log.
+abbrev pub TreeNotReopened : {L : Type 0} → (L → List ℕ) → (L → ℕ) → List TreeProcess → List L
+    → TreeReopenError → Type 0
 TreeNotReopened bytes failures tree stores Memory = ⊤
 TreeNotReopened bytes failures tree stores (Device p) =
     (is_listed tree p ≡ true) × FailsIn failures (store_of tree stores p)
@@ -112,21 +117,23 @@ TreeNotReopened bytes failures tree stores (DamagedError p place) =
 
 -- The stores that are handed back.
 
--- these records are in the log of the process of this entry, in the second format, and perhaps those of a restart
--- after them
+-- these records are in the log of the process of this entry, in the second format, and perhaps those of a
+-- restart after them
 pub record HoldsOn {L : Type 0} (bytes : L → List ℕ) (forced : L → ℕ) (e : TreeProcess) (ls : List LogRecord)
     (store : L) : Type 0 where
   pub appended : List LogRecord
   pub records : records_of (kept_of (form_by e) (bytes store) (forced store)) ≡ ls ++ appended
 
--- a store keeps the log of the process of this entry: it is as it was, or the records that its bytes read as are in it
+-- a store keeps the log of the process of this entry: it is as it was, or the records that its bytes read as
+-- are in it
 abbrev pub KeepsLog : {L : Type 0} → (L → List ℕ) → (L → ℕ) → (L → ℕ) → TreeProcess → L → L → Type 0
 KeepsLog bytes forced failures e old new =
     SameStore bytes forced failures old new
     ⊎ HoldsOn bytes forced e (records_read (read_as e.id e.kind (bytes old))) new
 
 -- the store of the process of this entry is handed back: its device failed, or it keeps its log
-abbrev pub IsReturned : {L : Type 0} → (L → List ℕ) → (L → ℕ) → (L → ℕ) → TreeProcess → L → L → TreeReopenError → Type 0
+abbrev pub IsReturned : {L : Type 0} → (L → List ℕ) → (L → ℕ) → (L → ℕ) → TreeProcess → L → L
+    → TreeReopenError → Type 0
 IsReturned bytes forced failures e old new (Device p) =
     ((e.id ≡ p) × MoreFailures (failures old) (failures new)) ⊎ KeepsLog bytes forced failures e old new
 IsReturned bytes forced failures e old new why = KeepsLog bytes forced failures e old new

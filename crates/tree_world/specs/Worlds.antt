@@ -14,8 +14,8 @@ use Rattle.tree_world.specs.declared.running_tree.RunningTree.{RunningTree}
 use Rattle.tree_world.specs.Nodes.{kept_at, log_by}
 use Rattle.tree_faults.specs.Traces.{AreInPlace, KeepsTrace, trace_by}
 
--- what a contract sees of a tree that runs: the tree, its processes by name, the journal of their steps, the steps in
--- which a device failed, and whether it was opened over the logs that an earlier run left
+-- what a contract sees of a tree that runs: the tree, its processes by name, the journal of their steps, the
+-- steps in which a device failed, and whether it was opened over the logs that an earlier run left
 pub record WorldValue (L : Type 0) : Type 0 where
   pub tree : List TreeProcess
   pub nodes : List (ProcessId × Process L)
@@ -53,8 +53,8 @@ running_state w = state (value_by w false)
 abbrev pub trace : {L : Type 0} → WorldValue L → List JournalEntry
 trace w = trace_by (state w) w.faults
 
--- what is kept of the state of a tree: where it was opened over empty logs it stands for a run; where it was opened
--- over those that an earlier run left, its processes are a tree
+-- what is kept of the state of a tree: where it was opened over empty logs it stands for a run; where it was
+-- opened over those that an earlier run left, its processes are a tree
 abbrev pub KeepsRun : Bool → WorldState → Type 0
 KeepsRun false s = IsModelledTree s
 KeepsRun true s = IsTree s.tree

@@ -20,9 +20,9 @@ use std::marker::Model;
 use tree_faults::{Count, FaultCause};
 use tree_process::Process;
 
-/// A process, and the count of its log, where that is known. A step leaves the count that its reaction says, so that no
-/// log is read for it. A count is not known before the first step of a process, and after its device failed: then its log
-/// is read.
+/// A process, and the count of its log, where that is known. A step leaves the count that its reaction says,
+/// so that no log is read for it. A count is not known before the first step of a process, and after its
+/// device failed: then its log is read.
 #[derive(Drop)]
 pub(crate) struct CountedNode<L: LogStore> {
     node: Process<L>,
@@ -132,7 +132,8 @@ pub(crate) fn fault_of<L: LogStore>(
 
 /// The count once a process handled an input or did not; None if it is not known.
 fn count_after(before: Count, made: &Result<Reaction, StepError>) -> Option<Count>
-    ensures ok { IfOk made.now (λ reaction. IfSome result (λ count. count ≡ after_written before reaction.written)) }
+    ensures ok { IfOk made.now (λ reaction.
+        IfSome result (λ count. count ≡ after_written before reaction.written)) }
     ensures err { IfErr made.now (λ e. IfSome result (λ count. (count ≡ before) × (e ≢ Device))) }
 {
     match made {

@@ -26,14 +26,15 @@ pub(crate) struct Nodes<L: LogStore> {
 }
 
 impl<L: LogStore> Nodes<L> {
-    /// A process handles an input. Gives besides the count of its log before, where its device failed. NoSuch: there is no
-    /// such process. Exhausted: numbers that the input wants are used up.
+    /// A process handles an input. Gives besides the count of its log before, where its device failed.
+    /// NoSuch: there is no such process. Exhausted: numbers that the input wants are used up.
     pub(crate) fn step(
         &mut self,
         process: ProcessId,
         input: InputRef<'_>,
     ) -> (Count, Result<Reaction, StepError>)
-        ensures before { IfErr result.1 (λ e. e ≡ Device → CountsAt result.0 (nodes_at self.old.nodes.entries process)) }
+        ensures before { IfErr result.1 (λ e. e ≡ Device → CountsAt result.0
+            (nodes_at self.old.nodes.entries process)) }
         ensures ok { IfOk result.1 (StepsAt (kept_at self.old.nodes.entries)
             (kept_at self.new.nodes.entries) process (input_of input.entry)) }
         ensures err { IfErr result.1 (NoStepAt (kept_at self.old.nodes.entries)
@@ -50,15 +51,16 @@ impl<L: LogStore> Nodes<L> {
         (before, node.handle(input, before))
     }
 
-    /// A process restarts, and keeps N bytes after its forced front; all of them, if no number is
-    /// given. Gives how many of its unforced records were kept, and the count of its log before, where its device failed.
-    /// NoSuch: there is no such process.
+    /// A process restarts, and keeps N bytes after its forced front; all of them, if no number is given.
+    /// Gives how many of its unforced records were kept, and the count of its log before, where its device
+    /// failed. NoSuch: there is no such process.
     pub(crate) fn restart(
         &mut self,
         process: ProcessId,
         bytes: Option<u64>,
     ) -> (Count, Result<(u64, Reaction), StepError>)
-        ensures before { IfErr result.1 (λ e. e ≡ Device → CountsAt result.0 (nodes_at self.old.nodes.entries process)) }
+        ensures before { IfErr result.1 (λ e. e ≡ Device → CountsAt result.0
+            (nodes_at self.old.nodes.entries process)) }
         ensures ok { IfOk result.1 (RestartsAt (kept_at self.old.nodes.entries)
             (kept_at self.new.nodes.entries) process bytes) }
         ensures err { IfErr result.1 (NoRestartAt (kept_at self.old.nodes.entries)
@@ -73,10 +75,11 @@ impl<L: LogStore> Nodes<L> {
         (before, node.restart(bytes, before))
     }
 
-    /// The log of a process is trimmed. Gives how many records remain, and the count of its log before, where its device
-    /// failed. NoSuch: there is no such process.
+    /// The log of a process is trimmed. Gives how many records remain, and the count of its log before, where
+    /// its device failed. NoSuch: there is no such process.
     pub(crate) fn trim(&mut self, process: ProcessId) -> (Count, Result<u64, StepError>)
-        ensures before { IfErr result.1 (λ e. e ≡ Device → CountsAt result.0 (nodes_at self.old.nodes.entries process)) }
+        ensures before { IfErr result.1 (λ e. e ≡ Device → CountsAt result.0
+            (nodes_at self.old.nodes.entries process)) }
         ensures ok { IfOk result.1 (TrimsAt (kept_at self.old.nodes.entries)
             (kept_at self.new.nodes.entries) process) }
         ensures err { IfErr result.1 (NoTrimAt (kept_at self.old.nodes.entries)
@@ -104,7 +107,8 @@ impl<L: LogStore> Nodes<L> {
     /// What the last fault left of its process's log; None if there is no such process.
     pub(crate) fn fault(&self, alloc: Global, last: &LastFault) -> Result<Option<Fault>, AllocError>
         ensures { IfOk result (λ fault. fault
-            ≡ option_map (fault_by last.now.cause last.now.before) (nodes_at self.now.nodes.entries last.now.process)) }
+            ≡ option_map (fault_by last.now.cause last.now.before)
+            (nodes_at self.now.nodes.entries last.now.process)) }
     {
         match self.nodes.get(&last.process) {
             None => Ok(None),

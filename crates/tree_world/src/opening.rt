@@ -72,8 +72,8 @@ fn opened<L: LogStore + Drop>(
     }
 }
 
-/// Opens the processes of a tree from this place on, each over the last store of the list, which leaves it. With
-/// a refusal all stores are in the list again, and none is open.
+/// Opens the processes of a tree from this place on, each over the last store of the list, which leaves it.
+/// With a refusal all stores are in the list again, and none is open.
 fn open_from<L: LogStore + Drop>(
     alloc: Global,
     tree: &[TreeProcess],
@@ -87,7 +87,8 @@ fn open_from<L: LogStore + Drop>(
     requires room { length tree.now ≤ spare nodes.old }
     ensures ok { OnOk result (AreOpened tree.now (drop place tree.now) (kept_at nodes.new.entries)) }
     ensures spare { OnOk result (place ≤ spare nodes.new) }
-    ensures err { IfErr result (TreeNotOpened L.bytes L.failures (drop place tree.now) (reverse stores.old.items)) }
+    ensures err { IfErr result (TreeNotOpened L.bytes L.failures (drop place tree.now)
+        (reverse stores.old.items)) }
     ensures handed_back { IfErr result (AreHandedBack L.bytes L.forced L.failures (drop place tree.now)
         (reverse stores.old.items) (reverse stores.new.items)) }
     ensures len { OnErr result (vec_len stores.new ≡ vec_len stores.old) }
@@ -135,10 +136,10 @@ impl<L: LogStore + Drop> World<L> {
     /// Each process has a store without bytes, in the order of the tree; those that are left over are let
     /// go.
     ///
-    /// With a refusal the stores are handed back, in the order of the tree: those of the processes that had opened
-    /// with their first record, the others as they were. Memory: a growth was refused; of the store of the process
-    /// that was opening a header may stand. Device: the device of the store of this process failed. Store: there
-    /// is no store for this process, or bytes are in it.
+    /// With a refusal the stores are handed back, in the order of the tree: those of the processes that had
+    /// opened with their first record, the others as they were. Memory: a growth was refused; of the store of
+    /// the process that was opening a header may stand. Device: the device of the store of this process
+    /// failed. Store: there is no store for this process, or bytes are in it.
     pub fn with_stores(
         alloc: Global,
         tree: Tree,

@@ -133,7 +133,8 @@ fn is_reached(boot: u64, case: Option<Case>) -> bool
     }
 }
 
-/// Whether a manager's record is of a case that was numbered in this boot or an earlier one; a coordinator's may be of any.
+/// Whether a manager's record is of a case that was numbered in this boot or an earlier one; a coordinator's
+/// may be of any.
 fn is_reached_by(kind: Kind, boot: u64, record: &Record) -> bool
     ensures { result ≡ is_reached_by kind boot record.now }
 {
@@ -225,8 +226,8 @@ fn sound_bytes(bytes: &[u8], damage: Option<usize>) -> &[u8]
     }
 }
 
-/// The place of the first frame that is wrong in the log of this process, 0 for the header: the bytes, of either
-/// format, are damaged there, or the record may not be in the log of this process.
+/// The place of the first frame that is wrong in the log of this process, 0 for the header: the bytes, of
+/// either format, are damaged there, or the record may not be in the log of this process.
 pub(crate) fn fault_in(
     alloc: Global,
     tree: &Tree,

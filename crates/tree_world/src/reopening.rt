@@ -60,8 +60,8 @@ pub enum TreeReopenError {
     /// The device of this process's store failed.
     #[error("the device of process {0} failed")]
     Device(ProcessId),
-    /// The log of this process is damaged, or is none of this process in this tree: the first byte of the first
-    /// frame that is wrong, 0 for the header.
+    /// The log of this process is damaged, or is none of this process in this tree: the first byte of the
+    /// first frame that is wrong, 0 for the header.
     #[error("the log of process {0} is damaged at byte {1}")]
     Damaged(ProcessId, usize),
 }
@@ -167,8 +167,8 @@ fn ready_from<L: LogStore + Drop>(
     }
 }
 
-/// Restarts the processes from this place on, each over the last store of the list, which leaves it; each restart is
-/// entered. With a refusal all stores are in the list again, and none is open.
+/// Restarts the processes from this place on, each over the last store of the list, which leaves it; each
+/// restart is entered. With a refusal all stores are in the list again, and none is open.
 fn restart_from<L: LogStore + Drop>(
     alloc: Global,
     tree: &Tree,
@@ -217,8 +217,8 @@ fn restart_from<L: LogStore + Drop>(
     }
 }
 
-/// The process of an entry, restarted over this store; its restart is entered. With a refusal the store is handed
-/// back.
+/// The process of an entry, restarted over this store; its restart is entered. With a refusal the store is
+/// handed back.
 fn restarted<L: LogStore + Drop>(
     alloc: Global,
     tree: &Tree,
@@ -230,7 +230,8 @@ fn restarted<L: LogStore + Drop>(
     ensures ok { IfOk result (λ node. RestartsIn L.bytes L.forced L.failures tree.now entry.now store
         (core_of node) (data_of node) journal.old journal.new) }
     ensures err { IfErr result (λ e. TreeNotRestarted L.bytes L.failures tree.now entry.now store e.0) }
-    ensures handed_back { IfErr result (λ e. IsGivenBack L.bytes L.forced L.failures entry.now store e.1 e.0) }
+    ensures handed_back { IfErr result (λ e. IsGivenBack L.bytes L.forced L.failures entry.now
+        store e.1 e.0) }
 {
     if journal.make_room().is_err() {
         return Err((TreeReopenError::Memory, store));
@@ -248,28 +249,31 @@ fn restarted<L: LogStore + Drop>(
 }
 
 impl<L: LogStore + Drop> World<L> {
-    /// A tree over the logs that an earlier run of it left, one for each process, in the order of the tree, of
-    /// either format: each log is gone over and migrated where needed, and then each process restarts in the order
-    /// of the tree. The journal has these restarts first, and the messages that they send are numbered from 1.
+    /// A tree over the logs that an earlier run of it left, one for each process, in the order of the tree,
+    /// of either format: each log is gone over and migrated where needed, and then each process restarts in
+    /// the order of the tree. The journal has these restarts first, and the messages that they send are
+    /// numbered from 1.
     ///
-    /// From each run of the tree that left these logs, whichever version made each of its moves, the tree goes on: then
-    /// every process went down by a crash, and each restarted. Of logs that no run left nothing is promised but that
-    /// they have no fault. Stores that are left over are released.
+    /// From each run of the tree that left these logs, whichever version made each of its moves, the tree
+    /// goes on: then every process went down by a crash, and each restarted. Of logs that no run left nothing
+    /// is promised but that they have no fault. Stores that are left over are released.
     ///
-    /// With a refusal the stores are handed back, each at its place with its log: as it was, or the same records in the
-    /// second format, and after them those of a restart. Memory: a growth was refused. Device: the device of the store
-    /// of this process failed, and that store is as the device left it; or there is no store for this process. Damaged:
-    /// of all logs in the order of the tree the log of this process is the first with a fault, and this is the place of
-    /// the first one in it: damage, or a record that may not be in the log of this process in this tree. If no log
-    /// has a fault it is told at place 0 of the first process that cannot restart over its log, as where no number comes
-    /// after those that it has. No run leaves such a log.
+    /// With a refusal the stores are handed back, each at its place with its log: as it was, or the same
+    /// records in the second format, and after them those of a restart. Memory: a growth was refused. Device:
+    /// the device of the store of this process failed, and that store is as the device left it; or there is
+    /// no store for this process. Damaged: of all logs in the order of the tree the log of this process is
+    /// the first with a fault, and this is the place of the first one in it: damage, or a record that may not
+    /// be in the log of this process in this tree. If no log has a fault it is told at place 0 of the first
+    /// process that cannot restart over its log, as where no number comes after those that it has. No run
+    /// leaves such a log.
     pub fn reopen(
         alloc: Global,
         tree: Tree,
         stores: Vec<L>,
     ) -> Result<World<L>, (TreeReopenError, Vec<L>)>
         requires { IsTree tree }
-        ensures reopened { IfOk result (λ world. IsReopened tree (logs_in L.bytes tree stores.items) (state world)) }
+        ensures reopened { IfOk result (λ world. IsReopened tree (logs_in L.bytes tree stores.items)
+            (state world)) }
         ensures flag { IfOk result (λ world. world.reopened ≡ true) }
         ensures sound { IfOk result (λ _. first_fault L.bytes tree stores.items ≡ None) }
         ensures goes_on { IfOk result (λ world. (es : List Made) (w : ModelWorld) → IsRun tree es w

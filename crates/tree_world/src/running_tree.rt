@@ -22,8 +22,8 @@ use tree_journal::Journal;
 /// At most N messages are delivered by one settle.
 const SETTLE_LIMIT: u32 = 10_000;
 
-/// What a tree that runs keeps: its processes, each with its log in a store, the journal of their steps, and the steps in
-/// which a device failed.
+/// What a tree that runs keeps: its processes, each with its log in a store, the journal of their steps, and
+/// the steps in which a device failed.
 #[derive(Drop)]
 pub(crate) struct RunningTree<L: LogStore> {
     pub(crate) alloc: Global,
@@ -202,7 +202,8 @@ impl<L: LogStore> RunningTree<L> {
         ensures err { IfErr result (λ e. Stops (running_state self.old) (Event.Deliver number)
             e (running_state self.new)) }
         ensures stay { OnOk result (self.new.faults ≡ self.old.faults) }
-        ensures noted { IfErr result (NotedUntil (running_state self.old) self.old.faults (Event.Deliver number)
+        ensures noted { IfErr result (NotedUntil (running_state self.old) self.old.faults
+            (Event.Deliver number)
             (running_state self.new) self.new.faults) }
     {
         self.journal.make_room()?;
@@ -218,7 +219,8 @@ impl<L: LogStore> RunningTree<L> {
         ensures err { IfErr result (λ e. Stops (running_state self.old) (Event.Deliver number)
             e (running_state self.new)) }
         ensures stay { OnOk result (self.new.faults ≡ self.old.faults) }
-        ensures noted { IfErr result (NotedUntil (running_state self.old) self.old.faults (Event.Deliver number)
+        ensures noted { IfErr result (NotedUntil (running_state self.old) self.old.faults
+            (Event.Deliver number)
             (running_state self.new) self.new.faults) }
     {
         let Some(envelope) = self.journal.message(number) else {
@@ -262,7 +264,8 @@ impl<L: LogStore> RunningTree<L> {
         ensures err { IfErr result (λ e. Stops (running_state self.old) (Event.Restart process bytes)
             e (running_state self.new)) }
         ensures stay { OnOk result (self.new.faults ≡ self.old.faults) }
-        ensures noted { IfErr result (NotedUntil (running_state self.old) self.old.faults (Event.Restart process bytes)
+        ensures noted { IfErr result (NotedUntil (running_state self.old) self.old.faults
+            (Event.Restart process bytes)
             (running_state self.new) self.new.faults) }
     {
         self.journal.make_room()?;

@@ -43,8 +43,8 @@ impl<L: LogStore> Model for World<L> {
 }
 
 impl<L: LogStore> World<L> {
-    /// Whether it was opened over the logs that an earlier run left; then the first steps are the restarts of its
-    /// processes.
+    /// Whether it was opened over the logs that an earlier run left; then the first steps are the restarts of
+    /// its processes.
     pub fn is_reopened(&self) -> bool
         ensures { result ≡ self.now.reopened }
     {
@@ -72,9 +72,9 @@ impl<L: LogStore> World<L> {
         self.running.journal.entries()
     }
 
-    /// The steps of the run, whole: those that were made, and among them each in which a device failed, after those made
-    /// before it, as a list made again. Such a step names its event, how many of its records stand and how many more are
-    /// forced, and shows nothing.
+    /// The steps of the run, whole: those that were made, and among them each in which a device failed, after
+    /// those made before it, as a list made again. Such a step names its event, how many of its records stand
+    /// and how many more are forced, and shows nothing.
     pub fn trace(&self) -> Result<Vec<JournalEntry>, AllocError>
         ensures steps { IfOk result (λ steps. steps.items ≡ trace self.now) }
         ensures run { self.now.reopened ≡ false → TraceIsRun (state self.now) (trace self.now) }
@@ -113,7 +113,8 @@ impl<L: LogStore> World<L> {
 
     /// How many cases are live at a process, if there is one: those that are not Unknown.
     pub fn live(&self, process: ProcessId) -> Option<usize>
-        ensures known { IfSome (node_in self.now.nodes process) (λ node. IfSome result (KnowsCases (standing_at node))) }
+        ensures known { IfSome (node_in self.now.nodes process)
+            (λ node. IfSome result (KnowsCases (standing_at node))) }
         ensures entries { result ≡ option_map live_at (node_in self.now.nodes process) }
     {
         self.running.nodes.live(process)
@@ -145,13 +146,13 @@ impl<L: LogStore> World<L> {
     /// process's device failed under its record, and it answers Failed from then on. Memory: a growth was
     /// refused. Exhausted: numbers that the event wants of a process are used up.
     ///
-    /// However it ends, and whatever devices failed, the tree stands for a run of the model that goes on
-    /// from the one that it stood for. In this run no two processes end one transaction differently except
-    /// by an operator's decision; commit is decided only where every participant voted yes or read-only;
-    /// every answer that finds its asker in doubt tells the root's outcome; a mismatch stands until it is
+    /// However it ends, and whatever devices failed, the tree stands for a run of the model that goes on from
+    /// the one that it stood for. In this run no two processes end one transaction differently except by an
+    /// operator's decision; commit is decided only where every participant voted yes or read-only; every
+    /// answer that finds its asker in doubt tells the root's outcome; a mismatch stands until it is
     /// forgotten; an operator's record comes from an operator alone; and each End of the root reports
-    /// mismatches truly (R*). Where the tree was opened over the logs of an earlier run, so it is of both parts
-    /// together, from each run that it stood for, and each End of the later part reports truly.
+    /// mismatches truly (R*). Where the tree was opened over the logs of an earlier run, so it is of both
+    /// parts together, from each run that it stood for, and each End of the later part reports truly.
     pub fn apply(&mut self, event: Event) -> Result<(), StepError>
         ensures ok { OnOk result (Applies (state self.old) event (state self.new)) }
         ensures err { IfErr result (λ e. Stops (state self.old) event e (state self.new)) }

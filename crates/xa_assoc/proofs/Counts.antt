@@ -12,7 +12,8 @@ use Rattle.xa_assoc.specs.Names.{same_seat}
 use Rattle.xa_assoc.specs.Seats.{count_of, holds}
 use Rattle.xa_assoc.proofs.Sound.{seat_is}
 
-pub any_counted : (p : Suspended → Bool) (seats : List Suspended) → nat_lt 0 (count_by p seats) ≡ list_any p seats
+pub any_counted : (p : Suspended → Bool) (seats : List Suspended)
+    → nat_lt 0 (count_by p seats) ≡ list_any p seats
 any_counted p [] = refl
 any_counted p (s ∷ seats) = ap (nat_lt 0) (sum_by-cons (λ x. cond (p x) 1 0) s seats)
     ∙ by_test (p s) (any_counted p seats)

@@ -26,7 +26,8 @@ listed_once (e ∷ es) h = (apart e.0 es h.0, listed_once es h.1)
 
 module _ {K : Type 0} where
   within : (b : Bool) (es more : List (K × ℕ)) (e : K × ℕ) (n : ℕ) → 0 < n
-      → 0 < e.1 → ArePositiveCounts es → ArePositiveCounts more → ArePositiveCounts (if b then (e.0, n) ∷ es else e ∷ more)
+      → 0 < e.1 → ArePositiveCounts es → ArePositiveCounts more
+      → ArePositiveCounts (if b then (e.0, n) ∷ es else e ∷ more)
   within true es more e n some h k l = (some, k)
   within false es more e n some h k l = (h, l)
 
@@ -42,7 +43,8 @@ module _ {K : Type 0} where
   read (e ∷ es) zero d h own = h.0
   read (e ∷ es) (suc i) d h own = read es i d h.1 own
 
-  taken : (es : List (K × ℕ)) (i : ℕ) (d : K × ℕ) → ArePositiveCounts es → 0 < d.1 → ArePositiveCounts (swap_remove es i d)
+  taken : (es : List (K × ℕ)) (i : ℕ) (d : K × ℕ) → ArePositiveCounts es → 0 < d.1
+      → ArePositiveCounts (swap_remove es i d)
   taken es i d h own =
       let some : K × ℕ → Type 0 = λ e. 0 < e.1 in
       recursion_from_All some (swap_remove es i d)
@@ -50,7 +52,8 @@ module _ {K : Type 0} where
       (read es (length es - 1) d h own) (All-from_recursion some es h)))
 
   -- a key is counted no longer
-  pub removed : (test : K → Bool) (es : List (K × ℕ)) → ArePositiveCounts es → ArePositiveCounts (swap_remove_entry test es)
+  pub removed : (test : K → Bool) (es : List (K × ℕ)) → ArePositiveCounts es
+      → ArePositiveCounts (swap_remove_entry test es)
   removed test [] h = tt
   removed test (e ∷ es) h = by_place (position test (keys_of (e ∷ es)))
     where

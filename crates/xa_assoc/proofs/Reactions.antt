@@ -39,8 +39,10 @@ answer_is old new t x P (Err e) answer plan holds steps p q =
 -- a row was made, of the associations and then of the branches
 pub made : (old new : States) (t : ℕ) (x : Xid) (c : Call) (plan : Result AssocRow Code) (to : BranchState)
     (by answer : Code)
-    → IsPlan plan → AssocSteps old.associations new.associations t x plan by → by ≢ code.Proto → by ≢ code.RmErr
-    → Contains (branch_rows (state_at old x) c) (by, to) → answer ≡ by → BranchMoves old.branches new.branches x to
+    → IsPlan plan → AssocSteps old.associations new.associations t x plan by → by ≢ code.Proto
+    → by ≢ code.RmErr
+    → Contains (branch_rows (state_at old x) c) (by, to) → answer ≡ by
+    → BranchMoves old.branches new.branches x to
     → new.init ≡ old.init
     → ReactsByRows old new t x c plan to answer
 made old new t x c (Ok r) to by answer plan steps p q listed is branch init =
@@ -59,9 +61,11 @@ made old new t x c (Err e) to by answer plan steps p q listed is branch init =
 -- the same of a branch at work or lost, which moved to a state
 pub made_step : (old new : States) (t : ℕ) (x : Xid) (c : Call) (plan : Result AssocRow Code)
     (to moved_to : BranchState) (by : Code)
-    → IsPlan plan → AssocSteps old.associations new.associations t x plan by → by ≢ code.Proto → by ≢ code.RmErr
+    → IsPlan plan → AssocSteps old.associations new.associations t x plan by → by ≢ code.Proto
+    → by ≢ code.RmErr
     → IfOk plan (λ r. Contains (branch_rows (state_at old x) c) (r.1, to)) → moved_to ≡ to
-    → BranchMoves old.branches new.branches x moved_to → new.init ≡ old.init → ReactsByRows old new t x c plan to by
+    → BranchMoves old.branches new.branches x moved_to → new.init ≡ old.init
+    → ReactsByRows old new t x c plan to by
 made_step old new t x c plan to moved_to by is_plan steps p q rows state_is moved init =
     let listed : Contains (branch_rows (state_at old x) c) (by, to) =
     answer_is old.associations new.associations t x

@@ -36,7 +36,8 @@ pub record Walks (old new : States) (t : ℕ) (x : Xid) (call : Call) (row : Ass
 
 -- a call made a row of each table that it touches, of the associations this one and of the branches the one
 -- that leads to a state, or was refused and changed nothing
-abbrev pub ReactsByRows : States → States → ℕ → Xid → Call → Result AssocRow Code → BranchState → Code → Type 0
+abbrev pub ReactsByRows : States → States → ℕ → Xid → Call → Result AssocRow Code → BranchState → Code
+    → Type 0
 ReactsByRows old new t x call plan to answer = MatchResult plan
     (λ row. Walks old new t x call row to answer)
     (λ refusal. (answer ≡ refusal) × SameStates old new)
@@ -124,7 +125,8 @@ pub record TablesFinish (old new : States) (x : Xid) (call : Call) (wanted : Cod
   pub held : is_known old.branches.branches x ≡ true → is_held old.associations x ≡ true
       → RefusesCall old new answer code.Proto
   pub row : is_known old.branches.branches x ≡ true → is_held old.associations x ≡ false
-      → Contains (branch_rows (state_at old x) call) wanted → (answer ≡ wanted.0) × TakesTableRow old new x wanted.1
+      → Contains (branch_rows (state_at old x) call) wanted → (answer ≡ wanted.0)
+      × TakesTableRow old new x wanted.1
   pub off : is_known old.branches.branches x ≡ true → is_held old.associations x ≡ false
       → (Contains (branch_rows (state_at old x) call) wanted → ⊥) → RefusesCall old new answer (off_row call)
 
@@ -196,7 +198,8 @@ pub record Scanned (old new : States) (t count : ℕ) (c : Call)
     (answer : Result (List Xid) Code) : Type 0 where
   pub closed : old.init ≡ R0 → (answer ≡ Err code.Proto) × SameStates old new
   pub given : old.init ≡ R1 → MatchResult answer
-      (λ given. ScansBranches old.branches new.branches t count c given × (new.associations ≡ old.associations)
+      (λ given. ScansBranches old.branches new.branches t count c given
+      × (new.associations ≡ old.associations)
       × (new.init ≡ old.init))
       (λ refusal. (scan_refusal old.branches.scans t c ≡ Some refusal) × SameStates old new)
 

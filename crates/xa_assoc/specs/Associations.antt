@@ -62,13 +62,14 @@ AreThreadsListedOnce (e ∷ es) = AllByRecursion (λ f. nat_eq f.0 e.0 ≡ false
 abbrev pub ArePositiveCounts : {K : Type 0} → List (K × ℕ) → Type 0
 ArePositiveCounts es = AllByRecursion (λ e. 0 < e.1) es
 
--- each thread is listed once among those that hold associations, and a branch as suspended for migration only if it is
+-- each thread is listed once among those that hold associations, and a branch as suspended for migration only
+-- if it is
 pub record IsAssocList (a : AssocList) : Type 0 where
   pub once : AreThreadsListedOnce a.holders
   pub counted : ArePositiveCounts a.moved
 
--- no thread has suspended the branch that it is active in, and one that has suspended a branch is listed; a branch is
--- listed as suspended for migration only if it is
+-- no thread has suspended the branch that it is active in, and one that has suspended a branch is listed; a
+-- branch is listed as suspended for migration only if it is
 pub record IsSound (a : AssocList) : Type 0 where
   pub apart : (t : ℕ) (x : Xid) → is_active a t x ≡ true → has_seat a t x ≡ false
   pub kept : (t : ℕ) (x : Xid) → has_seat a t x ≡ true → is_holder a t ≡ true

@@ -60,7 +60,8 @@ impl Associations {
         }
     }
 
-    /// Each thread that holds associations is listed once, and a branch as suspended for migration only if it is.
+    /// Each thread that holds associations is listed once, and a branch as suspended for migration only if it
+    /// is.
     pub fn are_listed_once(&self)
         ensures { IsAssocList self.now }
     {

@@ -75,8 +75,8 @@ impl States {
         self.init == InitState::R1
     }
 
-    /// A new branch begins that no thread is in. False: it is known, or 1,024 are; nothing changed, nor does want
-    /// of memory.
+    /// A new branch begins that no thread is in. False: it is known, or 1,024 are; nothing changed, nor does
+    /// want of memory.
     pub fn begin_idle(&mut self, xid: &Xid) -> Result<bool, AllocError>
         ensures begun { IfOk result (BeginsIdle self.old self.new xid.now) }
         ensures err { OnErr result (SameStates self.old self.new) }
@@ -115,7 +115,8 @@ impl States {
         self.branches.are_listed_once();
     }
 
-    /// Each thread that holds associations is listed once, and a branch as suspended for migration only if it is.
+    /// Each thread that holds associations is listed once, and a branch as suspended for migration only if it
+    /// is.
     pub fn associations_are_listed_once(&self)
         ensures { IsAssocList self.now.associations }
     {
@@ -205,7 +206,8 @@ impl States {
         xid: &Xid,
         flags: Flags,
     ) -> Result<(Call, usize, BranchState), Code>
-        ensures ok { IfOk result (λ given. IsReadyCall self.now verb xid.now flags.0 given.0 given.1 given.2) }
+        ensures ok { IfOk result (λ given. IsReadyCall self.now verb xid.now flags.0 given.0
+            given.1 given.2) }
         ensures err { IfErr result (λ refusal. ready self.now verb xid.now flags.0 ≡ Err refusal) }
     {
         let call = legal_call(verb, flags)?;

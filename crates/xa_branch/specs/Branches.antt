@@ -107,7 +107,8 @@ scanned b thread call = if starts_scan call then in_doubt b.branches
     else unwrap_or (scan_of b.scans thread) []
 
 -- a recover was not refused and gave these
-pub record ScansBranches (old new : BranchList) (thread count : ℕ) (call : Call) (given : List Xid) : Type 0 where
+pub record ScansBranches (old new : BranchList) (thread count : ℕ) (call : Call)
+    (given : List Xid) : Type 0 where
   pub made : scan_refusal old.scans thread call ≡ None
   pub next : given ≡ take count (scanned old thread call)
   pub left : SetsScan old.scans new.scans thread (if ends_scan call then None

@@ -1,7 +1,7 @@
 //! Floor: XA and the key store.
 //!
-//! The branches that a resource manager knows, in order of beginning, the scans of them, and operators' decisions of them
-//! (C193, heuristic branch completion).
+//! The branches that a resource manager knows, in order of beginning, the scans of them, and operators'
+//! decisions of them (C193, heuristic branch completion).
 //!
 //! ```text
 //! begin      S0 -> S1

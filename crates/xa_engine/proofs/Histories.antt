@@ -214,7 +214,8 @@ done_stands old new Does one calls =
     by_failed old new _ _ _ calls (λ never same. absurd never)
     (λ does. same_one old.store.tables new.store.tables (one old.store new.store does))
 
-read_stands : (old new : KvSight) (t : ℕ) (k : List ℕ) (a : RequestAnswer) → IsRead old new t k a → Stands old new
+read_stands : (old new : KvSight) (t : ℕ) (k : List ℕ) (a : RequestAnswer) → IsRead old new t k a
+    → Stands old new
 read_stands old new t k (answer.Found v) h = done_stands old new _ (λ before behind reads. reads.tables) h
 read_stands old new t k (answer.Refused e) h = refusal_stands old new _ e h.1
 read_stands old new t k (answer.Code c) h = absurd h
@@ -239,7 +240,8 @@ write_stands old new t k v (answer.Trimmed n) h = absurd h
 write_stands old new t k v (answer.NotTrimmed e) h = absurd h
 write_stands old new t k v (answer.NotDecided e) h = absurd h
 
-op_stands : (old new : KvSight) (t : ℕ) (op : Op) (a : RequestAnswer) → RequestWorks old new t op a → Stands old new
+op_stands : (old new : KvSight) (t : ℕ) (op : Op) (a : RequestAnswer) → RequestWorks old new t op a
+    → Stands old new
 op_stands old new t (Get k) a h = read_stands old new t k a h
 op_stands old new t (Put k v) a h = write_stands old new t k (Some v) a h
 op_stands old new t (Delete k) a h = write_stands old new t k None a h
@@ -396,7 +398,8 @@ record Run (m : KvSight) (rs : List Request) (given : List RequestAnswer) (n : K
   shown : ShowEach rs given moves
   leads : MovesLead m.store.tables moves n.store.tables
 
-run_of : (m n : KvSight) (rs : List Request) (given : List RequestAnswer) → RequestsLead m rs given n → Run m rs given n
+run_of : (m n : KvSight) (rs : List Request) (given : List RequestAnswer) → RequestsLead m rs given n
+    → Run m rs given n
 run_of m n [] [] e = record { moves = []; shown = tt; leads = ap (λ (s : KvSight). s.store.tables) e.0 }
 run_of m n [] (a ∷ given) e = absurd e
 run_of m n (r ∷ rs) [] e = absurd e
@@ -410,7 +413,8 @@ run_of m n (r ∷ rs) (a ∷ given) e =
     }
 
 -- a new manager has new tables and an empty log
-no_records : (log : LogState) → OpensLog (log_form (record { 0 = 1 }) Manager) [] 0 0 log → records_of log.sight.kept ≡ []
+no_records : (log : LogState) → OpensLog (log_form (record { 0 = 1 }) Manager) [] 0 0 log
+    → records_of log.sight.kept ≡ []
 unfolding read_log same_bytes
 no_records log opens = let one : Whole [] 0 ≡ Whole (records_of log.sight.kept) opens.torn = opens.read in cc
 

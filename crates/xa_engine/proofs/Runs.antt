@@ -16,8 +16,10 @@ use Rattle.xa_engine.specs.Makes.{CallsBranch, RequestJoins, RequestMakes}
 use Rattle.xa_engine.specs.Runs.{IsFreshManager, IsSoundManager, RequestsLead, Reports, Runs}
 use Rattle.xa_engine.specs.script.Scripts.{IsFirstBadLine, SpellEach, call_lines}
 
-pub leads_more : (m k n : KvSight) (rs : List Request) (r : Request) (given : List RequestAnswer) (a : RequestAnswer)
-    → RequestsLead m rs given k → RequestMakes k n r a → IsSoundManager n → RequestsLead m (rs ++ r ∷ []) (given ++ a ∷ []) n
+pub leads_more : (m k n : KvSight) (rs : List Request) (r : Request) (given : List RequestAnswer)
+    (a : RequestAnswer)
+    → RequestsLead m rs given k → RequestMakes k n r a → IsSoundManager n
+    → RequestsLead m (rs ++ r ∷ []) (given ++ a ∷ []) n
 leads_more m k n [] r [] a e makes sound =
     (n, e.1, subst (λ (j : KvSight). RequestMakes j n r a) (sym e.0) makes, (refl, sound))
 leads_more m k n [] r (b ∷ given) a e makes sound = absurd e
@@ -32,7 +34,8 @@ text_more (b ∷ given) a = ap (λ t. answer_text b ++ t) (text_more given a)
     ∙ sym (append_assoc (answer_text b) (flat_map answer_text given) (answer_text a))
 
 -- a run from a new manager on is a report
-pub reports : {A E : Type 0} (m n : KvSight) (ls : List (List ℕ)) (text : A → List ℕ) (r : Result (Result A ℕ) E)
+pub reports : {A E : Type 0} (m n : KvSight) (ls : List (List ℕ)) (text : A → List ℕ)
+    (r : Result (Result A ℕ) E)
     → IsFreshManager m
     → IfOk r (λ read. MatchResult read
     (λ a. (rs : List Request) × SpellEach (call_lines ls) rs × Runs m n rs (text a))
@@ -47,7 +50,8 @@ reports m n ls text (Err e) fresh h = tt
 
 -- a start and an end are calls on a branch
 pub calls_start : {E : Type 0} (f : BranchCall) (old new : KvSight) (t : ℕ)
-    (x : Xid) (flags : ℕ) (r : Result Code E) → f ≡ Start → IfOk r (λ c. RequestJoins verb.Start old new t x flags c)
+    (x : Xid) (flags : ℕ) (r : Result Code E) → f ≡ Start
+    → IfOk r (λ c. RequestJoins verb.Start old new t x flags c)
     → IfOk r (λ c. CallsBranch f old new t x flags c)
 calls_start f old new t x flags (Ok c) is h =
     subst (λ (g : BranchCall). CallsBranch g old new t x flags c) (sym is) h

@@ -34,7 +34,8 @@ use Rattle.xa_engine.specs.declared.answer.RequestAnswer.TheVariants as answer
 
 -- a call that moves the tables alone, or that a failed manager refuses
 abbrev pub RequestMoves : KvSight → KvSight → Code → (States → States → Type 0) → Type 0
-RequestMoves old new c RequestMakes = KvCalls old new (c ≡ code.RmFail) (λ before behind. MovesTables before behind RequestMakes)
+RequestMoves old new c RequestMakes = KvCalls old new (c ≡ code.RmFail)
+    (λ before behind. MovesTables before behind RequestMakes)
 
 -- the answer is a code
 abbrev pub IsCode : (Code → Type 0) → RequestAnswer → Type 0
@@ -43,7 +44,8 @@ IsCode P _ = ⊥
 
 -- a start or an end
 abbrev pub RequestJoins : Verb → KvSight → KvSight → ℕ → Xid → ℕ → Code → Type 0
-RequestJoins v old new t x flags c = (wanted : Wanted) → RequestMoves old new c (λ a b. AnswersCall wanted a b v t x flags c)
+RequestJoins v old new t x flags c = (wanted : Wanted)
+    → RequestMoves old new c (λ a b. AnswersCall wanted a b v t x flags c)
 
 -- a call on a branch
 abbrev pub CallsBranch : BranchCall → KvSight → KvSight → ℕ → Xid → ℕ → Code → Type 0
@@ -103,24 +105,28 @@ Boots old new keep (answer.NotBooted e) =
     (e ≡ restart_error.Memory → ⊥) × KvNotRestarted old new (kept_bytes keep) e
 Boots old new keep _ = ⊥
 
--- a trim, of which N records remain, and what was before the last commit is forgotten; or why there is none, which
--- leaves the key store as it was
+-- a trim, of which N records remain, and what was before the last commit is forgotten; or why there is none,
+-- which leaves the key store as it was
 abbrev pub RequestTrims : KvSight → KvSight → RequestAnswer → Type 0
-RequestTrims old new (answer.Trimmed n) = ManagerTrims (sight_of old) (sight_of new) n × RebasesStore old.store new.store
+RequestTrims old new (answer.Trimmed n) = ManagerTrims (sight_of old) (sight_of new) n
+    × RebasesStore old.store new.store
 RequestTrims old new (answer.NotTrimmed e) =
     (e ≡ trim_error.Memory → ⊥) × ManagerNotTrimmed (sight_of old) (sight_of new) e × (new.store ≡ old.store)
 RequestTrims old new _ = ⊥
 
 -- an operator's decision, or why there is none
 abbrev pub RequestDecides : KvSight → KvSight → Xid → Outcome → RequestAnswer → Type 0
-RequestDecides old new x o answer.Done = ManagerDecides (sight_of old) (sight_of new) x o × KvMakes old new x (decide_turn o)
+RequestDecides old new x o answer.Done = ManagerDecides (sight_of old) (sight_of new) x o
+    × KvMakes old new x (decide_turn o)
 RequestDecides old new x o (answer.NotDecided e) =
-    (e ≡ decide_error.Memory → ⊥) × ManagerNotDecided (sight_of old) (sight_of new) x o e × DecisionNotTaken old new x o e
+    (e ≡ decide_error.Memory → ⊥) × ManagerNotDecided (sight_of old) (sight_of new) x o e
+    × DecisionNotTaken old new x o e
 RequestDecides old new x o _ = ⊥
 
 -- a request takes a manager from one state to another, and is answered so
 abbrev pub RequestMakes : KvSight → KvSight → Request → RequestAnswer → Type 0
-RequestMakes old new (Open flags migrates) = IsCode (λ c. RequestMoves old new c (λ a b. OpensManager a b flags.0 migrates c))
+RequestMakes old new (Open flags migrates) =
+    IsCode (λ c. RequestMoves old new c (λ a b. OpensManager a b flags.0 migrates c))
 RequestMakes old new (Close flags) = IsCode (λ c. RequestMoves old new c (λ a b. Closes a b flags.0 c))
 RequestMakes old new (Branch f thread xid flags) = IsCode (CallsBranch f old new thread xid flags.0)
 RequestMakes old new (Recover thread count flags) = RequestScans old new thread count flags.0

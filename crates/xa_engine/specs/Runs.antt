@@ -22,8 +22,8 @@ use Rattle.xa_engine.specs.Makes.{RequestMakes}
 abbrev pub IsFreshManager : KvSight → Type 0
 IsFreshManager m = RestoredFrom (record { 0 = 1 }) [] 0 0 m
 
--- what is true of the log of a manager: its records can be in a manager's log and may follow one another; and for some N
--- below 2^64 a crash that keeps N of the unforced bytes leaves all of them
+-- what is true of the log of a manager: its records can be in a manager's log and may follow one another; and
+-- for some N below 2^64 a crash that keeps N of the unforced bytes leaves all of them
 pub record HasSoundLog (m : KvSight) : Type 0 where
   pub sound : AllByRecursion (IsSound Manager) (records_of m.log.sight.kept)
   pub ordered : are_ordered (records_of m.log.sight.kept) ≡ true
@@ -31,17 +31,19 @@ pub record HasSoundLog (m : KvSight) : Type 0 where
   pub fits : size < 2 ^ 64
   pub whole : left_by m.log.sight size ≡ records_of m.log.sight.kept
 
--- what is true of each manager of a script: its log is sound; its device, which is memory, never failed; each thread that
--- holds associations is listed once, and a branch as suspended for migration only if it is
+-- what is true of each manager of a script: its log is sound; its device, which is memory, never failed; each
+-- thread that holds associations is listed once, and a branch as suspended for migration only if it is
 pub record IsSoundManager (m : KvSight) : Type 0 where
   pub log : HasSoundLog m
   pub device : m.log.sight.failures ≡ 0
   pub listed : IsAssocList m.store.tables.associations
 
--- requests take a manager from one state to another, each with its answer, and each manager on the way is sound
+-- requests take a manager from one state to another, each with its answer, and each manager on the way is
+-- sound
 abbrev pub RequestsLead : KvSight → List Request → List RequestAnswer → KvSight → Type 0
 RequestsLead m [] [] n = (m ≡ n) × IsSoundManager m
-RequestsLead m (r ∷ rs) (a ∷ rest) n = (k : KvSight) × IsSoundManager m × RequestMakes m k r a × RequestsLead k rs rest n
+RequestsLead m (r ∷ rs) (a ∷ rest) n = (k : KvSight) × IsSoundManager m × RequestMakes m k r a
+    × RequestsLead k rs rest n
 RequestsLead m _ _ n = ⊥
 
 -- a request takes a manager from one state to another, which is sound, and the line of its answer is written
@@ -78,5 +80,6 @@ fault_text (Line n) = codes "error 3 " ++ decimal n ++ 10 ∷ []
 -- line of the fault that is there
 abbrev pub IsXaReport : Status → List ℕ → List ℕ → Type 0
 IsXaReport Ended input text = (requests : List Request) × IsXaScript input requests × Reports requests text
-IsXaReport Refused input text = (error : XaScriptError) × IsScriptFault input error × (text ≡ fault_text error)
+IsXaReport Refused input text = (error : XaScriptError) × IsScriptFault input error
+    × (text ≡ fault_text error)
 IsXaReport Stopped input text = ⊥

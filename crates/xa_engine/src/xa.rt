@@ -105,8 +105,8 @@ pub fn first_manager(alloc: Global) -> Result<Manager, AllocError>
     }
 }
 
-/// The answers to the requests of a script's lines, one a line, and the last line, of a new manager; or the number
-/// of the first line that spells no request, counted from 1.
+/// The answers to the requests of a script's lines, one a line, and the last line, of a new manager; or the
+/// number of the first line that spells no request, counted from 1.
 fn answers(alloc: Global, lines: &[&str]) -> Result<Result<Vec<u8>, usize>, AllocError>
     ensures { IfOk result (λ read. MatchResult read
         (λ text. (requests : List AnyRequest) × SpellEach (call_lines (map (λ s. s.now) lines.now)) requests
@@ -117,8 +117,8 @@ fn answers(alloc: Global, lines: &[&str]) -> Result<Result<Vec<u8>, usize>, Allo
     run(alloc, &mut manager, lines)
 }
 
-/// Makes the requests of a script's lines of a manager, each as its line is read. Gives their answers, one a line,
-/// and the last line; or the number of the first line that spells no request, counted from 1.
+/// Makes the requests of a script's lines of a manager, each as its line is read. Gives their answers, one a
+/// line, and the last line; or the number of the first line that spells no request, counted from 1.
 fn run(
     alloc: Global,
     manager: &mut Manager,
@@ -144,7 +144,8 @@ fn run(
     Ok(Ok(out))
 }
 
-/// The records of its log can be in it and may follow one another, and there are fewer than 2^64 bytes of them.
+/// The records of its log can be in it and may follow one another, and there are fewer than 2^64 bytes of
+/// them.
 fn log_is_sound(manager: &Manager)
     ensures { HasSoundLog manager.now }
 {

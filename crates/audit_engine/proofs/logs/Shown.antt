@@ -62,7 +62,8 @@ no_log p bytes (DamagedError at) place h e = h ∙ ap (λ n. Damaged n) (same_pl
 
 -- One more log.
 
-pub text_more : (old new total : List ℕ) (e : TreeProcess) (es rest : List TreeProcess) (logs : List ProcessLog)
+pub text_more : (old new total : List ℕ) (e : TreeProcess) (es rest : List TreeProcess)
+    (logs : List ProcessLog)
     → new ≡ old ++ held_text (form_of logs e) (bytes_of logs e.id) → rest ≡ e ∷ es
     → old ++ shown_text rest logs ≡ total → new ++ shown_text es logs ≡ total
 text_more old new total e es rest logs n is h =

@@ -46,7 +46,8 @@ leaves es fs x o ws each here is = record {
       ∙ sym (writes_are es y (lookup (same y) es) refl);
 }
 
-pub leaves_same : (t u : List (Xid × Workspace)) (x : Xid) → LeavesWrites t u x (writes_of t x) → SameWrites t u
+pub leaves_same : (t u : List (Xid × Workspace)) (x : Xid) → LeavesWrites t u x (writes_of t x)
+    → SameWrites t u
 leaves_same t u x left y = by_test (same x y) refl
   where
     by_test : (b : Bool) → same x y ≡ b → writes_of u y ≡ writes_of t y

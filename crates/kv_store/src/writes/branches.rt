@@ -111,7 +111,8 @@ impl BranchWrites {
     pub fn put_at(&mut self, place: usize, write: Write)
         requires room { (x : Xid) × HasRoomFor self.old x write.key (Some place) }
         requires sound { IsSoundWrite write }
-        ensures { (x : Xid) → position (same x) (keys_of self.old) ≡ Some place → LeavesWrites self.old self.new x
+        ensures { (x : Xid) → position (same x) (keys_of self.old) ≡ Some place
+            → LeavesWrites self.old self.new x
             (with_write (writes_of self.old x) write.key write.value) }
     {
         put(&mut self.lists[place], write);

@@ -49,7 +49,8 @@ all_removed P test (e ∷ es) all = by_test (test e.0) (all_removed P test es al
 
 -- What is kept.
 
-pub kept_nothing : (held : List (Vec ℕ × Xid)) (live : List (Xid × Promise)) → live ≡ [] → AreHolders held live
+pub kept_nothing : (held : List (Vec ℕ × Xid)) (live : List (Xid × Promise)) → live ≡ []
+    → AreHolders held live
 kept_nothing held live none = subst (λ es. AreHolders held es) (sym none) (record { listed = tt })
 
 -- a branch is not open any more

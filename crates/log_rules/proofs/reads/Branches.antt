@@ -211,7 +211,8 @@ module _ (place : Place) (s : ProcessId) (role : place.role
   read_branch r q b name case is = subst (λ rs. IsRead place (r b) q rs p a) (sym (read_as place s role r q b
       name case)) is
 
-  of_branch : (r : BranchName → Record) (q : Option ProcessId) (b : BranchName) → ((c : BranchName) → record_case (r c)
+  of_branch : (r : BranchName → Record) (q : Option ProcessId) (b : BranchName)
+      → ((c : BranchName) → record_case (r c)
       ≡ branch_case c) → ((c : BranchName) → record_branch (r c) ≡ Some c)
       → is_of (name_xid p a) (record { entry = r b; parent = q }) ≡ same (name_xid p a) (name_xid q b)
   of_branch r q (CaseBranch d) case named = ap (λ o. is_name (name_xid p a) (option_map (name_xid q) (name_by

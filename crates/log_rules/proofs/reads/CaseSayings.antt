@@ -256,9 +256,11 @@ module _ (place : Place) (p : Option ProcessId) (c : Case) (coordinates : IsCoor
       (has (decided c) (read ++ rs)) (has (started c) (read ++ rs))) reporting
       ∙ ap (λ b. behind s ((t && ends entry) || has (is_end c) rs) final b (has (decided c) (read ++ rs)) (has
       (started c) (read ++ rs))) (more (owed c) (owes entry) says.owing)
-      ∙ ap (λ b. behind s ((t && ends entry) || has (is_end c) rs) final ((t && owes entry) || has (owed c) rs) b
+      ∙ ap (λ b. behind s ((t && ends entry) || has (is_end c) rs) final
+      ((t && owes entry) || has (owed c) rs) b
       (has (started c) (read ++ rs))) (more (decided c) (decides entry) says.deciding)
-      ∙ ap (λ b. behind s ((t && ends entry) || has (is_end c) rs) final ((t && owes entry) || has (owed c) rs) ((t
+      ∙ ap (λ b. behind s ((t && ends entry) || has (is_end c) rs) final
+      ((t && owes entry) || has (owed c) rs) ((t
       && decides entry) || has (decided c) rs) b) (more (started c) (starts entry) says.starting))
     where
       -- the report after the record and the rest
@@ -285,10 +287,12 @@ module _ (place : Place) (p : Option ProcessId) (c : Case) (coordinates : IsCoor
           ((b && owes entry) || has (owed c) rs) ((b &&
           decides entry) || has (decided c) rs) ((b && starts entry) || has (started c) rs)
       by_test true is =
-          ap (λ k. behind (said_after s entry) (has (is_end c) rs) (fold (reported_after c) k rs) (has (owed c) rs)
+          ap (λ k. behind (said_after s entry) (has (is_end c) rs) (fold (reported_after c) k rs)
+          (has (owed c) rs)
           (has (decided c) rs) (has (started c) rs)) (reporting_one s entry true (says.of_case is))
           ∙ said_one s entry (has (is_end c) rs)
-          (fold (reported_after c) (reports_next (is_reporting s) entry) rs) (has (owed c) rs) (has (decided c) rs)
+          (fold (reported_after c) (reports_next (is_reporting s) entry) rs) (has (owed c) rs)
+          (has (decided c) rs)
           (has (started c) rs) (says.of_case is)
       by_test false is = refl
 

@@ -26,7 +26,8 @@ model_branch_stays : (role : Role) (s : ProcessId) (rs after : List Record) (r :
     → model_stays role rs after r ≡ branch_stays rs after (record_branch r)
 model_branch_stays role s rs after r is = ap (λ z. model_stays z rs after r) is
 
-named_so : (r : BranchName → Record) (q : Option ProcessId) (b : BranchName) → ((c : BranchName) → record_case (r c)
+named_so : (r : BranchName → Record) (q : Option ProcessId) (b : BranchName)
+    → ((c : BranchName) → record_case (r c)
     ≡ branch_case c) → ((c : BranchName) → record_branch (r c) ≡ Some c)
     → log_name (record { entry = r b; parent = q }) ≡ Some (name_xid q b)
 named_so r q (CaseBranch d) case named = ap (λ o. option_map (name_xid q) (name_by o (record_branch (r
@@ -77,7 +78,8 @@ module _ (place : Place) (s : ProcessId) (role : place.role
       by_test true = ap (λ t. t ++ own_records place (staying ls rest)) own ∙ ap (λ t. r ∷ t) behind
       by_test false = behind
 
-  branch_stays_alike : (r : BranchName → Record) (q : Option ProcessId) (b : BranchName) (rest : List LogRecord)
+  branch_stays_alike : (r : BranchName → Record) (q : Option ProcessId) (b : BranchName)
+      (rest : List LogRecord)
       → IsSoundName q b → AllByRecursion (IsSound Manager) rest
       → ((c d : BranchName) → renamed d (r c) ≡ r d) → ((c : BranchName) → record_case (r c) ≡ branch_case c)
       → ((c : BranchName) → record_branch (r c) ≡ Some c)

@@ -20,8 +20,8 @@ abbrev pub is_reporting : Said → Bool
 is_reporting Reported = true
 is_reporting _ = false
 
--- what is said after records of which one ended the case, the last to tell reports it, one names somebody who owes,
--- one decided it, one began it
+-- what is said after records of which one ended the case, the last to tell reports it, one names somebody who
+-- owes, one decided it, one began it
 abbrev pub behind : Said → Bool → Bool → Bool → Bool → Bool → Said
 behind Over e q o d b = over q
 behind Reported e q o d b = over q
@@ -147,7 +147,8 @@ said_one s (Pair k v) e q o d b h = absurd h
 
 -- and what it reports
 pub reporting_one : (s : Said) (r : Record) (b : Bool) → IsOfCase r
-    → is_reporting (if b then said_after s r else s) ≡ (if b then reports_next (is_reporting s) r else is_reporting s)
+    → is_reporting (if b then said_after s r else s)
+    ≡ (if b then reports_next (is_reporting s) r else is_reporting s)
 reporting_one s r false h = refl
 reporting_one s r true h = one s r h
   where
@@ -155,7 +156,8 @@ reporting_one s r true h = one s r h
     settled true = refl
     settled false = refl
 
-    one : (s : Said) (r : Record) → IsOfCase r → is_reporting (said_after s r) ≡ reports_next (is_reporting s) r
+    one : (s : Said) (r : Record) → IsOfCase r → is_reporting (said_after s r)
+        ≡ reports_next (is_reporting s) r
     one Over (Collecting c ts) h = refl
     one Reported (Collecting c ts) h = refl
     one Owes (Collecting c ts) h = refl

@@ -229,7 +229,8 @@ model_case_stays AtRoot rs after r h = refl
 model_case_stays (Below p) rs after r h = refl
 model_case_stays (AtLeaf p) rs after r h = absurd h
 
-module _ (place : Place) (ls : List LogRecord) (coordinates : IsCoordinator place.role) (sound : AllByRecursion
+module _ (place : Place) (ls : List LogRecord) (coordinates : IsCoordinator place.role)
+    (sound : AllByRecursion
     (IsSound Coordinator) ls) where
   abbrev pub read : List Record
   read = own_records place ls

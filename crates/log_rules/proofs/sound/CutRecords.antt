@@ -50,7 +50,8 @@ owned_cut form xs n h e =
     ap (λ t. t ++ owner_text form) (number_cut (take 8 xs) n (first_bytes 8 xs h) got.1)
     ∙ ap (λ t. take 8 xs ++ t) (sym (bytes_same (drop 8 xs) (owner_text form) got.0)) ∙ take-append-drop 8 xs
   where
-    passed_by : (b : Bool) (o : Option ℕ) (m : ℕ) → (if b then o else None) ≡ Some m → (b ≡ true) × (o ≡ Some m)
+    passed_by : (b : Bool) (o : Option ℕ) (m : ℕ) → (if b then o else None) ≡ Some m → (b ≡ true)
+        × (o ≡ Some m)
     passed_by true o m q = (refl, q)
     passed_by false o m q = absurd (none_some m q)
 
@@ -67,7 +68,8 @@ opened_cut form kind xs l (Some n) h one is e =
     subst (λ (k : LogRecord). IsWrittenAs form k kind xs) (some_is _ l e)
     (record { same_kind = sym one; same_payload = boot_cut form.format form xs n h is })
 
-base_cut : (form : LogForm) (kind : ℕ) (xs : List ℕ) (l : LogRecord) (o : Option ℕ) → AreBytes xs → kind ≡ 25 → below xs ≡ o
+base_cut : (form : LogForm) (kind : ℕ) (xs : List ℕ) (l : LogRecord) (o : Option ℕ) → AreBytes xs → kind ≡ 25
+    → below xs ≡ o
     → option_map (λ n. unnamed (Base n)) o ≡ Some l → IsWrittenAs form l kind xs
 base_cut form kind xs l None h one is e = absurd (none_some l e)
 base_cut form kind xs l (Some n) h one is e =
@@ -104,7 +106,8 @@ listing_text form p kind c ts = by_tests (kind == 2) (kind == 3) (kind == 4)
 at_most : (n m : ℕ) → nat_le n m ≡ true → n ≤ m
 at_most n m h = grind (arith, nat_tests)
 
-listed_cut : (form : LogForm) (kind : ℕ) (xs : List ℕ) (p : Option ProcessId) (c : Case) (rest : List ℕ) (l : LogRecord)
+listed_cut : (form : LogForm) (kind : ℕ) (xs : List ℕ) (p : Option ProcessId) (c : Case)
+    (rest : List ℕ) (l : LogRecord)
     (o : Option (List Ticket))
     → (nat_le 2 kind && nat_le kind 5) ≡ true → AreBytes rest → xs ≡ name_text p (CaseBranch c) ++ rest
     → tickets_of rest ≡ o
@@ -119,7 +122,8 @@ listed_cut form kind xs p c rest l (Some ts) bounds h w is e =
     })
 
 -- a record that says nothing but its case
-alone_cut : (form : LogForm) (kind n : ℕ) (xs : List ℕ) (p : Option ProcessId) (c : Case) (r : Record) (rest : List ℕ)
+alone_cut : (form : LogForm) (kind n : ℕ) (xs : List ℕ) (p : Option ProcessId) (c : Case)
+    (r : Record) (rest : List ℕ)
     (l : LogRecord) (none : Bool)
     → kind ≡ n → kind_byte r ≡ n → payload_text form p r ≡ name_text p (CaseBranch c)
     → xs ≡ name_text p (CaseBranch c) ++ rest → (length rest == 0) ≡ none
@@ -133,7 +137,8 @@ alone_cut form kind n xs p c r rest l true is byte text w none e =
 alone_cut form kind n xs p c r rest l false is byte text w none e = absurd (none_some l e)
 
 -- an End that reports
-reported_cut : (form : LogForm) (kind : ℕ) (xs : List ℕ) (p : Option ProcessId) (c : Case) (rest : List ℕ) (l : LogRecord)
+reported_cut : (form : LogForm) (kind : ℕ) (xs : List ℕ) (p : Option ProcessId) (c : Case)
+    (rest : List ℕ) (l : LogRecord)
     (o : Option Reports)
     → kind ≡ 7 → AreBytes rest → xs ≡ name_text p (CaseBranch c) ++ rest → reports_of rest ≡ o
     → option_map (λ r. named p (End c (Some r))) o ≡ Some l → IsWrittenAs form l kind xs
@@ -144,7 +149,8 @@ reported_cut form kind xs p c rest l (Some r) seven h w is e =
       same_payload = ap (λ t. name_text p (CaseBranch c) ++ t) (reports_cut rest r h is) ∙ sym w;
     })
 
-case_cut : (form : LogForm) (kind : ℕ) (xs : List ℕ) (p : Option ProcessId) (c : Case) (rest : List ℕ) (l : LogRecord)
+case_cut : (form : LogForm) (kind : ℕ) (xs : List ℕ) (p : Option ProcessId) (c : Case)
+    (rest : List ℕ) (l : LogRecord)
     → AreBytes rest → xs ≡ name_text p (CaseBranch c) ++ rest → case_record kind p c rest ≡ Some l
     → IsWrittenAs form l kind xs
 case_cut form kind xs p c rest l h w e = by_kind (kind == 6) (kind == 7) (kind == 8)
@@ -157,7 +163,8 @@ case_cut form kind xs p c rest l h w e = by_kind (kind == 6) (kind == 7) (kind =
         (cond d (alone_record p (Cleared c) rest)
         (cond f (option_map (λ ts. named p (listing kind c ts)) (tickets_of rest)) None))) ≡ Some l
         → IsWrittenAs form l kind xs
-    by_kind true b d f six seven eight r g = alone_cut form kind 6 xs p c (End c None) rest l (length rest == 0)
+    by_kind true b d f six seven eight r g = alone_cut form kind 6 xs p c (End c None) rest l
+        (length rest == 0)
         (is_number kind 6 six) refl refl w refl g
     by_kind false true d f six seven eight r g =
         reported_cut form kind xs p c rest l (reports_of rest) (is_number kind 7 seven) h w refl g
@@ -167,19 +174,22 @@ case_cut form kind xs p c rest l h w e = by_kind (kind == 6) (kind == 7) (kind =
         listed_cut form kind xs p c rest l (tickets_of rest) r h w refl g
     by_kind false false false false six seven eight r g = absurd (none_some l g)
 
-of_case_cut : (form : LogForm) (kind : ℕ) (xs : List ℕ) (p : Option ProcessId) (b : BranchName) (rest : List ℕ) (l : LogRecord)
+of_case_cut : (form : LogForm) (kind : ℕ) (xs : List ℕ) (p : Option ProcessId) (b : BranchName)
+    (rest : List ℕ) (l : LogRecord)
     → AreBytes rest → xs ≡ name_text p b ++ rest → of_case kind p b rest ≡ Some l → IsWrittenAs form l kind xs
 of_case_cut form kind xs p (CaseBranch c) rest l h w e = case_cut form kind xs p c rest l h w e
 of_case_cut form kind xs p (Foreign x) rest l h w e = absurd (none_some l e)
 
-of_name_cut : (form : LogForm) (kind : ℕ) (xs : List ℕ) (l : LogRecord) (o : Front Name) → AreBytes xs → name_at xs ≡ o
+of_name_cut : (form : LogForm) (kind : ℕ) (xs : List ℕ) (l : LogRecord) (o : Front Name) → AreBytes xs
+    → name_at xs ≡ o
     → of_name kind o ≡ Some l → IsWrittenAs form l kind xs
 of_name_cut form kind xs l None h is e = absurd (none_some l e)
 of_name_cut form kind xs l (Some n) h is e =
     let cut = name_cut xs n h is in
     of_case_cut form kind xs n.0.0 n.0.1 n.1 l cut.bytes cut.written e
 
-coordinator_cut : (form : LogForm) (kind : ℕ) (xs : List ℕ) (l : LogRecord) → AreBytes xs → coordinator_record kind xs ≡ Some l
+coordinator_cut : (form : LogForm) (kind : ℕ) (xs : List ℕ) (l : LogRecord) → AreBytes xs
+    → coordinator_record kind xs ≡ Some l
     → IsWrittenAs form l kind xs
 unfolding coordinator_record
 coordinator_cut form kind xs l h e = of_name_cut form kind xs l (name_at xs) h refl e
@@ -192,7 +202,8 @@ pub record IsBranchWritten (form : LogForm) (p : Option ProcessId) (b : BranchNa
   pub same_kind : kind_byte r ≡ kind
   pub same_payload : payload_text form p r ≡ name_text p b ++ rest
 
-bare_cut : (form : LogForm) (p : Option ProcessId) (b : BranchName) (kind : ℕ) (r : Record) → bare kind b ≡ Some r
+bare_cut : (form : LogForm) (p : Option ProcessId) (b : BranchName) (kind : ℕ) (r : Record)
+    → bare kind b ≡ Some r
     → IsBranchWritten form p b kind [] r
 bare_cut form p b kind r e = by_tests (kind == 18) (kind == 19) (kind == 21) (kind == 22)
     (kind == 24) refl refl refl refl refl e
@@ -217,7 +228,8 @@ bare_cut form p b kind r e = by_tests (kind == 18) (kind == 19) (kind == 21) (ki
     by_tests false false false false true i j k m n q = alone 24 (Forgot b) (is_number kind 24 n) refl refl q
     by_tests false false false false false i j k m n q = absurd (none_some r q)
 
-told_cut : (form : LogForm) (p : Option ProcessId) (b : BranchName) (kind : ℕ) (rest : List ℕ) (r : Record) → kind ≡ 23
+told_cut : (form : LogForm) (p : Option ProcessId) (b : BranchName) (kind : ℕ) (rest : List ℕ) (r : Record)
+    → kind ≡ 23
     → told b rest ≡ Some r → IsBranchWritten form p b kind rest r
 told_cut form p b kind [] r is e = absurd (none_some r e)
 told_cut form p b kind (o ∷ q ∷ rest) r is e = absurd (none_some r e)
@@ -263,7 +275,8 @@ writing_cut form p b kind rest r (Some ws) of h is e =
         let twenty : kind ≡ 20 = is_number kind 20 (ap (λ a. a || (kind == 20)) (sym i) ∙ of) in
         record { same_kind = sym twenty; same_payload = ap (λ t. name_text p b ++ t) text }
 
-branch_cut : (form : LogForm) (p : Option ProcessId) (b : BranchName) (kind : ℕ) (rest : List ℕ) (r : Record) → AreBytes rest
+branch_cut : (form : LogForm) (p : Option ProcessId) (b : BranchName) (kind : ℕ) (rest : List ℕ) (r : Record)
+    → AreBytes rest
     → branch_record kind b rest ≡ Some r → IsBranchWritten form p b kind rest r
 branch_cut form p b kind rest r h e = by_tests ((kind == 17) || (kind == 20)) (kind == 23)
     (length rest == 0) refl refl refl e
@@ -278,7 +291,8 @@ branch_cut form p b kind rest r h e = by_tests ((kind == 17) || (kind == 20)) (k
         (sym (empty rest k)) (bare_cut form p b kind r f)
     by_tests false false false i j k f = absurd (none_some r f)
 
-named_cut : (form : LogForm) (kind : ℕ) (xs : List ℕ) (p : Option ProcessId) (b : BranchName) (rest : List ℕ) (l : LogRecord)
+named_cut : (form : LogForm) (kind : ℕ) (xs : List ℕ) (p : Option ProcessId) (b : BranchName)
+    (rest : List ℕ) (l : LogRecord)
     (o : Option Record)
     → AreBytes rest → xs ≡ name_text p b ++ rest → branch_record kind b rest ≡ o
     → option_map (named p) o ≡ Some l → IsWrittenAs form l kind xs
@@ -288,14 +302,16 @@ named_cut form kind xs p b rest l (Some r) h w is e =
     subst (λ (k : LogRecord). IsWrittenAs form k kind xs) (some_is _ l e)
     (record { same_kind = cut.same_kind; same_payload = cut.same_payload ∙ sym w })
 
-of_branch_cut : (form : LogForm) (kind : ℕ) (xs : List ℕ) (l : LogRecord) (o : Front Name) → AreBytes xs → name_at xs ≡ o
+of_branch_cut : (form : LogForm) (kind : ℕ) (xs : List ℕ) (l : LogRecord) (o : Front Name) → AreBytes xs
+    → name_at xs ≡ o
     → of_branch kind o ≡ Some l → IsWrittenAs form l kind xs
 of_branch_cut form kind xs l None h is e = absurd (none_some l e)
 of_branch_cut form kind xs l (Some n) h is e =
     let cut = name_cut xs n h is in
     named_cut form kind xs n.0.0 n.0.1 n.1 l (branch_record kind n.0.1 n.1) cut.bytes cut.written refl e
 
-pair_of_cut : (form : LogForm) (kind : ℕ) (xs : List ℕ) (k : List ℕ × List ℕ) (l : LogRecord) (o : Front (List ℕ)) → kind ≡ 26
+pair_of_cut : (form : LogForm) (kind : ℕ) (xs : List ℕ) (k : List ℕ × List ℕ) (l : LogRecord)
+    (o : Front (List ℕ)) → kind ≡ 26
     → IsCut key_text xs k → value_at k.1 ≡ o
     → pair_of k.0 o ≡ Some l → IsWrittenAs form l kind xs
 pair_of_cut form kind xs k l None is key v e = absurd (none_some l e)
@@ -314,12 +330,15 @@ pair_of_cut form kind xs k l (Some v) is key w e = by_rest (length v.1 == 0) ref
         })
     by_rest false none f = absurd (none_some l f)
 
-pair_cut : (form : LogForm) (kind : ℕ) (xs : List ℕ) (l : LogRecord) (o : Front (List ℕ)) → kind ≡ 26 → AreBytes xs
+pair_cut : (form : LogForm) (kind : ℕ) (xs : List ℕ) (l : LogRecord) (o : Front (List ℕ)) → kind ≡ 26
+    → AreBytes xs
     → key_at xs ≡ o → pair_by o ≡ Some l → IsWrittenAs form l kind xs
 pair_cut form kind xs l None is h k e = absurd (none_some l e)
-pair_cut form kind xs l (Some p) is h k e = pair_of_cut form kind xs p l (value_at p.1) is (key_cut xs p h k) refl e
+pair_cut form kind xs l (Some p) is h k e = pair_of_cut form kind xs p l (value_at p.1) is
+    (key_cut xs p h k) refl e
 
-manager_cut : (form : LogForm) (kind : ℕ) (xs : List ℕ) (l : LogRecord) → AreBytes xs → manager_record kind xs ≡ Some l
+manager_cut : (form : LogForm) (kind : ℕ) (xs : List ℕ) (l : LogRecord) → AreBytes xs
+    → manager_record kind xs ≡ Some l
     → IsWrittenAs form l kind xs
 unfolding manager_record
 manager_cut form kind xs l h e = by_kind (kind == 25) (kind == 26) refl refl e
@@ -343,7 +362,8 @@ pub read_is_written : ReadIsWritten
 unfolding read_record
 read_is_written form kind xs l h e = by_kind (kind == 1) refl e
   where
-    by_kind : (a : Bool) → (kind == 1) ≡ a → cond a (option_map (λ n. unnamed (Opened n)) (opened_boot form xs))
+    by_kind : (a : Bool) → (kind == 1) ≡ a → cond a
+        (option_map (λ n. unnamed (Opened n)) (opened_boot form xs))
         (kind_record form.kind kind xs) ≡ Some l → IsWrittenAs form l kind xs
     by_kind true i f = opened_cut form kind xs l (opened_boot form xs) h (is_number kind 1 i) refl f
     by_kind false i f = kind_cut form form.kind kind xs l h f

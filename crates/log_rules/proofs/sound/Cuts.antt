@@ -171,7 +171,8 @@ pub front_tickets_cut : (xs : List ℕ) (p : List Ticket × List ℕ) → AreByt
 front_tickets_cut [] p h e = absurd (none_some p e)
 front_tickets_cut (count ∷ rest) p h e =
     let cut = front_cut ticket_at ticket_text ticket_cut count rest p (tail_bytes count rest h) e in (
-      ap (λ n. n ∷ (flat_map ticket_text p.0 ++ p.1)) (sym cut.counted) ∙ ap (λ t. count ∷ t) (sym cut.written),
+      ap (λ n. n ∷ (flat_map ticket_text p.0 ++ p.1)) (sym cut.counted)
+          ∙ ap (λ t. count ∷ t) (sym cut.written),
       cut.bytes,
     )
 

@@ -98,7 +98,8 @@ front_tickets ts rest h = front_back IsSoundTicket ticket_at ticket_text ticket_
 pub reports_back : (r : Reports) → AreSoundReports r → reports_of (reports_text r) ≡ Some r
 reports_back r h =
     ap reports_by (front_tickets r.mixed (tickets_text r.unreported) h.mixed)
-    ∙ ap (option_map (λ ts. record { mixed = r.mixed; unreported = ts })) (tickets_back r.unreported h.unreported)
+    ∙ ap (option_map (λ ts. record { mixed = r.mixed; unreported = ts }))
+    (tickets_back r.unreported h.unreported)
 
 -- Keys, values and writes.
 

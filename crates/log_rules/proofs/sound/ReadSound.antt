@@ -342,7 +342,8 @@ case_sound kind p c rest l h n e =
         (λ ts is. tickets_sound rest ts h is) g
     by_kind false false false false g = absurd (none_some l g)
 
-of_case_sound : (kind : ℕ) (p : Option ProcessId) (b : BranchName) (rest : List ℕ) (l : LogRecord) → AreBytes rest
+of_case_sound : (kind : ℕ) (p : Option ProcessId) (b : BranchName) (rest : List ℕ) (l : LogRecord)
+    → AreBytes rest
     → IsSoundName p b → of_case kind p b rest ≡ Some l → IsSound Coordinator l
 of_case_sound kind p (CaseBranch c) rest l h n e = case_sound kind p c rest l h n e
 of_case_sound kind p (Foreign x) rest l h n e = absurd (none_some l e)
@@ -472,7 +473,8 @@ opened_sound : (k : Kind) (n : ℕ) → n < 2 ^ 63 → IsSound k (unnamed (Opene
 opened_sound Coordinator n h = (refl, h)
 opened_sound Manager n h = (refl, h)
 
-kind_sound : (k : Kind) (kind : ℕ) (xs : List ℕ) (l : LogRecord) → AreBytes xs → kind_record k kind xs ≡ Some l
+kind_sound : (k : Kind) (kind : ℕ) (xs : List ℕ) (l : LogRecord) → AreBytes xs
+    → kind_record k kind xs ≡ Some l
     → IsSound k l
 kind_sound Coordinator kind xs l h e = coordinator_sound kind xs l h e
 kind_sound Manager kind xs l h e = manager_sound kind xs l h e

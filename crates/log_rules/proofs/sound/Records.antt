@@ -65,12 +65,15 @@ boot_back Second q k n h =
     same_itself : (xs : List ℕ) → bytes_eq xs xs ≡ true
     same_itself xs = (bytes_eq-Decides xs xs).1 refl
 
-record_back : (f : LogFormat) (q : ProcessId) (k : Kind) (p : Option ProcessId) (r : Record) → IsSoundEntry k p r
+record_back : (f : LogFormat) (q : ProcessId) (k : Kind) (p : Option ProcessId) (r : Record)
+    → IsSoundEntry k p r
     → read_record (form_of f q k) (kind_byte r) (payload_text (form_of f q k) p r) ≡ Some (named p r)
 unfolding read_record manager_record
-record_back f q Coordinator p (Opened n) h = ap (option_map (λ m. unnamed (Opened m))) (boot_back f q Coordinator n h.1)
+record_back f q Coordinator p (Opened n) h = ap (option_map (λ m. unnamed (Opened m)))
+    (boot_back f q Coordinator n h.1)
     ∙ without_parent p (Opened n) h.0
-record_back f q Manager p (Opened n) h = ap (option_map (λ m. unnamed (Opened m))) (boot_back f q Manager n h.1)
+record_back f q Manager p (Opened n) h = ap (option_map (λ m. unnamed (Opened m)))
+    (boot_back f q Manager n h.1)
     ∙ without_parent p (Opened n) h.0
 record_back f q Coordinator p (Collecting c ts) h =
     case_back 2 p (CaseBranch c) (tickets_text ts) _ h.0 refl
@@ -84,7 +87,8 @@ record_back f q Coordinator p (Commit c ts) h =
 record_back f q Coordinator p (Abort c ts) h =
     case_back 5 p (CaseBranch c) (tickets_text ts) _ h.0 refl
     ∙ ap (option_map (λ us. named p (listing 5 c us))) (tickets_back ts h.1)
-record_back f q Coordinator p (End c None) h = case_back 6 p (CaseBranch c) [] _ h (bare_name p (CaseBranch c))
+record_back f q Coordinator p (End c None) h = case_back 6 p (CaseBranch c) [] _ h
+    (bare_name p (CaseBranch c))
 record_back f q Coordinator p (End c (Some r)) h =
     case_back 7 p (CaseBranch c) (reports_text r) _ h.0 refl
     ∙ ap (option_map (λ q. named p (End c (Some q)))) (reports_back r h.1)

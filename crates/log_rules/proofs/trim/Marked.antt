@@ -136,7 +136,8 @@ life_is i life r =
     ∙ ap (λ (b : Bool). record { said = said_after life.said r; since = if b then i else life.since })
     (promised r)
 
-noted_is : (i : ℕ) (t : SaidTable) (r : Record) (o : Option Xid) → marked_by i t (deed_of r) o ≡ noted_by i t r o
+noted_is : (i : ℕ) (t : SaidTable) (r : Record) (o : Option Xid)
+    → marked_by i t (deed_of r) o ≡ noted_by i t r o
 noted_is i t r None = refl
 noted_is i t r (Some x) = ap (λ (life : Life). insert_entry same t x life) (life_is i (life_in t x) r)
 

@@ -25,8 +25,8 @@ abbrev pub begins : Said → Said
 begins Nothing = Waits
 begins s = s
 
--- after a decision the case is over where it ended, and what was found of it stays reported; else somebody owes
--- an acknowledgement where a decision names somebody
+-- after a decision the case is over where it ended, and what was found of it stays reported; else somebody
+-- owes an acknowledgement where a decision names somebody
 abbrev pub decides : Said → List Ticket → Said
 decides Over ts = Over
 decides Owes ts = Owes

@@ -78,7 +78,8 @@ first_more es seen (m ∷ ls) l (here, first, more) fits may = (
 abbrev FirstOf : List TreeProcess → Result (List ProcessLog) ℕ → List ProcessLog → Type 0
 FirstOf es read ls = read ≡ Ok ls → AreFirst es [] ls
 
-line_first : (es : List TreeProcess) (seen ls : List ProcessLog) (n : ℕ) (line : List ℕ) (o : Option ProcessLog)
+line_first : (es : List TreeProcess) (seen ls : List ProcessLog) (n : ℕ) (line : List ℕ)
+    (o : Option ProcessLog)
     (more : List ProcessLog → Result (List ProcessLog) ℕ) → log_at line ≡ o → AreFirst es [] seen
     → ((now : List ProcessLog) → AreFirst es [] now → FirstOf es (more now) ls)
     → FirstOf es (line_then es seen n o more) ls

@@ -144,7 +144,8 @@ ticket_spelled name h n =
     number_again 8 (drop 16 name) (bytes_behind 16 name h) (omega (arith, n, length-drop 16 name))
     ∙ take_all 8 (drop 16 name) (omega (arith, n, length-drop 16 name)) in
     (λ i. parent i ++ (child i ++ (boot i ++ number i)))
-    ∙ ap (λ t. take 4 name ++ (take 4 (drop 4 name) ++ (take 8 (drop 8 name) ++ t))) (sym (drop-drop 8 8 name))
+    ∙ ap (λ t. take 4 name ++ (take 4 (drop 4 name) ++ (take 8 (drop 8 name) ++ t)))
+    (sym (drop-drop 8 8 name))
     ∙ ap (λ t. take 4 name ++ (take 4 (drop 4 name) ++ t)) (take-append-drop 8 (drop 8 name))
     ∙ ap (λ t. take 4 name ++ (take 4 (drop 4 name) ++ t)) (sym (drop-drop 4 4 name))
     ∙ ap (λ t. take 4 name ++ t) (take-append-drop 4 (drop 4 name)) ∙ take-append-drop 4 name
@@ -153,12 +154,14 @@ ticket_spelled name h n =
 pub number_there : (n k v : ℕ) (name : List ℕ) → v ≡ big_number n (take (length name - k) (drop k name))
     → v ≡ big_number n (drop k name)
 number_there n k v name e =
-    e ∙ ap (λ (l : List ℕ). big_number n l) (take_all (length name - k) (drop k name) (omega (arith, length-drop k name)))
+    e ∙ ap (λ (l : List ℕ). big_number n l)
+    (take_all (length name - k) (drop k name) (omega (arith, length-drop k name)))
 
 pub txn_spells : (name : List ℕ) (root boot sequence : ℕ) (p : Presumption) → AreBytes name → length name ≡ 20
     → root ≡ big_number 4 name → boot ≡ big_number 8 (take (length name - 4) (drop 4 name))
     → sequence ≡ big_number 8 (take (length name - 12) (drop 12 name))
-    → txn_bytes (record { root = record { 0 = root }; boot = boot; sequence = sequence; presumption = p }) ≡ name
+    → txn_bytes (record { root = record { 0 = root }; boot = boot; sequence = sequence; presumption = p })
+    ≡ name
 unfolding txn_bytes
 txn_spells name root boot sequence p h n r b s =
     let there = number_there 8 4 boot name b in

@@ -61,7 +61,8 @@ module _ (tree : List TreeProcess) (es : List Made) (w : World) (run : IsRun tre
         abbrev place : Place
         place = coordinator_place me parent tree
 
-        writes_join : (ws : _) (ls : List Envelope) → MayWrite place parent (w.at me) i ws ls → JoinsKnown w ls
+        writes_join : (ws : _) (ls : List Envelope) → MayWrite place parent (w.at me) i ws ls
+            → JoinsKnown w ls
         writes_join ws ls (writes_nothing e f) c g = none_at_all (is_join c) ls f g
         writes_join ws ls (for_act a d e k o s) c g =
             subst (Known w) (all_join c (seat_of place parent d) ls s g)
@@ -159,9 +160,11 @@ module _ (tree : List TreeProcess) (es : List Made) (w : World) (run : IsRun tre
       leaf_joins c _ (LeafTurns.refuses d k i a) g = ends _ (one_alone (is_join c) _ _ refl g) refl
       leaf_joins c _ (LeafTurns.obeys d o i e) g = ends _ g (quiet_ack (is_join c) d o _ (λ x u. refl))
       leaf_joins c _ (LeafTurns.notes d o i e) g = ends _ g (quiet_ack (is_join c) d o _ (λ x u. refl))
-      leaf_joins c _ (LeafTurns.acknowledges_told d o i e) g = ends _ g (quiet_ack (is_join c) d o _ (λ x u. refl))
+      leaf_joins c _ (LeafTurns.acknowledges_told d o i e) g =
+          ends _ g (quiet_ack (is_join c) d o _ (λ x u. refl))
       leaf_joins c _ (LeafTurns.acknowledges d o i e) g = ends _ g (quiet_ack (is_join c) d o _ (λ x u. refl))
-      leaf_joins c _ (LeafTurns.drops d i a) g = ends _ g (quiet_ack (is_join c) d AbortedOutcome _ (λ x u. refl))
+      leaf_joins c _ (LeafTurns.drops d i a) g =
+          ends _ g (quiet_ack (is_join c) d AbortedOutcome _ (λ x u. refl))
       leaf_joins c _ (LeafTurns.asks d i k) g = ends _ (one_alone (is_join c) _ _ refl g) refl
       leaf_joins c _ (LeafTurns.decides d o i e) g = none_at_all (is_join c) [] refl g
       leaf_joins c _ (LeafTurns.forgets d i k) g = none_at_all (is_join c) [] refl g

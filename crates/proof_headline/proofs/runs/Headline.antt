@@ -31,7 +31,8 @@ use Rattle.proof_headline.proofs.runs.MessagesHold.{messages_hold}
 no_own_parent : (tree : List TreeProcess) → IsTree tree → NoOwnParent tree
 no_own_parent tree is_tree q listed child = parent_elsewhere tree is_tree q q listed child refl
 
-module _ (tree : List TreeProcess) (is_tree : IsTree tree) (es : List Made) (w : World) (run : IsRun tree es w)
+module _ (tree : List TreeProcess) (is_tree : IsTree tree) (es : List Made) (w : World)
+    (run : IsRun tree es w)
     (h : WorldHolds tree w) (m : Move) (e : Effect) (w' : World)
     (stands : MayHappen w.net m.step.process m.step.happening) (made : world_makes tree w m ≡ Some (e, w'))
   where

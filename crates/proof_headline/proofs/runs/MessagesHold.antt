@@ -81,7 +81,8 @@ given_parent tree net me p goes listed below c own g = by_ticket c.txn c.ticket 
           top = subst (λ (y : Txn). role_of tree y.root ≡ AtRoot) k.same pair.parent.top;
         }
 
-module _ (me : ProcessId) (parent : Option ProcessId) (tree : List TreeProcess) (n : Node) (net : List Envelope)
+module _ (me : ProcessId) (parent : Option ProcessId) (tree : List TreeProcess) (n : Node)
+    (net : List Envelope)
     (role : role_of tree me ≡ role_below parent) (listed : is_listed tree me ≡ true) (goes : AllGo tree net)
     (given_before : AboutGiven net) (nested : Nested (logs_of n))
     (holds : RoleHolds (role_below parent) (coordinator_place me parent tree) net n)
@@ -165,7 +166,8 @@ module _ (me : ProcessId) (parent : Option ProcessId) (tree : List TreeProcess) 
     step_sends m stands _ _ (trims_log hp up) = tt
     step_sends m stands _ _ (failed_trimming f fl hp up) = tt
 
-pub messages_hold : (tree : List TreeProcess) (es : List Made) (w : World) → IsRun tree es w → WorldHolds tree w
+pub messages_hold : (tree : List TreeProcess) (es : List Made) (w : World) → IsRun tree es w
+    → WorldHolds tree w
     → (m : Move) (e : Effect) (w' : World) (parent : Option ProcessId)
     → role_of tree m.step.process ≡ role_below parent
     → MayHappen w.net m.step.process m.step.happening → world_makes tree w m ≡ Some (e, w')

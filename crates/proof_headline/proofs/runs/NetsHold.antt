@@ -65,7 +65,8 @@ module _ (tree : List TreeProcess) (es : List Made) (w : World) (run : IsRun tre
     by_role (Below p) f = by_coordinator (Some p) f
     by_role (AtLeaf p) f =
         let listed = makes_listed tree w m e w' made in
-        let fits = ManagerMessages.messages_fit tree q p f listed w.net h.go h.about_given (w.at q) node.lasts.nested
+        let fits = ManagerMessages.messages_fit tree q p f listed w.net h.go h.about_given (w.at q)
+        node.lasts.nested
         (subst (λ r. RoleHolds r (at r) w.net (w.at q)) f node.role).1 m stands e
         (makes_at tree w m e w' made).node
         (here (AtLeaf p) f) in (

@@ -55,7 +55,8 @@ use Rattle.proof_headline.proofs.runs.CoordinatorMessages.{AllWell, Mine, Own, W
 use Rattle.proof_headline.proofs.runs.TreeChildren.{found_child, is_child_role, nobody_listed, promised_kept}
 use Rattle.protocol.specs.declared.messages.Finding.{Finding}
 
-module _ (me : ProcessId) (parent : Option ProcessId) (tree : List TreeProcess) (n : Node) (net : List Envelope)
+module _ (me : ProcessId) (parent : Option ProcessId) (tree : List TreeProcess) (n : Node)
+    (net : List Envelope)
     (role : role_of tree me ≡ role_below parent) (listed : is_listed tree me ≡ true)
     (goes : AllGo tree net) (given : AboutGiven net)
     (nested : Nested (logs_of n))
@@ -193,17 +194,20 @@ module _ (me : ProcessId) (parent : Option ProcessId) (tree : List TreeProcess) 
 
       yes_up : ((p : ProcessId) → parent ≡ Some p → Own tree me net goes c)
           → Sent (posted_up me parent (Yes c))
-      yes_up f = up_well parent (Yes c) (λ p e. CoordinatorMessages.up_yes tree me net goes p (child_role p e) c (f p e))
+      yes_up f = up_well parent (Yes c) (λ p e. CoordinatorMessages.up_yes tree me net goes p
+          (child_role p e) c (f p e))
 
       no_up : ((p : ProcessId) → parent ≡ Some p → Own tree me net goes c) → Sent (posted_up me parent (No c))
-      no_up f = up_well parent (No c) (λ p e. CoordinatorMessages.up_no tree me net goes p (child_role p e) c (f p e))
+      no_up f = up_well parent (No c) (λ p e. CoordinatorMessages.up_no tree me net goes p
+          (child_role p e) c (f p e))
 
       read_up : ((p : ProcessId) → parent ≡ Some p → Own tree me net goes c)
           → Sent (posted_up me parent (Read c))
       read_up f = up_well parent (Read c)
           (λ p e. CoordinatorMessages.up_read tree me net goes p (child_role p e) c (f p e))
 
-      ack_up : (o : Outcome) (fs : List Finding) → ((p : ProcessId) → parent ≡ Some p → Own tree me net goes c)
+      ack_up : (o : Outcome) (fs : List Finding)
+          → ((p : ProcessId) → parent ≡ Some p → Own tree me net goes c)
           → Sent (posted_up me parent (Ack c o fs))
       ack_up o fs f = up_well parent (Ack c o fs)
           (λ p e. CoordinatorMessages.up_ack tree me net goes p (child_role p e) c (f p e) o fs)
@@ -211,7 +215,8 @@ module _ (me : ProcessId) (parent : Option ProcessId) (tree : List TreeProcess) 
       inquire_up : ((p : ProcessId) → parent ≡ Some p → Own tree me net goes c)
           → Sent (posted_up me parent (Inquire c))
       inquire_up f =
-          up_well parent (Inquire c) (λ p e. CoordinatorMessages.up_inquire tree me net goes p (child_role p e) c (f p e))
+          up_well parent (Inquire c) (λ p e. CoordinatorMessages.up_inquire tree me net goes p
+          (child_role p e) c (f p e))
 
       -- Messages down.
 
@@ -242,10 +247,12 @@ module _ (me : ProcessId) (parent : Option ProcessId) (tree : List TreeProcess) 
       at_once First o k = ack_up o [] (λ p e. own_prepared p e k)
       at_once Second o k = tt
 
-      at_last : (ver : Version) (o : Outcome) (fs : List Finding) → HasDecided o (coordinator_view place n c).standing
+      at_last : (ver : Version) (o : Outcome) (fs : List Finding)
+          → HasDecided o (coordinator_view place n c).standing
           → Sent (acknowledges_at_last ver (seat_of place parent c) o fs)
       at_last First o fs k = tt
-      at_last Second o fs k = ack_up o (in_order fs) (λ p e. own_decided p e o (coordinator_view place n c).standing refl k)
+      at_last Second o fs k = ack_up o (in_order fs)
+          (λ p e. own_decided p e o (coordinator_view place n c).standing refl k)
 
       abort_above : (why : Reason) (us : List Ticket)
           → (coordinator_view place n c).standing ≡ Active
@@ -306,7 +313,8 @@ module _ (me : ProcessId) (parent : Option ProcessId) (tree : List TreeProcess) 
           → Sent (map (λ t. post me t.child (Prepare (child_case c.txn t) (works_of ws t)))
           (coordinator_view place n c).accepted)
       asks_all c ws =
-          CoordinatorMessages.each_prepare tree me net goes c works_of ws (coordinator_view place n c).accepted
+          CoordinatorMessages.each_prepare tree me net goes c works_of ws
+          (coordinator_view place n c).accepted
           (viewed_is c)
 
       turn_sends : (c : Case) (row : Row) → CaseTurn place parent n h c row → Sent row.messages
@@ -403,9 +411,17 @@ module _ (me : ProcessId) (parent : Option ProcessId) (tree : List TreeProcess) 
           → Well tree me net (post me t.child (tells_outcome o (child_case x t)))
           (tells_outcome o (child_case x t))
       presumed_well x t CommittedOutcome child g =
-          record { goes = (refl, child); given = λ e f. CoordinatorMessages.of_same tree me net (child_case x t) e g f }
+          record {
+            goes = (refl, child);
+            given = λ e f. CoordinatorMessages.of_same tree me net
+                (child_case x t) e g f;
+          }
       presumed_well x t AbortedOutcome child g =
-          record { goes = (refl, child); given = λ e f. CoordinatorMessages.of_same tree me net (child_case x t) e g f }
+          record {
+            goes = (refl, child);
+            given = λ e f. CoordinatorMessages.of_same tree me net
+                (child_case x t) e g f;
+          }
 
       pub effect_sends : (e : Effect) → CoordinatorTurn place parent n h e → Sent e.messages
       effect_sends _ (of_case c row r) = turn_sends c row r

@@ -48,7 +48,8 @@ pub fn coordinators_keep_their_pairs()
     ensures cascaded { (tree : List TreeProcess) → IsTree tree → CascadedLaws tree }
 {}
 
-/// In every run each message goes where it belongs, and each that is about a case is of a case that was given.
+/// In every run each message goes where it belongs, and each that is about a case is of a case that was
+/// given.
 pub fn messages_go_where_they_belong()
     ensures { (tree : List TreeProcess) (es : List Made) (w : World) → IsRun tree es w
         → AllGo tree w.net × AboutGiven w.net }

@@ -45,7 +45,8 @@ delivered tree w q i message a e w' taken s =
     (hears (role_of tree q) First (place_of tree q) (w.at q) a message) e w'
     (subst (λ (b : Bool). (if is_listed tree q then world_stepped w q (if b then passes_over (w.at q) None
     else input_makes (w.at q) h None (if (w.at q).failed then Refused Failed
-    else Does (hears (role_of tree q) First (place_of tree q) (w.at q) a message))) else None) ≡ Some (e, w')) taken
+    else Does (hears (role_of tree q) First (place_of tree q) (w.at q) a message))) else None) ≡ Some (e, w'))
+    taken
     s)
 
 -- the same, where the process's role is known
@@ -97,7 +98,8 @@ failed_in tree w q i message a f e w' taken s =
     (hears (role_of tree q) First (place_of tree q) (w.at q) a message) f e w'
     (subst (λ (b : Bool). (if is_listed tree q then world_stepped w q (if b then passes_over (w.at q) (Some f)
     else input_makes (w.at q) h (Some f) (if (w.at q).failed then Refused Failed
-    else Does (hears (role_of tree q) First (place_of tree q) (w.at q) a message))) else None) ≡ Some (e, w')) taken
+    else Does (hears (role_of tree q) First (place_of tree q) (w.at q) a message))) else None) ≡ Some (e, w'))
+    taken
     s)
 
 pub failed_as : (tree : List TreeProcess) (w : World) (q : ProcessId) (role : Role) (i : ℕ)
@@ -117,7 +119,8 @@ failed_as tree w q role i message a f e w' known s taken =
       subst (λ (r : Role). w' ≡ made_at w q
           (fails_in (w.at q) (record { input = MessageInput i message; data_answer = a; version = First })
           (hears r First (record { me = q; role = r; tree = tree }) (w.at q) a message) f.appended f.forced)
-          (fault_effect (hears r First (record { me = q; role = r; tree = tree }) (w.at q) a message) f.appended))
+          (fault_effect (hears r First (record { me = q; role = r; tree = tree }) (w.at q) a message)
+          f.appended))
           known both.1,
     )
 

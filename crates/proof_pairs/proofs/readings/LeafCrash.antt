@@ -129,7 +129,8 @@ reading-fails root outcome above p k v front quiet sub =
 
 pub reading-fails_to_promise : (root outcome above : Bool) (p : ParentHalf) (k : ChildHalf) (v : Wire)
     (front : ChildFront) → k.is_open ≡ true
-    → reading_from root true outcome above p (failed_promise front k) v ≡ ChildCrash.hardens_failed_child front
+    → reading_from root true outcome above p (failed_promise front k) v
+    ≡ ChildCrash.hardens_failed_child front
     (ChildCrash.fails_to_promise (reading_from root true outcome above p k v))
 reading-fails_to_promise root outcome above p k v front e = rw e (simp (and-false, dead-live, dead-promised))
 

@@ -83,6 +83,7 @@ pub boot_of-nil_behind : (f l : List Record) → boot_of (f ++ (l ++ [])) ≡ bo
 unfolding boot_of
 boot_of-nil_behind f l = grind (arith, fold-append)
 
-pub mark_of-nil_behind : (b : BranchName) (f l : List Record) → mark_of b (f ++ (l ++ [])) ≡ mark_of b (f ++ l)
+pub mark_of-nil_behind : (b : BranchName) (f l : List Record)
+    → mark_of b (f ++ (l ++ [])) ≡ mark_of b (f ++ l)
 unfolding mark_of
 mark_of-nil_behind b f l = grind (arith, fold-append)

@@ -110,4 +110,5 @@ row_commits tree w above x t pair i h e s ys input one none_accepted counted tol
     ∙ (reading-committed (is_leaf (role_of tree t.child)) (is_commit_outcome w x) above p k (wire c t w.net)
     (ap (λ (r : Reading). r.phase) same ∙ facts.1) (ap (λ (r : Reading). r.born) same
     ∙ facts.2) (ap (λ (r : Reading). r.owed) same ∙ facts.3)
-    ∙ ap (λ (r : Reading). RootMoves.decides_naming (ParentMoves.hears_yes (ParentMoves.hardens_parent r))) same))
+    ∙ ap (λ (r : Reading). RootMoves.decides_naming (ParentMoves.hears_yes (ParentMoves.hardens_parent r)))
+    same))

@@ -102,7 +102,8 @@ root_decides tree w w' above x t i a e pair pa inv last made =
     let place : Place = record { me = x.root; role = AtRoot; tree = tree } in
     let n = w.at x.root in
     let c = root_case x in
-    let h : Heard = record { input = MessageInput i (Yes (child_case x t)); data_answer = a; version = First } in
+    let h : Heard = record { input = MessageInput i (Yes (child_case x t)); data_answer = a; version = First }
+    in
     let both = delivered_as tree w x.root AtRoot i (Yes (child_case x t)) a e w' pair.root made refl in
     let last' : IsLastVote (coordinator_view place n c) (case_of_child place n x t) x t =
     subst (λ (r : Role). IsLastVote

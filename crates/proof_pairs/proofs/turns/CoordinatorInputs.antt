@@ -188,7 +188,8 @@ module _ (s : Seat) where
         (at_once x AbortedOutcome) (aborts_down v.promised),
   )
 
-  ends_by : (x : Version) (o : Outcome) (left : List Ticket) (fs : List Finding) (v : CoordinatorView) (b : Bool)
+  ends_by : (x : Version) (o : Outcome) (left : List Ticket) (fs : List Finding)
+      (v : CoordinatorView) (b : Bool)
       → One (if b
       then record {
         written = ends_with x s fs;

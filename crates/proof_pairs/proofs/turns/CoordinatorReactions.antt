@@ -242,7 +242,8 @@ module _ (place : Place) (p : ProcessId) (n : Node) (h : Heard) where
   from_parent : (j : ℕ) (m : Message) → h.input ≡ MessageInput j m → HearsParent (Some p) h m
   from_parent j m i = record { from = p; is_parent = refl; hears = (j, i) }
 
-  cascaded_turn : (j : ℕ) (m : Message) → h.input ≡ MessageInput j m → B (cascaded_hears h.version place p n m)
+  cascaded_turn : (j : ℕ) (m : Message) → h.input ≡ MessageInput j m
+      → B (cascaded_hears h.version place p n m)
   cascaded_turn j (Join d) i = gives_by d (j, i) (active_ticket (memory_of place n d).active d) refl
   cascaded_turn j (Prepare d k) i =
       of_case d _ (prepare_turn place (Some p) n h d k (from_parent j (Prepare d k) i) _ refl)

@@ -131,7 +131,8 @@ module _ (place : Place) (parent : Option ProcessId) (n : Node) (h : Heard) (c :
   not_aborting : (st : Standing) → (st ≡ Aborting → ⊥) → HasDecided AbortedOutcome st → ⊥
   not_aborting _ f by_abort = f refl
 
-  unowed : (t : Ticket) (o : Outcome) (fs : List Finding) → HearsChild place n h c t (λ d. Ack d o fs) → (st : Standing)
+  unowed : (t : Ticket) (o : Outcome) (fs : List Finding) → HearsChild place n h c t (λ d. Ack d o fs)
+      → (st : Standing)
       → v.standing ≡ st → (HasDecided o st → ⊥) → T (quiet v)
   unowed t o fs i st e f = rests (owes_nothing t o fs i (λ g. absurd (f (subst (λ x. HasDecided o x) e g))))
 
@@ -153,8 +154,10 @@ module _ (place : Place) (parent : Option ProcessId) (n : Node) (h : Heard) (c :
       unowed t CommittedOutcome fs i Aborting e (not_committing Aborting (λ f. cc))
   ack_turn t CommittedOutcome fs i Heuristic e =
       unowed t CommittedOutcome fs i Heuristic e (not_committing Heuristic (λ f. cc))
-  ack_turn t AbortedOutcome fs i Unknown e = unowed t AbortedOutcome fs i Unknown e (not_aborting Unknown (λ f. cc))
-  ack_turn t AbortedOutcome fs i Active e = unowed t AbortedOutcome fs i Active e (not_aborting Active (λ f. cc))
+  ack_turn t AbortedOutcome fs i Unknown e = unowed t AbortedOutcome fs i Unknown e
+      (not_aborting Unknown (λ f. cc))
+  ack_turn t AbortedOutcome fs i Active e = unowed t AbortedOutcome fs i Active e
+      (not_aborting Active (λ f. cc))
   ack_turn t AbortedOutcome fs i Collecting e =
       unowed t AbortedOutcome fs i Collecting e (not_aborting Collecting (λ f. cc))
   ack_turn t AbortedOutcome fs i Prepared e =
@@ -224,7 +227,8 @@ module _ (place : Place) (parent : Option ProcessId) (n : Node) (h : Heard) (c :
 
   unknown_commits : HearsParent parent h (Commit c) → v.standing ≡ Unknown → (p : Presumption)
       → c.txn.presumption ≡ p → T (unknown_commit_by h.version s v p)
-  unknown_commits i e PresumeAbort f = acknowledged CommittedOutcome i Unknown e (unknown_findings h.version c)
+  unknown_commits i e PresumeAbort f = acknowledged CommittedOutcome i Unknown e
+      (unknown_findings h.version c)
       (subst (λ x. Acknowledges h.version c CommittedOutcome x Unknown (unknown_findings h.version c)) (sym f)
       (commit_presumed_abort h.version c))
   unknown_commits i e PresumeCommit f = rests (commits_nothing i)
@@ -240,7 +244,8 @@ module _ (place : Place) (parent : Option ProcessId) (n : Node) (h : Heard) (c :
   committing_turn : HearsParent parent h (Commit c) → v.standing ≡ Committing → (x : Version) → h.version ≡ x
       → T (committing_commit x s v)
   committing_turn i e First f = acknowledged CommittedOutcome i Committing e []
-      (subst (λ y. Acknowledges y c CommittedOutcome c.txn.presumption Committing []) (sym f) (commit_again c _))
+      (subst (λ y. Acknowledges y c CommittedOutcome c.txn.presumption Committing []) (sym f)
+      (commit_again c _))
   committing_turn i e Second f = rests (commits_nothing i)
 
   aborting_turn : HearsParent parent h (Abort c) → v.standing ≡ Aborting → (x : Version) → h.version ≡ x
@@ -250,7 +255,8 @@ module _ (place : Place) (parent : Option ProcessId) (n : Node) (h : Heard) (c :
   aborting_turn i e Second f =
       rests (aborts_nothing i (is_not Aborting Active e (λ g. cc)) (is_not Aborting Collecting e (λ g. cc)))
 
-  pub commit_turn : HearsParent parent h (Commit c) → (st : Standing) → v.standing ≡ st → T (on_commit h.version s v st)
+  pub commit_turn : HearsParent parent h (Commit c) → (st : Standing) → v.standing ≡ st
+      → T (on_commit h.version s v st)
   commit_turn i Prepared e = passes_commit c.txn.presumption i e refl
   commit_turn i Committing e = committing_turn i e h.version refl
   commit_turn i Unknown e = unknown_commits i e c.txn.presumption refl
@@ -259,7 +265,8 @@ module _ (place : Place) (parent : Option ProcessId) (n : Node) (h : Heard) (c :
   commit_turn i Aborting e = rests (commits_nothing i)
   commit_turn i Heuristic e = rests (commits_nothing i)
 
-  pub abort_turn : HearsParent parent h (Abort c) → (st : Standing) → v.standing ≡ st → T (on_abort h.version s v st)
+  pub abort_turn : HearsParent parent h (Abort c) → (st : Standing) → v.standing ≡ st
+      → T (on_abort h.version s v st)
   abort_turn i Active e = aborts_active (ByAbort h.version) (abort_comes i.from i.is_parent i.hears) e
   abort_turn i Collecting e = aborts_collecting (ByAbort h.version) (abort_comes i.from i.is_parent i.hears) e
   abort_turn i Prepared e = passes_abort c.txn.presumption i e refl

@@ -246,10 +246,12 @@ module _ (place : Place) (p : ProcessId) (n : Node) (h : Heard) where
       (sym (viewed place n d))
       (prepared_seen d k h.data_answer.holding (j, i) (mark_at n d) (seen d (mark_at n d) refl))
   message_turn j (Commit d) i =
-      subst (λ (v : ManagerView). T (leaf_effect (on_commit h.version (leaf_of place p d) (kept n) v v.standing)))
+      subst (λ (v : ManagerView). T (leaf_effect
+      (on_commit h.version (leaf_of place p d) (kept n) v v.standing)))
       (sym (viewed place n d)) (committed_seen d (j, i) (mark_at n d) (seen d (mark_at n d) refl))
   message_turn j (Abort d) i =
-      subst (λ (v : ManagerView). T (leaf_effect (on_abort h.version (leaf_of place p d) (kept n) v v.standing)))
+      subst (λ (v : ManagerView). T (leaf_effect
+      (on_abort h.version (leaf_of place p d) (kept n) v v.standing)))
       (sym (viewed place n d)) (aborted_seen d (j, i) (mark_at n d) (seen d (mark_at n d) refl))
   message_turn j (Joined d t) i = does_nothing
   message_turn j (Yes d) i = does_nothing

@@ -108,10 +108,12 @@ module _ (place : Place) (n : Node) (h : Heard) where
   message_at : (j : ℕ) (m : Message) → h.input ≡ MessageInput j m → (role : Role) (e : Effect)
       → Does (hears role h.version place n h.data_answer m) ≡ Does e → TurnAt role place n h e
   message_at j m i AtRoot e same = does_writes None _
-      (subst (λ (x : Input). WritesBy place None n x (Does (hears AtRoot h.version place n h.data_answer m))) (sym i)
+      (subst (λ (x : Input). WritesBy place None n x (Does (hears AtRoot h.version place n h.data_answer m)))
+      (sym i)
       (child_writes place None n h.version j m)) e same
   message_at j m i (Below p) e same = does_writes (Some p) _
-      (subst (λ (x : Input). WritesBy place (Some p) n x (Does (hears (Below p) h.version place n h.data_answer m)))
+      (subst (λ (x : Input). WritesBy place (Some p) n x
+      (Does (hears (Below p) h.version place n h.data_answer m)))
       (sym i) (cascaded_writes place p n h.version j m)) e same
   message_at j m i (AtLeaf p) e same = does_leaf p _ (message_turn place p n h j m i) e same
 

@@ -119,8 +119,8 @@ ManagerRestarts = (tree : List TreeProcess) (w w' : World) (above : Bool) (c : C
     ≡ child_restarts (child_front (child_case c.txn t) (left_of (w.at t.child) k) (w.at t.child).durable)
     (reading_of tree w above c t)
 
--- A trim of the root's log takes a case that its records leave Unknown and do not report: the move of trimming it. (With
--- its records gone the case stands where it stood: memory says the same of it.)
+-- A trim of the root's log takes a case that its records leave Unknown and do not report: the move of
+-- trimming it. (With its records gone the case stands where it stood: memory says the same of it.)
 abbrev pub RootTrims : Type 0
 RootTrims = (tree : List TreeProcess) (w w' : World) (above : Bool) (x : Txn) (t : Ticket) (a : DataAnswer)
     (e : Effect)

@@ -77,7 +77,11 @@ restarts_at q k a = record {
 
 -- A process trims its log, and its device does not fail.
 abbrev pub trims_at : ProcessId → DataAnswer → Move
-trims_at q a = record { step = record { process = q; happening = Trim; fault = None }; data_answer = a; version = First }
+trims_at q a = record {
+  step = record { process = q; happening = Trim; fault = None };
+  data_answer = a;
+  version = First;
+}
 
 -- A process is neither the parent's nor the child's, nor the root.
 pub record IsElsewhere (q : ProcessId) (c : Case) (t : Ticket) : Type 0 where

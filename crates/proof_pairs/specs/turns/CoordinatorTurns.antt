@@ -35,7 +35,8 @@ pub data IsToCommit (parent : Option ProcessId) (h : Heard) (c : Case) : Type 0 
 -- the case is to abort: by the abort act, or by ABORT of its parent
 pub data IsToAbort (parent : Option ProcessId) (h : Heard) (c : Case) : Reason → Type 0 where
   abort_act : (x : Txn) → c ≡ root_case x → h.input ≡ ActInput (AbortAct x) → IsToAbort parent h c ByAct
-  abort_comes : (p : ProcessId) → parent ≡ Some p → Hears h (Abort c) → IsToAbort parent h c (ByAbort h.version)
+  abort_comes : (p : ProcessId) → parent ≡ Some p → Hears h (Abort c)
+      → IsToAbort parent h c (ByAbort h.version)
 
 -- a child speaks of its ticket, which belongs to the case
 pub record HearsChild (place : Place) (n : Node) (h : Heard) (c : Case) (t : Ticket)
@@ -50,8 +51,8 @@ pub record HearsParent (parent : Option ProcessId) (h : Heard) (m : Message) : T
   pub is_parent : parent ≡ Some from
   pub hears : Hears h m
 
--- a case that stands so acknowledges the outcome, with what it finds: it is unknown, and the other is presumed; or, by the
--- first version, it was decided so
+-- a case that stands so acknowledges the outcome, with what it finds: it is unknown, and the other is
+-- presumed; or, by the first version, it was decided so
 pub data Acknowledges : Version → Case → Outcome → Presumption → Standing → List Finding → Type 0 where
   commit_presumed_abort : (v : Version) (c : Case)
       → Acknowledges v c CommittedOutcome PresumeAbort Unknown (unknown_findings v c)
@@ -217,7 +218,8 @@ pub data CaseTurn (place : Place) (parent : Option ProcessId) (n : Node) (h : He
       → CaseTurn place parent n h c
       (sends (up (seat_of place parent c) (Inquire c)) (coordinator_view place n c))
   -- Decided or unknown: PREPARE is refused, an outcome is acknowledged
-  refuses : (k : ℕ) → HearsParent parent h (Prepare c k) → PromisesNoMore (coordinator_view place n c).standing
+  refuses : (k : ℕ) → HearsParent parent h (Prepare c k)
+      → PromisesNoMore (coordinator_view place n c).standing
       → CaseTurn place parent n h c
       (sends (up (seat_of place parent c) (No c)) (coordinator_view place n c))
   acknowledges : (o : Outcome) (fs : List Finding) → HearsParent parent h (tells_outcome o c)

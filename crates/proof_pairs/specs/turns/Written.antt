@@ -75,8 +75,8 @@ pub data IsJoinAnswer (place : Place) (n : Node) (d : Case) : Ticket → Type 0 
       → IsJoinAnswer place n d (next_ticket place.me (boot_of (kept n)) (memory_of place n d))
 
 -- What an input lets a coordinator write and send: a row of the act's case, which is known, of the child's
--- case, or of the parent's message's; at the root that a report was seen to; an answer to a stranger's inquiry;
--- or a ticket.
+-- case, or of the parent's message's; at the root that a report was seen to; an answer to a stranger's
+-- inquiry; or a ticket.
 pub data MayWrite (place : Place) (parent : Option ProcessId) (n : Node) (i : Input) (ws : List Written)
     (ls : List Envelope) : Type 0 where
   writes_nothing : ws ≡ [] → ls ≡ [] → MayWrite place parent n i ws ls

@@ -102,7 +102,8 @@ module _ (me : ProcessId) (boot : ℕ) (c : Case) (m : Memory) where
       by_phase of Over is = notes j x t o fs refl of (λ e. (let g : Over ≡ Asked = sym is ∙ e in cc)) refl
 
       by_txn : (b : Bool) → same_txn x c.txn ≡ b
-          → AcksMove c m (MessageInput j (Ack (child_case x t) o fs)) (if b then takes_ack m t o fs m.phase else m)
+          → AcksMove c m (MessageInput j (Ack (child_case x t) o fs))
+          (if b then takes_ack m t o fs m.phase else m)
       by_txn false of = keeps refl
       by_txn true of = by_phase of m.phase refl
 

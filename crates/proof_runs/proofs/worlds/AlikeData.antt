@@ -123,7 +123,8 @@ module _ (d d' e e' : ManagerData) (alike : AreAlike d e) where
           (q.own ∙ is ∙ sym p.own)
       by_name false there = q.others y there ∙ alike.keeps.writes y ∙ sym (p.others y there)
 
-  knows_alike : (x : Xid) (r : Bool) → KnowsBranch d d' x r → KnowsBranch e e' x r → (y : Xid) → e'.known y ≡ d'.known y
+  knows_alike : (x : Xid) (r : Bool) → KnowsBranch d d' x r → KnowsBranch e e' x r → (y : Xid)
+      → e'.known y ≡ d'.known y
   knows_alike x r p q y = by_name (same x y) refl
     where
       by_name : (b : Bool) → same x y ≡ b → e'.known y ≡ d'.known y
@@ -152,7 +153,8 @@ module _ (d d' e e' : ManagerData) (alike : AreAlike d e) where
   lets_go_alike : (x : Xid) → LetsHoldsGo d d' x → LetsHoldsGo e e' x → KeepsHolds d' e'
   lets_go_alike x p q = record {
     writes = wrote_alike x [] [] refl p.wrote q.wrote;
-    holders = λ k. q.held k ∙ ap (λ (hs : List Holder). without hs x) (alike.keeps.holders k) ∙ sym (p.held k);
+    holders = λ k. q.held k ∙ ap (λ (hs : List Holder). without hs x) (alike.keeps.holders k)
+        ∙ sym (p.held k);
   }
 
   -- what the same move leaves of alike data is alike
@@ -238,8 +240,8 @@ itself_list (h ∷ hs) =
 same_lists : (gs hs : List Holder) → gs ≡ hs → same_holders gs hs ≡ true
 same_lists gs hs is = subst (λ (ks : List Holder). same_holders gs ks ≡ true) is (itself_list gs)
 
--- Where these writes are held, and nothing else is, that says who holds each key: were it two things, no branch
--- would name the key, and so nobody would hold it.
+-- Where these writes are held, and nothing else is, that says who holds each key: were it two things, no
+-- branch would name the key, and so nobody would hold it.
 one_holding : (writes : Xid → List Write) (f g : Holdings) → HoldWrites writes f → HoldWrites writes g
     → (k : List ℕ) → g k ≡ f k
 one_holding writes f g p q k = by_test (same_holders (g k) (f k)) refl

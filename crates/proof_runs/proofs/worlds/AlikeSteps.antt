@@ -67,7 +67,8 @@ same_log c l e none is =
 written_is : (d e : Effect) (ws : List Written) → d.written ≡ ws → Does d ≡ Does e → e.written ≡ ws
 written_is d e ws is h = ap (λ (f : Effect). f.written) (sym (some_effect d e h)) ∙ is
 
-turned_behind : (c new : CoreState) (i : Input) (t : Turn) (e : Effect) → ProcessMoves c new i t → reacted t ≡ Does e
+turned_behind : (c new : CoreState) (i : Input) (t : Turn) (e : Effect) → ProcessMoves c new i t
+    → reacted t ≡ Does e
     → new.log.behind ≡ behind_by c.log.behind (reaction_of e)
 turned_behind c new i (Refuses x) e m is = absurd m
 turned_behind c new i (Begins x) e m is = same_log c new.log e (written_is _ e [] refl is) m.log
@@ -86,7 +87,8 @@ step_behind c new a i r m =
     ∙ ap (λ (x : Reaction). behind_by c.log.behind x) (sym m.shown)
 
 up_by : (listed failed : Bool) (c new : CoreState) (i : Input) (t : Turn)
-    → ProcessMoves c new i (if listed then (if failed then Refuses Failed else t) else Refuses NoSuch) → failed ≡ false
+    → ProcessMoves c new i (if listed then (if failed then Refuses Failed else t) else Refuses NoSuch)
+    → failed ≡ false
 up_by true false c new i t m = refl
 up_by true true c new i t m = absurd m
 up_by false failed c new i t m = absurd m
@@ -104,13 +106,15 @@ abbrev pub Alike : CoreState → CoreState → Type 0
 Alike c d = ((g : Case) → d.branch_of g ≡ c.branch_of g) × ((g : Case) → d.ticket_for g ≡ c.ticket_for g)
     × ((g : Case) → next_case d g ≡ next_case c g)
 
-pub stand_alike : (n : Node) (c d : CoreState) → d.place ≡ c.place → n.failed ≡ false → StandsFor n c → StandsFor n d
+pub stand_alike : (n : Node) (c d : CoreState) → d.place ≡ c.place → n.failed ≡ false → StandsFor n c
+    → StandsFor n d
     → Alike c d
 stand_alike n c d place works h k =
     let u = h.up works in
     let v = k.up works in (
       λ g. v.branches g ∙ ap (λ (p : Place). branch_at p.role p n g) place ∙ sym (u.branches g),
-      λ g. v.tickets g ∙ ap (λ (p : Place). active_ticket (memory_of p n g).active g) place ∙ sym (u.tickets g),
+      λ g. v.tickets g ∙ ap (λ (p : Place). active_ticket (memory_of p n g).active g) place
+          ∙ sym (u.tickets g),
       λ g.
           let given = v.given g ∙ ap (λ (p : Place). (memory_of p n g).given) place ∙ sym (u.given g) in
           ap (λ (p : Place). child_case g.txn
@@ -137,7 +141,8 @@ module _ (c d : CoreState) (alike : Alike c d) where
 
   message_alike : (a : DataAnswer) (m : Message) → message_data d a m ≡ message_data c a m
   message_alike a (Join g) =
-      ap (λ (o : Option Ticket). join_data d g a.starts o) (alike.1 g) ∙ join_alike g a.starts (c.ticket_for g)
+      ap (λ (o : Option Ticket). join_data d g a.starts o) (alike.1 g)
+      ∙ join_alike g a.starts (c.ticket_for g)
   message_alike a (Work g i op) =
       ap (λ (v : ManagerView). work_data g i op a.does v v.standing) (alike.0 g)
   message_alike a (Prepare g n) =

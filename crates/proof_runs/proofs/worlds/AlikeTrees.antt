@@ -37,8 +37,8 @@ abbrev pub AlikeAt : Role → ManagerData → ManagerData → Type 0
 AlikeAt (AtLeaf p) d e = DataRests d e
 AlikeAt _ d e = ⊤
 
--- two states of a tree stand for the same run, the same messages were delivered, the data of each manager are alike,
--- and as many bytes of each log are forced
+-- two states of a tree stand for the same run, the same messages were delivered, the data of each manager are
+-- alike, and as many bytes of each log are forced
 pub record AlikeTrees (s t : WorldState) : Type 0 where
   pub is_tree : IsTree s.tree
   pub tree : t.tree ≡ s.tree
@@ -68,7 +68,8 @@ itself d = record { keeps = record { writes = λ y. refl; holders = λ k. refl }
 module _ (s s' t t' : WorldState) (alike : AlikeTrees s t) (q : ProcessId) (m : Move) (r k : Reaction)
     (here : EntersBy journal_of alike.moves alike.world s s' m r)
     (there : EntersBy journal_of alike.moves alike.world t t' m k) where
-  one_move : ◌≡◌ {A = Effect × World} (here.moved.effect, here.moved.world) (there.moved.effect, there.moved.world)
+  one_move : ◌≡◌ {A = Effect × World} (here.moved.effect, here.moved.world)
+      (there.moved.effect, there.moved.world)
   one_move = some_pair (here.moved.effect, here.moved.world) (there.moved.effect, there.moved.world)
       (sym here.moved.makes ∙ ap (λ (z : List TreeProcess). world_makes z alike.world m) (sym alike.tree)
       ∙ there.moved.makes)
@@ -85,7 +86,8 @@ module _ (s s' t t' : WorldState) (alike : AlikeTrees s t) (q : ProcessId) (m : 
       (forced : d'.log.behind ≡ c'.log.behind) where
     held_at : (p : ProcessId) → AlikeAt (place_of s.tree p).role (s'.data_at p) (t'.data_at p)
     held_at p = elim (same_process_tells q p) [
-      | inl x ↦ subst (λ (z : ProcessId). AlikeAt (place_of s.tree z).role (s'.data_at z) (t'.data_at z)) x.1 held
+      | inl x ↦ subst (λ (z : ProcessId). AlikeAt (place_of s.tree z).role (s'.data_at z) (t'.data_at z)) x.1
+          held
       | inr x ↦ subst (λ (e : ManagerData). AlikeAt (place_of s.tree p).role e (t'.data_at p))
           (sym (moves.others_data p x.0))
           (subst (λ (e : ManagerData). AlikeAt (place_of s.tree p).role (s.data_at p) e)
@@ -114,14 +116,16 @@ module _ (s s' t t' : WorldState) (alike : AlikeTrees s t) (q : ProcessId) (m : 
       delivered = enters_there.delivered
           ∙ ap (λ (y : Reaction). marks_there ++ undelivered y.messages) one_reaction
           ∙ ap (λ (bs : List Bool). bs ++ undelivered r.messages) marks_are ∙ sym enters.delivered;
-      holdings = λ p. subst (λ (z : List TreeProcess). AlikeAt (place_of z p).role (s'.data_at p) (t'.data_at p))
+      holdings = λ p. subst (λ (z : List TreeProcess). AlikeAt (place_of z p).role
+          (s'.data_at p) (t'.data_at p))
           (sym moves.tree) (held_at p);
       behind = forced_at;
     }
 
 -- Where processes of two such trees stand.
 
-module _ (s t : WorldState) (alike : AlikeTrees s t) (q : ProcessId) (c d : CoreState) (at : s.node_at q ≡ Some c)
+module _ (s t : WorldState) (alike : AlikeTrees s t) (q : ProcessId) (c d : CoreState)
+    (at : s.node_at q ≡ Some c)
     (at_there : t.node_at q ≡ Some d) where
   pub place_is : c.place ≡ place_of s.tree q
   place_is = (alike.here.follows.nodes q c at).place
@@ -157,7 +161,8 @@ module _ (s t : WorldState) (alike : AlikeTrees s t) (q : ProcessId) (c d : Core
       ∙ ap (whole_within (c.log.behind + n)) unforced_alike
 
   left_alike : (n : ℕ) → left_by d.log n ≡ left_by c.log n
-  left_alike n = ap (λ (ls : List LogRecord). ls ++ whole_within (d.log.behind + n) d.log.kept.unforced) forced_alike
+  left_alike n = ap (λ (ls : List LogRecord). ls ++ whole_within (d.log.behind + n) d.log.kept.unforced)
+      forced_alike
       ∙ ap (λ (ls : List LogRecord). c.log.kept.forced ++ ls) (whole_alike n)
 
   -- where all records are left, N were kept as were not forced
@@ -177,7 +182,8 @@ module _ (s t : WorldState) (alike : AlikeTrees s t) (q : ProcessId) (c d : Core
         ap (λ (k : ℕ). left_by d.log k) is ∙ left_alike n,
       )
   kept_alike None n m keeps keeps_there = (
-    all_kept d m keeps_there ∙ ap (λ (ls : List LogRecord). length ls) unforced_alike ∙ sym (all_kept c n keeps),
+    all_kept d m keeps_there ∙ ap (λ (ls : List LogRecord). length ls) unforced_alike
+        ∙ sym (all_kept c n keeps),
     keeps_there ∙ records_alike ∙ sym keeps,
   )
 
@@ -194,11 +200,13 @@ held_by : (r : Role) (d d' e e' : ManagerData) (s t : CoreState) (a b : DataAnsw
     → AlikeAt r d e → b ≡ a → HandlesData r d d' s a i → HandlesData r e e' t b i → AlikeAt r d' e'
 held_by (AtLeaf p) d d' e e' s t a b i same alike is h k =
     moves_alike d d' e e' alike (case_xid p) (data_turn s a i) h.1
-    (subst (MovesData e e' (case_xid p)) (ap (λ (x : DataAnswer). data_turn t x i) is ∙ turns_alike s t same a i) k.1)
+    (subst (MovesData e e' (case_xid p)) (ap (λ (x : DataAnswer). data_turn t x i) is
+    ∙ turns_alike s t same a i) k.1)
 held_by AtRoot d d' e e' s t a b i same alike is h k = tt
 held_by (Below p) d d' e e' s t a b i same alike is h k = tt
 
-module _ (s s' t t' : WorldState) (alike : AlikeTrees s t) (q : ProcessId) (i : Input) (marked marks_there : List Bool)
+module _ (s s' t t' : WorldState) (alike : AlikeTrees s t) (q : ProcessId) (i : Input)
+    (marked marks_there : List Bool)
     (is : marks_there ≡ marked) (stands : InputStands alike.world.net q i) (h : TreeSteps s s' q i marked)
     (k : TreeSteps t t' q i marks_there) where
   abbrev role : Role
@@ -220,11 +228,13 @@ module _ (s s' t t' : WorldState) (alike : AlikeTrees s t) (q : ProcessId) (i : 
   one_answer = answer_at role (s.data_at q) (s'.data_at q) (t.data_at q) (t'.data_at q) h.before k.before
       h.handles.answer k.handles.answer i same (alike.holdings q) data_here data_there
 
-  follows_here : EntersBy journal_of alike.moves alike.world s s' (input_move q i None h.handles.answer) h.reaction
+  follows_here : EntersBy journal_of alike.moves alike.world s s'
+      (input_move q i None h.handles.answer) h.reaction
   follows_here = step_follows journal_of whole_shows as_the_model alike.moves alike.world s s' q i marked
       alike.is_tree alike.here stands h
 
-  follows_there : EntersBy journal_of alike.moves alike.world t t' (input_move q i None h.handles.answer) k.reaction
+  follows_there : EntersBy journal_of alike.moves alike.world t t'
+      (input_move q i None h.handles.answer) k.reaction
   follows_there = subst (λ (a : DataAnswer). EntersBy journal_of alike.moves alike.world t t'
       (input_move q i None a) k.reaction) one_answer
       (step_follows journal_of whole_shows as_the_model alike.moves alike.world t t' q i marks_there
@@ -236,7 +246,8 @@ module _ (s s' t t' : WorldState) (alike : AlikeTrees s t) (q : ProcessId) (i : 
       let shown = one_reaction s s' t t' alike q (input_move q i None h.handles.answer) h.reaction k.reaction
       follows_here follows_there in
       move_alike s s' t t' alike q (input_move q i None h.handles.answer) h.reaction k.reaction follows_here
-      follows_there (Handles i) h.before h.behind k.before k.behind marked marks_there h.moves k.moves h.enters
+      follows_there (Handles i) h.before h.behind k.before k.behind marked marks_there h.moves
+      k.moves h.enters
       k.enters is
       (held_by role (s.data_at q) (s'.data_at q) (t.data_at q) (t'.data_at q) h.before k.before
       h.handles.answer k.handles.answer i same (alike.holdings q) one_answer data_here data_there)
@@ -256,24 +267,29 @@ delivery_alike s s' t t' k alike h g =
     (sent_stands alike.world.net k h.envelope
     (ap (λ (ls : List Envelope). sent_as ls k) (sym alike.here.follows.net) ∙ h.sent))
     h.steps
-    (subst (λ (l : Envelope). TreeSteps t t' l.to (MessageInput k l.message) (marks t.delivered k)) one g.steps)
+    (subst (λ (l : Envelope). TreeSteps t t' l.to (MessageInput k l.message) (marks t.delivered k)) one
+    g.steps)
 
 settled_by : (n : ℕ) (s s' t t' : WorldState) (o : Option ℕ) → AlikeTrees s t
     → ((r k : WorldState) → AlikeTrees r k → Settles n r s' → Settles n k t' → AlikeTrees s' t')
-    → settles_by s s' (λ mid. Settles n mid s') o → settles_by t t' (λ mid. Settles n mid t') o → AlikeTrees s' t'
+    → settles_by s s' (λ mid. Settles n mid s') o → settles_by t t' (λ mid. Settles n mid t') o
+    → AlikeTrees s' t'
 settled_by n s s' t t' None alike again h k =
-    subst (λ (x : WorldState). AlikeTrees x t') (sym h) (subst (λ (x : WorldState). AlikeTrees s x) (sym k) alike)
+    subst (λ (x : WorldState). AlikeTrees x t') (sym h)
+    (subst (λ (x : WorldState). AlikeTrees s x) (sym k) alike)
 settled_by n s s' t t' (Some i) alike again h k =
     again h.0 k.0 (delivery_alike s h.0 t k.0 i alike h.1 k.1) h.2 k.2
 
 pub settles_alike : (n : ℕ) (s s' t t' : WorldState) → AlikeTrees s t → Settles n s s' → Settles n t t'
     → AlikeTrees s' t'
 settles_alike zero s s' t t' alike h k =
-    subst (λ (x : WorldState). AlikeTrees x t') (sym h) (subst (λ (x : WorldState). AlikeTrees s x) (sym k) alike)
+    subst (λ (x : WorldState). AlikeTrees x t') (sym h)
+    (subst (λ (x : WorldState). AlikeTrees s x) (sym k) alike)
 settles_alike (suc n) s s' t t' alike h k =
     settled_by n s s' t t' (least_open 1 s.delivered) alike
     (λ x y a p r. settles_alike n x s' y t' a p r) h
-    (subst (λ (bs : List Bool). settles_by t t' (λ mid. Settles n mid t') (least_open 1 bs)) alike.delivered k)
+    (subst (λ (bs : List Bool). settles_by t t' (λ mid. Settles n mid t') (least_open 1 bs))
+    alike.delivered k)
 
 -- Restarts and trims.
 
@@ -293,16 +309,19 @@ trimmed_at (Below p) d d' e e' alike h k = tt
 restart_alike : (s s' t t' : WorldState) (q : ProcessId) (bytes : Option ℕ) → AlikeTrees s t
     → RestartsAt s s' q bytes → RestartsAt t t' q bytes → AlikeTrees s' t'
 restart_alike s s' t t' q bytes alike h k =
-    let kept = kept_alike s t alike q h.before k.before h.moves.stood k.moves.stood bytes h.keep k.keep h.keeps
+    let kept = kept_alike s t alike q h.before k.before h.moves.stood k.moves.stood bytes
+    h.keep k.keep h.keeps
     k.keeps in
     let one : restart_of k.before k.keep ≡ restart_of h.before h.keep = ap Restarting kept.0 in
     let here = restart_follows journal_of whole_shows alike.moves alike.world s s' alike.here q alike.is_tree
     bytes h in
-    let there = subst (λ (x : Happening). EntersBy journal_of alike.moves alike.world t t' (quiet_move q x None)
+    let there = subst (λ (x : Happening). EntersBy journal_of alike.moves alike.world t t'
+    (quiet_move q x None)
     k.reaction) one
     (restart_follows journal_of whole_shows alike.moves alike.world t t' alike.there q
     (subst IsTree (sym alike.tree) alike.is_tree) bytes k) in
-    move_alike s s' t t' alike q (quiet_move q (restart_of h.before h.keep) None) h.reaction k.reaction here there
+    move_alike s s' t t' alike q (quiet_move q (restart_of h.before h.keep) None) h.reaction
+    k.reaction here there
     (restart_of h.before h.keep) h.before h.behind k.before k.behind s.delivered t.delivered h.moves k.moves
     h.enters (subst (λ (x : Happening). Enters t t' q x k.reaction t.delivered) one k.enters) alike.delivered
     (restarted_at (place_of s.tree q).role (left_by h.before.log h.keep) (left_by k.before.log k.keep)
@@ -316,10 +335,12 @@ restart_alike s s' t t' q bytes alike h k =
 trim_alike : (s s' t t' : WorldState) (q : ProcessId) → AlikeTrees s t → TrimsAt s s' q → TrimsAt t t' q
     → AlikeTrees s' t'
 trim_alike s s' t t' q alike h k =
-    let here = trim_follows journal_of whole_shows alike.moves alike.world s s' alike.here q alike.is_tree h in
+    let here = trim_follows journal_of whole_shows alike.moves alike.world s s' alike.here q alike.is_tree h
+    in
     let there = trim_follows journal_of whole_shows alike.moves alike.world t t' alike.there q
     (subst IsTree (sym alike.tree) alike.is_tree) k in
-    move_alike s s' t t' alike q (quiet_move q Trimming None) (trim_reaction h.remain) (trim_reaction k.remain)
+    move_alike s s' t t' alike q (quiet_move q Trimming None) (trim_reaction h.remain)
+    (trim_reaction k.remain)
     here there Trimming h.before h.behind k.before k.behind s.delivered t.delivered h.moves k.moves h.enters
     k.enters alike.delivered
     (trimmed_at (place_of s.tree q).role (s.data_at q) (s'.data_at q) (t.data_at q) (t'.data_at q)
@@ -337,16 +358,19 @@ pub event_alike : (s s' t t' : WorldState) (e : Event) → AlikeTrees s t → Ap
 event_alike s s' t t' (ActOf a) alike h k =
     input_alike s s' t t' alike (process_of_act (root_of s.tree) a) (ActInput a) s.delivered t.delivered
     alike.delivered tt h
-    (subst (λ (z : List TreeProcess). TreeSteps t t' (process_of_act (root_of z) a) (ActInput a) t.delivered) alike.tree k)
+    (subst (λ (z : List TreeProcess). TreeSteps t t' (process_of_act (root_of z) a) (ActInput a) t.delivered)
+    alike.tree k)
 event_alike s s' t t' (Deliver n) alike h k = delivery_alike s s' t t' n alike h k
 event_alike s s' t t' Settle alike h k = settles_alike 10000 s s' t t' alike h k
 event_alike s s' t t' (Restart q bytes) alike h k = restart_alike s s' t t' q bytes alike h k
 event_alike s s' t t' (Trim q) alike h k = trim_alike s s' t t' q alike h k
 
-pub leads_alike : (s s' t t' : WorldState) (es : List Event) → AlikeTrees s t → EventsLead s es s' → EventsLead t es t'
+pub leads_alike : (s s' t t' : WorldState) (es : List Event) → AlikeTrees s t → EventsLead s es s'
+    → EventsLead t es t'
     → AlikeTrees s' t'
 leads_alike s s' t t' [] alike h k =
-    subst (λ (x : WorldState). AlikeTrees x t') (sym h) (subst (λ (x : WorldState). AlikeTrees s x) (sym k) alike)
+    subst (λ (x : WorldState). AlikeTrees x t') (sym h)
+    (subst (λ (x : WorldState). AlikeTrees s x) (sym k) alike)
 leads_alike s s' t t' (e ∷ es) alike h k =
     leads_alike h.0 s' k.0 t' es (event_alike s h.0 t k.0 e alike h.1 k.1) h.2 k.2
 
@@ -355,7 +379,8 @@ opened_at (AtLeaf p) n d e h k = moves_alike n d n e (itself n) (case_xid p) Res
 opened_at AtRoot n d e h k = tt
 opened_at (Below p) n d e h k = tt
 
-pub opened_alike : (tree : List TreeProcess) (s t : WorldState) → IsTree tree → IsOpenedTree s tree → IsOpenedTree t tree
+pub opened_alike : (tree : List TreeProcess) (s t : WorldState) → IsTree tree → IsOpenedTree s tree
+    → IsOpenedTree t tree
     → AlikeTrees s t
 opened_alike tree s t is_tree h k = record {
   is_tree = subst IsTree (sym h.tree_is) is_tree;

@@ -176,7 +176,8 @@ module _ (me p : ProcessId) (tree : List TreeProcess) where
           boot_append (kept n) new ∙ others_boot (boot_of (kept n)) new
           (turn_none (Below p) place n h e turn.turn)
 
-      not_early : {A : Type 0} (c : Case) (t : Ticket) (o : Outcome) (fs : List Finding) (j : ℕ) (x : Txn) (u : Ticket)
+      not_early : {A : Type 0} (c : Case) (t : Ticket) (o : Outcome) (fs : List Finding) (j : ℕ)
+          (x : Txn) (u : Ticket)
           → h.input ≡ MessageInput j (Ack (child_case x u) o fs)
           → same_txn x c.txn ≡ true → has (is_prepare_naming c t) (kept n) ≡ true
           → Undecided c (kept n) → u ≡ t → A

@@ -35,14 +35,16 @@ module _ (journal : List Made → List JournalEntry) where
     pub goes_on_so : GoesOnBy journal es w s
     pub tree_stays : s.tree ≡ tree
 
-  pub waits : (tree : List TreeProcess) (es : List Made) (w : World) (s : WorldState) → FollowsBy journal es w s
+  pub waits : (tree : List TreeProcess) (es : List Made) (w : World) (s : WorldState)
+      → FollowsBy journal es w s
       → s.tree ≡ tree → GoesOnIn tree es w s
   waits tree es w s f is = record {
     goes_on_so = record { later = []; world = w; leads = stays; follows = f };
     tree_stays = is;
   }
 
-  pub then_on : (tree : List TreeProcess) (es : List Made) (w : World) (s t : WorldState) → GoesOnIn tree es w s
+  pub then_on : (tree : List TreeProcess) (es : List Made) (w : World) (s t : WorldState)
+      → GoesOnIn tree es w s
       → ((es' : List Made) (w' : World) → FollowsBy journal es' w' s
       → GoesOnIn tree es' w' t) → GoesOnIn tree es w t
   then_on tree es w s t first next =

@@ -110,20 +110,23 @@ module _ (me p : ProcessId) (tree : List TreeProcess) (n : Node) (a : DataAnswer
     pub prepared : (view own).standing ≡ standing.Prepared
     pub unwritten : e.written ≡ []
 
-  ack_quiet : (t : Ticket) (o : Outcome) (fs : List Finding) (c : Option Case) → is_prepared_case place n c ≡ true
+  ack_quiet : (t : Ticket) (o : Outcome) (fs : List Finding) (c : Option Case)
+      → is_prepared_case place n c ≡ true
       → Quiet (ack_for this_version place (Some p) n t o fs c)
   ack_quiet t o fs None h = absurd (cc)
   ack_quiet t o fs (Some c) h = record {
     own = c;
     prepared = prepared_is (view c).standing h;
     unwritten =
-        ap (λ st. (row_effect c (on_ack this_version (seat_of place (Some p) c) t o (found_below place n c o fs) (view c) st)).written)
+        ap (λ st. (row_effect c (on_ack this_version (seat_of place (Some p) c) t o
+        (found_below place n c o fs) (view c) st)).written)
         (prepared_is (view c).standing h)
         ∙ by_outcome o;
   }
     where
       by_outcome : (o : Outcome)
-          → (row_effect c (on_ack this_version (seat_of place (Some p) c) t o (found_below place n c o fs) (view c) standing.Prepared)).written
+          → (row_effect c (on_ack this_version (seat_of place (Some p) c) t o (found_below place n c o fs)
+          (view c) standing.Prepared)).written
           ≡ []
       by_outcome Committed = refl
       by_outcome Aborted = refl
@@ -192,7 +195,8 @@ module _ (me p : ProcessId) (tree : List TreeProcess) (n : Node) (a : DataAnswer
   -- what is left of the process stands as it did
   pub stands_asking : (c : Case) (h : Heard) (e : Effect) (appended forced : ℕ)
       (new : CoreState) → e.written ≡ []
-      → StandsFor (fails_in n h e appended forced) new → StandsFor (fails_in n (asking c) (asked c) 0 forced) new
+      → StandsFor (fails_in n h e appended forced) new → StandsFor (fails_in n (asking c) (asked c) 0 forced)
+      new
   stands_asking c h e appended forced new unwritten stands =
       let none : take appended (entries_written e.written) ≡ [] =
       ap (λ ws. take appended (entries_written ws)) unwritten ∙ take-nil appended in

@@ -105,7 +105,8 @@ given_in tree net is_tree goes c e = by_ticket c.txn c.ticket e
           ticketed = λ p. (refl, refl);
         }
 
-module _ (tree : List TreeProcess) (es : List Made) (w : World) (is_tree : IsTree tree) (run : IsRun tree es w)
+module _ (tree : List TreeProcess) (es : List Made) (w : World) (is_tree : IsTree tree)
+    (run : IsRun tree es w)
     (q : ProcessId) (listed : is_listed tree q ≡ true) where
   abbrev n : Node
   n = w.at q

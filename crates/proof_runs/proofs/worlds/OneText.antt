@@ -1,5 +1,5 @@
--- One input, one text: what one of two trees that show the same makes the other does not refuse, and both refuse it by
--- the same error.
+-- One input, one text: what one of two trees that show the same makes the other does not refuse, and both
+-- refuse it by the same error.
 use Rattle.std.proofs.Common.{◌≡◌, ◌≢◌, ◌∙◌, ◌<◌, ℕ, zero, suc, Bool, true, false, List, [], ◌∷◌, Option, Some, None, refl, sym, ap, subst, arith, take, if◌then◌else◌}
 use Rattle.std.specs.Prelude.{slice_get}
 use Rattle.protocol.specs.declared.names.ProcessId.{ProcessId}
@@ -112,7 +112,8 @@ module _ (s t : WorldState) (alike : AlikeTrees s t) where
   input_made s' q i marked e stands h why =
       let step = step_follows journal_of whole_shows as_the_model alike.moves alike.world s s' q i marked
       alike.is_tree alike.here stands h in
-      not_both s.tree alike.world (input_move q i None h.handles.answer) (step.moved.effect, step.moved.world) e
+      not_both s.tree alike.world (input_move q i None h.handles.answer)
+      (step.moved.effect, step.moved.world) e
       step.moved.makes
       (in_tree (input_move q i None h.handles.answer) (Some e)
       (refused_so alike.moves alike.world t q i e follows_there why h.handles.answer))
@@ -169,10 +170,12 @@ open_alike s t alike = ap (least_open 1) alike.delivered
 
 -- N deliveries were made, and the next was not
 abbrev StopsIn : ℕ → WorldState → WorldState → StepError → Type 0
-StopsIn n t t' e = (before : WorldState) × Settles n t before × NoneDelivered before t' e (least_open 1 before.delivered)
+StopsIn n t t' e = (before : WorldState) × Settles n t before
+    × NoneDelivered before t' e (least_open 1 before.delivered)
 
 -- no more deliveries are made if there is no open message
-nothing_open : (n : ℕ) (t before t' : WorldState) (e : StepError) → ForItself e → least_open 1 t.delivered ≡ None
+nothing_open : (n : ℕ) (t before t' : WorldState) (e : StepError) → ForItself e
+    → least_open 1 t.delivered ≡ None
     → before ≡ t → NoneDelivered before t' e (least_open 1 before.delivered) → ⊥
 nothing_open n t before t' e itself none is h =
     let at = subst (λ (o : Option ℕ). NoneDelivered before t' e o)
@@ -191,7 +194,8 @@ stops_later : (n : ℕ) (t t' : WorldState) (e : StepError) (o : Option ℕ) →
 stops_later n t t' e None itself least before h k = absurd (nothing_open n t before t' e itself least h k)
 stops_later n t t' e (Some i) itself least before h k = (i, refl, h.0, h.1, (before, h.2, k))
 
-settle_made : (n limit : ℕ) (s t s' t' : WorldState) (e : StepError) → n < limit → AlikeTrees s t → ForItself e
+settle_made : (n limit : ℕ) (s t s' t' : WorldState) (e : StepError) → n < limit → AlikeTrees s t
+    → ForItself e
     → Settles limit s s' → StopsIn n t t' e → ⊥
 settle_made n zero s t s' t' e within alike itself h k = absurd (omega arith)
 settle_made zero (suc l) s t s' t' e within alike itself h k =
@@ -204,7 +208,8 @@ settle_made (suc n) (suc l) s t s' t' e within alike itself h k =
     settle_made n l made.0 later.2 s' t' e (omega arith)
     (delivery_alike s made.0 t later.2 later.0 alike made.1 later.3) itself made.2 later.4
 
-settle_refused : (n m : ℕ) (s t c d : WorldState) (e f : StepError) → AlikeTrees s t → ForItself e → ForItself f
+settle_refused : (n m : ℕ) (s t c d : WorldState) (e f : StepError) → AlikeTrees s t → ForItself e
+    → ForItself f
     → StopsIn n s c e → StopsIn m t d f → (f ≡ e) × ShowTheSame c d
 settle_refused zero zero s t c d e f alike one two h k =
     none_refused s t c d (least_open 1 s.delivered) e f alike one two (stops_first s c e h)
@@ -212,7 +217,8 @@ settle_refused zero zero s t c d e f alike one two h k =
 settle_refused zero (suc m) s t c d e f alike one two h k =
     let later = stops_later m t d f (least_open 1 t.delivered) two refl k.0 k.1 k.2 in
     absurd (delivery_made t s (flipped s t alike) later.2 c later.0 e one later.3
-    (subst (λ (o : Option ℕ). NoneDelivered s c e o) (sym (open_alike s t alike) ∙ later.1) (stops_first s c e h)))
+    (subst (λ (o : Option ℕ). NoneDelivered s c e o) (sym (open_alike s t alike) ∙ later.1)
+    (stops_first s c e h)))
 settle_refused (suc n) zero s t c d e f alike one two h k =
     let later = stops_later n s c e (least_open 1 s.delivered) one refl h.0 h.1 h.2 in
     absurd (delivery_made s t alike later.2 d later.0 f two later.3
@@ -220,7 +226,8 @@ settle_refused (suc n) zero s t c d e f alike one two h k =
 settle_refused (suc n) (suc m) s t c d e f alike one two h k =
     let here = stops_later n s c e (least_open 1 s.delivered) one refl h.0 h.1 h.2 in
     let there = stops_later m t d f (least_open 1 t.delivered) two refl k.0 k.1 k.2 in
-    let number : there.0 ≡ here.0 = some_number there.0 here.0 (sym there.1 ∙ open_alike s t alike ∙ here.1) in
+    let number : there.0 ≡ here.0 = some_number there.0 here.0 (sym there.1 ∙ open_alike s t alike ∙ here.1)
+    in
     settle_refused n m here.2 there.2 c d e f
     (delivery_alike s here.2 t there.2 here.0 alike here.3
     (subst (λ (i : ℕ). Delivers t there.2 i) number there.3)) one two here.4 there.4
@@ -230,13 +237,15 @@ settle_refused (suc n) (suc m) s t c d e f alike one two h k =
 
 -- An event.
 
-event_made : (s t s' t' : WorldState) (x : Event) (e : StepError) → AlikeTrees s t → ForItself e → Applies s x s'
+event_made : (s t s' t' : WorldState) (x : Event) (e : StepError) → AlikeTrees s t → ForItself e
+    → Applies s x s'
     → Stops t x e t' → ⊥
 event_made s t s' t' (ActOf a) e alike itself h k =
     let q = process_of_act (root_of s.tree) a in
     let why = not_acted t t' (process_of_act (root_of t.tree) a) a e itself k in
     input_made s t alike s' q (ActInput a) s.delivered e tt h
-    (subst (λ (z : List TreeProcess). RefusesAt (t.node_at (process_of_act (root_of z) a)) (ActInput a) e) alike.tree
+    (subst (λ (z : List TreeProcess). RefusesAt (t.node_at (process_of_act (root_of z) a)) (ActInput a) e)
+    alike.tree
     why.1)
 event_made s t s' t' (Deliver n) e alike itself h k = delivery_made s t alike s' t' n e itself h k
 event_made s t s' t' Settle e alike itself h k =
@@ -252,17 +261,20 @@ event_made s t s' t' (Restart q bytes) e alike itself h k =
     (restart_refused alike.moves alike.world t (follows_there s t alike) q why.1 kept))
 event_made s t s' t' (Trim q) e alike itself h k =
     let why = not_trimmed alike.moves alike.world t t' q e (follows_there s t alike) itself k in
-    let step = trim_follows journal_of whole_shows alike.moves alike.world s s' alike.here q alike.is_tree h in
+    let step = trim_follows journal_of whole_shows alike.moves alike.world s s' alike.here q alike.is_tree h
+    in
     not_both s.tree alike.world (quiet_move q Trimming None) (step.moved.effect, step.moved.world) e
     step.moved.makes (in_tree s t alike (quiet_move q Trimming None) (Some e) why.1)
 
-event_refused : (s t c d : WorldState) (x : Event) (e f : StepError) → AlikeTrees s t → ForItself e → ForItself f
+event_refused : (s t c d : WorldState) (x : Event) (e f : StepError) → AlikeTrees s t → ForItself e
+    → ForItself f
     → Stops s x e c → Stops t x f d → (f ≡ e) × ShowTheSame c d
 event_refused s t c d (ActOf a) e f alike one two h k =
     let why = not_acted s c (process_of_act (root_of s.tree) a) a e one h in
     let why_there = not_acted t d (process_of_act (root_of t.tree) a) a f two k in (
       input_refused s t alike (process_of_act (root_of s.tree) a) (ActInput a) e f why.1
-          (subst (λ (z : List TreeProcess). RefusesAt (t.node_at (process_of_act (root_of z) a)) (ActInput a) f)
+          (subst (λ (z : List TreeProcess). RefusesAt
+          (t.node_at (process_of_act (root_of z) a)) (ActInput a) f)
           alike.tree why_there.1),
       unchanged_show s t c d alike why.0 why_there.0,
     )
@@ -327,7 +339,8 @@ both_refuse s t c d (x ∷ xs) (suc n) (suc m) e f alike one two h k =
     let rest = both_refuse h.0 k.0 c d xs n m e f (event_alike s h.0 t k.0 x alike h.1 k.1) one two h.2 k.2 in
     (ap suc rest.0, rest.1, rest.2)
 
-so : (e : StepError) → (e ≢ step_error.Memory) × (e ≢ step_error.Device) × (e ≢ step_error.Exhausted) → ForItself e
+so : (e : StepError) → (e ≢ step_error.Memory) × (e ≢ step_error.Device) × (e ≢ step_error.Exhausted)
+    → ForItself e
 so e h = record { memory = h.0; device = h.1; numbers = h.2 }
 
 pub one_text : OneInputOneText

@@ -73,7 +73,8 @@ nothing_shown : journal_of [] ≡ []
 unfolding journal_of
 nothing_shown = refl
 
-pub opened_follows : (tree : List TreeProcess) (s : WorldState) → IsOpenedTree s tree → Follows [] opened_world s
+pub opened_follows : (tree : List TreeProcess) (s : WorldState) → IsOpenedTree s tree
+    → Follows [] opened_world s
 opened_follows tree s h =
     record {
       is_run = opens;

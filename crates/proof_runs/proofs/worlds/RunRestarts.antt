@@ -89,7 +89,8 @@ module _ (tree : List TreeProcess) (w : World) (q : ProcessId) (old new : CoreSt
 
       module _ (up : (w.at q).failed ≡ false) (opened : HasOpened (w.at q)) (sound : KeepsSoundLog old) where
         pub trims_move : OpenFits (place_of tree q).role (place_of tree q) (w.at q) → (remain : ℕ)
-            → ProcessTrims old new remain → MovesWorld tree w q new (quiet_move q Trim None) (trim_reaction remain)
+            → ProcessTrims old new remain → MovesWorld tree w q new (quiet_move q Trim None)
+            (trim_reaction remain)
         trims_move fits remain made =
             moves Trim (trim_reaction remain)
             (trims_so (w.at q) old new stands up own_here opened sound

@@ -173,7 +173,8 @@ pub record EntersBy (journal : List Made → List JournalEntry) (es : List Made)
   pub moved : MovesBy journal es w s s' m
   pub shown : reaction ≡ reaction_of moved.effect
 
-pub moved_goes_on : (journal : List Made → List JournalEntry) (es : List Made) (w : World) (s s' : WorldState) (m : Move)
+pub moved_goes_on : (journal : List Made → List JournalEntry) (es : List Made) (w : World)
+    (s s' : WorldState) (m : Move)
     → MovesBy journal es w s s' m → GoesOnBy journal es w s'
 moved_goes_on journal es w s s' m h =
     record {
@@ -186,13 +187,15 @@ moved_goes_on journal es w s s' m h =
 
 module _ (journal : List Made → List JournalEntry) (es : List Made) (w : World) (s s' : WorldState)
     (f : FollowsBy journal es w s)
-    (q : ProcessId) (h : Happening) (a : DataAnswer) (before behind : CoreState) (happens : MayHappen w.net q h)
+    (q : ProcessId) (h : Happening) (a : DataAnswer) (before behind : CoreState)
+    (happens : MayHappen w.net q h)
     (moves : MovesNode s s' q before behind) where
   -- a move of the model's world after which the process stands as it was left: the run goes on by it
   pub move_follows : (fault : Option Fault) (e : Effect) (n : Node)
       → world_makes s.tree w (move_with q h fault a) ≡ Some (e, world_after w q n e)
       → s'.net ≡ w.net ++ e.messages → journal (made_with q h fault a e ∷ es) ≡ s'.entries
-      → behind.place ≡ place_of s.tree q → StandsFor n behind → MovesBy journal es w s s' (move_with q h fault a)
+      → behind.place ≡ place_of s.tree q → StandsFor n behind
+      → MovesBy journal es w s s' (move_with q h fault a)
   move_follows fault e n step net shown place stands =
       let m = made_with q h fault a e in
       let w' = world_after w q n e in
@@ -226,7 +229,8 @@ module _ (journal : List Made → List JournalEntry) (es : List Made) (w : World
       → s'.net ≡ w.net ++ e.messages → journal (made_with q h fault a e ∷ es) ≡ s'.entries
       → behind.place ≡ place_of s.tree q → StandsFor n behind → GoesOnBy journal es w s'
   move_goes_on fault e n step net shown place stands =
-      moved_goes_on journal es w s s' (move_with q h fault a) (move_follows fault e n step net shown place stands)
+      moved_goes_on journal es w s s' (move_with q h fault a)
+      (move_follows fault e n step net shown place stands)
 
   -- one in which no device failed, and which is entered
   pub entered_follows : ShowsMoves journal → (reaction : Reaction) (marked : List Bool)

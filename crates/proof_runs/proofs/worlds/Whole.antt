@@ -34,7 +34,8 @@ pub record ForItself (e : StepError) : Type 0 where
   pub device : e ≢ step_error.Device
   pub numbers : e ≢ step_error.Exhausted
 
-pub not_acted : (s t : WorldState) (q : ProcessId) (a : Act) (e : StepError) → ForItself e → NotActed s t q a e
+pub not_acted : (s t : WorldState) (q : ProcessId) (a : Act) (e : StepError) → ForItself e
+    → NotActed s t q a e
     → SameTree s t × RefusesAt (s.node_at q) (ActInput a) e
 not_acted s t q a step_error.Memory itself h = absurd (itself.memory refl)
 not_acted s t q a step_error.Device itself h = absurd (itself.device refl)
@@ -47,7 +48,8 @@ not_acted s t q a step_error.Failed itself h = h
 not_acted s t q a step_error.NoSuch itself h = h
 not_acted s t q a step_error.Exhausted itself h = absurd (itself.numbers refl)
 
-pub not_delivered : (s t : WorldState) (k : ℕ) (e : StepError) → ForItself e → NotDelivered s t k e → SameTree s t
+pub not_delivered : (s t : WorldState) (k : ℕ) (e : StepError) → ForItself e → NotDelivered s t k e
+    → SameTree s t
     × RefusesMessage s k (sent_as s.net k) e
 not_delivered s t k step_error.Memory itself h = absurd (itself.memory refl)
 not_delivered s t k step_error.Device itself h = absurd (itself.device refl)
@@ -60,7 +62,8 @@ not_delivered s t k step_error.Failed itself h = h
 not_delivered s t k step_error.NoSuch itself h = h
 not_delivered s t k step_error.Exhausted itself h = absurd (itself.numbers refl)
 
-pub refused_message : (es : List Made) (w : World) (s : WorldState) (k : ℕ) (o : Option Envelope) (e : StepError)
+pub refused_message : (es : List Made) (w : World) (s : WorldState) (k : ℕ)
+    (o : Option Envelope) (e : StepError)
     → Follows es w s → RefusesMessage s k o e
     → RefusesDelivery s.tree w k o e
 refused_message es w s k None e f h = h
@@ -89,7 +92,8 @@ not_restarted s t q bytes step_error.NoSuch itself h = (h.0, h.1, refl)
 not_restarted s t q bytes step_error.Exhausted itself h = absurd (itself.numbers refl)
 
 -- of a trim that was refused for itself there is no process, or it has failed
-pub not_trimmed : (es : List Made) (w : World) (s t : WorldState) (q : ProcessId) (e : StepError) → Follows es w s
+pub not_trimmed : (es : List Made) (w : World) (s t : WorldState) (q : ProcessId) (e : StepError)
+    → Follows es w s
     → ForItself e → NotTrimmedAt s t q e
     → SameTree s t × RefusesEvent s.tree w t.delivered (Trim q) e
 not_trimmed es w s t q step_error.Memory f itself h = absurd (itself.memory refl)
@@ -123,7 +127,8 @@ module _ (tree : List TreeProcess) (is_tree : IsTree tree) where
         world = w;
         tree_is = why.0.tree ∙ is;
         follows = same_follows es w before t f why.0;
-        refuses = subst (λ o. RefusesNextDelivery tree w o e) (sym (ap (least_open 1) why.0.delivered ∙ least))
+        refuses = subst (λ o. RefusesNextDelivery tree w o e)
+            (sym (ap (least_open 1) why.0.delivered ∙ least))
             (subst (λ z. RefusesDelivery z w k (sent_as w.net k) e) is
             (refused_delivery es w before k e f why.1));
       }

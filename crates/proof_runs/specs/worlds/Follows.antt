@@ -17,8 +17,8 @@ pub record StandsAt (w : World) (s : WorldState) (q : ProcessId) (c : CoreState)
   pub place : c.place ≡ place_of s.tree q
   pub stands : StandsFor (w.at q) c
 
--- the state of a tree stands for a run whose moves are made by the version that its processes have: its journal is
--- the run's, its messages are the run's, and so is each process
+-- the state of a tree stands for a run whose moves are made by the version that its processes have: its
+-- journal is the run's, its messages are the run's, and so is each process
 pub record Follows (es : List Made) (w : World) (s : WorldState) : Type 0 where
   pub is_run : IsRun s.tree es w
   pub by_this : AllBy this_version es

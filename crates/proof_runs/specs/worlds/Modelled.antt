@@ -13,7 +13,8 @@ pub record StandsForRun (s : WorldState) : Type 0 where
   pub world : World
   pub follows : FollowsBehindFaults moves world s
 
--- it stands for such a run; of this run the headline holds, and each End of the root in it reports mismatches truly
+-- it stands for such a run; of this run the headline holds, and each End of the root in it reports mismatches
+-- truly
 pub record KeepsHeadline (s : WorldState) : Type 0 where
   pub run : StandsForRun s
   pub headline : Headline s.tree run.moves run.world

@@ -82,8 +82,8 @@ abbrev pub RefusesIn : List TreeProcess → World → List Bool → List Event �
 RefusesIn tree w delivered events None = ⊤
 RefusesIn tree w delivered events (Some refused) = RefusesNext tree w delivered events refused.0 refused.1
 
--- what the events come to is a run of the model, of which the headline holds and in which mismatches are reported,
--- and a refused event is one that it refuses
+-- what the events come to is a run of the model, of which the headline holds and in which mismatches are
+-- reported, and a refused event is one that it refuses
 pub record IsRunOf (tree : List TreeProcess) (events : List Event) (refusal : Refusal)
     (end : WorldState) : Type 0 where
   pub moves : List Made

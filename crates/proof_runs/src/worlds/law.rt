@@ -63,14 +63,15 @@ pub fn runs_go_on_behind_faults()
         → Headline s.tree es w }
 {}
 
-/// Where the state of a tree stands for a run, the headline holds of that run, and mismatches are reported in it.
+/// Where the state of a tree stands for a run, the headline holds of that run, and mismatches are reported in
+/// it.
 pub fn the_headline_holds()
     ensures { (s : WorldState) (es : List Made) (w : World) → IsTree s.tree → Follows es w s → IsModelled s }
 {}
 
 /// What any list of events leads an opened tree to, up to the one that is refused, is a run of the model, of
-/// which the headline holds and in which mismatches are reported; and an event that is refused for itself is one that the model refuses there by
-/// the same error.
+/// which the headline holds and in which mismatches are reported; and an event that is refused for itself is
+/// one that the model refuses there by the same error.
 pub fn every_run_is_a_run_of_the_model()
     ensures { (tree : List TreeProcess) (start end : WorldState) (events : List Event)
         (refusal : Refusal) → IsTree tree
@@ -78,15 +79,15 @@ pub fn every_run_is_a_run_of_the_model()
         → IsRunOf tree events refusal end }
 {}
 
-/// Where the processes are a tree, and its state stands for a run in which devices may have failed, the headline holds of
-/// that run, and each End of the root in it reports truly.
+/// Where the processes are a tree, and its state stands for a run in which devices may have failed, the
+/// headline holds of that run, and each End of the root in it reports truly.
 pub fn modelled_trees_keep_the_headline()
     ensures { ModelledTreesKeepHeadline }
 {}
 
-/// One input has one text: by the same events two trees of the same processes, which have opened empty logs, come to
-/// states that show the same, and refuse the same event by the same error; if no event is refused for memory or for
-/// numbers that are used up, nor because a device failed.
+/// One input has one text: by the same events two trees of the same processes, which have opened empty logs,
+/// come to states that show the same, and refuse the same event by the same error; if no event is refused for
+/// memory or for numbers that are used up, nor because a device failed.
 pub fn one_input_has_one_text()
     ensures { OneInputOneText }
 {}

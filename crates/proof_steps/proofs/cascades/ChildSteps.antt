@@ -148,7 +148,8 @@ module _ (c : Case) (t : Ticket) (p : ProcessId) (tree : List TreeProcess) (n : 
   recorded_issued : (f : Record → Bool) → ((r : Record) → f r ≡ true → is_record_of d r ≡ true)
       → has f (kept n) ≡ true → v.issued ≡ true
   recorded_issued f g e =
-      let a = known.keeps.issues.recorded_is_given d (known.nested.kept_was_written (is_record_of d) (λ k. refl)
+      let a = known.keeps.issues.recorded_is_given d
+      (known.nested.kept_was_written (is_record_of d) (λ k. refl)
       (has_other f (is_record_of d) (kept n) g e)) in
       let y = given net c.txn t a.1 in
       subst (λ (x : Case). sent (is_joined_message x t) net ≡ true)

@@ -58,7 +58,8 @@ module _ (rs : List Record) (old : EndsDecided rs) (c : Case) where
       (same_of d c e) f) (in_either (is_prepare c) rs (EndRecord d rep ∷ []) g)
     where
       by_fit : IsDecided c rs ⊎ (has (is_prepare c) rs ≡ false)
-          → (has (is_prepare c) rs ≡ true) ⊎ (has (is_prepare c) (EndRecord d rep ∷ []) ≡ true) → IsDecided c rs
+          → (has (is_prepare c) rs ≡ true) ⊎ (has (is_prepare c) (EndRecord d rep ∷ []) ≡ true)
+          → IsDecided c rs
       by_fit (inl x) y = x
       by_fit (inr x) (inl y) = not_both (is_prepare c) (has (is_prepare c) rs) y x
       by_fit (inr x) (inr y) = absurd (let z = one_is (is_prepare c) (EndRecord d rep) y in cc)

@@ -121,7 +121,8 @@ module _ (root outcome above : Bool) (p : ParentHalf) (q : OwnHalf) (v : Wire) (
 
   pub reading-fails : QuietWhileOpen q.is_open v.issued q.prepare_kept q.prepare_ever v.read
       → (front.prepare ≡ true → q.prepare_kept ≡ true)
-      → R (failed_own front q) ≡ ChildCrash.hardens_failed_child (as_front front) (ChildCrash.child_fails (R q))
+      → R (failed_own front q) ≡ ChildCrash.hardens_failed_child (as_front front)
+      (ChildCrash.child_fails (R q))
   reading-fails quiet sub =
       rw (
         and-false v.issued,

@@ -266,7 +266,8 @@ module _ (turn : Turn) where
   own_row r (acknowledges o fs i e) = silent_fails (row_effect d r) refl
   own_row r (waits_for_acks u o fs i e f g) = silent_fails (row_effect d r) refl
   own_row r (ends u o fs i e f g) =
-      aside_fails (row_effect d r) (EndRecord d None) false (plain_end t.child p d h.version (found_below place n d o fs))
+      aside_fails (row_effect d r) (EndRecord d None) false
+      (plain_end t.child p d h.version (found_below place n d o fs))
       (record { no_prepare = refl; no_commit = refl; no_abort = refl })
   own_row r (clears i e f g) = absurd (cc)
   own_row r (answers u o i e) = silent_fails (row_effect d r) refl

@@ -116,7 +116,8 @@ module _ (d : Case) (n : Node) (v : Wire) (pr : Presumption) (root outcome above
             let to = as_front front in
             subst (λ (z : Reading). Fits pr r0 z) (sym e)
             (Moves.onward pr r0 s (ChildCrash.hardens_failed_child to s) f
-            (FailMoves.hardens_failed pr to s f.invariant (record { failed = u.failed; front_of = is_front u })))
+            (FailMoves.hardens_failed pr to s f.invariant
+            (record { failed = u.failed; front_of = is_front u })))
 
       pub quiet_open : QuietWhileOpen q.is_open v.issued q.prepare_kept q.prepare_ever v.read
       quiet_open x = let w = common.not_voted x in (w.no_prepared.0, w.no_prepared.1, w.said_nothing.0)

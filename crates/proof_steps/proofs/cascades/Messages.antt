@@ -138,7 +138,8 @@ module _ (tree : List TreeProcess) (me p : ProcessId) (below : role_of tree me �
   one l ls (No e) is u f g = more l ls u (rw is refl) (rw is refl) (rw is refl) (rw is refl) (rw is refl)
   one l ls (Read e) is u f g =
       more l ls u (rw is refl) (rw is (not_parents l e f g.0)) (rw is refl) (rw is refl) (rw is refl)
-  one l ls (Ack e o fs) is u f g = more l ls u (rw is refl) (rw is refl) (rw is refl) (rw is refl) (rw is refl)
+  one l ls (Ack e o fs) is u f g = more l ls u (rw is refl) (rw is refl) (rw is refl)
+      (rw is refl) (rw is refl)
   one l ls (Inquire e) is u f g = more l ls u (rw is refl) (rw is refl) (rw is refl) (rw is refl) (rw is refl)
 
   unsaid : (ls : List Envelope) → AllSentBy me ls → AllGo tree ls → Unsaid ls

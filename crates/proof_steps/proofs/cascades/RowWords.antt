@@ -119,7 +119,8 @@ module _ (c : Case) where
     where
       by_test : (b : Bool)
           → (let s : Seat = record { me = me; parent = Some p; own = x } in
-          sent (is_read_message c) ((if b then acknowledges_abort s x.txn.presumption else []) ++ each s Abort us)
+          sent (is_read_message c) ((if b then acknowledges_abort s x.txn.presumption else [])
+          ++ each s Abort us)
           ≡ false)
       by_test true = acknowledged me p x x.txn.presumption us
       by_test false = each_unread (record { me = me; parent = Some p; own = x }) AbortedOutcome us
@@ -132,7 +133,8 @@ module _ (c : Case) where
   at_once me p x Second o rest f = f
 
   at_last : (me p : ProcessId) (x : Case) (ver : Version) (o : Outcome) (fs : List Finding)
-      → sent (is_read_message c) (acknowledges_at_last ver (record { me = me; parent = Some p; own = x }) o fs)
+      → sent (is_read_message c) (acknowledges_at_last ver
+      (record { me = me; parent = Some p; own = x }) o fs)
       ≡ false
   unfolding sent has
   at_last me p x First o fs = refl
@@ -313,7 +315,8 @@ module _ (me p : ProcessId) (tree : List TreeProcess) (n : Node) (h : Heard) (ne
   row_words x r (refuses j i e) = unread (row_effect x r) refl refl refl
   row_words x r (acknowledges o fs i e) = unread (row_effect x r) refl refl refl
   row_words x r (waits_for_acks u o fs i e f g) = unread (row_effect x r) refl refl refl
-  row_words x r (ends u o fs i e f g) = unread (row_effect x r) (at_last c me p x h.version o (found_below place n x o fs)) refl refl
+  row_words x r (ends u o fs i e f g) = unread (row_effect x r)
+      (at_last c me p x h.version o (found_below place n x o fs)) refl refl
   row_words x r (clears i e f g) = absurd (cc)
   row_words x r (answers u o i e) = unread (row_effect x r) (message_unread c me u.child o _) refl refl
 
@@ -324,4 +327,5 @@ module _ (me p : ProcessId) (tree : List TreeProcess) (n : Node) (h : Heard) (ne
   turn_words e (begins q f i) = absurd (cc)
   turn_words e (gives_again q x u f i g) = unread e refl refl refl
   turn_words e (gives_fresh q x f i g) = unread e refl refl refl
-  turn_words e (presumes x u i f) = unread e (message_unread c me u.child (presumed x.presumption) _) refl refl
+  turn_words e (presumes x u i f) = unread e
+      (message_unread c me u.child (presumed x.presumption) _) refl refl

@@ -129,7 +129,8 @@ module _ (turn : Turn) where
     heard_above (ByAbort Second) us = by_test (none_of us)
       where
         by_test : (b : Bool)
-            → Silent ((if b then acknowledges_abort (seat x) x.txn.presumption else []) ++ each (seat x) Abort us)
+            → Silent ((if b then acknowledges_abort (seat x) x.txn.presumption else [])
+            ++ each (seat x) Abort us)
         by_test true = acknowledged x.txn.presumption us
         by_test false = aborts_down us
 
@@ -138,7 +139,8 @@ module _ (turn : Turn) where
     at_once First o ls s = up_ack o [] ls s
     at_once Second o ls s = s
 
-    at_last : (ver : Version) (o : Outcome) (fs : List Finding) → Silent (acknowledges_at_last ver (seat x) o fs)
+    at_last : (ver : Version) (o : Outcome) (fs : List Finding)
+        → Silent (acknowledges_at_last ver (seat x) o fs)
     at_last First o fs = Messages.none_silent c t
     at_last Second o fs = up_ack o (in_order fs) [] (Messages.none_silent c t)
 
@@ -184,7 +186,8 @@ module _ (turn : Turn) where
     other_row _ (passes_commit PresumeAbort i e f) k =
         forced_aside turn _ k (CommitRecord x (view x).promised) refl (λ y. refl)
         (aside_commit (view x).promised)
-        (at_once h.version CommittedOutcome _ (Messages.each_silent c t (seat x) CommittedOutcome (view x).promised))
+        (at_once h.version CommittedOutcome _ (Messages.each_silent c t (seat x) CommittedOutcome
+        (view x).promised))
     other_row _ (passes_commit PresumeCommit i e f) k =
         plain_aside turn _ k (CommitRecord x []) refl (λ y. refl) (aside_commit [])
         (Messages.each_silent c t (seat x) CommittedOutcome (view x).promised)
@@ -198,7 +201,8 @@ module _ (turn : Turn) where
     other_row _ (repeats_yes j i e) k = quiet_turn turn _ k refl up_yes
     other_row _ (asks i e) k = quiet_turn turn _ k refl up_inquire
     other_row _ (refuses j i e) k = quiet_turn turn _ k refl (up_no [] (Messages.none_silent c t))
-    other_row _ (acknowledges o fs i e) k = quiet_turn turn _ k refl (up_ack o fs [] (Messages.none_silent c t))
+    other_row _ (acknowledges o fs i e) k = quiet_turn turn _ k refl
+        (up_ack o fs [] (Messages.none_silent c t))
     other_row _ (waits_for_acks u o fs i e f g) k = quiet_turn turn _ k refl (Messages.none_silent c t)
     other_row _ (ends u o fs i e f g) k =
         plain_aside turn _ k (EndRecord x None) (plain_end t.child p x h.version (found_below place n x o fs))

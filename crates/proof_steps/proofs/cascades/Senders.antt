@@ -67,8 +67,10 @@ leaf_sent place p n h e (votes_read d k i a) = (refl, tt)
 leaf_sent place p n h e (votes_no d k i a) = (refl, tt)
 leaf_sent place p n h e (repeats_yes d k i a) = (refl, tt)
 leaf_sent place p n h e (refuses d k i a) = (refl, tt)
-leaf_sent place p n h e (obeys d o i a) = if_acknowledged place.me p d o _ (is_acknowledged d.txn.presumption o)
-leaf_sent place p n h e (notes d o i a) = if_acknowledged place.me p d o _ (is_acknowledged d.txn.presumption o)
+leaf_sent place p n h e (obeys d o i a) = if_acknowledged place.me p d o _
+    (is_acknowledged d.txn.presumption o)
+leaf_sent place p n h e (notes d o i a) = if_acknowledged place.me p d o _
+    (is_acknowledged d.txn.presumption o)
 leaf_sent place p n h e (acknowledges_told d o i a) =
     if_acknowledged place.me p d o _ (is_acknowledged d.txn.presumption o)
 leaf_sent place p n h e (acknowledges d o i a) = if_acknowledged place.me p d o _

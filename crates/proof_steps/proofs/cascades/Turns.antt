@@ -34,7 +34,8 @@ use Rattle.proof_steps.proofs.cascades.Readings
 
 -- A case that is closed without a word is dropped, if it was open.
 
-module _ (pr : Presumption) (root outcome above : Bool) (half : ParentHalf) (half_in : OwnHalf) (wire_in : Wire)
+module _ (pr : Presumption) (root outcome above : Bool) (half : ParentHalf) (half_in : OwnHalf)
+    (wire_in : Wire)
     (inv : InvariantOf pr (reading_from root false outcome above half (as_child half_in) wire_in)) where
   abbrev R0 : OwnHalf → Reading
   R0 x = reading_from root false outcome above half (as_child x) wire_in
@@ -42,12 +43,14 @@ module _ (pr : Presumption) (root outcome above : Bool) (half : ParentHalf) (hal
   same : (x : OwnHalf) → R0 x ≡ R0 half_in → Fits pr (R0 half_in) (R0 x)
   same x e = subst (λ (z : Reading). Fits pr (R0 half_in) z) (sym e) (Moves.unmoved pr (R0 half_in) inv)
 
-  may_fall : (o b i : Bool) → half_in.is_open ≡ b → wire_in.issued ≡ i → o ≡ false → Fits pr (R0 half_in) (R0 (stands_so o half_in))
+  may_fall : (o b i : Bool) → half_in.is_open ≡ b → wire_in.issued ≡ i → o ≡ false
+      → Fits pr (R0 half_in) (R0 (stands_so o half_in))
   may_fall o true true e i f =
       let silent = (Moves.common_of pr (R0 half_in) inv).not_voted (rw (i, e) refl) in
       subst (λ (z : Reading). Fits pr (R0 half_in) z)
       (sym (ap (λ b. R0 (stands_so b half_in)) f
-      ∙ Readings.reading-dropped root outcome above half half_in wire_in e i silent.no_prepared.0 silent.no_prepared.1
+      ∙ Readings.reading-dropped root outcome above half half_in wire_in e i silent.no_prepared.0
+      silent.no_prepared.1
       silent.said_nothing.0))
       (Moves.drops pr (R0 half_in) inv (record { is_open = rw (i, e) refl }))
   may_fall o true false e i f = same (stands_so o half_in)
@@ -56,7 +59,8 @@ module _ (pr : Presumption) (root outcome above : Bool) (half : ParentHalf) (hal
       same (stands_so o half_in) (ap (λ x. R0 (stands_so x half_in)) f
       ∙ Readings.reading-closed root outcome above half half_in wire_in e)
 
-  pub falls_so : (o : Bool) → (o ≡ half_in.is_open) ⊎ (o ≡ false) → Fits pr (R0 half_in) (R0 (stands_so o half_in))
+  pub falls_so : (o : Bool) → (o ≡ half_in.is_open) ⊎ (o ≡ false)
+      → Fits pr (R0 half_in) (R0 (stands_so o half_in))
   falls_so o (inl e) = same (stands_so o half_in) (ap (λ b. R0 (stands_so b half_in)) e)
   falls_so o (inr f) = may_fall o half_in.is_open wire_in.issued refl refl f
 
@@ -182,7 +186,8 @@ module _ (turn : Turn) where
   ]
 
   -- All in all: the half, what is said, and the move.
-  fine : (e : Effect) → Then e → (x : OwnHalf) → own_half_at (opens place_in (after n h e) own_case) (after n h e) own_case ≡ x
+  fine : (e : Effect) → Then e → (x : OwnHalf) → own_half_at (opens place_in (after n h e) own_case)
+      (after n h e) own_case ≡ x
       → (s : Said) → said_by c t e.messages ≡ s → Fits pr r0 (R x (hears s wire_in)) → Fine e
   fine e k x a s b f =
       subst (λ (z : OwnHalf). Fits pr r0 (R z (wire c t (net ++ e.messages)))) (sym a)
@@ -192,32 +197,41 @@ module _ (turn : Turn) where
 
   -- Nothing was written.
   pub silent_fine : (e : Effect) → Then e → e.written ≡ [] → (s : Said) → said_by c t e.messages ≡ s
-      → ((o : Bool) → o ≡ live Remembered.phase → Fits pr r0 (R (stands_so o half_in) (hears s wire_in))) → Fine e
+      → ((o : Bool) → o ≡ live Remembered.phase → Fits pr r0 (R (stands_so o half_in) (hears s wire_in)))
+      → Fine e
   silent_fine e k none s b f =
       fine e k (stands_so (opens place_in (after n h e) own_case) half_in)
       (own_silent (opens place_in n own_case) (opens place_in (after n h e) own_case) n h e own_case none) s b
-      (f (opens place_in (after n h e) own_case) (opens_then e k (memory_of-nothing place_in n h e own_case none)))
+      (f (opens place_in (after n h e) own_case)
+      (opens_then e k (memory_of-nothing place_in n h e own_case none)))
 
   -- A record was written and forced.
   pub forced_fine : (e : Effect) → Then e → (r : Record) → e.written ≡ forced r
       → ((x : ℕ) → boot_after x r ≡ x)
       → (s : Said) → said_by c t e.messages ≡ s
       → ((o : Bool) → o ≡ live Remembered.phase
-      → Fits pr r0 (R (stands_so o (hardens (wrote r (has (is_prepare own_case) n.life) own_case half_in))) (hears s wire_in))) → Fine e
+      → Fits pr r0 (R (stands_so o (hardens (wrote r (has (is_prepare own_case) n.life) own_case half_in)))
+      (hears s wire_in))) → Fine e
   forced_fine e k r one boots s b f =
-      fine e k (stands_so (opens place_in (after n h e) own_case) (hardens (wrote r (has (is_prepare own_case) n.life) own_case half_in)))
-      (own_forced (opens place_in n own_case) (opens place_in (after n h e) own_case) n h e own_case r one) s b
-      (f (opens place_in (after n h e) own_case) (opens_then e k (memory_of-forced place_in n h e own_case r one boots)))
+      fine e k (stands_so (opens place_in (after n h e) own_case)
+      (hardens (wrote r (has (is_prepare own_case) n.life) own_case half_in)))
+      (own_forced (opens place_in n own_case) (opens place_in (after n h e) own_case) n h e own_case r one) s
+      b
+      (f (opens place_in (after n h e) own_case)
+      (opens_then e k (memory_of-forced place_in n h e own_case r one boots)))
 
   -- A record was written, unforced.
   pub plain_fine : (e : Effect) → Then e → (r : Record) → e.written ≡ plain r → ((x : ℕ) → boot_after x r ≡ x)
       → (s : Said) → said_by c t e.messages ≡ s
       → ((o : Bool) → o ≡ live Remembered.phase
-      → Fits pr r0 (R (stands_so o (wrote r (has (is_prepare own_case) n.life) own_case half_in)) (hears s wire_in))) → Fine e
+      → Fits pr r0 (R (stands_so o (wrote r (has (is_prepare own_case) n.life) own_case half_in))
+      (hears s wire_in))) → Fine e
   plain_fine e k r one boots s b f =
-      fine e k (stands_so (opens place_in (after n h e) own_case) (wrote r (has (is_prepare own_case) n.life) own_case half_in))
+      fine e k (stands_so (opens place_in (after n h e) own_case)
+      (wrote r (has (is_prepare own_case) n.life) own_case half_in))
       (own_plain (opens place_in n own_case) (opens place_in (after n h e) own_case) n h e own_case r one) s b
-      (f (opens place_in (after n h e) own_case) (opens_then e k (memory_of-plain place_in n h e own_case r one boots)))
+      (f (opens place_in (after n h e) own_case)
+      (opens_then e k (memory_of-plain place_in n h e own_case r one boots)))
 
   -- all that stood before was forced
   pub hard : Fits pr r0 (ChildMoves.hardens_child r0)
@@ -230,9 +244,11 @@ module _ (turn : Turn) where
 
   pub quiet_turn : (e : Effect) → Then e → e.written ≡ [] → said_by c t e.messages ≡ nothing → Fine e
   quiet_turn e k none b =
-      silent_fine e k none nothing b (λ o f. falls_so pr root outcome above half half_in wire_in inv o (fallen o f))
+      silent_fine e k none nothing b (λ o f. falls_so pr root outcome above half half_in wire_in
+      inv o (fallen o f))
 
-  hardened_falls : (o : Bool) → o ≡ live Remembered.phase → Fits pr r0 (R (stands_so o (hardens half_in)) wire_in)
+  hardened_falls : (o : Bool) → o ≡ live Remembered.phase
+      → Fits pr r0 (R (stands_so o (hardens half_in)) wire_in)
   hardened_falls o f =
       let same : R (hardens half_in) wire_in
       ≡ ChildMoves.hardens_child r0 = Readings.reading-hardened root outcome above half half_in wire_in in

@@ -172,7 +172,8 @@ module _ (turn : Turn) where
       let ts = (coordinator_view place n d).promised in
       let closed = prepared_closed e in
       let doubt = doubt_at e in
-      forced_fine turn (row_effect d (prepared_commit_by First seat (coordinator_view place n d) PresumeAbort)) next
+      forced_fine turn (row_effect d (prepared_commit_by First seat (coordinator_view place n d)
+      PresumeAbort)) next
       (CommitRecord d ts) refl (λ x. refl) (record nothing { ack = true })
       (ack_said CommittedOutcome CommittedOutcome [] ts)
       (λ o g. subst (λ (z : Reading). Fits pr (r0 turn) z)
@@ -197,7 +198,8 @@ module _ (turn : Turn) where
       let ts = (coordinator_view place n d).promised in
       let closed = prepared_closed e in
       let doubt = doubt_at e in
-      plain_fine turn (row_effect d (prepared_commit_by First seat (coordinator_view place n d) PresumeCommit)) next
+      plain_fine turn (row_effect d (prepared_commit_by First seat (coordinator_view place n d)
+      PresumeCommit)) next
       (CommitRecord d []) refl (λ x. refl) nothing (Messages.each_silent c t seat CommittedOutcome ts)
       (λ o g. subst (λ (z : Reading). Fits pr (r0 turn) z)
       (sym (ap (λ (x : OwnHalf). R turn (stands_so o x) v) (commits_record d [] b q)
@@ -214,7 +216,8 @@ module _ (turn : Turn) where
       let ts = (coordinator_view place n d).promised in
       let closed = prepared_closed e in
       let doubt = doubt_at e in
-      forced_fine turn (row_effect d (prepared_commit_by Second seat (coordinator_view place n d) PresumeAbort)) next
+      forced_fine turn (row_effect d (prepared_commit_by Second seat (coordinator_view place n d)
+      PresumeAbort)) next
       (CommitRecord d ts) refl (λ x. refl) nothing (Messages.each_silent c t seat CommittedOutcome ts)
       (λ o g. subst (λ (z : Reading). Fits pr (r0 turn) z)
       (sym (ap (λ (x : OwnHalf). R turn (stands_so o (hardens x)) v)
@@ -238,7 +241,8 @@ module _ (turn : Turn) where
       let ts = (coordinator_view place n d).promised in
       let closed = prepared_closed e in
       let doubt = doubt_at e in
-      plain_fine turn (row_effect d (prepared_commit_by Second seat (coordinator_view place n d) PresumeCommit)) next
+      plain_fine turn (row_effect d (prepared_commit_by Second seat (coordinator_view place n d)
+      PresumeCommit)) next
       (CommitRecord d []) refl (λ x. refl) nothing (Messages.each_silent c t seat CommittedOutcome ts)
       (λ o g. subst (λ (z : Reading). Fits pr (r0 turn) z)
       (sym (ap (λ (x : OwnHalf). R turn (stands_so o x) v) (commits_record d [] b q)
@@ -263,7 +267,8 @@ module _ (turn : Turn) where
       let ts = (coordinator_view place n d).promised in
       let closed = prepared_closed e in
       let doubt = doubt_at e in
-      plain_fine turn (row_effect d (prepared_abort_by First seat (coordinator_view place n d) PresumeAbort)) next
+      plain_fine turn (row_effect d (prepared_abort_by First seat (coordinator_view place n d) PresumeAbort))
+      next
       (AbortRecord d []) refl (λ x. refl) nothing (Messages.each_silent c t seat AbortedOutcome ts)
       (λ o g. subst (λ (z : Reading). Fits pr (r0 turn) z)
       (sym (ap (λ (x : OwnHalf). R turn (stands_so o x) v) (aborts_record d [] b q)
@@ -276,7 +281,8 @@ module _ (turn : Turn) where
       let ts = (coordinator_view place n d).promised in
       let closed = prepared_closed e in
       let doubt = doubt_at e in
-      forced_fine turn (row_effect d (prepared_abort_by First seat (coordinator_view place n d) PresumeCommit)) next
+      forced_fine turn (row_effect d (prepared_abort_by First seat (coordinator_view place n d)
+      PresumeCommit)) next
       (AbortRecord d ts) refl (λ x. refl) (record nothing { ack = true })
       (ack_said AbortedOutcome AbortedOutcome [] ts)
       (λ o g. subst (λ (z : Reading). Fits pr (r0 turn) z)
@@ -308,7 +314,8 @@ module _ (turn : Turn) where
       let ts = (coordinator_view place n d).promised in
       let closed = prepared_closed e in
       let doubt = doubt_at e in
-      plain_fine turn (row_effect d (prepared_abort_by Second seat (coordinator_view place n d) PresumeAbort)) next
+      plain_fine turn (row_effect d (prepared_abort_by Second seat (coordinator_view place n d) PresumeAbort))
+      next
       (AbortRecord d []) refl (λ x. refl) nothing (Messages.each_silent c t seat AbortedOutcome ts)
       (λ o g. subst (λ (z : Reading). Fits pr (r0 turn) z)
       (sym (ap (λ (x : OwnHalf). R turn (stands_so o x) v) (aborts_record d [] b q)
@@ -321,7 +328,8 @@ module _ (turn : Turn) where
       let ts = (coordinator_view place n d).promised in
       let closed = prepared_closed e in
       let doubt = doubt_at e in
-      forced_fine turn (row_effect d (prepared_abort_by Second seat (coordinator_view place n d) PresumeCommit)) next
+      forced_fine turn (row_effect d (prepared_abort_by Second seat (coordinator_view place n d)
+      PresumeCommit)) next
       (AbortRecord d ts) refl (λ x. refl) nothing (Messages.each_silent c t seat AbortedOutcome ts)
       (λ o g. subst (λ (z : Reading). Fits pr (r0 turn) z)
       (sym (ap (λ (x : OwnHalf). R turn (stands_so o (hardens x)) v)
@@ -394,7 +402,8 @@ module _ (turn : Turn) where
       → Fine turn (row_effect d (sends (up_message seat (No d)) (coordinator_view place n d)))
   refuses_own j k i e next =
       let over = refused_over (coordinator_view place n d).standing refl e in
-      closed_says (row_effect d (sends (up_message seat (No d)) (coordinator_view place n d))) next refl over.0
+      closed_says (row_effect d (sends (up_message seat (No d)) (coordinator_view place n d)))
+      next refl over.0
       (record nothing { no = true })
       (Messages.said_first c t (post t.child p (No d)) [] (Messages.none_silent c t)
       ∙ rw (same_case-refl d) refl)
@@ -404,7 +413,8 @@ module _ (turn : Turn) where
 
   -- An outcome that it knows, or of which nothing is known, is acknowledged.
 
-  acks : (o : Outcome) (fs : List Finding) → q.is_open ≡ false → Fits pr (r0 turn) (ChildMoves.acknowledges (r0 turn))
+  acks : (o : Outcome) (fs : List Finding) → q.is_open ≡ false
+      → Fits pr (r0 turn) (ChildMoves.acknowledges (r0 turn))
       → Then turn (row_effect d (sends (up_message seat (Ack d o fs)) (coordinator_view place n d)))
       → Fine turn (row_effect d (sends (up_message seat (Ack d o fs)) (coordinator_view place n d)))
   acks o fs closed fits next =
@@ -431,7 +441,8 @@ module _ (turn : Turn) where
       absurd (let k = sym ((subst (λ (y : Presumption). NamesBy y d (kept n)) f order.names).1 g.0)
       ∙ g.1 in cc)
 
-  acknowledges_by : (ver : Version) (j : ℕ) (o : Outcome) (fs : List Finding) → h.input ≡ MessageInput j (tells_outcome o d) → (x : Presumption)
+  acknowledges_by : (ver : Version) (j : ℕ) (o : Outcome) (fs : List Finding)
+      → h.input ≡ MessageInput j (tells_outcome o d) → (x : Presumption)
       → d.txn.presumption ≡ x → (s : Standing) → (coordinator_view place n d).standing ≡ s
       → Acknowledges ver d o x s fs
       → (q.is_open ≡ false) × Fits pr (r0 turn) (ChildMoves.acknowledges (r0 turn))
@@ -472,17 +483,20 @@ module _ (turn : Turn) where
         }),
       )
 
-  pub acknowledges_own : (j : ℕ) (o : Outcome) (fs : List Finding) → h.input ≡ MessageInput j (tells_outcome o d)
+  pub acknowledges_own : (j : ℕ) (o : Outcome) (fs : List Finding)
+      → h.input ≡ MessageInput j (tells_outcome o d)
       → Acknowledges h.version d o d.txn.presumption (coordinator_view place n d).standing fs
       → Then turn (row_effect d (sends (up_message seat (Ack d o fs)) (coordinator_view place n d)))
       → Fine turn (row_effect d (sends (up_message seat (Ack d o fs)) (coordinator_view place n d)))
   acknowledges_own j o fs i a next =
-      let f = acknowledges_by h.version j o fs i d.txn.presumption refl (coordinator_view place n d).standing refl a in
+      let f = acknowledges_by h.version j o fs i d.txn.presumption refl
+      (coordinator_view place n d).standing refl a in
       acks o fs f.0 f.1 next
 
   -- By the second version the last acknowledgement of its children is acknowledged.
 
-  settled_by : (closed : q.is_open ≡ false) (o : Outcome) (s : Standing) → (coordinator_view place n d).standing ≡ s
+  settled_by : (closed : q.is_open ≡ false) (o : Outcome) (s : Standing)
+      → (coordinator_view place n d).standing ≡ s
       → HasDecided o s → IsSettled (r0 turn)
   settled_by closed _ _ e by_commit =
       let g = committing_facts place n d e in
@@ -528,7 +542,8 @@ module _ (turn : Turn) where
   over_by _ _ e by_commit = closed_by Committing e refl
   over_by _ _ e by_abort = closed_by Aborting e refl
 
-  pub ends_own : (ver : Version) (o : Outcome) (fs : List Finding) → HasDecided o (coordinator_view place n d).standing
+  pub ends_own : (ver : Version) (o : Outcome) (fs : List Finding)
+      → HasDecided o (coordinator_view place n d).standing
       → Then turn (row_effect d (ends_row ver o fs)) → Fine turn (row_effect d (ends_row ver o fs))
   ends_own First o fs i next =
       plain_aside turn _ next (EndRecord d None) refl (λ x. refl) aside_end (Messages.none_silent c t)
@@ -539,7 +554,8 @@ module _ (turn : Turn) where
       (Messages.said_first c t (post t.child p (Ack d o (in_order fs))) [] (Messages.none_silent c t)
       ∙ rw (same_case-refl d) refl)
       (λ k f. subst (λ (z : Reading). Fits pr (r0 turn) z)
-      (sym (ap (λ (x : OwnHalf). R turn (stands_so k x) (hears s v)) (aside d (EndRecord d None) b q aside_end)
+      (sym (ap (λ (x : OwnHalf). R turn (stands_so k x) (hears s v))
+      (aside d (EndRecord d None) b q aside_end)
       ∙ ap (λ x. R turn (stands_so x q) (hears s v)) (f ∙ (stays_closed closed ∙ sym closed))))
       (Moves.acknowledges_settled pr (r0 turn) inv
       (record { up = up; settled = settled_by closed o (coordinator_view place n d).standing refl i })))

@@ -225,7 +225,8 @@ module _ (turn : Turn) where
 
   -- by the second version nothing is said where somebody is named
   aborts_second : (j : ℕ) → h.input ≡ MessageInput j (Abort d) → (us : List Ticket) (x : Presumption)
-      → d.txn.presumption ≡ x → (coordinator_view place n d).standing ≡ Collecting → (b : Bool) → none_of us ≡ b
+      → d.txn.presumption ≡ x → (coordinator_view place n d).standing ≡ Collecting → (b : Bool)
+      → none_of us ≡ b
       → Then turn (row_effect d (collecting_abort_by seat (ByAbort Second) (coordinator_view place n d) us x))
       → Fine turn (row_effect d (collecting_abort_by seat (ByAbort Second) (coordinator_view place n d) us x))
   aborts_second j i us PresumeAbort f e w g next =

@@ -132,7 +132,8 @@ module _ (turn : Broken) where
   fails_first e f last =
       Faults.fails_quietly c t p tree n wire_in pr root outcome above half inv (Failed e zero f) last
       (holds e zero f) up
-      (half_fails (manager_view place_in n branch).standing (manager_view place_in (Failed e zero f) branch).standing n h e
+      (half_fails (manager_view place_in n branch).standing
+      (manager_view place_in (Failed e zero f) branch).standing n h e
       f branch old_promise old_decision old_forgot)
 
   pub silent : (e : Effect) → e.written ≡ [] → (a f : ℕ) → Left e a f → Ok e a f
@@ -147,7 +148,8 @@ module _ (turn : Broken) where
         ≡ failed_half (front_of branch o (Failed e (suc a) f).forced) (wrote r branch half_in)
     half_so a f o =
         half_fails_behind (manager_view place_in n branch).standing
-        (manager_view place_in (Failed e (suc a) f) branch).standing n h e a f branch o r b one none old_promise
+        (manager_view place_in (Failed e (suc a) f) branch).standing n h e a f branch o r b one
+        none old_promise
         old_decision old_forgot
 
     pub fails_other : is_branch_record branch r ≡ false → is_coordinators r ≡ false → (a f : ℕ) → Left e a f
@@ -157,12 +159,14 @@ module _ (turn : Broken) where
         Faults.fails_quietly c t p tree n wire_in pr root outcome above half inv (Failed e (suc a) f) last
         (holds e (suc a) f) up
         (half_so a f half_in.heuristic_commits
-        ∙ ap (λ (z : ChildHalf). failed_half (front_of branch half_in.heuristic_commits (Failed e (suc a) f).forced) z)
+        ∙ ap (λ (z : ChildHalf). failed_half (front_of branch half_in.heuristic_commits
+        (Failed e (suc a) f).forced) z)
         (unrelated branch r half_in other plain))
 
     -- it is the branch's, and failing after it is this move
     pub fails_own : (s : Reading)
-        → ((rs : List Record) → R (failed_half (front_of branch s.heuristic_commits rs) (wrote r branch half_in))
+        → ((rs : List Record) → R (failed_half (front_of branch s.heuristic_commits rs)
+        (wrote r branch half_in))
         ≡ ChildCrash.hardens_failed_child (front_of branch s.heuristic_commits rs) s)
         → Unforced s r0 → Fits pr r0 s → (a f : ℕ) → Left e a f → Ok e a f
     fails_own s same u g zero f last = fails_first e f last
@@ -189,14 +193,17 @@ module _ (turn : Broken) where
       (same_case-refl branch)
 
   pub commit_sent : (j : ℕ) → h.input ≡ MessageInput j (Commit branch) → wire_in.commit ≡ true
-  commit_sent j i = was_sent (is_outcome_message CommittedOutcome branch) net t.child h.input j (Commit branch)
+  commit_sent j i = was_sent (is_outcome_message CommittedOutcome branch) net t.child h.input
+      j (Commit branch)
       stands i (same_case-refl branch)
 
   pub abort_sent : (j : ℕ) → h.input ≡ MessageInput j (Abort branch) → wire_in.abort ≡ true
-  abort_sent j i = was_sent (is_outcome_message AbortedOutcome branch) net t.child h.input j (Abort branch) stands i
+  abort_sent j i = was_sent (is_outcome_message AbortedOutcome branch) net t.child h.input j
+      (Abort branch) stands i
       (same_case-refl branch)
 
-  pub promises_own : (e : Effect) (b : Bool) (ws : List Write) → One e (PreparedRecord (CaseBranch branch) ws) b
+  pub promises_own : (e : Effect) (b : Bool) (ws : List Write)
+      → One e (PreparedRecord (CaseBranch branch) ws) b
       → (x : ℕ) → Hears h (Prepare branch x) → IsActive place_in n branch → (a f : ℕ) → Left e a f → Ok e a f
   promises_own e b ws one x i act =
       let r = PreparedRecord (CaseBranch branch) ws in
@@ -221,7 +228,8 @@ module _ (turn : Broken) where
   module _ (e : Effect) (r : Record) (b : Bool) (one : One e r b) (none : IsBranchs branch r)
       (w : Waits (mark_at n branch)) (op : IsOpenBranch (mark_at n branch)) (mk : IsMarked (mark_at n branch))
       (plain : is_promise branch r ≡ false) (undecided : is_heuristic branch r ≡ false)
-      (decides_none : is_decided branch CommittedOutcome r ≡ false) (forgets_none : is_forgot branch r ≡ false) where
+      (decides_none : is_decided branch CommittedOutcome r ≡ false)
+      (forgets_none : is_forgot branch r ≡ false) where
     closed : half_in.is_open ≡ false
     closed = closed_where_marked place_in n branch mk
 
@@ -234,7 +242,8 @@ module _ (turn : Broken) where
     commits_own commit abort ends sent_so =
         fails_own e r b one none (ChildCrash.fails_to_commit r0)
         (λ rs. LeafFaults.reading-fails_to_commit root outcome above half half_in wire_in
-        (front_of branch r0.heuristic_commits rs) branch r closed kept_so plain commit abort undecided decides_none
+        (front_of branch r0.heuristic_commits rs) branch r closed kept_so plain commit abort
+        undecided decides_none
         forgets_none ends)
         (record {
           failed = refl;
@@ -252,7 +261,8 @@ module _ (turn : Broken) where
     aborts_own commit abort ends sent_so =
         fails_own e r b one none (ChildCrash.fails_to_roll_back r0)
         (λ rs. LeafFaults.reading-fails_to_roll_back root outcome above half half_in wire_in
-        (front_of branch r0.heuristic_commits rs) branch r closed kept_so plain commit abort undecided decides_none
+        (front_of branch r0.heuristic_commits rs) branch r closed kept_so plain commit abort
+        undecided decides_none
         forgets_none ends)
         (record {
           failed = refl;
@@ -262,4 +272,5 @@ module _ (turn : Broken) where
           heuristic = refl;
           forgot = refl;
         })
-        (FailMoves.fails_to_roll_back pr r0 inv (record { up = up; told = sent_so; in_doubt = in_doubt w op }))
+        (FailMoves.fails_to_roll_back pr r0 inv
+        (record { up = up; told = sent_so; in_doubt = in_doubt w op }))

@@ -79,7 +79,8 @@ module _ (turn : Broken) where
         → Fails (Ends z CommittedOutcome (Committed (CaseBranch z)) [])) (sym s.1)
         (λ i' a'. (obeys_own turn) (Ends d CommittedOutcome (Committed (CaseBranch d)) [])
         (is_acknowledged c.txn.presumption CommittedOutcome) CommittedOutcome i' a' refl) i a
-    | inr f ↦ fails_other turn (Ends x CommittedOutcome (Committed (CaseBranch x)) []) (Committed (CaseBranch x))
+    | inr f ↦ fails_other turn (Ends x CommittedOutcome (Committed (CaseBranch x)) [])
+        (Committed (CaseBranch x))
         (is_acknowledged x.txn.presumption CommittedOutcome) refl
         (record { no_abort = refl; no_prepare = refl }) f.0 refl
   ]
@@ -88,17 +89,20 @@ module _ (turn : Broken) where
         → Fails (Ends z AbortedOutcome (RolledBack (CaseBranch z)) [])) (sym s.1)
         (λ i' a'. (obeys_own turn) (Ends d AbortedOutcome (RolledBack (CaseBranch d)) [])
         (is_acknowledged c.txn.presumption AbortedOutcome) AbortedOutcome i' a' refl) i a
-    | inr f ↦ fails_other turn (Ends x AbortedOutcome (RolledBack (CaseBranch x)) []) (RolledBack (CaseBranch x))
+    | inr f ↦ fails_other turn (Ends x AbortedOutcome (RolledBack (CaseBranch x)) [])
+        (RolledBack (CaseBranch x))
         (is_acknowledged x.txn.presumption AbortedOutcome) refl
         (record { no_abort = refl; no_prepare = refl }) f.0 refl
   ]
   turn_fails _ (notes x o i a) = elim (same_case_tells x d) [
     | inl s ↦ subst (λ (z : Case). Hears h (tells_outcome o z) → mark_at n z ≡ Decided
         → Fails (Ends z o (Told (CaseBranch z) o) (decided_findings h.version (kept n) z o))) (sym s.1)
-        (λ i' a'. (notes_own turn) (Ends d o (Told (CaseBranch d) o) (decided_findings h.version (kept n) d o))
+        (λ i' a'. (notes_own turn) (Ends d o (Told (CaseBranch d) o)
+        (decided_findings h.version (kept n) d o))
         (is_acknowledged c.txn.presumption o) o i'
         a' refl) i a
-    | inr f ↦ fails_other turn (Ends x o (Told (CaseBranch x) o) (decided_findings h.version (kept n) x o)) (Told (CaseBranch x) o)
+    | inr f ↦ fails_other turn (Ends x o (Told (CaseBranch x) o) (decided_findings h.version (kept n) x o))
+        (Told (CaseBranch x) o)
         (is_acknowledged x.txn.presumption o) refl
         (record { no_abort = refl; no_prepare = refl }) f.0 refl
   ]

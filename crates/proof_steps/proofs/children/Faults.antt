@@ -154,7 +154,8 @@ module _ (c : Case) (t : Ticket) (p : ProcessId) (tree : List TreeProcess) (n : 
             let to = front s.heuristic_commits in
             subst (λ (z : Reading). Fits pr r0 z) (sym e)
             (Moves.onward pr r0 s (ChildCrash.hardens_failed_child to s) f
-            (FailMoves.hardens_failed pr to s f.invariant (record { failed = u.failed; front_of = is_front u })))
+            (FailMoves.hardens_failed pr to s f.invariant
+            (record { failed = u.failed; front_of = is_front u })))
 
       -- nothing was appended of the branch
       pub fails_quietly : n.failed ≡ false → k' ≡ failed_half (front k.heuristic_commits) k

@@ -138,7 +138,10 @@ module _ (q p : ProcessId) (tree : List TreeProcess) (n : Node) (net : List Enve
     child_step e k s,
     (
       record { follows = λ c t pair same. no_parent tree c q p leaf pair.parent.role same },
-      record { quiet = λ c t pair parent child. quiet_messages q c t parent child e.messages (own_messages e k s) },
+      record {
+        quiet = λ c t pair parent child. quiet_messages q c t parent child e.messages
+            (own_messages e k s);
+      },
     ),
   )
 

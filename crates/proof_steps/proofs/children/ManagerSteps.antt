@@ -110,7 +110,8 @@ module _ (c : Case) (t : Ticket) (p : ProcessId) (tree : List TreeProcess) (n : 
       (reading_from root true outcome above half (child_half place k (child_case c.txn t)) z))
       (sym (wire-none c t t.child p net)) f
 
-  pub step_fits : InvariantOf c.txn.presumption (R n net) → (m : Move) → MayHappen net t.child m.step.happening
+  pub step_fits : InvariantOf c.txn.presumption (R n net) → (m : Move)
+      → MayHappen net t.child m.step.happening
       → (e : Effect) (k : Node) → StepOf place n m e k → Keeps k e.messages
   step_fits inv m stands _ _ (handled i g hp np r) =
       let h = heard_in m i in

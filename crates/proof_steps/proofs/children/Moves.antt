@@ -25,7 +25,8 @@ pub common_of : (pr : Presumption) (r : Reading) → InvariantOf pr r → Common
 common_of PresumeAbort r h = h.common
 common_of PresumeCommit r h = h.common
 
-pub issues : (pr : Presumption) (r : Reading) → InvariantOf pr r → ChildMoves.MayIssue r → Fits pr r (ChildMoves.issues r)
+pub issues : (pr : Presumption) (r : Reading) → InvariantOf pr r → ChildMoves.MayIssue r
+    → Fits pr r (ChildMoves.issues r)
 issues PresumeAbort r h g = ChildAbort.issues r h g
 issues PresumeCommit r h g = ChildCommit.issues r h g
 
@@ -49,7 +50,8 @@ pub votes_read : (pr : Presumption) (r : Reading) → InvariantOf pr r → Child
 votes_read PresumeAbort r h g = ChildAbort.votes_read r h g
 votes_read PresumeCommit r h g = ChildCommit.votes_read r h g
 
-pub drops : (pr : Presumption) (r : Reading) → InvariantOf pr r → ChildMoves.MayDrop r → Fits pr r (ChildMoves.drops r)
+pub drops : (pr : Presumption) (r : Reading) → InvariantOf pr r → ChildMoves.MayDrop r
+    → Fits pr r (ChildMoves.drops r)
 drops PresumeAbort r h g = ChildAbort.drops r h g
 drops PresumeCommit r h g = ChildCommit.drops r h g
 
@@ -63,11 +65,13 @@ pub refuses : (pr : Presumption) (r : Reading) → InvariantOf pr r → ChildMov
 refuses PresumeAbort r h g = ChildAbort.refuses r h g
 refuses PresumeCommit r h g = ChildCommit.refuses r h g
 
-pub asks : (pr : Presumption) (r : Reading) → InvariantOf pr r → ChildMoves.MayAsk r → Fits pr r (ChildMoves.asks r)
+pub asks : (pr : Presumption) (r : Reading) → InvariantOf pr r → ChildMoves.MayAsk r
+    → Fits pr r (ChildMoves.asks r)
 asks PresumeAbort r h g = ChildAbort.asks r h g
 asks PresumeCommit r h g = ChildCommit.asks r h g
 
-pub decides_alone : (pr : Presumption) (o : Bool) (r : Reading) → InvariantOf pr r → ChildMoves.MayDecideAlone r
+pub decides_alone : (pr : Presumption) (o : Bool) (r : Reading) → InvariantOf pr r
+    → ChildMoves.MayDecideAlone r
     → Fits pr r (ChildMoves.decides_alone o r)
 decides_alone PresumeAbort o r h g = ChildAbort.decides_alone o r h g
 decides_alone PresumeCommit o r h g = ChildCommit.decides_alone o r h g

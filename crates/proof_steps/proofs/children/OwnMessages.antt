@@ -86,7 +86,8 @@ module _ (me : ProcessId) (c : Case) (t : Ticket) (parent : process_of c ≡ me 
   -- a test that no own message passes
   none_own : (q : Message → Bool) → ((d : Case) (u : Ticket) → u.child ≡ me → q (Joined d u) ≡ false)
       → ((d : Case) → Own d → q (Yes d) ≡ false) → ((d : Case) → Own d → q (No d) ≡ false)
-      → ((d : Case) → Own d → q (Read d) ≡ false) → ((d : Case) (o : Outcome) (fs : List Finding) → Own d → q (Ack d o fs) ≡ false)
+      → ((d : Case) → Own d → q (Read d) ≡ false)
+      → ((d : Case) (o : Outcome) (fs : List Finding) → Own d → q (Ack d o fs) ≡ false)
       → ((d : Case) → Own d → q (Inquire d) ≡ false) → (m : Message) → IsOwnMessage me m → q m ≡ false
   none_own q j y n r a i (Joined d u) own = j d u own
   none_own q j y n r a i (Yes d) own = y d own
@@ -112,7 +113,8 @@ module _ (me : ProcessId) (c : Case) (t : Ticket) (parent : process_of c ≡ me 
 
     quiet_by : (q : Message → Bool) → ((d : Case) (u : Ticket) → u.child ≡ me → q (Joined d u) ≡ false)
         → ((d : Case) → Own d → q (Yes d) ≡ false) → ((d : Case) → Own d → q (No d) ≡ false)
-        → ((d : Case) → Own d → q (Read d) ≡ false) → ((d : Case) (o : Outcome) (fs : List Finding) → Own d → q (Ack d o fs) ≡ false)
+        → ((d : Case) → Own d → q (Read d) ≡ false)
+        → ((d : Case) (o : Outcome) (fs : List Finding) → Own d → q (Ack d o fs) ≡ false)
         → ((d : Case) → Own d → q (Inquire d) ≡ false) → sent q ls ≡ false
     quiet_by q j y n r k i = none_sent q (none_own q j y n r k i) ls a
 
@@ -175,7 +177,8 @@ module _ (me p : ProcessId) (tree : List TreeProcess) (n : Node)
 
     answers : (d : Case) (o : Outcome) (fs : List Finding) → Hears h (tells_outcome o d)
         → AllOwnMessages me (acknowledgement (leaf_of place p d) o fs)
-    answers d o fs i = acknowledged (leaf_of place p d) o fs (is_acknowledged d.txn.presumption o) (told_own d o i)
+    answers d o fs i = acknowledged (leaf_of place p d) o fs (is_acknowledged d.txn.presumption o)
+        (told_own d o i)
 
     waits_open : (x : Mark) → Waits x → is_open x ≡ true
     waits_open _ promised = refl
@@ -204,7 +207,8 @@ module _ (me p : ProcessId) (tree : List TreeProcess) (n : Node)
 module _ (me p : ProcessId) (rs : List Record)
     (known : (d : Case) → is_open (mark_of (CaseBranch d) rs) ≡ true
     → process_of d ≡ me) where
-  own_both : (xs ys : List Envelope) → AllOwnMessages me xs → AllOwnMessages me ys → AllOwnMessages me (xs ++ ys)
+  own_both : (xs ys : List Envelope) → AllOwnMessages me xs → AllOwnMessages me ys
+      → AllOwnMessages me (xs ++ ys)
   own_both [] ys a b = b
   own_both (x ∷ xs) ys a b = (a.0, own_both xs ys a.1 b)
 

@@ -115,14 +115,16 @@ module _ (root outcome above : Bool) (p : ParentHalf) (k : ChildHalf) (v : Wire)
         → is_heuristic d r ≡ true
         → is_decided d CommittedOutcome r ≡ o → is_forgot d r ≡ false → is_committing d r ≡ false
         → k.heuristic_commits ≡ false
-        → R (stands_so false (hardens (wrote r d k))) v ≡ ChildMoves.decides_alone o (ChildMoves.hardens_child (R k v))
+        → R (stands_so false (hardens (wrote r d k))) v ≡ ChildMoves.decides_alone o
+        (ChildMoves.hardens_child (R k v))
     reading-decided o a b h x f g e = rw (closed, kept, plain, a, b, h, x, f, g, e)
         (simp (or_twice, or-false, and-false, dead-promised))
 
     pub reading-forgotten : is_learnt_commit d r ≡ false → is_learnt_abort d r ≡ false
         → is_heuristic d r ≡ false
         → is_decided d CommittedOutcome r ≡ false → is_forgot d r ≡ true → is_committing d r ≡ false
-        → R (stands_so false (hardens (wrote r d k))) v ≡ ChildMoves.forgets (ChildMoves.hardens_child (R k v))
+        → R (stands_so false (hardens (wrote r d k))) v ≡ ChildMoves.forgets
+        (ChildMoves.hardens_child (R k v))
     reading-forgotten a b h x f g = rw (closed, kept, plain, a, b, h, x, f, g)
         (simp (or_twice, and-false, dead-promised))
 

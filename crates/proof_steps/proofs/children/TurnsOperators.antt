@@ -65,7 +65,8 @@ module _ (turn : Turn) where
   pub asks_own : Waits (mark_at n d) → Fine turn [] (post t.child p (Inquire d) ∷ [])
   asks_own w =
       let om = waits_open (mark_at n d) w in
-      closed_says turn (post t.child p (Inquire d) ∷ []) (record v { inquire = true }) (ChildMoves.asks (r0 turn))
+      closed_says turn (post t.child p (Inquire d) ∷ []) (record v { inquire = true })
+      (ChildMoves.asks (r0 turn))
       (closed_where_marked place n d om.1)
       (Wires.wire-inquire c t t.child p net) refl
       (Moves.asks pr (r0 turn) inv (record { up = up; in_doubt = in_doubt turn w om.0 }))

@@ -138,7 +138,8 @@ module _ (turn : Turn) where
           (if is_acknowledged x AbortedOutcome then (ack turn) AbortedOutcome fs else [])) f
           (abort_forced turn j w op mk fs f g (RolledBack (CaseBranch d)) rolled)
 
-  pub notes_own : (o : Outcome) (fs : List Finding) (j : ℕ) → h.input ≡ MessageInput j (tells_outcome o d) → mark_at n d ≡ Decided
+  pub notes_own : (o : Outcome) (fs : List Finding) (j : ℕ) → h.input ≡ MessageInput j (tells_outcome o d)
+      → mark_at n d ≡ Decided
       → Fine turn (Written_as turn o (Told (CaseBranch d) o)) (Acked turn o fs)
   notes_own o fs j i e = by_both pr refl o i
     where

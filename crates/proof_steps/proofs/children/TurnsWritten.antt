@@ -183,7 +183,8 @@ module _ (turn : Turn) where
     closed : k.is_open ≡ false
     closed = closed_where_marked place n d mk
 
-    pub commit_forced : (fs : List Finding) → PresumeAbort ≡ pr → h.input ≡ MessageInput j (Commit d) → (r : Record) → TellsCommit r
+    pub commit_forced : (fs : List Finding) → PresumeAbort ≡ pr → h.input ≡ MessageInput j (Commit d)
+        → (r : Record) → TellsCommit r
         → Fine turn (forced r) (ack turn CommittedOutcome fs)
     commit_forced fs pa i r g =
         forced_own r (ack turn CommittedOutcome fs) (record v { ack = true })
@@ -226,7 +227,8 @@ module _ (turn : Turn) where
         (Moves.rolls_back pr (sym pa) (r0 turn) inv
         (record { up = up; told = abort_sent j i; in_doubt = in_doubt w o }))
 
-    pub abort_forced : (fs : List Finding) → PresumeCommit ≡ pr → h.input ≡ MessageInput j (Abort d) → (r : Record) → TellsAbort r
+    pub abort_forced : (fs : List Finding) → PresumeCommit ≡ pr → h.input ≡ MessageInput j (Abort d)
+        → (r : Record) → TellsAbort r
         → Fine turn (forced r) (ack turn AbortedOutcome fs)
     abort_forced fs pc i r g =
         forced_own r (ack turn AbortedOutcome fs) (record v { ack = true })

@@ -47,7 +47,8 @@ module _ (c : Case) (t : Ticket) (q p : ProcessId) (net : List Envelope) where
     pub other-read : same_case d c ≡ false → wire c t (net ++ post q p (Read d) ∷ []) ≡ wire c t net
     other-read e = simp (sent-push, other, e)
 
-    pub other-ack : (o : Outcome) (fs : List Finding) → wire c t (net ++ post q p (Ack d o fs) ∷ []) ≡ wire c t net
+    pub other-ack : (o : Outcome) (fs : List Finding)
+        → wire c t (net ++ post q p (Ack d o fs) ∷ []) ≡ wire c t net
     other-ack o fs = simp (sent-push, other)
 
     pub other-inquire : wire c t (net ++ post q p (Inquire d) ∷ []) ≡ wire c t net

@@ -82,7 +82,8 @@ begins_nothing place n m _ _ crash (failed_in i f g fl hp np r) = absurd (subst 
 begins_nothing place n m _ _ crash (passed i hp r) = absurd (subst IsCrash hp crash)
 begins_nothing place n m _ _ crash (failed_passing i f fl hp r) = absurd (subst IsCrash hp crash)
 
-module _ (tree : List TreeProcess) (is_tree : IsTree tree) (es : List Made) (w : World) (run : IsRun tree es w)
+module _ (tree : List TreeProcess) (is_tree : IsTree tree) (es : List Made) (w : World)
+    (run : IsRun tree es w)
     (h : WorldHolds tree w) (m : Move) (e : Effect) (w' : World) (crash : IsCrash m.step.happening)
     (stands : MayHappen w.net m.step.process m.step.happening) (made : world_makes tree w m ≡ Some (e, w'))
   where

@@ -287,7 +287,8 @@ module _ (me : ProcessId) (tree : List TreeProcess) (n : Node) (net : List Envel
       follows_root _ _ (failed_trimming f fl hp up) then begun free inv =
           subst (λ ls. Fits c.txn.presumption (seen net n) (seen ls (trim_fails root n f.appended)))
           (sym (append-nil net))
-          (CrashSteps.root_trim_breaks me tree n c t manager above kh (wire c t net) (now.coordinates.names c) up
+          (CrashSteps.root_trim_breaks me tree n c t manager above kh (wire c t net)
+          (now.coordinates.names c) up
           f.appended inv)
       follows_root _ _ (handled i g hp np r) then begun free inv = no_handling i hp
       follows_root _ _ (failed_in i f g fl hp np r) then begun free inv = no_handling i hp
@@ -385,7 +386,8 @@ module _ (me p : ProcessId) (tree : List TreeProcess) (n : Node) (net : List Env
       follows_below _ _ (failed_trimming f fl hp up) then free inv =
           subst (λ ls. Fits c.txn.presumption (seen_so net n) (seen_so ls (trim_fails place n f.appended)))
           (sym (append-nil net))
-          (CrashSteps.below_trim_breaks me tree n c t manager above kh (wire c t net) (now.coordinates.names c)
+          (CrashSteps.below_trim_breaks me tree n c t manager above kh (wire c t net)
+          (now.coordinates.names c)
           up p outcome
           f.appended inv)
       follows_below _ _ (handled i g hp np r) then free inv = not_handled i hp

@@ -94,7 +94,8 @@ module _ (root manager outcome above : Bool) (p p' : ParentHalf) (k : ChildHalf)
         → is_born root p'.begun v.given ≡ is_born root p.begun v.given
         → refused_by root outcome' p' v ≡ refused_lost root outcome front p v
         → reading_from root manager outcome' above p' k v
-        ≡ ParentCrash.hardens_failed_parent forced (ParentCrash.fails_to_abort_at_restart (ParentCrash.parent_loses front r))
+        ≡ ParentCrash.hardens_failed_parent forced
+        (ParentCrash.fails_to_abort_at_restart (ParentCrash.parent_loses front r))
     reading_broken_aborting l failed owed born refused = rw (
       refused,
       born,

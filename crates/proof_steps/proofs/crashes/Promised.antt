@@ -222,7 +222,8 @@ module _ (place : Place) (n : Node) (i : IsCoordinator place.role) (old : Promis
 
 -- Runs.
 
-pub promises_voted : (tree : List TreeProcess) (es : List Made) (w : World) → IsRun tree es w → (q : ProcessId)
+pub promises_voted : (tree : List TreeProcess) (es : List Made) (w : World) → IsRun tree es w
+    → (q : ProcessId)
     → IsCoordinator (role_of tree q) → PromisedVoted (w.at q)
 unfolding has
 promises_voted tree _ _ opens q i = λ c e. not_both (is_prepare c) false e refl

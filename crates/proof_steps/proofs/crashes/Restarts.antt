@@ -331,7 +331,8 @@ module _ (root manager outcome above : Bool) (k : ChildHalf) (v : Wire) (c : Cas
                 })) aborts_not
                 ∙ reading_reopened_naming root manager outcome above p p' k v front (whole false none) up
                 (never_forced h) born refused_then))))
-                (subst (λ x. InvariantOf x r0 → Fits x r0 (ParentCrash.parent_restarts_naming front r0)) (sym q)
+                (subst (λ x. InvariantOf x r0 → Fits x r0 (ParentCrash.parent_restarts_naming front r0))
+                (sym q)
                 (λ i. ParentCrashAbort.parent_restarts front r0 i fronts') inv)
               where
                 none_alone : PresumedAbort r0 → (b : Bool) → ab ≡ b → ab ≡ false

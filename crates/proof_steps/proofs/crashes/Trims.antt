@@ -237,7 +237,8 @@ module _ (pr : Presumption) (manager outcome above : Bool) (k : ChildHalf) (v : 
           × Moves.MayTrim pr (reading_from root manager outcome above p k v))
       trimmed_so = by_stay (case_stays (kept n) (Some c)) refl
         where
-          unknown : case_stays (kept n) (Some c) ≡ false → is_known (recorded_view (kept n) c).standing ≡ false
+          unknown : case_stays (kept n) (Some c) ≡ false → is_known (recorded_view (kept n) c).standing
+              ≡ false
           unknown f = first_false (is_known (recorded_view (kept n) c).standing) (is_reported (kept n) c) f
 
           by_live : (b : Bool) → is_live p.phase ≡ b → case_stays (kept n) (Some c) ≡ false

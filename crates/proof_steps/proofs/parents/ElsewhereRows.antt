@@ -196,13 +196,15 @@ module _ (turn : Turn) (d : Case) where
     none_or true ls f = f
     none_or false ls f = nothing_sent
 
-    up_heard : (why : Reason) (us : List Ticket) → Own → Quiet (abort_heard_above (seat_of place parent d) why us)
+    up_heard : (why : Reason) (us : List Ticket) → Own
+        → Quiet (abort_heard_above (seat_of place parent d) why us)
     up_heard ByVote us own = up_no own
     up_heard ByAct us own = nothing_sent
     up_heard (ByAbort First) us own = up_acknowledges d.txn.presumption own
     up_heard (ByAbort Second) us own = none_or (none_of us) _ (up_acknowledges d.txn.presumption own)
 
-    at_once : (ver : Version) (o : Outcome) → Own → Quiet (acknowledges_at_once ver (seat_of place parent d) o)
+    at_once : (ver : Version) (o : Outcome) → Own
+        → Quiet (acknowledges_at_once ver (seat_of place parent d) o)
     at_once First o own = up_ack o [] own
     at_once Second o own = nothing_sent
 
@@ -390,7 +392,8 @@ module _ (turn : Turn) (d : Case) where
         → Fine turn (row_effect d (prepared_commit_by h.version (seat_of place parent d)
         (coordinator_view place n d) p))
     passes_commit PresumeAbort later rests own f =
-        row_fine _ later rests (one_behind _ _ (at_once h.version CommittedOutcome own) (each_commit _ f)) (inl refl)
+        row_fine _ later rests (one_behind _ _ (at_once h.version CommittedOutcome own) (each_commit _ f))
+        (inl refl)
         (one_forced _ refl (Elsewhere.other_commit turn d other _))
     passes_commit PresumeCommit later rests own f =
         row_fine _ later rests (each_commit _ f) (inl refl)
@@ -399,12 +402,14 @@ module _ (turn : Turn) (d : Case) where
     passes_abort : (p : Presumption)
         → After (prepared_abort_by h.version (seat_of place parent d) (coordinator_view place n d) p)
         → Rests turn → Own → in_list (coordinator_view place n d).promised t ≡ false
-        → Fine turn (row_effect d (prepared_abort_by h.version (seat_of place parent d) (coordinator_view place n d) p))
+        → Fine turn (row_effect d (prepared_abort_by h.version (seat_of place parent d)
+        (coordinator_view place n d) p))
     passes_abort PresumeAbort later rests own f =
         row_fine _ later rests (each_abort _ f) (inl refl)
         (one_plain _ refl (Elsewhere.other_abort turn d other []))
     passes_abort PresumeCommit later rests own f =
-        row_fine _ later rests (one_behind _ _ (at_once h.version AbortedOutcome own) (each_abort _ f)) (inl refl)
+        row_fine _ later rests (one_behind _ _ (at_once h.version AbortedOutcome own) (each_abort _ f))
+        (inl refl)
         (one_forced _ refl (Elsewhere.other_abort turn d other _))
 
     own_outcome : (o : Outcome) → HearsParent parent h (tells_outcome o d) → Own
@@ -517,7 +522,8 @@ module _ (turn : Turn) (d : Case) where
     -- what the pair's case remembers after the turn
     pub rests_elsewhere : (row : Row) → CaseTurn place parent n h d row → Rests turn
     rests_elsewhere _ (CoordinatorTurns.rests r) = rest_nothing r
-    rests_elsewhere _ (CoordinatorTurns.invites q i e f g) = Rested.rest_same turn (Memories.join_act turn d q i)
+    rests_elsewhere _ (CoordinatorTurns.invites q i e f g) =
+        Rested.rest_same turn (Memories.join_act turn d q i)
     rests_elsewhere _ (CoordinatorTurns.accepts u i e f) =
         Rested.rest_joined turn d u i.0 i.1 (λ g k. clash (same_case d c) g other)
     rests_elsewhere _ (CoordinatorTurns.sends_work q u op i e f g) = Rested.rest_work turn d q op i

@@ -82,16 +82,19 @@ module _ (turn : Turn) where
   asks_for_votes PresumeAbort i e g q x f order =
       let row = active_commit_with (seat_of place parent c) v PresumeAbort in
       none_written turn (row_effect c row) x f order refl
-      (FaultOwn.plain_goes turn row Asked (FaultOwn.active_live turn e) (active.asks_says turn i e g) refl refl)
+      (FaultOwn.plain_goes turn row Asked (FaultOwn.active_live turn e)
+      (active.asks_says turn i e g) refl refl)
   asks_for_votes PresumeCommit i e g q x f order =
       let row = active_commit_with (seat_of place parent c) v PresumeCommit in
       one_written turn (row_effect c row) x f order (CollectingRecord c v.accepted) refl
-      (FaultOwn.plain_goes turn row Asked (FaultOwn.active_live turn e) (active.asks_says turn i e g) refl refl)
+      (FaultOwn.plain_goes turn row Asked (FaultOwn.active_live turn e)
+      (active.asks_says turn i e g) refl refl)
       (λ one. record_appended turn (row_effect c row) x f order (CollectingRecord c v.accepted) one
       (λ j. refl) Asked p0.accepted p0.acked
       (active.asks_says turn i e g) p0 refl
       (read_as turn _ _
-      (FaultReadings.fails-collects manager above k c t root o0 promised v.accepted p0 v0 (active.alive turn e)
+      (FaultReadings.fails-collects manager above k c t root o0 promised v.accepted p0 v0
+      (active.alive turn e)
       (active.accepted_in_view turn e)
       (active.no_collects turn e q))
       (Moves.fails_to_collect c.txn.presumption q (reading turn) inv
@@ -130,7 +133,11 @@ module _ (turn : Turn) where
         (OwnVotes.alive turn u w ys l))
         (and_then turn r1 _ fits
         (Moves.fails_to_end_read_only c.txn.presumption q r1 fits.invariant
-        (record { waiting = Votes.phase turn u w l.vote; all_read = OwnVotes.all_read turn u w ys l none })))))
+        (record {
+          waiting = Votes.phase turn u w l.vote;
+          all_read =
+              OwnVotes.all_read turn u w ys l none;
+        })))))
 
     pub commits : (p : Presumption) → parent ≡ None → c.txn.presumption ≡ p → (x f : ℕ)
         → Ordered (OwnVotes.commit_row turn u w ys l p) x f → Fails (OwnVotes.commit_row turn u w ys l p) x f
@@ -170,7 +177,8 @@ module _ (turn : Turn) where
         (at_literal true is_root (λ b. Live b o0 p1 v0
         → X b (down p1.accepted p1.acked true (wrote (CommitRecord c []) c t promised p1))
         ≡ ParentCrash.fails_to_decide (X b p1))
-        (λ y. FaultReadings.fails-decides manager above k c t o0 promised p1 v0 y) (OwnVotes.alive turn u w ys l))
+        (λ y. FaultReadings.fails-decides manager above k c t o0 promised p1 v0 y)
+        (OwnVotes.alive turn u w ys l))
         (and_then turn r1 _ fits
         (Moves.fails_to_decide c.txn.presumption q r1 fits.invariant
         (record {
@@ -205,7 +213,8 @@ module _ (turn : Turn) where
         (record {
           cascaded = is_below;
           waiting = Votes.phase turn u w l.vote;
-          takes_part = up_part turn is_below (OwnVotes.asked_takes_part turn (Votes.asked turn u w l.vote) p s);
+          takes_part = up_part turn is_below (OwnVotes.asked_takes_part turn
+              (Votes.asked turn u w l.vote) p s);
           all_voted = Votes.has_vote turn u w l.vote l.consents (OwnVotes.all turn u w ys l);
         }))))))
 
@@ -283,7 +292,8 @@ module _ (turn : Turn) where
         → Fits_in turn (seen turn o0 (down p0.accepted p0.acked true
         (wrote (AbortRecord c vs) c t promised (record p0 { first_no = true }))) v0)
     behind_no vs none e =
-        read_as turn _ _ (FaultReadings.fails-hears_no manager above k c t root o0 promised vs p0 v0 live none)
+        read_as turn _ _ (FaultReadings.fails-hears_no manager above k c t root o0 promised vs
+        p0 v0 live none)
         (Moves.fails_to_hear_no c.txn.presumption (reading turn) inv (OwnAborts.may_hear turn u us i g e))
 
     its_fault : (p : Presumption) (vs : List Ticket) → entries_written (no_row p).written

@@ -116,7 +116,8 @@ module _ (turn : Turn) where
   passes_commit PresumeCommit i e q x f order =
       let b = OwnPromised.is_below turn i.from i.is_parent in
       let g = row_effect c (OwnPromised.commit_row turn PresumeCommit) in
-      one_written turn g x f order (CommitRecord c []) refl (FaultOwn.of_rests turn g refl (rest_commit turn i))
+      one_written turn g x f order (CommitRecord c []) refl
+      (FaultOwn.of_rests turn g refl (rest_commit turn i))
       (λ one. record_appended turn g x f order (CommitRecord c []) one (λ j. refl) m.phase p0.accepted
       p0.acked
       (OwnPromised.commit_says turn i) p0 refl
@@ -202,11 +203,13 @@ module _ (turn : Turn) where
   end_fits b fits o PresumeAbort q e d f =
       and_then turn _ _ fits
       (Moves.fails_to_end_commit c.txn.presumption q _ fits.invariant
-      (OwnDecided.may_end_commit turn b v.standing (subst (λ (x : Outcome). HasDecided x v.standing) e d) refl f))
+      (OwnDecided.may_end_commit turn b v.standing
+      (subst (λ (x : Outcome). HasDecided x v.standing) e d) refl f))
   end_fits b fits o PresumeCommit q e d f =
       and_then turn _ _ fits
       (Moves.fails_to_end_abort c.txn.presumption q _ fits.invariant
-      (OwnDecided.may_end_abort turn b v.standing (subst (λ (x : Outcome). HasDecided x v.standing) e d) refl f))
+      (OwnDecided.may_end_abort turn b v.standing
+      (subst (λ (x : Outcome). HasDecided x v.standing) e d) refl f))
 
   pub ends : (u : Ticket) (o : Outcome) (fs : List Finding) → HearsChild place n h c u (λ d. Ack d o fs)
       → HasDecided o v.standing
@@ -224,7 +227,8 @@ module _ (turn : Turn) where
       (subst (λ (y : Bool). Fits_in turn
       (seen turn o0 (down p0.accepted b y (wrote r c t promise p0)) v0))
       (sym (begun_still turn g x f m.phase (rw one (has-cons (is_commit c) r n.life)) refl))
-      (read_as turn _ _ (FaultReadings.fails-ends manager above k c t (OwnDecided.reports turn o fs) root o0 promise
+      (read_as turn _ _ (FaultReadings.fails-ends manager above k c t
+      (OwnDecided.reports turn o fs) root o0 promise
       (rested turn b) v0 (closed late.0 late.1))
       (end_fits b (OwnDecided.ack_fits turn u o fs i d none) o c.txn.presumption refl
       (OwnDecided.agrees turn u o fs i d none) d

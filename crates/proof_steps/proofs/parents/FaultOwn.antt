@@ -111,7 +111,8 @@ module _ (turn : Turn) where
       → heard_so e c t p0 ≡ heard w (same_ticket u t) p0
   heard_vote e u w none one = rw (none, one) (simp (same_case-refl, or-false))
 
-  pub vote_goes : (e : Effect) (u : Ticket) (w : Vote) (i : CountsVote place n h c u w) → CoordinatorTurns.Consents w
+  pub vote_goes : (e : Effect) (u : Ticket) (w : Vote) (i : CountsVote place n h c u w)
+      → CoordinatorTurns.Consents w
       → e.accepts ≡ [] → e.counts ≡ (c, (u, w)) ∷ [] → (ph : Phase) → Goes turn ph → is_begun ph ≡ true
       → Hears turn e
   vote_goes e u w i k none one ph s b =

@@ -42,7 +42,8 @@ module _ (manager above : Bool) (k : ChildHalf) (c : Case) (t : Ticket) where
 
   pub fails-collects : (root o b : Bool) (ts : List Ticket) (p : ParentHalf) (v : Wire) → Live root o p v
       → in_list ts t ≡ p.accepted → p.collects ≡ false
-      → X root o (D true p (wrote (CollectingRecord c ts) c t b p)) v ≡ ParentCrash.fails_to_collect (X root o p v)
+      → X root o (D true p (wrote (CollectingRecord c ts) c t b p)) v
+      ≡ ParentCrash.fails_to_collect (X root o p v)
   fails-collects true o b ts p v l g h =
       let f = l.undecided refl in
       rw (l.begun, l.no_commit, f, g, h) (simp (dead-now, same_case-refl, or-false))
@@ -63,7 +64,8 @@ module _ (manager above : Bool) (k : ChildHalf) (c : Case) (t : Ticket) where
 
   pub fails-aborts_naming : (root o b : Bool) (us : List Ticket) (p : ParentHalf) (v : Wire) → Live root o p v
       → in_list us t ≡ (p.accepted && not p.first_read) → p.owed ≡ false
-      → X root o (D true p (wrote (AbortRecord c us) c t b p)) v ≡ ParentCrash.fails_to_abort_naming (X root o p v)
+      → X root o (D true p (wrote (AbortRecord c us) c t b p)) v
+      ≡ ParentCrash.fails_to_abort_naming (X root o p v)
   fails-aborts_naming true o b us p v l g h =
       let f = l.undecided refl in
       rw (l.begun, l.no_commit, f, g, h) (simp (dead-now, same_case-refl, or-false))
@@ -93,7 +95,8 @@ module _ (manager above : Bool) (k : ChildHalf) (c : Case) (t : Ticket) where
       rw (f, l.no_prepare, l.never_promised, l.no_read) (simp (dead-now, or-true))
 
   pub fails-ends_read_only : (root o b : Bool) (p : ParentHalf) (v : Wire) → Live root o p v
-      → X root o (D true p (wrote (EndRecord c None) c t b p)) v ≡ ParentCrash.fails_to_end_read_only (X root o p v)
+      → X root o (D true p (wrote (EndRecord c None) c t b p)) v
+      ≡ ParentCrash.fails_to_end_read_only (X root o p v)
   fails-ends_read_only true o b p v l =
       let f = l.undecided refl in
       rw (l.begun, l.no_commit, f) (simp (dead-now, same_case-refl))
@@ -128,11 +131,13 @@ module _ (manager above : Bool) (k : ChildHalf) (c : Case) (t : Ticket) where
   fails-passes_commit_naming o b x ys p v e g h = rw (e, g, h) (simp (same_case-refl, or-false))
 
   pub fails-passes_commit : (o b x : Bool) (p : ParentHalf) (v : Wire) → p.phase ≡ Closed
-      → X false o (D x p (wrote (CommitRecord c []) c t b p)) v ≡ ParentCrash.fails_to_pass_commit (X false o p v)
+      → X false o (D x p (wrote (CommitRecord c []) c t b p)) v
+      ≡ ParentCrash.fails_to_pass_commit (X false o p v)
   fails-passes_commit o b x p v e = rw e (simp (same_case-refl, in_list-none))
 
   pub fails-passes_abort : (o x : Bool) (p : ParentHalf) (v : Wire) → p.phase ≡ Closed
-      → X false o (D x p (wrote (AbortRecord c []) c t true p)) v ≡ ParentCrash.fails_to_pass_abort (X false o p v)
+      → X false o (D x p (wrote (AbortRecord c []) c t true p)) v
+      ≡ ParentCrash.fails_to_pass_abort (X false o p v)
   fails-passes_abort o x p v e = rw e (simp (same_case-refl, in_list-none))
 
   pub fails-passes_abort_naming : (o x : Bool) (ys : List Ticket) (p : ParentHalf) (v : Wire) → p.phase

@@ -105,7 +105,8 @@ module _ (turn : Turn) where
 
   own_fault : (row : Row) → CaseTurn place parent n h c row → (x f : ℕ) → Orders row x f
       → Fails (row_effect c row) x f
-  own_fault _ (CoordinatorTurns.rests r) x f order = rests_fault _ x f order refl refl refl (rest_nothing turn r)
+  own_fault _ (CoordinatorTurns.rests r) x f order =
+      rests_fault _ x f order refl refl refl (rest_nothing turn r)
   own_fault _ (CoordinatorTurns.invites q i e g j) x f order =
       rests_fault _ x f order refl refl refl (Rested.rest_same turn (Memories.join_act turn c q i))
   own_fault _ (CoordinatorTurns.accepts u i e g) x f order = joined_fault _ x f order refl u i e g refl refl
@@ -123,14 +124,17 @@ module _ (turn : Turn) where
   own_fault _ (CoordinatorTurns.finds_nobody i e g) x f order =
       goes_fault _ x f order refl refl refl Over (FaultOwn.active_live turn e)
       (OwnActive.nobody_says turn i e g) refl
-  own_fault _ (CoordinatorTurns.asks_for_votes p i e g q) x f order = FaultCases.asks_for_votes turn p i e g q x f order.is
+  own_fault _ (CoordinatorTurns.asks_for_votes p i e g q) x f order =
+      FaultCases.asks_for_votes turn p i e g q x f order.is
   own_fault _ (CoordinatorTurns.gives_up why p i e q) x f order =
       goes_fault _ x f order refl refl refl Over (FaultOwn.active_live turn e)
       (Own.to_abort turn why i (inl (Own.active_open turn e))) refl
-  own_fault _ (CoordinatorTurns.counts_vote u w i j e) x f order = voted_fault _ x f order refl u w i j refl refl e
+  own_fault _ (CoordinatorTurns.counts_vote u w i j e) x f order =
+      voted_fault _ x f order refl u w i j refl refl e
     where
       voted_fault : (row : Row) (x f : ℕ) → Orders row x f → row.written ≡ [] → (u : Ticket) (w : Vote)
-          → (i : CoordinatorTurns.CountsVote place n h c u w) → CoordinatorTurns.Consents w → row.accepts ≡ [] → row.counts
+          → (i : CoordinatorTurns.CountsVote place n h c u w) → CoordinatorTurns.Consents w → row.accepts ≡ []
+          → row.counts
           ≡ (u, w) ∷ []
           → all_voted (Own.v turn).accepted (CoordinatorTurns.voted (Own.v turn) u w).votes ≡ false
           → Fails (row_effect c row) x f
@@ -139,13 +143,20 @@ module _ (turn : Turn) where
           (FaultOwn.vote_goes turn (row_effect c row) u w i j (rw no_ticket refl) (rw one refl) Asked
           (Votes.vote_says turn u w i Asked (goes_on w j _ ∙ rw (Votes.all_seen turn u w i false e) refl))
           refl)
-  own_fault _ (CoordinatorTurns.reads_only u w ys p l e q) x f order = FaultCases.reads_only turn u w ys l p e q x f order.is
-  own_fault _ (CoordinatorTurns.commits u w ys p l e s q) x f order = FaultCases.commits turn u w ys l p s q x f order.is
-  own_fault _ (CoordinatorTurns.promises u w ys p l e s) x f order = FaultCases.promises turn u w ys l p s x f order.is
-  own_fault _ (CoordinatorTurns.hears_no u us p i g q) x f order = FaultCases.hears_no turn u us i g p q x f order.is
-  own_fault _ (CoordinatorTurns.aborts why us p i e g q) x f order = FaultCases.aborts_at turn why us p i e g q x f order.is
-  own_fault _ (CoordinatorTurns.passes_commit p i e q) x f order = FaultEnds.passes_commit turn p i e q x f order.is
-  own_fault _ (CoordinatorTurns.passes_abort p i e q) x f order = FaultEnds.passes_abort turn p i e q x f order.is
+  own_fault _ (CoordinatorTurns.reads_only u w ys p l e q) x f order =
+      FaultCases.reads_only turn u w ys l p e q x f order.is
+  own_fault _ (CoordinatorTurns.commits u w ys p l e s q) x f order =
+      FaultCases.commits turn u w ys l p s q x f order.is
+  own_fault _ (CoordinatorTurns.promises u w ys p l e s) x f order =
+      FaultCases.promises turn u w ys l p s x f order.is
+  own_fault _ (CoordinatorTurns.hears_no u us p i g q) x f order =
+      FaultCases.hears_no turn u us i g p q x f order.is
+  own_fault _ (CoordinatorTurns.aborts why us p i e g q) x f order =
+      FaultCases.aborts_at turn why us p i e g q x f order.is
+  own_fault _ (CoordinatorTurns.passes_commit p i e q) x f order =
+      FaultEnds.passes_commit turn p i e q x f order.is
+  own_fault _ (CoordinatorTurns.passes_abort p i e q) x f order =
+      FaultEnds.passes_abort turn p i e q x f order.is
   own_fault _ (CoordinatorTurns.repeats_yes j i e) x f order =
       rests_fault _ x f order refl refl refl
       (rest_prepare turn j i (λ o. not_open turn Prepared e (λ z. cc) o))
@@ -164,10 +175,12 @@ module _ (turn : Turn) where
   own_fault _ (CoordinatorTurns.clears i e g j) x f order =
       cleared_fault _ x f order refl refl refl (Rested.rest_same turn (Memories.forget_act turn c i))
     where
-      cleared_fault : (row : Row) (x f : ℕ) → Orders row x f → entries_written row.written ≡ ClearedRecord c ∷ []
+      cleared_fault : (row : Row) (x f : ℕ) → Orders row x f
+          → entries_written row.written ≡ ClearedRecord c ∷ []
           → row.accepts ≡ [] → row.counts ≡ [] → Rests turn → Fails (row_effect c row) x f
       cleared_fault row x f order one no_ticket no_vote r = elim (left_one x (ClearedRecord c)) [
-        | inl none ↦ nothing_appended turn (row_effect c row) x f order.is says (ap (λ l. take x l) one ∙ none)
+        | inl none ↦ nothing_appended turn (row_effect c row) x f order.is says
+            (ap (λ l. take x l) one ∙ none)
         | inr all ↦ appended_elsewhere turn (row_effect c row) x f order.is says (ClearedRecord c)
             (ap (λ l. take x l) one ∙ all) (cleared_unrelated turn c)
       ]
@@ -337,7 +350,8 @@ module _ (turn : Turn) where
   turn_fails _ (CoordinatorTurns.begins q s i) x f order = begin_fault q s i x f order
   turn_fails _ (CoordinatorTurns.gives_again p d u s i e) x f order =
       none_written turn (Born.answer turn p d u) x f order refl
-      (FaultOwn.of_rests turn (Born.answer turn p d u) refl (rests_as turn (Born.again_says turn p d u s i e)))
+      (FaultOwn.of_rests turn (Born.answer turn p d u) refl
+      (rests_as turn (Born.again_says turn p d u s i e)))
   turn_fails _ (CoordinatorTurns.gives_fresh p d s i e) x f order = fresh_fault p d s i e x f order
   turn_fails _ (CoordinatorTurns.presumes y u i none) x f order =
       none_written turn (NoCase.told turn y u) x f order refl

@@ -128,7 +128,8 @@ module _ (turn : Turn) where
 
   pub unticketed_ack : (o : Outcome) (fs : List Finding) (x : Txn) (j : ℕ)
       → h.input ≡ MessageInput j (Ack (root_case x) o fs) → m' ≡ m
-  unticketed_ack o fs x j i = at_either _ m i (if_itself (same_txn x c.txn)) (λ p. if_itself (same_txn x c.txn))
+  unticketed_ack o fs x j i = at_either _ m i (if_itself (same_txn x c.txn))
+      (λ p. if_itself (same_txn x c.txn))
 
   -- Inputs of the root alone.
 

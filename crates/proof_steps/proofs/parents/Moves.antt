@@ -84,11 +84,13 @@ pub fails_at_no : (pr : Presumption) → Keeps pr ParentMoves.MayHearNo ParentCr
 fails_at_no PresumeAbort r h g = ParentCrashAbort.fails_at_no r h g
 fails_at_no PresumeCommit r h g = ParentCrashCommit.fails_at_no r h g
 
-pub fails_to_promise_up : (pr : Presumption) → Keeps pr CascadedMoves.MayPromise ParentCrash.fails_to_promise_up
+pub fails_to_promise_up : (pr : Presumption) → Keeps pr CascadedMoves.MayPromise
+    ParentCrash.fails_to_promise_up
 fails_to_promise_up PresumeAbort r h g = ParentCrashAbort.fails_to_promise_up r h g
 fails_to_promise_up PresumeCommit r h g = ParentCrashCommit.fails_to_promise_up r h g
 
-pub asks_for_votes : (pr : Presumption) → pr ≡ PresumeAbort → Keeps pr ParentMoves.MayAskForVotes ParentMoves.asks_for_votes
+pub asks_for_votes : (pr : Presumption) → pr ≡ PresumeAbort
+    → Keeps pr ParentMoves.MayAskForVotes ParentMoves.asks_for_votes
 asks_for_votes PresumeAbort e r h g = ParentAbort.asks_for_votes r h g
 asks_for_votes PresumeCommit e r h g = absurd (cc)
 
@@ -101,7 +103,8 @@ pub hears_no : (pr : Presumption) → pr ≡ PresumeAbort → Keeps pr ParentMov
 hears_no PresumeAbort e r h g = ParentAbort.hears_no r h g
 hears_no PresumeCommit e r h g = absurd (cc)
 
-pub hears_no_forced : (pr : Presumption) → pr ≡ PresumeCommit → Keeps pr ParentMoves.MayHearNo ParentMoves.hears_no_forced
+pub hears_no_forced : (pr : Presumption) → pr ≡ PresumeCommit
+    → Keeps pr ParentMoves.MayHearNo ParentMoves.hears_no_forced
 hears_no_forced PresumeCommit e r h g = ParentCommit.hears_no r h g
 hears_no_forced PresumeAbort e r h g = absurd (cc)
 
@@ -109,7 +112,8 @@ pub aborts : (pr : Presumption) → pr ≡ PresumeAbort → Keeps pr ParentMoves
 aborts PresumeAbort e r h g = ParentAbort.aborts r h g
 aborts PresumeCommit e r h g = absurd (cc)
 
-pub aborts_forced : (pr : Presumption) → pr ≡ PresumeCommit → Keeps pr ParentMoves.MayAbort ParentMoves.aborts_forced
+pub aborts_forced : (pr : Presumption) → pr ≡ PresumeCommit
+    → Keeps pr ParentMoves.MayAbort ParentMoves.aborts_forced
 aborts_forced PresumeCommit e r h g = ParentCommit.aborts r h g
 aborts_forced PresumeAbort e r h g = absurd (cc)
 
@@ -126,11 +130,13 @@ pub answers_commit : (pr : Presumption) → pr ≡ PresumeAbort
 answers_commit PresumeAbort e r h g = ParentAbort.answers_commit r h g
 answers_commit PresumeCommit e r h g = absurd (cc)
 
-pub answers_abort : (pr : Presumption) → pr ≡ PresumeCommit → Keeps pr ParentMoves.MayAnswerAbort ParentMoves.answers_abort
+pub answers_abort : (pr : Presumption) → pr ≡ PresumeCommit
+    → Keeps pr ParentMoves.MayAnswerAbort ParentMoves.answers_abort
 answers_abort PresumeCommit e r h g = ParentCommit.answers_abort r h g
 answers_abort PresumeAbort e r h g = absurd (cc)
 
-pub presumes_abort : (pr : Presumption) → pr ≡ PresumeAbort → Keeps pr ParentMoves.MayPresumeAbort ParentMoves.answers_abort
+pub presumes_abort : (pr : Presumption) → pr ≡ PresumeAbort
+    → Keeps pr ParentMoves.MayPresumeAbort ParentMoves.answers_abort
 presumes_abort PresumeAbort e r h g = ParentAbort.presumes r h g
 presumes_abort PresumeCommit e r h g = absurd (cc)
 
@@ -139,7 +145,8 @@ pub presumes_commit : (pr : Presumption) → pr ≡ PresumeCommit
 presumes_commit PresumeCommit e r h g = ParentCommit.presumes r h g
 presumes_commit PresumeAbort e r h g = absurd (cc)
 
-pub ends_read_only : (pr : Presumption) → pr ≡ PresumeAbort → Keeps pr RootMoves.MayEndReadOnly RootMoves.ends_read_only
+pub ends_read_only : (pr : Presumption) → pr ≡ PresumeAbort
+    → Keeps pr RootMoves.MayEndReadOnly RootMoves.ends_read_only
 ends_read_only PresumeAbort e r h g = RootAbort.ends_read_only r h g
 ends_read_only PresumeCommit e r h g = absurd (cc)
 
@@ -148,7 +155,8 @@ pub ends_read_only_collected : (pr : Presumption) → pr ≡ PresumeCommit
 ends_read_only_collected PresumeCommit e r h g = RootCommit.ends_read_only r h g
 ends_read_only_collected PresumeAbort e r h g = absurd (cc)
 
-pub decides_naming : (pr : Presumption) → pr ≡ PresumeAbort → Keeps pr RootMoves.MayDecide RootMoves.decides_naming
+pub decides_naming : (pr : Presumption) → pr ≡ PresumeAbort
+    → Keeps pr RootMoves.MayDecide RootMoves.decides_naming
 decides_naming PresumeAbort e r h g = RootAbort.decides r h g
 decides_naming PresumeCommit e r h g = absurd (cc)
 
@@ -156,7 +164,8 @@ pub decides : (pr : Presumption) → pr ≡ PresumeCommit → Keeps pr RootMoves
 decides PresumeCommit e r h g = RootCommit.decides r h g
 decides PresumeAbort e r h g = absurd (cc)
 
-pub reads_up : (pr : Presumption) → pr ≡ PresumeAbort → Keeps pr CascadedMoves.MayReadUp CascadedMoves.reads_up
+pub reads_up : (pr : Presumption) → pr ≡ PresumeAbort
+    → Keeps pr CascadedMoves.MayReadUp CascadedMoves.reads_up
 reads_up PresumeAbort e r h g = CascadedAbort.reads_up r h g
 reads_up PresumeCommit e r h g = absurd (cc)
 
@@ -170,11 +179,13 @@ pub passes_commit_forced : (pr : Presumption) → pr ≡ PresumeAbort
 passes_commit_forced PresumeAbort e r h g = CascadedAbort.passes_commit r h g
 passes_commit_forced PresumeCommit e r h g = absurd (cc)
 
-pub passes_commit : (pr : Presumption) → pr ≡ PresumeCommit → Keeps pr CascadedMoves.MayPassCommit CascadedMoves.passes_commit
+pub passes_commit : (pr : Presumption) → pr ≡ PresumeCommit
+    → Keeps pr CascadedMoves.MayPassCommit CascadedMoves.passes_commit
 passes_commit PresumeCommit e r h g = CascadedCommit.passes_commit r h g
 passes_commit PresumeAbort e r h g = absurd (cc)
 
-pub passes_abort : (pr : Presumption) → pr ≡ PresumeAbort → Keeps pr CascadedMoves.MayPassAbort CascadedMoves.passes_abort
+pub passes_abort : (pr : Presumption) → pr ≡ PresumeAbort
+    → Keeps pr CascadedMoves.MayPassAbort CascadedMoves.passes_abort
 passes_abort PresumeAbort e r h g = CascadedAbort.passes_abort r h g
 passes_abort PresumeCommit e r h g = absurd (cc)
 
@@ -188,7 +199,8 @@ pub fails_to_collect : (pr : Presumption) → pr ≡ PresumeCommit
 fails_to_collect PresumeCommit e r h g = ParentCrashCommit.fails_to_collect r h g
 fails_to_collect PresumeAbort e r h g = absurd (cc)
 
-pub fails_to_abort : (pr : Presumption) → pr ≡ PresumeAbort → Keeps pr ParentMoves.MayAbort ParentCrash.fails_to_abort
+pub fails_to_abort : (pr : Presumption) → pr ≡ PresumeAbort
+    → Keeps pr ParentMoves.MayAbort ParentCrash.fails_to_abort
 fails_to_abort PresumeAbort e r h g = ParentCrashAbort.fails_to_abort r h g
 fails_to_abort PresumeCommit e r h g = absurd (cc)
 
@@ -207,7 +219,8 @@ pub fails_to_decide_naming : (pr : Presumption) → pr ≡ PresumeAbort
 fails_to_decide_naming PresumeAbort e r h g = ParentCrashAbort.fails_to_decide r h g
 fails_to_decide_naming PresumeCommit e r h g = absurd (cc)
 
-pub fails_to_decide : (pr : Presumption) → pr ≡ PresumeCommit → Keeps pr RootMoves.MayDecide ParentCrash.fails_to_decide
+pub fails_to_decide : (pr : Presumption) → pr ≡ PresumeCommit
+    → Keeps pr RootMoves.MayDecide ParentCrash.fails_to_decide
 fails_to_decide PresumeCommit e r h g = ParentCrashCommit.fails_to_decide r h g
 fails_to_decide PresumeAbort e r h g = absurd (cc)
 

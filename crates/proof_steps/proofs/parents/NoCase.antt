@@ -227,9 +227,12 @@ module _ (turn : Turn) where
   }
 
   unticketed : (says : Case → Message) (x : Txn) → ChildSays says → Hears h (says (root_case x)) → Rests turn
-  unticketed _ x (CoordinatorTurns.votes w) i = Rested.rest_same turn (Memories.unticketed_vote turn w x i.0 i.1)
-  unticketed _ x (CoordinatorTurns.acknowledged o fs) i = Rested.rest_same turn (Memories.unticketed_ack turn o fs x i.0 i.1)
-  unticketed _ x CoordinatorTurns.inquires i = Rested.rest_same turn (Memories.inquires turn (root_case x) i.0 i.1)
+  unticketed _ x (CoordinatorTurns.votes w) i = Rested.rest_same turn
+      (Memories.unticketed_vote turn w x i.0 i.1)
+  unticketed _ x (CoordinatorTurns.acknowledged o fs) i =
+      Rested.rest_same turn (Memories.unticketed_ack turn o fs x i.0 i.1)
+  unticketed _ x CoordinatorTurns.inquires i = Rested.rest_same turn
+      (Memories.inquires turn (root_case x) i.0 i.1)
 
   nowhere : (says : Case → Message) (x : Txn) (u : Ticket) → ChildSays says → Hears h (says (child_case x u))
       → case_of_child place n x u ≡ None → Rests turn

@@ -245,7 +245,8 @@ module _ (turn : Turn) where
 
   pub acknowledged_up : (p : Presumption) → Silent c t net (acknowledges_abort (seat_of place parent c) p)
   acknowledged_up PresumeAbort = simp (Wires.sent-none)
-  acknowledged_up PresumeCommit = Wires.silent-ack c t net place.me parent c (not_childs turn) AbortedOutcome []
+  acknowledged_up PresumeCommit = Wires.silent-ack c t net place.me parent c (not_childs turn)
+      AbortedOutcome []
 
   pub gives_up : (why : Reason) (p : Presumption) → IsToAbort parent h c why → v.standing ≡ Active
       → (row : Row)

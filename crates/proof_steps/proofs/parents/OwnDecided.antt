@@ -117,7 +117,8 @@ module _ (turn : Turn) where
       × (m.phase ≡ Asked → ⊥)
   late_of _ _ CoordinatorTurns.by_commit e =
       (not_open turn Committing e (λ z. cc), not_asked turn Committing e (λ z. cc))
-  late_of _ _ CoordinatorTurns.by_abort e = (not_open turn Aborting e (λ z. cc), not_asked turn Aborting e (λ z. cc))
+  late_of _ _ CoordinatorTurns.by_abort e =
+      (not_open turn Aborting e (λ z. cc), not_asked turn Aborting e (λ z. cc))
 
   -- whom the view says that an ACK is owed by
   owed_in : (o : Outcome) (s : Standing) → HasDecided o s → v.standing ≡ s
@@ -254,7 +255,8 @@ module _ (turn : Turn) where
         (subst (λ (y : ParentHalf). Fits_in turn (seen turn o0 y v0)) (sym (shown heard_acks x))
         (end_stays heard_acks x None ack_fits all_acked)))
       where
-        shown : (b x : Bool) → stands_so false m.phase p0.accepted b p0.begun (wrote (EndRecord c None) c t x p0)
+        shown : (b x : Bool) → stands_so false m.phase p0.accepted b p0.begun
+            (wrote (EndRecord c None) c t x p0)
             ≡ wrote (EndRecord c None) c t x (rested turn b)
         shown b x = rw up refl
 
@@ -373,7 +375,8 @@ module _ (turn : Turn) where
       Moves.answers_abort c.txn.presumption q (reading turn) inv
       (record { asked = a; aborting = record { up = up; decided = g.abort; not_ended = g.no_end } })
   answer_fits PresumeCommit q _ e _ (CoordinatorTurns.by_decision p s o CoordinatorTurns.by_commit) a =
-      absurd (let x = decided_as CommittedOutcome Committing CoordinatorTurns.by_commit e PresumeCommit q in cc)
+      absurd (let x = decided_as CommittedOutcome Committing CoordinatorTurns.by_commit e PresumeCommit q
+      in cc)
   answer_fits PresumeAbort q _ e _ (CoordinatorTurns.by_decision p s o CoordinatorTurns.by_abort) a =
       absurd (let x = decided_as AbortedOutcome Aborting CoordinatorTurns.by_abort e PresumeAbort q in cc)
   answer_fits PresumeAbort q _ e _ (CoordinatorTurns.by_presumption p) a =

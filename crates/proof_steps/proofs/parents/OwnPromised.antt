@@ -203,7 +203,8 @@ module _ (turn : Turn) where
   aborts_to e = Wires.wire-aborts c t net (seat_of place parent c) v.promised p0.names
       (rw (same_txn-refl c.txn) (names e))
 
-  at_once : (ver : Version) (o : Outcome) → Silent c t net (acknowledges_at_once ver (seat_of place parent c) o)
+  at_once : (ver : Version) (o : Outcome)
+      → Silent c t net (acknowledges_at_once ver (seat_of place parent c) o)
   at_once First o = Wires.silent-ack c t net place.me parent c (not_childs turn) o []
   at_once Second o = simp (Wires.sent-none)
 
@@ -231,7 +232,8 @@ module _ (turn : Turn) where
       (now (commit_row PresumeAbort)) v.promised p0 v0 (names e)
       (no_owed_abort q f.no_commit)))
       (and_then turn (ParentMoves.hardens_parent (reading turn)) _ first
-      (Moves.passes_commit_forced c.txn.presumption q (ParentMoves.hardens_parent (reading turn)) first.invariant
+      (Moves.passes_commit_forced c.txn.presumption q
+      (ParentMoves.hardens_parent (reading turn)) first.invariant
       (let ws = waits e in record {
         cascaded = b;
         up = up;
@@ -293,7 +295,8 @@ module _ (turn : Turn) where
       v.promised p0 v0 (names e)
       (no_owed_commit q f.no_abort)))
       (and_then turn (ParentMoves.hardens_parent (reading turn)) _ first
-      (Moves.passes_abort_forced c.txn.presumption q (ParentMoves.hardens_parent (reading turn)) first.invariant
+      (Moves.passes_abort_forced c.txn.presumption q
+      (ParentMoves.hardens_parent (reading turn)) first.invariant
       (let ws = waits e in record {
         cascaded = b;
         up = up;

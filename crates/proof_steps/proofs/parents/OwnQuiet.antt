@@ -60,7 +60,8 @@ module _ (turn : Turn) where
       → Rests turn
       → Silent c t net row.messages → Fine turn (row_effect c row)
   quiet_row row later none no_told none_accepted none_counted r silent =
-      quiet_fine turn (row_effect c row) later.alike (says_nothing row no_told none_accepted none_counted) r silent
+      quiet_fine turn (row_effect c row) later.alike
+      (says_nothing row no_told none_accepted none_counted) r silent
       none
 
   -- a row that forces a record of which the pair sees nothing
@@ -68,7 +69,8 @@ module _ (turn : Turn) where
       → row.told ≡ None → row.accepts ≡ [] → row.counts ≡ [] → Rests turn → Silent c t net row.messages
       → Fine turn (row_effect c row)
   aside_row row later s one u no_told none_accepted none_counted r silent =
-      forced_elsewhere turn (row_effect c row) later.alike (says_nothing row no_told none_accepted none_counted) r
+      forced_elsewhere turn (row_effect c row) later.alike
+      (says_nothing row no_told none_accepted none_counted) r
       silent s one u
 
   open_is_active : m.phase ≡ Open → v.standing ≡ Active
@@ -107,7 +109,8 @@ module _ (turn : Turn) where
   rest_nothing (CoordinatorTurns.counts_nothing u w i f) =
       Rested.rest_vote turn w i.txn u i.hears.0 i.hears.1
       (λ g o. counted_not u (asked_is_collecting o) (f (asked_is_collecting o)))
-  rest_nothing (CoordinatorTurns.owes_nothing u o fs i f) = Rested.rest_ack turn o fs i.txn u i.hears.0 i.hears.1
+  rest_nothing (CoordinatorTurns.owes_nothing u o fs i f) =
+      Rested.rest_ack turn o fs i.txn u i.hears.0 i.hears.1
   rest_nothing (CoordinatorTurns.knows_nothing u i) =
       Rested.rest_same turn (Memories.inquires turn (child_case i.txn u) i.hears.0 i.hears.1)
   rest_nothing (CoordinatorTurns.prepares_nothing k i f) = rest_prepare k i (λ o. f (open_is_active o))

@@ -138,7 +138,8 @@ module _ (turn : Turn) where
   own_turn _ (CoordinatorTurns.asks_for_votes p i e f q) later = OwnActive.asks_for_votes turn p i e f q later
   own_turn _ (CoordinatorTurns.gives_up why p i e q) later = OwnActive.gives_up turn why p i e _ refl later
   own_turn _ (CoordinatorTurns.counts_vote u w i k e) later = OwnVotes.counts_vote turn u w i k e later
-  own_turn _ (CoordinatorTurns.reads_only u w ys p i e q) later = OwnVotes.reads_only turn u w ys i p e q later
+  own_turn _ (CoordinatorTurns.reads_only u w ys p i e q) later =
+      OwnVotes.reads_only turn u w ys i p e q later
   own_turn _ (CoordinatorTurns.commits u w ys p i e s q) later = OwnVotes.commits turn u w ys i p s q later
   own_turn _ (CoordinatorTurns.promises u w ys p i e s) later = OwnVotes.promises turn u w ys i p s later
   own_turn _ (CoordinatorTurns.hears_no u us p i f q) later = OwnAborts.hears_no turn u us i f p q later

@@ -158,7 +158,8 @@ module _ (turn : Turn) where
       said_nothing s = ap (λ o. wire c t (net ++ posted_up place.me o (Read c))) s
           ∙ Wires.wire-nothing c t net
 
-      may_read : (p : ProcessId) → parent ≡ Some p → root ≡ false → none_of ys ≡ true → CascadedMoves.MayReadUp r1
+      may_read : (p : ProcessId) → parent ≡ Some p → root ≡ false → none_of ys ≡ true
+          → CascadedMoves.MayReadUp r1
       may_read p s is_below none = record {
         cascaded = is_below;
         waiting = Votes.phase turn u w i;

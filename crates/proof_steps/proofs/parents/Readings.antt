@@ -101,7 +101,8 @@ module _ (manager above : Bool) (k : ChildHalf) (c : Case) (t : Ticket) where
       rw (l.begun, l.no_commit, f) (simp (dead-now))
 
   pub reading-ends_collected : (o b : Bool) (p : ParentHalf) (v : Wire) → Live true o p v
-      → R true o (S Over p (wrote (EndRecord c None) c t b p)) v ≡ RootMoves.ends_read_only_collected (R true o p v)
+      → R true o (S Over p (wrote (EndRecord c None) c t b p)) v
+      ≡ RootMoves.ends_read_only_collected (R true o p v)
   reading-ends_collected o b p v l =
       let f = l.undecided refl in
       rw (l.begun, l.no_commit, f) (simp (dead-now, same_case-refl))

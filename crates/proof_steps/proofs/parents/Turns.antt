@@ -177,7 +177,8 @@ module _ (turn : Turn) where
     fine_silent none fits =
         assemble told_outcome (did e c t half) (outcome_stays place.role e (rw none refl))
         (memory_of-nothing place n h e c none)
-        (half_silent remembered.phase ph (in_list remembered.accepted t) a (acked_of remembered c t) b n h e c t none) fits
+        (half_silent remembered.phase ph (in_list remembered.accepted t) a (acked_of remembered c t) b n h
+        e c t none) fits
 
     pub fine_forced : (r : Record) → ((x : ℕ) → boot_after x r ≡ x) → e.written ≡ forced r
         → Fits_in (seen ((at_root && (is_commit c r || half.commit_kept)) || told_outcome)
@@ -187,7 +188,8 @@ module _ (turn : Turn) where
         assemble ((at_root && (is_commit c r || half.commit_kept)) || told_outcome)
         (hardens (wrote r c t (has (is_prepare c) n.life) (did e c t half)))
         (outcome_forced place.role at_root e r one rooted) (memory_of-forced place n h e c r one stays)
-        (half_forced remembered.phase ph (in_list remembered.accepted t) a (acked_of remembered c t) b n h e c t r one) fits
+        (half_forced remembered.phase ph (in_list remembered.accepted t) a (acked_of remembered c t) b n h
+        e c t r one) fits
 
     pub fine_plain : (r : Record) → ((x : ℕ) → boot_after x r ≡ x) → e.written ≡ plain r
         → Fits_in (seen told_outcome (stands_so false ph a b now
@@ -196,4 +198,5 @@ module _ (turn : Turn) where
     fine_plain r stays one fits =
         assemble told_outcome (wrote r c t (has (is_prepare c) n.life) (did e c t half))
         (outcome_stays place.role e (rw one refl)) (memory_of-plain place n h e c r one stays)
-        (half_plain remembered.phase ph (in_list remembered.accepted t) a (acked_of remembered c t) b n h e c t r one) fits
+        (half_plain remembered.phase ph (in_list remembered.accepted t) a (acked_of remembered c t) b n h
+        e c t r one) fits

@@ -21,4 +21,5 @@ ManagerSteps = (tree : List TreeProcess) (es : List Made) (w : World) → IsRun 
     → (m : Move) (e : Effect) (w' : World) → m.step.process ≡ t.child
     → MayHappen w.net m.step.process m.step.happening → world_makes tree w m ≡ Some (e, w')
     → InvariantOf c.txn.presumption (reading_of tree w above c t)
-    → FollowsReading (InvariantOf c.txn.presumption) (reading_of tree w above c t) (reading_of tree w' above c t)
+    → FollowsReading (InvariantOf c.txn.presumption) (reading_of tree w above c t)
+    (reading_of tree w' above c t)

@@ -41,7 +41,8 @@ CoordinatorRows = (tree : List TreeProcess) (es : List Made) (w : World) → NoO
 -- The same, and also where the device fails in the input, whatever of its records was appended, and
 -- whatever was forced.
 abbrev pub CoordinatorInputs : Type 0
-CoordinatorInputs = (tree : List TreeProcess) (es : List Made) (w : World) → NoOwnParent tree → IsRun tree es w
+CoordinatorInputs = (tree : List TreeProcess) (es : List Made) (w : World) → NoOwnParent tree
+    → IsRun tree es w
     → WorldHolds tree w → JoinedAreBorn tree w
     → (m : Move) (e : Effect) (w' : World) → IsCoordinator (role_of tree m.step.process)
     → MayHappen w.net m.step.process m.step.happening → world_makes tree w m ≡ Some (e, w')

@@ -67,7 +67,8 @@ given_now = refl
 falls : WorldHolds tree_a (left_by WrongBodies.boot_reused) → ⊥
 falls holds =
     let node = holds.nodes (process 2) second_listed in
-    let issues = leaf_issues (role_of tree_a (process 2)) (process 1) place (left_by WrongBodies.boot_reused).net
+    let issues = leaf_issues (role_of tree_a (process 2)) (process 1) place
+    (left_by WrongBodies.boot_reused).net
     restarted second_role node.role in
     not_given_out (boot_of (kept restarted)) (memory_of place restarted (some_case place)).given boot_now
     given_now (issues.given_once is_up (top PresumeAbort) second refl was_joined)

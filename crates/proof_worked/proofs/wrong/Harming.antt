@@ -90,7 +90,8 @@ pub root_fails : (tree : List TreeProcess) (w : World) (x : Txn) (o : Outcome) �
 root_fails tree w x o role ends differs es h = differs (h.agreement.root_agrees x o role ends)
 
 -- The commit rule: the root committed, and heard no vote of a ticket that it accepted.
-pub unvoted_fails : (tree : List TreeProcess) (w : World) (x : Txn) (t : Ticket) → is_commit_outcome w x ≡ true
+pub unvoted_fails : (tree : List TreeProcess) (w : World) (x : Txn) (t : Ticket)
+    → is_commit_outcome w x ≡ true
     → has_accepted (w.at x.root) (root_case x) t ≡ true
     → consents (first_vote (w.at x.root).voted (root_case x) t) ≡ false → Fails tree w
 unvoted_fails tree w x t committed accepted unheard es h =

@@ -116,7 +116,8 @@ reads_goes : goes_on (play_of WrongBodies.reads_over_a_yes) ≡ true
 unfolding computing
 reads_goes = refl
 
-reads_goes_on : goes_on (plays_behind WrongBodies.reads_over_a_yes (reached WrongBodies.reads_over_a_yes)) ≡ true
+reads_goes_on : goes_on (plays_behind WrongBodies.reads_over_a_yes (reached WrongBodies.reads_over_a_yes))
+    ≡ true
 unfolding computing
 reads_goes_on = refl
 
@@ -169,7 +170,8 @@ unfolding computing
 obeys_outcome = refl
 
 pub obeys_contradicting_commit : Harms WrongBodies.obeys_contradicting_commit
-obeys_contradicting_commit = by_later WrongBodies.obeys_contradicting_commit obeys_goes refl obeys_goes_on refl
+obeys_contradicting_commit = by_later WrongBodies.obeys_contradicting_commit obeys_goes refl
+    obeys_goes_on refl
     (below_fails tree_b obeys_later (txn 1 1 PresumeCommit) second CommittedOutcome (process 1)
     obeys_role obeys_ends
     (not_committed obeys_later (txn 1 1 PresumeCommit) obeys_outcome))
@@ -180,7 +182,8 @@ trims_goes : goes_on (play_of WrongBodies.trim_drops_commit) ≡ true
 unfolding computing
 trims_goes = refl
 
-trims_goes_on : goes_on (plays_behind WrongBodies.trim_drops_commit (reached WrongBodies.trim_drops_commit)) ≡ true
+trims_goes_on : goes_on (plays_behind WrongBodies.trim_drops_commit (reached WrongBodies.trim_drops_commit))
+    ≡ true
 unfolding computing
 trims_goes_on = refl
 
@@ -210,7 +213,8 @@ told_goes : goes_on (play_of WrongBodies.told_drops_decision) ≡ true
 unfolding computing
 told_goes = refl
 
-told_goes_on : goes_on (plays_behind WrongBodies.told_drops_decision (reached WrongBodies.told_drops_decision)) ≡ true
+told_goes_on : goes_on (plays_behind WrongBodies.told_drops_decision
+    (reached WrongBodies.told_drops_decision)) ≡ true
 unfolding computing
 told_goes_on = refl
 

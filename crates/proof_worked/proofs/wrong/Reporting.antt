@@ -1,4 +1,5 @@
--- The wrong bodies that report too little: each breaks the invariant of reports, and leads to an End that reports falsely.
+-- The wrong bodies that report too little: each breaks the invariant of reports, and leads to an End that
+-- reports falsely.
 use Rattle.std.proofs.Common.{◌≡◌, ◌∙◌, ◌&&◌, inl, inr, ℕ, Bool, true, false, Some, None, List, [], ◌∷◌, ◌++◌, refl, sym}
 use Rattle.std.specs.Prelude.{⊤, not, slice_get}
 use Rattle.protocol.specs.declared.names.Outcome.{Outcome}
@@ -115,14 +116,16 @@ clear_of : (t : Ticket) → in_list (unreported_of []) t ≡ false
 unfolding computing
 clear_of t = refl
 
-uncovered : (tree : List TreeProcess) (net : List Envelope) (w : World) (x : Txn) (t u : Ticket) (p : ProcessId)
+uncovered : (tree : List TreeProcess) (net : List Envelope) (w : World) (x : Txn)
+    (t u : Ticket) (p : ProcessId)
     (a b : ℕ) → role_of tree t.child ≡ Below p
     → has (is_decision_naming (child_case x t) u) (w.at t.child).life ≡ true
     → sent (acks_without x u) (net ++ post a b (Ack (child_case x t) CommittedOutcome []) ∷ []) ≡ false
     → SinceOpened tree (net ++ post a b (Ack (child_case x t) CommittedOutcome []) ∷ []) w → ⊥
 uncovered tree net w x t u p a b role named none holds =
     no_ack (net ++ post a b (Ack (child_case x t) CommittedOutcome []) ∷ []) x CommittedOutcome u none
-    ((holds.coordinators x t p role CommittedOutcome [] (last_sent net a b (Ack (child_case x t) CommittedOutcome []))
+    ((holds.coordinators x t p role CommittedOutcome []
+    (last_sent net a b (Ack (child_case x t) CommittedOutcome []))
     (clear_of t)).named u named)
 
 -- On variables: an End without a report, where a mismatch stands that is named down.
@@ -133,10 +136,11 @@ nobody_in t e = absurd (cc)
 
 unreported_fails : (w : World) (x : Txn) (t : Ticket) (o : Outcome) → Mismatch w (child_case x t) o
     → DecisionStands (w.at t.child) (child_case x t) o → IsNamedDown w x t → ReportsTruly w x None → ⊥
-unreported_fails w x t o mismatch stands down truly = elim (truly.mismatch_is_reported t o mismatch stands down) [
-  | inl e ↦ nobody_in t e
-  | inr l ↦ nobody_in l.top l.reported
-]
+unreported_fails w x t o mismatch stands down truly =
+    elim (truly.mismatch_is_reported t o mismatch stands down) [
+      | inl e ↦ nobody_in t e
+      | inr l ↦ nobody_in l.top l.reported
+    ]
 
 -- the mismatch of manager 3, below coordinator 2
 pub record StandsBelow (w : World) : Type 0 where
@@ -180,7 +184,8 @@ second_is_below = refl
 pub acknowledges_before_children_breaks : BreaksReports WrongReports.acknowledges_before_children
 acknowledges_before_children_breaks =
     breaks_by WrongReports.acknowledges_before_children early_goes refl early_stands refl
-    (uncovered tree_b (reached WrongReports.acknowledges_before_children).net (left_by WrongReports.acknowledges_before_children)
+    (uncovered tree_b (reached WrongReports.acknowledges_before_children).net
+    (left_by WrongReports.acknowledges_before_children)
     (txn 1 1 PresumeAbort) second third (process 1) 2 1 second_is_below early_named early_unacked)
 
 early_goes_on : goes_on (second_plays_behind WrongReports.acknowledges_before_children
@@ -234,7 +239,8 @@ unknown_named : has (is_decision_naming (case_at PresumeAbort second) third)
 unfolding computing
 unknown_named = refl
 
-unknown_unacked : sent (acks_without (txn 1 1 PresumeAbort) third) (left_by WrongReports.unknown_reports_nothing).net
+unknown_unacked : sent (acks_without (txn 1 1 PresumeAbort) third)
+    (left_by WrongReports.unknown_reports_nothing).net
     ≡ false
 unfolding computing
 unknown_unacked = refl
@@ -242,7 +248,8 @@ unknown_unacked = refl
 pub unknown_reports_nothing_breaks : BreaksReports WrongReports.unknown_reports_nothing
 unknown_reports_nothing_breaks =
     breaks_by WrongReports.unknown_reports_nothing unknown_goes refl unknown_stands refl
-    (uncovered tree_b (reached WrongReports.unknown_reports_nothing).net (left_by WrongReports.unknown_reports_nothing)
+    (uncovered tree_b (reached WrongReports.unknown_reports_nothing).net
+    (left_by WrongReports.unknown_reports_nothing)
     (txn 1 1 PresumeAbort) second third (process 1) 2 1 second_is_below unknown_named unknown_unacked)
 
 unknown_goes_on : goes_on (second_plays_behind WrongReports.unknown_reports_nothing
@@ -267,5 +274,6 @@ unknown_ends = (refl, refl)
 pub unknown_reports_nothing_harms : HarmsReports WrongReports.unknown_reports_nothing
 unknown_reports_nothing_harms =
     harms_by WrongReports.unknown_reports_nothing unknown_goes refl unknown_goes_on refl
-    (falsely (later_of WrongReports.unknown_reports_nothing).moves (later_of WrongReports.unknown_reports_nothing).world
+    (falsely (later_of WrongReports.unknown_reports_nothing).moves
+    (later_of WrongReports.unknown_reports_nothing).world
     unknown_ends unknown_below)

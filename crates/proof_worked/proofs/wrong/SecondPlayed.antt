@@ -17,7 +17,8 @@ use Rattle.proof_worked.proofs.wrong.PlayedRuns.{are_single, is_single, player_o
 data GoesBy (tree : List TreeProcess) (start : World) : List Made → World → Type 0 where
   stays_by : GoesBy tree start [] start
   goes_by : (es : List Made) (w : World) (m : Move) (e : Effect) (w' : World) → GoesBy tree start es w
-      → m.version ≡ Second → IsNewInNet w.net 0 m.step.process m.step.happening → world_makes tree w m ≡ Some (e, w')
+      → m.version ≡ Second → IsNewInNet w.net 0 m.step.process m.step.happening
+      → world_makes tree w m ≡ Some (e, w')
       → GoesBy tree start (record { move = m; effect = e } ∷ es) w'
 
 abbrev IsPlayedBy : List TreeProcess → World → Player → Type 0
@@ -64,10 +65,12 @@ both true false e = absurd (cc)
 both false b e = absurd (cc)
 
 event_runs : (tree : List TreeProcess) (start : World) (root : ProcessId) (p : Player) (e : Play)
-    → is_single e ≡ true → IsPlayedBy tree start p → IsPlayedBy tree start (player_of (second_plays tree root p e))
+    → is_single e ≡ true → IsPlayedBy tree start p → IsPlayedBy tree start
+    (player_of (second_plays tree root p e))
 event_runs tree start root p (Acts a) f run =
     let q = process_of_act root a in
-    plays_one tree start p (second_move_of q (Handles (ActInput a)) (plain_answer (p.world.at q) (ActInput a)))
+    plays_one tree start p (second_move_of q (Handles (ActInput a))
+    (plain_answer (p.world.at q) (ActInput a)))
     p.delivered refl tt run
 event_runs tree start root p (Delivers k) f run = delivers_one tree start p k (sent_as p.world.net k) refl run
 event_runs tree start root p Settles f run = absurd (cc)
@@ -119,4 +122,5 @@ pub is_run_by : (tree : List TreeProcess) (root : ProcessId) (es : List Play) �
     (player_of (second_plays_all tree root es)).world
 is_run_by tree root es f =
     from_opened tree _ _
-    (all_run tree opened_world root (Goes (record { world = opened_world; moves = []; delivered = [] })) es f stays_by)
+    (all_run tree opened_world root (Goes (record { world = opened_world; moves = []; delivered = [] })) es f
+    stays_by)

@@ -55,7 +55,8 @@ unfolding computing
 reads_goes = refl
 
 reads_stands : MayHappen
-    (reached WrongBodies.reads_over_a_yes).net WrongBodies.reads_over_a_yes.process WrongBodies.reads_over_a_yes.happening
+    (reached WrongBodies.reads_over_a_yes).net WrongBodies.reads_over_a_yes.process
+    WrongBodies.reads_over_a_yes.happening
 unfolding computing
 reads_stands = record { sender = process 3; place = 11; stands = refl }
 

@@ -85,7 +85,8 @@ unfolding computing
 trims_goes = refl
 
 trims_stands : MayHappen
-    (reached WrongBodies.trim_drops_commit).net WrongBodies.trim_drops_commit.process WrongBodies.trim_drops_commit.happening
+    (reached WrongBodies.trim_drops_commit).net WrongBodies.trim_drops_commit.process
+    WrongBodies.trim_drops_commit.happening
 unfolding computing
 trims_stands = tt
 

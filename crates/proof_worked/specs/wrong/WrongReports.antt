@@ -1,5 +1,5 @@
--- Wrong bodies of the second version, which report too little: where each breaks the invariant of reports, and what comes
--- of it.
+-- Wrong bodies of the second version, which report too little: where each breaks the invariant of reports,
+-- and what comes of it.
 use Rattle.std.specs.Prelude.{◌≡◌, true, List, [], ◌∷◌, ◌++◌, fold}
 use Rattle.protocol_words.specs.Variants.{AbortedOutcome, CommittedOutcome, Handles, MessageInput}
 use Rattle.protocol.specs.declared.names.Presumption.TheVariants.{PresumeAbort}
@@ -20,8 +20,8 @@ use Rattle.proof_worked.specs.wrong.WrongSteps.{WrongStep, player_at, wrongly_le
 
 -- What is said of them.
 
--- The list is a tree, none of the events is refused, and they are a run by the second version; what happens next stands
--- in the net; and the world after the wrong step does not have the invariant of reports any more.
+-- The list is a tree, none of the events is refused, and they are a run by the second version; what happens
+-- next stands in the net; and the world after the wrong step does not have the invariant of reports any more.
 pub record BreaksReports (s : WrongStep) : Type 0 where
   pub player : Player
   pub played_out : second_plays_all s.tree (process 1) s.events ≡ Goes player
@@ -32,7 +32,8 @@ pub record BreaksReports (s : WrongStep) : Type 0 where
 
 -- the events after the wrong step, each of them handled as is right by the second version
 abbrev pub second_plays_behind : WrongStep → World → Played
-second_plays_behind s w = fold (second_plays_on s.tree (process 1)) (Goes (player_at (wrongly_left s w))) s.behind
+second_plays_behind s w = fold (second_plays_on s.tree (process 1))
+    (Goes (player_at (wrongly_left s w))) s.behind
 
 -- the newest of the moves appends an End of the root that does not report truly
 abbrev pub ReportsFalsely : List TreeProcess → List Made → World → Type 0
@@ -59,8 +60,8 @@ second_heard i = record {
   version = Second;
 }
 
--- root 1, coordinator 2 and manager 3 below it: the root has committed, and tells it by message 10; the operator of
--- manager 3 has rolled its branch back; and coordinator 2 has told it to commit, by message 11
+-- root 1, coordinator 2 and manager 3 below it: the root has committed, and tells it by message 10; the
+-- operator of manager 3 has rolled its branch back; and coordinator 2 has told it to commit, by message 11
 abbrev pub decided_below : List Play
 decided_below =
     cascade_is_asked PresumeAbort ++ Delivers 8
@@ -71,8 +72,8 @@ decided_below =
 
 -- The wrong bodies.
 
--- A coordinator that waits for its child acknowledges COMMIT as it comes again. The root ends the transaction, and reports
--- nothing of manager 3, whose operator decided against it.
+-- A coordinator that waits for its child acknowledges COMMIT as it comes again. The root ends the
+-- transaction, and reports nothing of manager 3, whose operator decided against it.
 abbrev pub acknowledges_before_children : WrongStep
 acknowledges_before_children = record {
   tree = tree_b;
@@ -84,8 +85,8 @@ acknowledges_before_children = record {
   behind = Delivers 12 ∷ [];
 }
 
--- The coordinator has ended, and told the root of the mismatch by message 13, which is lost. COMMIT comes again, and of
--- the case, which it no longer knows, the coordinator reports nothing.
+-- The coordinator has ended, and told the root of the mismatch by message 13, which is lost. COMMIT comes
+-- again, and of the case, which it no longer knows, the coordinator reports nothing.
 abbrev pub unknown_reports_nothing : WrongStep
 unknown_reports_nothing = record {
   tree = tree_b;

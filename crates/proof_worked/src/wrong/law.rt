@@ -32,15 +32,16 @@ pub fn wrong_steps_harm()
     ensures commits_on_votes_so_far { Harms WrongBodies.commits_on_votes_so_far }
 {}
 
-/// Of the second version, for each wrong body that reports too little there are a tree and a run of it that reaches a world
-/// in which the wrong body's step breaks the invariant of reports: so no proof can let the body pass.
+/// Of the second version, for each wrong body that reports too little there are a tree and a run of it that
+/// reaches a world in which the wrong body's step breaks the invariant of reports: so no proof can let the
+/// body pass.
 pub fn wrong_reports()
     ensures acknowledges_before_children { BreaksReports WrongReports.acknowledges_before_children }
     ensures unknown_reports_nothing { BreaksReports WrongReports.unknown_reports_nothing }
 {}
 
-/// After each of these wrong steps right ones lead to an End of the root that does not report truly: a mismatch stands of
-/// which it says nothing.
+/// After each of these wrong steps right ones lead to an End of the root that does not report truly: a
+/// mismatch stands of which it says nothing.
 pub fn wrong_reports_harm()
     ensures acknowledges_before_children { HarmsReports WrongReports.acknowledges_before_children }
     ensures unknown_reports_nothing { HarmsReports WrongReports.unknown_reports_nothing }

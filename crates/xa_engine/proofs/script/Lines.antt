@@ -22,9 +22,11 @@ pub unspelled : (lines : List (Bor (List ℕ))) (i : ℕ) (o : Option Request) �
     → SpellsRequest (get_or (texts lines) i []) q → ⊥
 unspelled lines i o is h =
     subst (λ (l : List ℕ). (q : Request) → SpellsRequest l q → ⊥) (sym (text_at lines i))
-    (subst (λ (p : Option Request). IfNone p ((q : Request) → SpellsRequest (get_or lines i blank).now q → ⊥)) is h)
+    (subst (λ (p : Option Request). IfNone p ((q : Request) → SpellsRequest (get_or lines i blank).now q → ⊥))
+    is h)
 
-each_more : (ls : List (List ℕ)) (rs : List Request) (l : List ℕ) (r : Request) → SpellEach ls rs → SpellsRequest l r
+each_more : (ls : List (List ℕ)) (rs : List Request) (l : List ℕ) (r : Request) → SpellEach ls rs
+    → SpellsRequest l r
     → SpellEach (ls ++ l ∷ []) (rs ++ r ∷ [])
 each_more [] [] l r h s = (s, tt)
 each_more [] (q ∷ rs) l r h s = absurd h
@@ -52,7 +54,8 @@ skips ls i rs lt skip h =
 
 -- one more line spells a request
 pub goes_on : (ls : List (List ℕ)) (i : ℕ) (rs : List Request) (r : Request) → i < length ls
-    → is_skipped (get_or ls i []) ≡ false → SpellsRequest (get_or ls i []) r → SpellEach (call_lines (take i ls)) rs
+    → is_skipped (get_or ls i []) ≡ false → SpellsRequest (get_or ls i []) r
+    → SpellEach (call_lines (take i ls)) rs
     → SpellEach (call_lines (take (i + 1) ls)) (rs ++ r ∷ [])
 goes_on ls i rs r lt kept s h =
     let e = one_line ls i lt ∙ ap (λ (q : List (List ℕ)). call_lines (take i ls) ++ q)
@@ -67,9 +70,11 @@ ends ls i rs past h = subst (λ (q : List (List ℕ)). SpellEach (call_lines q) 
 
 -- the lines that were read are those of the input
 pub lines_of : {A : Type 0} (input : List ℕ) (read : A → List (List ℕ)) (r : Result A XaScriptError) (a : A)
-    → r ≡ Ok a → MatchResult r (λ v. HasLines input (read v)) (λ e. IsScriptFault input e) → HasLines input (read a)
+    → r ≡ Ok a → MatchResult r (λ v. HasLines input (read v)) (λ e. IsScriptFault input e)
+    → HasLines input (read a)
 lines_of input read r a is h =
-    subst (λ (q : Result _ XaScriptError). MatchResult q (λ v. HasLines input (read v)) (λ e. IsScriptFault input e)) is h
+    subst (λ (q : Result _ XaScriptError). MatchResult q (λ v. HasLines input (read v))
+    (λ e. IsScriptFault input e)) is h
 
 -- the line that was told is the first that spells no request
 pub bad_of : {A : Type 0} (ls : List (List ℕ)) (P : A → Type 0) (r : Result A ℕ) (n : ℕ) → r ≡ Err n

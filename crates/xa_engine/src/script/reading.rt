@@ -44,8 +44,8 @@ pub fn requests_of(
     }
 }
 
-/// The lines of a script, none of them read yet; or why it is refused before any is read: Utf8, TooLong, the first
-/// that applies.
+/// The lines of a script, none of them read yet; or why it is refused before any is read: Utf8, TooLong, the
+/// first that applies.
 pub fn asking_lines<'a>(
     alloc: Global,
     input: &'a [u8],

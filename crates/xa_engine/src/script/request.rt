@@ -116,7 +116,8 @@ fn word_of(word: &str) -> Option<RequestWord>
 /// The request of a line. None: it spells none.
 pub(crate) fn request_of(alloc: Global, line: &str) -> Result<Option<Request>, AllocError>
     ensures found { IfOk result (λ read. IfSome read (λ request. SpellsRequest line.now request)) }
-    ensures none { IfOk result (λ read. IfNone read ((request : AnyRequest) → SpellsRequest line.now request → ⊥)) }
+    ensures none { IfOk result (λ read. IfNone read
+        ((request : AnyRequest) → SpellsRequest line.now request → ⊥)) }
 {
     match cut(line, ' ') {
         None => Ok(alone_of(line)),

@@ -11,7 +11,8 @@ run_script-requires-clause-tree g c =
 
 pub returns-in-Ok-clause-report : goal.returns-in-Ok-clause-report
 returns-in-Ok-clause-report g c =
-    reported (λ r. r.0.items) c.args.output c.args.input.now c.in-Ok.tree c.deref.result.now c.run_script.result
+    reported (λ r. r.0.items) c.args.output c.args.input.now c.in-Ok.tree c.deref.result.now
+    c.run_script.result
     (subst (λ es. IsScript c.args.input.now c.in-Ok.tree es) (sym c.deref.ensures.value) c.in-Ok.ensures.ok)
     c.run_script.ensures.text
 

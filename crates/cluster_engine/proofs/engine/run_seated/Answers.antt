@@ -19,8 +19,10 @@ play-requires-after_bounds g c κs within =
 
 pub returns-in-None-clause-text : goal.returns-in-None-clause-text
 returns-in-None-clause-text g c =
-    closed_written (λ r. r.0.items) c.args.output c.args.tree c.args.events.now c.args.workers g.N.Seats.callers
-    c.as_mut_slice-passes.result.now c.play.new.passes c.closed_text.result c.requires.workers.0 c.requires.callers
+    closed_written (λ r. r.0.items) c.args.output c.args.tree c.args.events.now c.args.workers
+    g.N.Seats.callers
+    c.as_mut_slice-passes.result.now c.play.new.passes c.closed_text.result c.requires.workers.0
+    c.requires.callers
     (c.as_mut_slice-passes.ensures.value ∙ c.in-Ok.ensures.passes)
     (subst (λ t. FirstMade t c.args.events.now c.as_mut_slice-passes.result.now c.play.new.passes)
     (sym c.requires.seats.tree_is) (c.in-None.ensures.made refl))
@@ -42,7 +44,8 @@ returns-in-Some-clause-text g c =
 pub returns-in-Some-clause-err : goal.returns-in-Some-clause-err
 returns-in-Some-clause-err g c =
     IfErr-weaker c.refused_line.result _ _
-    (λ why. not_posted c.args.tree c.args.events.now c.args.workers c.as_mut_slice-passes.result.now c.in-Some.made
+    (λ why. not_posted c.args.tree c.args.events.now c.args.workers
+    c.as_mut_slice-passes.result.now c.in-Some.made
     c.in-Some.why why c.requires.workers.0 (c.as_mut_slice-passes.ensures.value ∙ c.in-Ok.ensures.passes)
     (subst (λ t. FirstStops t c.args.events.now c.as_mut_slice-passes.result.now c.in-Some.made c.in-Some.why)
     (sym c.requires.seats.tree_is) c.in-Some.ensures.stopped))

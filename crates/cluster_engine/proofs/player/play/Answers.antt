@@ -4,7 +4,8 @@ use Rattle.cluster_engine.proofs.player.play.Goals as goal
 
 pub returns-clause-made : goal.returns-clause-made
 returns-clause-made g c =
-    λ none. first_made g.N.Seats.tree c.args.events.now c.in-Some.first.now c.play_first.new.first c.in-Some.others.now
+    λ none. first_made g.N.Seats.tree c.args.events.now c.in-Some.first.now c.play_first.new.first
+    c.in-Some.others.now
     c.play_first.new.others c.args.passes.now (c.play_first.new.first ∷ c.play_first.new.others)
     c.in-Some.ensures.cases.0 refl (c.play_first.ensures.made none) c.play_first.ensures.others
 

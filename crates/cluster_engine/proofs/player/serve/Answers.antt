@@ -6,4 +6,5 @@ returns-then-is_empty g c = as_they_were c.args.passes.now
 
 pub returns : goal.returns
 returns g c =
-    each_longer c.args.passes.now c.serve_each.new.passes c.serve_each.ensures.long c.serve_each.ensures.longer
+    each_longer c.args.passes.now c.serve_each.new.passes c.serve_each.ensures.long
+    c.serve_each.ensures.longer

@@ -13,7 +13,8 @@ loop-place-preserved c =
 
 pub returns-clause-sent : goal.returns-clause-sent
 returns-clause-sent c =
-    all_sent c.args.turn.now c.loop-place.place c.loop-place.sent _ c.loop-place-test.false c.loop-place.invariant.1
+    all_sent c.args.turn.now c.loop-place.place c.loop-place.sent _ c.loop-place-test.false
+    c.loop-place.invariant.1
 
 pub returns-clause-text : goal.returns-clause-text
 returns-clause-text c =

@@ -8,4 +8,5 @@ abbrev pub invariant-loop-place : goal.invariant-loop-place
 invariant-loop-place l =
     (l.out.items ++ entries_text l.sent (entries_in (drop l.place l.turn))
     ≡ l.initial.out.items ++ entries_text l.before (entries_in l.turn))
-    × (l.sent + message_count (entries_in (drop l.place l.turn)) ≡ l.before + message_count (entries_in l.turn))
+    × (l.sent + message_count (entries_in (drop l.place l.turn))
+    ≡ l.before + message_count (entries_in l.turn))

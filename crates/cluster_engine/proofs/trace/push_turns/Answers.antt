@@ -16,11 +16,13 @@ loop-place-preserved c =
     let is = c.index-turns-place.is in
     let next = c.in_ok-sent.ensures.sent ∙ ap (λ l. sent + message_count (entries_in l)) value
     ∙ ap (λ (t : Vec (ℕ × JournalEntry)). sent + message_count (entries_in t.items)) is in (
-      turn_added c.args.turns.now c.loop-place.place c.index-turns-place.result sent _ old c.push_turn.new.out.items _
+      turn_added c.args.turns.now c.loop-place.place c.index-turns-place.result sent _ old
+          c.push_turn.new.out.items _
           c.loop-place-test.true next
           (c.in_ok-sent.ensures.text ∙ ap (λ l. old ++ entries_text sent (entries_in l)) value
           ∙ ap (λ (t : Vec (ℕ × JournalEntry)). old ++ entries_text sent (entries_in t.items)) is) h.0,
-      turn_more c.args.turns.now c.loop-place.place c.index-turns-place.result sent _ _ c.loop-place-test.true next h.1,
+      turn_more c.args.turns.now c.loop-place.place c.index-turns-place.result sent _ _
+          c.loop-place-test.true next h.1,
     )
 
 pub returns-clause-text : goal.returns-clause-text

@@ -9,4 +9,5 @@ abbrev pub invariant-loop-place : goal.invariant-loop-place
 invariant-loop-place l =
     (l.out.items ++ entries_text l.sent (entries_in (all_of (drop l.place l.turns)))
     ≡ l.initial.out.items ++ entries_text 0 (entries_in (all_of l.turns)))
-    × (l.sent + message_count (entries_in (all_of (drop l.place l.turns))) ≡ message_count (entries_in (all_of l.turns)))
+    × (l.sent + message_count (entries_in (all_of (drop l.place l.turns)))
+    ≡ message_count (entries_in (all_of l.turns)))

@@ -9,7 +9,8 @@ returns-clause-queued c =
     let q = c.args.queues.now in
     let new = c.push_message.ensures in
     subst (λ l. AreQueued l c.push_message.new.queues) (sym new.marks)
-    (queued_first c.args.marks.now.items c.args.to q c.push_message.new.queues _ c.requires.queued c.requires.fresh
+    (queued_first c.args.marks.now.items c.args.to q c.push_message.new.queues _ c.requires.queued
+    c.requires.fresh
     (ap (receiver_from c.args.to) (c.len-place.ensures ∙ c.args.marks.now.ok.0))
     (new.links ∙ ap (λ n. q.links.items ++ link_to n None ∷ []) (c.len-at.ensures ∙ q.receivers.ok.0))
     (ap (λ v. v.items) new.same.0 ∙ c.push_reserved.ensures.items) new.same.1

@@ -17,6 +17,7 @@ add_next-requires-clause-at c =
     let stored = c.in-Ok.ensures.stored in
     let there = not_false _ (sym c.if-is_new.false ∙ c.in-Ok.ensures.added) in
     let keys = c.in-Ok.ensures.keys
-    ∙ if_true (list_any (processes.ghosts.eq c.args.to) c.args.names.now.keys) c.args.names.now.keys _ there in
+    ∙ if_true (list_any (processes.ghosts.eq c.args.to) c.args.names.now.keys) c.args.names.now.keys _ there
+    in
     named_at c.args.queues.now.receivers.items c.in-Ok.at stored.0 c.args.to
     (sym (ap (λ l. slice_get l c.in-Ok.at) (keys ∙ c.requires.named)) ∙ stored.1) stored.2

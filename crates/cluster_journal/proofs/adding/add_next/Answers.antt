@@ -14,11 +14,13 @@ returns-clause-queued c =
     let at = c.args.at in
     let place = c.len-place.ensures ∙ c.args.marks.now.ok.0 in
     subst (λ l. AreQueued l c.push_message.new.queues) (sym new.marks)
-    (queued_next c.args.marks.now.items c.args.to q c.push_message.new.queues at r _ c.requires.queued c.requires.at.0
+    (queued_next c.args.marks.now.items c.args.to q c.push_message.new.queues at r _
+    c.requires.queued c.requires.at.0
     c.index-before.ensures (ap (λ x. x.process) c.index-before.ensures ∙ c.requires.at.1 _)
     (ap (receiver_until r) place)
     (new.links
-    ∙ ap (λ v. slice_set v.items r.last (link_to at (Some c.len-place.result)) ++ link_to at None ∷ []) put.same.0
+    ∙ ap (λ v. slice_set v.items r.last (link_to at (Some c.len-place.result)) ++ link_to at None ∷ [])
+    put.same.0
     ∙ ap (λ n. slice_set q.links.items r.last (link_to at (Some n)) ++ link_to at None ∷ []) place)
     (ap (λ v. v.items) new.same.0 ∙ put.receivers)
     (new.same.1 ∙ put.free ∙ ap (λ v. count_by is_free v.items) (sym new.same.0))
@@ -27,5 +29,6 @@ returns-clause-queued c =
 pub returns-clause-names : goal.returns-clause-names
 returns-clause-names c =
     let rs = c.args.queues.now.receivers.items in
-    ap (λ v. processes_of v.items) c.push_message.ensures.same.0 ∙ ap processes_of c.put_receiver.ensures.receivers
+    ap (λ v. processes_of v.items) c.push_message.ensures.same.0
+    ∙ ap processes_of c.put_receiver.ensures.receivers
     ∙ same_names rs c.args.at _ _ (ap (λ x. x.process) c.index-before.ensures) c.requires.at.0

@@ -7,7 +7,8 @@ use Rattle.cluster_journal.proofs.Telling.{told_here}
 use Rattle.cluster_journal.proofs.queues.claim_for.Goals as goal
 
 pub open_from-requires-clause-queued : goal.open_from-requires-clause-queued
-open_from-requires-clause-queued c = subst (λ l. AreQueued l c.args.queues.now) (sym c.deref.ensures.value) c.requires.queued.1
+open_from-requires-clause-queued c = subst (λ l. AreQueued l c.args.queues.now) (sym c.deref.ensures.value)
+    c.requires.queued.1
 
 pub open_from-requires-clause-chain : goal.open_from-requires-clause-chain
 open_from-requires-clause-chain c =
@@ -53,7 +54,8 @@ set_mark-requires c =
 pub returns-clause-names : goal.returns-clause-names
 returns-clause-names c =
     c.set_mark.ensures.names ∙ ap processes_of c.put_receiver.ensures.receivers
-    ∙ same_names c.args.queues.now.receivers.items c.args.place _ _ (ap (λ x. x.process) c.index-receiver.ensures)
+    ∙ same_names c.args.queues.now.receivers.items c.args.place _ _
+    (ap (λ x. x.process) c.index-receiver.ensures)
     c.requires.queued.0
 
 pub returns-clause-first : goal.returns-clause-first

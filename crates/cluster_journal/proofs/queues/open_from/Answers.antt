@@ -16,7 +16,8 @@ loop-next-smaller c =
     let d : MarkedMessage = record { to = c.args.to; mark = Open } in
     subst (λ o. left (length ms) c.index.result.now.next < left (length ms) o) (sym c.in-Some.is)
     (fewer (get_or ms p d).to ms p c.index.result.now.next lt
-    (subst (λ l. IsNextTo (get_or ms p d).to ms p l.next) (sym c.index.ensures) (c.requires.queued.linked p d _ lt).next))
+    (subst (λ l. IsNextTo (get_or ms p d).to ms p l.next) (sym c.index.ensures)
+    (c.requires.queued.linked p d _ lt).next))
 
 pub loop-next-preserved : goal.loop-next-preserved
 loop-next-preserved c =
@@ -27,8 +28,12 @@ loop-next-preserved c =
     let d : MarkedMessage = record { to = record { 0 = 0 }; mark = Open } in
     let closed : c.args.lowest ≤ p → is_open_to c.args.to (get_or ms p d) ≡ false =
     elim c.else-lowest-place.branch [
-      | else-lowest-place-via-then-lowest-place+else-is_open_to w ↦ λ low. sym w.is_open_to.ensures ∙ w.if-is_open_to.false
-      | else-lowest-place-via-else-lowest-place w ↦ λ low. absurd (let not_so = w.if-lowest-place.false in omega (arith, low, not_so))
+      | else-lowest-place-via-then-lowest-place+else-is_open_to w ↦ λ low. sym w.is_open_to.ensures
+          ∙ w.if-is_open_to.false
+      | else-lowest-place-via-else-lowest-place w ↦ λ low.
+          absurd (let not_so = w.if-lowest-place.false in omega (arith, low, not_so))
     ] in
-    passes c.args.to ms c.args.lowest p (get_or ms p d) c.index.result.now.next (slice_get-get_or ms p d lt) at.0 at.1 closed
-    (subst (λ l. IsNextTo (get_or ms p d).to ms p l.next) (sym c.index.ensures) (c.requires.queued.linked p d _ lt).next)
+    passes c.args.to ms c.args.lowest p (get_or ms p d) c.index.result.now.next (slice_get-get_or ms p d lt)
+    at.0 at.1 closed
+    (subst (λ l. IsNextTo (get_or ms p d).to ms p l.next) (sym c.index.ensures)
+    (c.requires.queued.linked p d _ lt).next)

@@ -5,10 +5,13 @@ use Rattle.cluster_journal.proofs.queues.put_receiver.Goals as goal
 
 pub counted-queues-requires : goal.counted-queues-requires
 counted-queues-requires c =
-    fits_count is_free c.args.queues.now.receivers.items c.args.at _ _ c.args.receiver c.requires.at c.index-before.ensures
-    _ _ c.requires.free (c.len.ensures ∙ c.args.queues.now.receivers.ok.0) _ _ c.is_free.ensures c.is_free-2.ensures
+    fits_count is_free c.args.queues.now.receivers.items c.args.at _ _ c.args.receiver c.requires.at
+    c.index-before.ensures
+    _ _ c.requires.free (c.len.ensures ∙ c.args.queues.now.receivers.ok.0) _ _ c.is_free.ensures
+    c.is_free-2.ensures
 
 pub returns-clause-free : goal.returns-clause-free
 returns-clause-free c =
-    recounted is_free c.args.queues.now.receivers.items c.args.at _ _ c.args.receiver c.requires.at c.index-before.ensures
+    recounted is_free c.args.queues.now.receivers.items c.args.at _ _ c.args.receiver c.requires.at
+    c.index-before.ensures
     _ _ c.requires.free _ _ c.is_free.ensures c.is_free-2.ensures c.counted-queues.ensures

@@ -11,14 +11,16 @@ use Rattle.cluster_journal.proofs.queues.set_mark.Goals as goal
 pub index-requires-2 : goal.index-requires-2
 index-requires-2 c =
     let rs = c.args.queues.now.receivers in
-    let link = linked_at c.args.marks.now.items c.args.queues.now c.args.place _ _ c.requires.0 c.index-message.ensures
+    let link = linked_at c.args.marks.now.items c.args.queues.now c.args.place _ _ c.requires.0
+    c.index-message.ensures
     c.index.ensures c.requires.1 in
     subst (λ n. c.index.result.now.receiver < n) (sym rs.ok.0) link.within
 
 pub told-receiver-requires-clause-told : goal.told-receiver-requires-clause-told
 told-receiver-requires-clause-told c =
     let ms = c.args.marks.now.items in
-    let link = linked_at ms c.args.queues.now c.args.place _ _ c.requires.0 c.index-message.ensures c.index.ensures
+    let link = linked_at ms c.args.queues.now c.args.place _ _ c.requires.0
+    c.index-message.ensures c.index.ensures
     c.requires.1 in
     subst (λ l. IsTold l c.index-2.result.now) (sym c.deref.ensures.value)
     (subst (IsTold ms) (sym c.index-2.ensures) (c.requires.1.told c.index.result.now.receiver _ link.within))
@@ -32,7 +34,8 @@ told-receiver-requires-clause-mine c =
     c.requires.1 in
     subst (λ l. is_to r.process (slice_get l p) ≡ true) (sym c.deref.ensures.value)
     (ap (is_to r.process) (slice_get-get_or ms p _ c.requires.0 ∙ ap Some (sym c.index-message.ensures))
-    ∙ is_itself r.process c.index-message.result.now.to (ap (λ x. x.process) c.index-2.ensures ∙ link.named _))
+    ∙ is_itself r.process c.index-message.result.now.to
+    (ap (λ x. x.process) c.index-2.ensures ∙ link.named _))
 
 pub put_receiver-requires-clause-at : goal.put_receiver-requires-clause-at
 put_receiver-requires-clause-at c =
@@ -57,7 +60,8 @@ returns-clause-queued c =
     let s = c.told-receiver.result in
     let link = linked_at ms c.args.queues.now p _ _ c.requires.0 c.index-message.ensures c.index.ensures
     c.requires.1 in
-    queued_mark ms p m _ c.args.mark c.args.queues.now _ c.index.result.now.receiver s c.index-2.result.now c.requires.0
+    queued_mark ms p m _ c.args.mark c.args.queues.now _ c.index.result.now.receiver s
+    c.index-2.result.now c.requires.0
     c.index-message.ensures c.requires.1 link.within (link.named _)
     (c.told-receiver.ensures.same ∙ ap (λ x. x.process) c.index-2.ensures)
     (subst (λ l. IsTold (marked l (p + 1) c.args.mark) s) c.deref.ensures.value c.told-receiver.ensures.told)
@@ -68,7 +72,8 @@ returns-clause-queued c =
 
 pub returns-clause-names : goal.returns-clause-names
 returns-clause-names c =
-    let link = linked_at c.args.marks.now.items c.args.queues.now c.args.place _ _ c.requires.0 c.index-message.ensures
+    let link = linked_at c.args.marks.now.items c.args.queues.now c.args.place _ _ c.requires.0
+    c.index-message.ensures
     c.index.ensures c.requires.1 in
     ap processes_of c.put_receiver.ensures.receivers
     ∙ same_names c.args.queues.now.receivers.items c.index.result.now.receiver c.told-receiver.result _
@@ -76,5 +81,6 @@ returns-clause-names c =
 
 pub returns-clause-marks : goal.returns-clause-marks
 returns-clause-marks c =
-    marks_it c.args.marks.now.items (c.args.place + 1) c.args.place c.index-message.result.now _ _ c.args.mark refl
+    marks_it c.args.marks.now.items (c.args.place + 1) c.args.place c.index-message.result.now _ _
+    c.args.mark refl
     c.requires.0 c.index-message.ensures refl

@@ -10,5 +10,7 @@ use Rattle.cluster_process.proofs.marking.mark.Goals as goal
 pub returns-clause-mine : goal.returns-clause-mine
 returns-clause-mine g c =
     subst (λ h. IsMine (root_of g.N.Seats.tree) c.args.me h) (sym c.in_ok-marked.ensures.1)
-    (mine_it (root_of g.N.Seats.tree) c.args.me (net_of (entries_in c.place.new.self.entries)) (core_of c.args.node.now)
-    c.args.event c.in_ok-happening.happening c.in_ok-happening.keep c.requires.acts c.in_ok-happening.ensures.ok)
+    (mine_it (root_of g.N.Seats.tree) c.args.me (net_of (entries_in c.place.new.self.entries))
+    (core_of c.args.node.now)
+    c.args.event c.in_ok-happening.happening c.in_ok-happening.keep c.requires.acts
+    c.in_ok-happening.ensures.ok)

@@ -10,7 +10,8 @@ loop-init g c =
     let none = c.new-more.ensures in
     let long = ap length none in
     record {
-      far = subst (λ l. NextSoFar net c.args.me c.args.ledger.now.marks c.args.number l c.args.number) (sym none)
+      far = subst (λ l. NextSoFar net c.args.me c.args.ledger.now.marks c.args.number l c.args.number)
+          (sym none)
           (none_yet net c.args.me c.args.ledger.now.marks c.args.number);
       few = omega (arith, long);
     }
@@ -18,7 +19,8 @@ loop-init g c =
 pub loop-preserved : goal.loop-preserved
 loop-preserved g c =
     let m = c.in-Some-mark_next.wanted in
-    let added = c.is_added.ensures ∙ ap (λ b. if b then c.loop.more ++ m ∷ [] else c.loop.more) c.if-not-is_added.false in
+    let added = c.is_added.ensures ∙ ap (λ b. if b then c.loop.more ++ m ∷ [] else c.loop.more)
+    c.if-not-is_added.false in
     let long = ap length added ∙ length-append c.loop.more (m ∷ []) in
     let few = c.loop.invariant.few in
     record {

@@ -61,5 +61,6 @@ returns-clause-told c =
     let e = c.lend.ensures.journal in
     let f = c.lend_pass.ensures.journal in
     let told = subst IsUpTo
-    (ap (λ m. m.0) f.1 ∙ ap (λ m. beside_pass m.0 c.args.pass.now.me.0) e.1) c.compare_exchange_with.ensures.2.1 in
+    (ap (λ m. m.0) f.1 ∙ ap (λ m. beside_pass m.0 c.args.pass.now.me.0) e.1)
+    c.compare_exchange_with.ensures.2.1 in
     record { own = told.own; sent = told.sent }

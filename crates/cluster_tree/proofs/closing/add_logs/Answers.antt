@@ -22,7 +22,8 @@ loop-place-preserved g c =
       logs = leave_at g.N.Seats.tree (entries_in c.args.ledger.now.entries) c.args.tree.now (map f old)
           (map f c.push.new.self.items) i e log.items c.loop-place-test.true is
           (ap (map f) c.in_ok-push.ensures.items ∙ map-append f old (log ∷ []))
-          (subst (λ (s : ClusterState). LeavesLog g.N.Seats.tree (entries_in s.entries) e.id log.items) inv.ledger
+          (subst (λ (s : ClusterState). LeavesLog g.N.Seats.tree (entries_in s.entries) e.id log.items)
+          inv.ledger
           c.in_ok-log.ensures.left)
           inv.logs;
     }

@@ -13,10 +13,12 @@ loop-place-preserved c =
     let i = c.loop-place.place in
     let e = get_or es i c.index-entries-place.result in
     let is : e ≡ get_or es i e = ap (get_or es i) c.index-entries-place.is in
-    unlisted_next es i e c.args.process c.loop-place-test.true is (λ same. not_true (c.if-is_same.ensures.no same))
+    unlisted_next es i e c.args.process c.loop-place-test.true is
+    (λ same. not_true (c.if-is_same.ensures.no same))
     c.loop-place.invariant
 
 pub returns : goal.returns
 returns c =
-    subst (λ es. is_listed es c.args.process ≡ false) (take_all c.loop-place.place c.args.entries.now (omega arith))
+    subst (λ es. is_listed es c.args.process ≡ false)
+    (take_all c.loop-place.place c.args.entries.now (omega arith))
     c.loop-place.invariant

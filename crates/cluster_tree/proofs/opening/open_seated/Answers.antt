@@ -26,7 +26,8 @@ new-requires-clause-seat g c =
 
 pub new-requires-clause-tree : goal.new-requires-clause-tree
 new-requires-clause-tree g c =
-    let listed = listed_at c.args.tree.now c.args.place c.args.entry.now c.requires.entry.0 c.requires.entry.1 in (
+    let listed = listed_at c.args.tree.now c.args.place c.args.entry.now c.requires.entry.0 c.requires.entry.1
+    in (
       subst IsTree c.requires.tree.1 c.requires.tree.0,
       subst (λ t. is_listed t c.args.entry.now.id ≡ true) c.requires.tree.1 listed,
     )
@@ -38,7 +39,8 @@ new-requires-clause-own g c =
     let held = data_of c.in_ok-node.node in
     let opened = subst (λ t. OpenedAs t e core) c.in_ok-copy.ensures c.in_ok-node.ensures.ok in (
       subst (λ t. OwnRun t e.id [] core) c.requires.tree.1
-          (opened_own c.args.tree.now c.args.place e core c.requires.tree.0 c.requires.entry.0 c.requires.entry.1
+          (opened_own c.args.tree.now c.args.place e core c.requires.tree.0 c.requires.entry.0
+          c.requires.entry.1
           opened),
       subst (λ t. RunsAlone t e.id [] core held) c.requires.tree.1
           (opened_by_itself c.args.tree.now c.args.place e core held c.requires.tree.0 c.requires.entry.0

@@ -38,6 +38,8 @@ returns-in_err-frames-clause-err c =
     → RemembersCases (own_records (place_below c.args.me c.args.parent tree) ls) c.args.remembered
     → CasesNotRebuilt (place_below c.args.me c.args.parent tree) ls e)
     c.in_err-frames.field-0.0 c.from_residual-in_err-frames.result c.from_residual-in_err-frames.ensures.1
-    (λ tree ls k. let planned = c.in_ok-appended.ensures.ok (own_records (place_below c.args.me c.args.parent tree) ls) k in
+    (λ tree ls k.
+    let planned = c.in_ok-appended.ensures.ok (own_records (place_below c.args.me c.args.parent tree) ls) k
+    in
     not_framed c.args.me c.args.parent tree ls c.deref-2.result.now
     c.in_err-frames.field-0.0 (c.deref-2.ensures.value ∙ planned.appended) c.in_err-frames.ensures.err)

@@ -18,7 +18,8 @@ loop-record-preserved c =
     let pushed : c.push_frame.new.frames.items ≡ c.loop-record.frames.items ++ c.in_ok-frame.frame
     ∷ [] = c.in_ok-push_frame.ensures {u = tt} in
     let spelled : map frame_record c.loop-record.frames.items
-    ++ map (in_log c.args.parent) (c.record-item.result ∷ rest) ≡ map (in_log c.args.parent) c.args.records.now =
+    ++ map (in_log c.args.parent) (c.record-item.result ∷ rest)
+    ≡ map (in_log c.args.parent) c.args.records.now =
     ap (λ rs. map frame_record c.loop-record.frames.items ++ map (in_log c.args.parent) rs) (sym next)
     ∙ c.loop-record.invariant.0 in (
       ap (λ fs. map frame_record fs ++ map (in_log c.args.parent) rest) pushed

@@ -18,11 +18,13 @@ returns-in-Prepare c =
 pub returns-in-Commits : goal.returns-in-Commits
 returns-in-Commits c =
     let asks : c.args.asked ≡ Commits = search rules in
-    at_view c.args.seat (unknown_commit this_version (seat_meant c.args.seat)) _ unknown_view c.unknown_commit.result
+    at_view c.args.seat (unknown_commit this_version (seat_meant c.args.seat)) _ unknown_view
+    c.unknown_commit.result
     (ap (λ (a : CaseInput). asked_row (seat_meant c.args.seat) a unknown_view) asks) c.unknown_commit.ensures
 
 pub returns-in-Aborts : goal.returns-in-Aborts
 returns-in-Aborts c =
     let asks : c.args.asked ≡ Aborts = search rules in
-    at_view c.args.seat (unknown_abort this_version (seat_meant c.args.seat)) _ unknown_view c.unknown_abort.result
+    at_view c.args.seat (unknown_abort this_version (seat_meant c.args.seat)) _ unknown_view
+    c.unknown_abort.result
     (ap (λ (a : CaseInput). asked_row (seat_meant c.args.seat) a unknown_view) asks) c.unknown_abort.ensures

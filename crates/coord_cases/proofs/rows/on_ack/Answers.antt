@@ -22,7 +22,8 @@ returns-in-Committed-Committing-clause-ok c =
           ap (λ o. decided_ack this_version s o t fs v) told
           ∙ sym (ap (λ st. on_ack this_version s t Committed fs v st) stands)
           ∙ sym (ap (λ o. on_ack this_version s t o fs v v.standing) told) in
-          subst (λ row. IfOk c.decided_ack.result (λ effect. DoesRow c.args.seat row effect c.decided_ack.new.live)) same
+          subst (λ row. IfOk c.decided_ack.result
+          (λ effect. DoesRow c.args.seat row effect c.decided_ack.new.live)) same
           c.decided_ack.ensures.ok
       | in-Aborted+in-Aborting-1 w ↦
           let told : c.args.outcome ≡ Aborted = search rules in
@@ -32,7 +33,8 @@ returns-in-Committed-Committing-clause-ok c =
           ap (λ o. decided_ack this_version s o t fs v) told
           ∙ sym (ap (λ st. on_ack this_version s t Aborted fs v st) stands)
           ∙ sym (ap (λ o. on_ack this_version s t o fs v v.standing) told) in
-          subst (λ row. IfOk c.decided_ack.result (λ effect. DoesRow c.args.seat row effect c.decided_ack.new.live)) same
+          subst (λ row. IfOk c.decided_ack.result
+          (λ effect. DoesRow c.args.seat row effect c.decided_ack.new.live)) same
           c.decided_ack.ensures.ok
     ]
 

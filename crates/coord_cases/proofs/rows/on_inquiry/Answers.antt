@@ -13,7 +13,8 @@ returns-in-Some c =
     at_view c.args.seat (decided_inquiry (seat_meant c.args.seat) c.in-Some.outcome c.args.ticket) _
     c.args.live.now c.decided_inquiry.result
     (answers_are (seat_meant c.args.seat) c.args.ticket c.args.live.now c.args.live.now.standing
-    ∙ ap (answers_by (seat_meant c.args.seat) c.args.ticket c.args.live.now) answered) c.decided_inquiry.ensures
+    ∙ ap (answers_by (seat_meant c.args.seat) c.args.ticket c.args.live.now) answered)
+    c.decided_inquiry.ensures
 
 pub returns-in-None : goal.returns-in-None
 returns-in-None c =

@@ -37,6 +37,7 @@ returns-clause-untaken c =
     let live : live_at c.args.cases.now c.args.key ≡ Some c.unwrap-live.result.now = search rules in
     let at = held_at c.args.cases.now c.args.key c.args.seat.case
     c.unwrap-live.result.now c.requires.at live in
-    subst (λ v. IfErr c.take_row.result (RowNotTaken c.args.seat (asked_row (seat_meant c.args.seat) c.args.asked v)))
+    subst (λ v. IfErr c.take_row.result (RowNotTaken c.args.seat
+    (asked_row (seat_meant c.args.seat) c.args.asked v)))
     (sym (view_at c.args.cases.now c.args.key c.args.seat c.args.asked
     c.unwrap-live.result.now c.get_mut.ensures.fits c.get_mut.ensures.apart at)) c.take_row.ensures.untaken

@@ -14,7 +14,8 @@ write-requires-clause-room g c = room_for c.make_room.new.log (frame_record c.in
 pub write-requires-clause-sound : goal.write-requires-clause-sound
 write-requires-clause-sound g c =
     subst (λ k. IsRecord k (frame_record c.in_ok-frame.frame))
-    (sym (ap (λ (s : LogSight). s.form.kind) c.make_room.ensures.stays ∙ c.requires.kind)) c.in_ok-frame.ensures.sound
+    (sym (ap (λ (s : LogSight). s.form.kind) c.make_room.ensures.stays ∙ c.requires.kind))
+    c.in_ok-frame.ensures.sound
 
 pub returns-in_err-frame-clause-err : goal.returns-in_err-frame-clause-err
 returns-in_err-frame-clause-err g c =

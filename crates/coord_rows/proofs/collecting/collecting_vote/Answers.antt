@@ -25,5 +25,6 @@ pub returns-in-Err-clause-unwritten : goal.returns-in-Err-clause-unwritten
 returns-in-Err-clause-unwritten c =
     let counted : is_counted c.args.live.now.accepted c.args.live.now.votes
     c.args.ticket ≡ true = search rules in
-    unwritten_vote c.args.seat c.args.ticket c.args.vote c.args.live.now c.count_vote.new.self c.in-Err.refusal
+    unwritten_vote c.args.seat c.args.ticket c.args.vote c.args.live.now c.count_vote.new.self
+    c.in-Err.refusal
     counted c.count_vote.ensures c.in-Err.ensures.unwritten

@@ -15,7 +15,8 @@ returns-in-None-clause-ok c =
     let fs = c.args.found.items in
     let w = c.in_ok-written-in-None.written in
     let written : w ≡ end_written s.case (end_reports this_version None fs) = search rules in
-    let shows : IfOk c.forgets_behind.result (λ effect. ShowsRecord s.parent effect w None []) = search rules in
+    let shows : IfOk c.forgets_behind.result (λ effect. ShowsRecord s.parent effect w None []) = search rules
+    in
     does_ending s w [] (decided_ack_by this_version (seat_meant s) c.args.outcome [] fs c.args.live.now)
     c.forgets_behind.new.live c.forgets_behind.result
     (root_ending s c.args.outcome fs c.args.live.now c.in-None.is ∙ sym (ap (λ r. ending r []) written))

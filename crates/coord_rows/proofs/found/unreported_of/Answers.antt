@@ -8,6 +8,7 @@ use Rattle.coord_rows.proofs.found.unreported_of.Goals as goal
 
 pub returns : goal.returns
 returns c =
-    subst (λ (ts : List Ticket). IfOk c.collect.result (λ tickets. tickets.items ≡ ts)) (unreported_are c.args.findings.now)
+    subst (λ (ts : List Ticket). IfOk c.collect.result (λ tickets. tickets.items ≡ ts))
+    (unreported_are c.args.findings.now)
     (items_from_collect _ c.collect.ensures.ran (YieldsList-from_filter_map _ unreported_ticket
     (YieldsList-from_slice c.args.findings.now cc) c.filter_map.ensures.closure (λ x r q k. search rules)))

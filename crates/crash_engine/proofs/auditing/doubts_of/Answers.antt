@@ -9,6 +9,7 @@ pub returns : goal.returns
 returns c =
     items_from_collect _ c.collect.ensures.ran
     (YieldsList-from_map _ (λ (l : ReportLine). l.case)
-    (YieldsList-from_filter _ (λ (l : ReportLine). stands_in_doubt l.own) (YieldsList-from_slice c.args.lines.now cc)
+    (YieldsList-from_filter _ (λ (l : ReportLine). stands_in_doubt l.own)
+    (YieldsList-from_slice c.args.lines.now cc)
     c.filter.ensures.closure (λ x r q k. search (rules, tests)))
     c.map.ensures.closure (λ x r q k. search (rules, tests)))

@@ -35,7 +35,8 @@ audit_of-requires c =
 pub overflow_add-result : goal.overflow_add-result
 overflow_add-result c =
     let first = c.args.run.now in
-    let made = c.in_ok-make_all.ensures.goes_on (state first.world) [] (begun c.requires.0 first c.requires.1) in
+    let made = c.in_ok-make_all.ensures.goes_on (state first.world) [] (begun c.requires.0 first c.requires.1)
+    in
     let crashed = c.in_ok-make_all-2.ensures.goes_on (state first.world) c.args.events.now made in
     let few = subst IsNumberedRefusal (sym c.refusal.ensures ∙ c.in-Some.is) crashed.numbered in
     omega (arith, few)
@@ -45,13 +46,15 @@ returns-in-Err-clause-tries c =
     let first = c.args.run.now in
     let events = c.args.events.now in
     let crash = c.deref.result.now in
-    let made = c.in_ok-make_all.ensures.goes_on (state first.world) [] (begun c.requires.0 first c.requires.1) in
+    let made = c.in_ok-make_all.ensures.goes_on (state first.world) [] (begun c.requires.0 first c.requires.1)
+    in
     let crashed = c.in_ok-make_all-2.ensures.goes_on (state first.world) events made in
     let none : c.make_all-2.new.self.refusal ≡ None = sym c.refusal.ensures ∙ c.in_default.is in
     let damage = subst (λ w. IsDamagedThen (state w) c.in-Err.process c.in-Err.place) c.world.ensures
     (rw c.in-Err.is at c.in_ok-report.ensures.damaged) in
     let never = rw c.in-Err.is at c.in_ok-report.ensures.never in
-    λ o opens. stopped_damaged o (known_by c.args.known.now) events c.args.point crash first c.make_all-2.new.self
+    λ o opens. stopped_damaged o (known_by c.args.known.now) events c.args.point crash first
+    c.make_all-2.new.self
     c.in-Err.process c.in-Err.place opens
     (c.in_ok-make_all-2.ensures.goes_on (state first.world) events
     (c.in_ok-make_all.ensures.goes_on (state first.world) [] (begun o first opens)))
@@ -63,7 +66,8 @@ found_of-requires-clause-is_tree c =
     let events = c.args.events.now in
     let crash = c.deref.result.now in
     let asks = c.deref-2.result.now in
-    let made = c.in_ok-make_all.ensures.goes_on (state first.world) [] (begun c.requires.0 first c.requires.1) in
+    let made = c.in_ok-make_all.ensures.goes_on (state first.world) [] (begun c.requires.0 first c.requires.1)
+    in
     let crashed = c.in_ok-make_all-2.ensures.goes_on (state first.world) events made in
     let asked = c.in_ok-make_all-3.ensures.goes_on (state first.world) (events ++ crash) crashed in
     let ended = c.in_ok-make_all-4.ensures.goes_on (state first.world) ((events ++ crash) ++ asks) asked in
@@ -75,7 +79,8 @@ found_of-requires-clause-numbered c =
     let events = c.args.events.now in
     let crash = c.deref.result.now in
     let asks = c.deref-2.result.now in
-    let made = c.in_ok-make_all.ensures.goes_on (state first.world) [] (begun c.requires.0 first c.requires.1) in
+    let made = c.in_ok-make_all.ensures.goes_on (state first.world) [] (begun c.requires.0 first c.requires.1)
+    in
     let crashed = c.in_ok-make_all-2.ensures.goes_on (state first.world) events made in
     let asked = c.in_ok-make_all-3.ensures.goes_on (state first.world) (events ++ crash) crashed in
     let ended = c.in_ok-make_all-4.ensures.goes_on (state first.world) ((events ++ crash) ++ asks) asked in
@@ -87,19 +92,23 @@ returns-clause-tries c =
     let events = c.args.events.now in
     let crash = c.deref.result.now in
     let asks = c.deref-2.result.now in
-    let made = c.in_ok-make_all.ensures.goes_on (state first.world) [] (begun c.requires.0 first c.requires.1) in
+    let made = c.in_ok-make_all.ensures.goes_on (state first.world) [] (begun c.requires.0 first c.requires.1)
+    in
     let crashed = c.in_ok-make_all-2.ensures.goes_on (state first.world) events made in
     let asked = c.in_ok-make_all-3.ensures.goes_on (state first.world) (events ++ crash) crashed in
     let ended = c.in_ok-make_all-4.ensures.goes_on (state first.world) ((events ++ crash) ++ asks) asked in
     let none : c.make_all-2.new.self.refusal ≡ None = sym c.refusal.ensures ∙ c.in_default.is in
     let report = c.in-Ok.report in
-    let audits = subst (λ w. Audits (state w) report) c.world.ensures (rw c.in-Ok.is at c.in_ok-report.ensures.audits) in
-    IfOk-weaker c.found_of.result _ _ (λ f h. λ o opens. tried_so o (known_by c.args.known.now) events c.args.point
+    let audits = subst (λ w. Audits (state w) report) c.world.ensures
+    (rw c.in-Ok.is at c.in_ok-report.ensures.audits) in
+    IfOk-weaker c.found_of.result _ _ (λ f h. λ o opens.
+    tried_so o (known_by c.args.known.now) events c.args.point
     report crash asks first c.make_all-2.new.self c.make_all-4.new.self f opens
     (c.in_ok-make_all-2.ensures.goes_on (state first.world) events
     (c.in_ok-make_all.ensures.goes_on (state first.world) [] (begun o first opens)))
     (c.deref.ensures.value ∙ c.in_ok-crash_events.ensures) none audits
-    (c.deref-2.ensures.value ∙ c.in_ok-asks_of.ensures) ended (λ given ran. h o given ran)) c.found_of.ensures.ends
+    (c.deref-2.ensures.value ∙ c.in_ok-asks_of.ensures) ended (λ given ran. h o given ran))
+    c.found_of.ensures.ends
 
 pub returns-in_err-make_all-clause-err : goal.returns-in_err-make_all-clause-err
 returns-in_err-make_all-clause-err c =
@@ -129,11 +138,13 @@ returns-in_err-make_all-3-clause-err c =
     let crash = c.deref.result.now in
     let asks = c.deref-2.result.now in
     let run = c.make_all-2.new.self in
-    let made = c.in_ok-make_all.ensures.goes_on (state first.world) [] (begun c.requires.0 first c.requires.1) in
+    let made = c.in_ok-make_all.ensures.goes_on (state first.world) [] (begun c.requires.0 first c.requires.1)
+    in
     let crashed = c.in_ok-make_all-2.ensures.goes_on (state first.world) events made in
     let none : c.make_all-2.new.self.refusal ≡ None = sym c.refusal.ensures ∙ c.in_default.is in
     let report = c.in-Ok.report in
-    let audits = subst (λ w. Audits (state w) report) c.world.ensures (rw c.in-Ok.is at c.in_ok-report.ensures.audits) in
+    let audits = subst (λ w. Audits (state w) report) c.world.ensures
+    (rw c.in-Ok.is at c.in_ok-report.ensures.audits) in
     let why = c.in_err-make_all-3.field-0.0 in
     handed_on _ c.from_residual-in_err-make_all-3.result why c.from_residual-in_err-make_all-3.ensures.1
     c.in_err-make_all-3.ensures.err
@@ -149,12 +160,14 @@ returns-in_err-make_all-4-clause-err c =
     let crash = c.deref.result.now in
     let run = c.make_all-2.new.self in
     let asks = c.deref-2.result.now in
-    let made = c.in_ok-make_all.ensures.goes_on (state first.world) [] (begun c.requires.0 first c.requires.1) in
+    let made = c.in_ok-make_all.ensures.goes_on (state first.world) [] (begun c.requires.0 first c.requires.1)
+    in
     let crashed = c.in_ok-make_all-2.ensures.goes_on (state first.world) events made in
     let asked = c.in_ok-make_all-3.ensures.goes_on (state first.world) (events ++ crash) crashed in
     let none : c.make_all-2.new.self.refusal ≡ None = sym c.refusal.ensures ∙ c.in_default.is in
     let report = c.in-Ok.report in
-    let audits = subst (λ w. Audits (state w) report) c.world.ensures (rw c.in-Ok.is at c.in_ok-report.ensures.audits) in
+    let audits = subst (λ w. Audits (state w) report) c.world.ensures
+    (rw c.in-Ok.is at c.in_ok-report.ensures.audits) in
     let why = c.in_err-make_all-4.field-0.0 in
     handed_on _ c.from_residual-in_err-make_all-4.result why c.from_residual-in_err-make_all-4.ensures.1
     c.in_err-make_all-4.ensures.err

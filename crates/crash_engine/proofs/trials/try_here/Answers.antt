@@ -19,7 +19,8 @@ returns-then-is_some-clause-adds c =
     let same : c.refusal-refusal.result ≡ run.refusal = c.refusal-refusal.ensures in
     let refused : is_some run.refusal ≡ true = ap (λ (r : Refusal). is_some r) (sym same) ∙ some in
     subst (λ r. Adds origin (known_by c.args.known.now) c.args.place events r old old) (sym same)
-    (refused_adds origin (known_by c.args.known.now) c.args.place events (state run.world) run.refusal old refused
+    (refused_adds origin (known_by c.args.known.now) c.args.place events (state run.world)
+    run.refusal old refused
     (comes_to origin c.requires.0 run events c.requires.1 c.requires.2))
 
 pub returns-clause-adds : goal.returns-clause-adds
@@ -32,7 +33,8 @@ returns-clause-adds c =
     let made : is_some run.refusal ≡ false = ap (λ (r : Refusal). is_some r) (sym same) ∙ none in
     let points : c.deref.result.now ≡ points_in (state run.world) =
     c.deref.ensures.value ∙ c.in_ok-points.ensures.ok ∙ ap (λ w. points_in (state w)) c.world.ensures in
-    all_tried origin (known_by c.args.known.now) c.args.place events (state run.world) run.refusal c.deref.result.now
+    all_tried origin (known_by c.args.known.now) c.args.place events (state run.world) run.refusal
+    c.deref.result.now
     c.args.trials.now.items c.try_points.new.trials.items made
     (comes_to origin c.requires.0 run events c.requires.1 c.requires.2) points
     c.in_ok-try_points.ensures.tried

@@ -6,13 +6,15 @@ use Rattle.crash_engine.proofs.Failing.{handed_on, point_breaks}
 use Rattle.crash_engine.proofs.trials.try_points.Goals as goal
 
 pub loop-point-init : goal.loop-point-init
-loop-point-init c = none_tried c.args.origin.now (known_by c.args.known.now) c.args.place c.args.events.now c.args.trials.now.items
+loop-point-init c = none_tried c.args.origin.now (known_by c.args.known.now) c.args.place c.args.events.now
+    c.args.trials.now.items
 
 pub loop-point-preserved : goal.loop-point-preserved
 loop-point-preserved c =
     let i = c.loop-point.point-index in
     let within : i < length c.args.points.now = omega arith in
-    tried_more c.args.origin.now (known_by c.args.known.now) c.args.place c.args.events.now c.args.points.now i _
+    tried_more c.args.origin.now (known_by c.args.known.now) c.args.place c.args.events.now
+    c.args.points.now i _
     (trial_of c.args.place _ c.in_ok-found.found)
     c.args.trials.now.items c.loop-point.trials.items
     c.push_trial.new.trials.items within (get_or_default c.args.points.now i _ _ within)

@@ -6,8 +6,12 @@ use Rattle.crash_engine.proofs.trials.try_run.Goals as goal
 
 pub try_here-requires : goal.try_here-requires
 try_here-requires c =
-    let first = c.args.run.now in
-    (first, c.requires, c.in_ok-make_all.ensures.goes_on (state first.world) [] (begun c.args.origin.now first c.requires))
+    let first = c.args.run.now in (
+      first,
+      c.requires,
+      c.in_ok-make_all.ensures.goes_on (state first.world) []
+          (begun c.args.origin.now first c.requires),
+    )
 
 pub returns-in_err-make_all-clause-err : goal.returns-in_err-make_all-clause-err
 returns-in_err-make_all-clause-err c =

@@ -12,7 +12,8 @@ returns-in_err-try_after-clause-err c =
     let within : made < length c.args.deliveries.now = omega arith in
     let more : made + 1 ≡ suc made = omega arith in
     let front : c.deref.result.now ≡ c.args.events.now ++ take (suc made) c.args.deliveries.now =
-    c.deref.ensures.value ∙ c.in_ok-front.ensures ∙ ap (λ k. c.args.events.now ++ take k c.args.deliveries.now) more in
+    c.deref.ensures.value ∙ c.in_ok-front.ensures
+    ∙ ap (λ k. c.args.events.now ++ take k c.args.deliveries.now) more in
     handed_on _ c.from_residual-in_err-try_after.result why c.from_residual-in_err-try_after.ensures.1
     c.in_err-try_after.ensures.err
     (λ cannot. record {
@@ -26,10 +27,13 @@ loop-made-preserved c =
     let made = c.loop-made.made in
     let more : made + 1 ≡ suc made = omega arith in
     let front : c.deref.result.now ≡ c.args.events.now ++ take (suc made) c.args.deliveries.now =
-    c.deref.ensures.value ∙ c.in_ok-front.ensures ∙ ap (λ k. c.args.events.now ++ take k c.args.deliveries.now) more in
+    c.deref.ensures.value ∙ c.in_ok-front.ensures
+    ∙ ap (λ k. c.args.events.now ++ take k c.args.deliveries.now) more in
     let adds = c.in_ok-try_after.ensures.adds in
-    subst (λ k. GoesDown c.args.origin.now (known_by c.args.known.now) c.args.number c.args.events.now c.args.deliveries.now k
+    subst (λ k. GoesDown c.args.origin.now (known_by c.args.known.now) c.args.number c.args.events.now
+    c.args.deliveries.now k
     c.args.trials.now.items c.try_after.new.trials.items) (sym more)
-    (one_delivery_more c.args.origin.now (known_by c.args.known.now) c.args.number c.args.events.now c.args.deliveries.now made
+    (one_delivery_more c.args.origin.now (known_by c.args.known.now) c.args.number c.args.events.now
+    c.args.deliveries.now made
     _ c.deref.result.now adds.0 c.args.trials.now.items c.loop-made.trials.items c.try_after.new.trials.items
     (ap (within_event c.args.number) more) front adds.1 c.loop-made.invariant)

@@ -41,7 +41,8 @@ returns-in_err-told-clause-breaks g c =
     line_left c.args.ways first (state_of c.args.serving.now) left (g.R.Read.remaining c.args.reader.now)
     (g.R.Read.remaining c.next_line.new.reader) c.args.group.now.told.items c.in_ok-line.line.kept.items
     c.in_ok-line.line.is_fed c.in_ok-line.ensures h (state_of c.tell_line.new.serving) c.in_err-told.field-0.0
-    (subst (λ (l : List ℕ). LeavesLine c.args.ways l (state_of c.args.serving.now) (state_of c.tell_line.new.serving)
+    (subst (λ (l : List ℕ). LeavesLine c.args.ways l (state_of c.args.serving.now)
+    (state_of c.tell_line.new.serving)
     c.in_err-told.field-0.0) c.given_of-given.ensures c.in_err-told.ensures.err))
 
 pub returns-in_err-push-clause-breaks : goal.returns-in_err-push-clause-breaks
@@ -59,7 +60,8 @@ returns-in_err-push-clause-breaks g c =
     (g.R.Read.remaining c.next_line.new.reader) c.args.group.now.told.items c.in_ok-line.line.kept.items
     c.in_ok-line.line.is_fed c.in_ok-line.ensures h (state_of c.tell_line.new.serving) Memory
     (line_untold c.in_ok-told.told.items
-    (subst (λ (l : List ℕ). TellsLine c.args.ways l (state_of c.args.serving.now) (state_of c.tell_line.new.serving)
+    (subst (λ (l : List ℕ). TellsLine c.args.ways l (state_of c.args.serving.now)
+    (state_of c.tell_line.new.serving)
     c.in_ok-told.told.items) c.given_of-given.ensures c.in_ok-told.ensures.ok)
     refl)))
 
@@ -67,11 +69,13 @@ pub returns-clause-leads : goal.returns-clause-leads
 returns-clause-leads g c = λ first left h.
     subst (λ (t : List ℕ). Gathers c.args.ways first (state_of c.tell_line.new.serving) left
     (g.R.Read.remaining c.next_line.new.reader) t)
-    (ap (λ (t : List ℕ). c.args.group.now.told.items ++ t) (sym c.deref.ensures.value) ∙ sym c.in_ok-push.ensures.ok)
+    (ap (λ (t : List ℕ). c.args.group.now.told.items ++ t) (sym c.deref.ensures.value)
+    ∙ sym c.in_ok-push.ensures.ok)
     (line_gathered c.args.ways first (state_of c.args.serving.now) left (g.R.Read.remaining c.args.reader.now)
     (g.R.Read.remaining c.next_line.new.reader) c.args.group.now.told.items c.in_ok-line.line.kept.items
     c.in_ok-line.line.is_fed c.in_ok-line.ensures h (state_of c.tell_line.new.serving) c.in_ok-told.told.items
     (ap (λ (l : List ℕ). same l end_word) (sym c.given_of-given.ensures)
     ∙ (sym c.asks_end.ensures ∙ c.if-asks_end.false))
-    (subst (λ (l : List ℕ). TellsLine c.args.ways l (state_of c.args.serving.now) (state_of c.tell_line.new.serving)
+    (subst (λ (l : List ℕ). TellsLine c.args.ways l (state_of c.args.serving.now)
+    (state_of c.tell_line.new.serving)
     c.in_ok-told.told.items) c.given_of-given.ensures c.in_ok-told.ensures.ok))

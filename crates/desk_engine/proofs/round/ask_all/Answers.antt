@@ -22,7 +22,8 @@ returns-in_err-answer-clause-err g c =
     if_round_left c.from_residual.result c.in_err-answer.field-0.0 (state_of c.args.serving.now)
     (state_of c.loop-case.serving) (state_of c.ask.new.serving) (g.W.Write.contents c.args.writer.now)
     (g.W.Write.contents c.loop-case.writer) (g.W.Write.contents c.loop-case.writer) c.args.cases.now
-    c.loop-case.case-index (get_or c.args.cases.now c.loop-case.case-index none) c.from_residual.ensures.1 c.requires
+    c.loop-case.case-index (get_or c.args.cases.now c.loop-case.case-index none)
+    c.from_residual.ensures.1 c.requires
     c.loop-case.invariant refl c.in_err-answer.ensures.err
 
 pub returns-in_err-tell-clause-err : goal.returns-in_err-tell-clause-err

@@ -6,4 +6,5 @@ use Rattle.desk_engine.proofs.round.push_decided.Given as goal
 -- the cases of the decisions so far come after those that were there
 abbrev pub invariant-loop-decision : goal.invariant-loop-decision
 invariant-loop-decision l =
-    l.cases.items ≡ l.fn.cases.items ++ map (λ (d : LoggedDecision). d.case) (take l.decision-index l.decisions)
+    l.cases.items ≡ l.fn.cases.items ++ map (λ (d : LoggedDecision). d.case)
+    (take l.decision-index l.decisions)

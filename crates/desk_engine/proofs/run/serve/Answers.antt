@@ -15,7 +15,8 @@ returns-in-Ok-clause-breaks g c =
     c.args.opening.now
     (stand (g.R.Read.remaining c.args.reader.now) (g.W.Write.contents c.show_opening.new.writer)
     (state_of c.show_opening.new.serving))
-    now (c.in-Ok.ensures.ok c.args.watch.now.ways (g.R.Read.remaining c.args.reader.now)) c.take_turns.ensures.breaks
+    now (c.in-Ok.ensures.ok c.args.watch.now.ways (g.R.Read.remaining c.args.reader.now))
+    c.take_turns.ensures.breaks
 
 pub returns-in-Err-clause-breaks : goal.returns-in-Err-clause-breaks
 returns-in-Err-clause-breaks g c = inl (c.in-Err.ensures.stops (g.R.Read.remaining c.args.reader.now))

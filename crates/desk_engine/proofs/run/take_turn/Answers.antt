@@ -35,6 +35,8 @@ returns-in-Ok-Trim-clause-breaks g c =
 pub returns-in-Err-clause-breaks : goal.returns-in-Err-clause-breaks
 returns-in-Err-clause-breaks g c = λ start opening h.
     turn_unread c.args.watch.now.ways start opening
-    (stand (g.R.Read.remaining c.args.reader.now) (g.W.Write.contents c.args.writer.now) (state_of c.args.serving.now))
-    (stand (g.R.Read.remaining c.next.new.reader) (g.W.Write.contents c.args.writer.now) (state_of c.args.serving.now))
+    (stand (g.R.Read.remaining c.args.reader.now) (g.W.Write.contents c.args.writer.now)
+    (state_of c.args.serving.now))
+    (stand (g.R.Read.remaining c.next.new.reader) (g.W.Write.contents c.args.writer.now)
+    (state_of c.args.serving.now))
     Read refl refl h

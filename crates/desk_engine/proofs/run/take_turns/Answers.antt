@@ -15,7 +15,8 @@ returns-in_err-ended-clause-breaks g c =
     (state_of c.take_turn.new.serving) in
     passed_on c.from_residual.result c.in_err-ended.field-0.0
     (λ e. (start : Stand) (opening : AnyReaction) → Woven c.args.watch.now.ways start opening
-    (stand (g.R.Read.remaining c.args.reader.now) (g.W.Write.contents c.args.writer.now) (state_of c.args.serving.now))
+    (stand (g.R.Read.remaining c.args.reader.now) (g.W.Write.contents c.args.writer.now)
+    (state_of c.args.serving.now))
     → Breaks c.args.watch.now.ways start opening now e)
     c.from_residual.ensures.1
     (λ start opening h.

@@ -9,5 +9,6 @@ loop-byte-preserved c =
     c.in_ok-push_byte.ensures c.loop-byte.invariant
 
 pub returns : goal.returns
-returns c = at_end c.args.lines.now c.loop-byte.byte-index c.args.number c.loop-byte.begins c.loop-byte.out.items _
+returns c = at_end c.args.lines.now c.loop-byte.byte-index c.args.number c.loop-byte.begins
+    c.loop-byte.out.items _
     c.loop-byte-test.false c.loop-byte.invariant

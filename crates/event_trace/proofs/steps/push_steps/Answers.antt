@@ -22,4 +22,5 @@ pub returns-clause-sent : goal.returns-clause-sent
 returns-clause-sent c =
     let es = (state c.args.world.now).entries in
     all_sent es c.loop-place.place c.loop-place.next
-    (subst (λ n. n ≤ c.loop-place.place) c.made-place-end.ensures c.loop-place-test.false) ∙ c.loop-place.invariant.1
+    (subst (λ n. n ≤ c.loop-place.place) c.made-place-end.ensures c.loop-place-test.false)
+    ∙ c.loop-place.invariant.1

@@ -8,4 +8,5 @@ abbrev pub invariant-loop-place : goal.invariant-loop-place
 invariant-loop-place l =
     (l.out.items ++ entries_text l.next (drop l.place (state l.world).entries)
     ≡ l.initial.out.items ++ entries_text l.sent (drop l.from (state l.world).entries))
-    × (sent_after l.next (drop l.place (state l.world).entries) ≡ sent_after l.sent (drop l.from (state l.world).entries))
+    × (sent_after l.next (drop l.place (state l.world).entries)
+    ≡ sent_after l.sent (drop l.from (state l.world).entries))

@@ -17,21 +17,24 @@ loop-payload-init c =
     let head = head_of_number c.args.bytes.now c.in-Some.number (sym c.in-Some.ensures) in
     let first = begun_first c.args.bytes.now c.in-Some.number c.in-Some-first_block.first.now
     c.in-Some-first_block.rest.now head.1
-    (ap (first_block c.in-Some.number 48) (sym c.split_at.ensures.back) ∙ sym c.in-Some-first_block.ensures) in
+    (ap (first_block c.in-Some.number 48) (sym c.split_at.ensures.back) ∙ sym c.in-Some-first_block.ensures)
+    in
     subst (λ (t : List ℕ). Begun c.args.bytes.now c.in-Some.number c.in-Some-first_block.rest.now t)
     (sym (c.in_ok-extend_from_slice.ensures.items
     ∙ ap (λ (t : List ℕ). t ++ c.in-Some-first_block.first.now) c.in_ok-held.ensures.items)) first
 
 pub loop-payload-smaller : goal.loop-payload-smaller
 loop-payload-smaller c =
-    let more = begun_more c.args.bytes.now c.in-Some.number _ c.loop-payload.rest.now c.loop-payload.held.items
+    let more = begun_more c.args.bytes.now c.in-Some.number _ c.loop-payload.rest.now
+    c.loop-payload.held.items
     c.in-Some-first_block-2.payload.now c.in-Some-first_block-2.after.now c.loop-payload.invariant refl
     (sym c.in-Some-first_block-2.ensures) in
     more.1
 
 pub loop-payload-preserved : goal.loop-payload-preserved
 loop-payload-preserved c =
-    let more = begun_more c.args.bytes.now c.in-Some.number _ c.loop-payload.rest.now c.loop-payload.held.items
+    let more = begun_more c.args.bytes.now c.in-Some.number _ c.loop-payload.rest.now
+    c.loop-payload.held.items
     c.in-Some-first_block-2.payload.now c.in-Some-first_block-2.after.now c.loop-payload.invariant refl
     (sym c.in-Some-first_block-2.ensures) in
     subst (λ (t : List ℕ). Begun c.args.bytes.now c.in-Some.number c.in-Some-first_block-2.after.now t)

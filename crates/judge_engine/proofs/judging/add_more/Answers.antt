@@ -21,7 +21,8 @@ returns-in_err-walk-clause-too_many c =
     passed_on (IsOver r es) c.from_residual.result c.in_err-walk.field-0.0 c.from_residual.ensures.1
     (λ many. next_over r es (indices c.loop-turn.found.items) c.loop-turn.at c.loop-turn.before.items
     c.loop-turn.invariant.here
-    (next_over_is r es c.deref.result.now c.loop-turn.at c.loop-turn.before.items c.deref-in-loop-turn.result.now
+    (next_over_is r es c.deref.result.now c.loop-turn.at c.loop-turn.before.items
+    c.deref-in-loop-turn.result.now
     c.deref.ensures.value c.deref-in-loop-turn.ensures.value (c.in_err-walk.ensures.too_many many)))
 
 pub returns-in_default-fault-clause-all : goal.returns-in_default-fault-clause-all
@@ -29,8 +30,10 @@ returns-in_default-fault-clause-all c =
     let r = c.args.transcript.now.rules in
     let es = c.args.transcript.now.events.items in
     let w = c.in-Some.walk in
-    ended r es (indices c.loop-turn.found.items) c.loop-turn.at c.loop-turn.before.items w c.loop-turn.invariant.here
-    (next_is r es c.deref.result.now c.loop-turn.at c.loop-turn.before.items c.deref-in-loop-turn.result.now (Some w)
+    ended r es (indices c.loop-turn.found.items) c.loop-turn.at c.loop-turn.before.items w
+    c.loop-turn.invariant.here
+    (next_is r es c.deref.result.now c.loop-turn.at c.loop-turn.before.items
+    c.deref-in-loop-turn.result.now (Some w)
     c.in_ok-walk.field-0 c.deref.ensures.value c.deref-in-loop-turn.ensures.value c.in-Some.is
     c.in_ok-walk.ensures.next) c.in_default-fault.is
 
@@ -45,7 +48,8 @@ loop-turn-preserved c =
     let kept = c.loop-turn.invariant in
     let next : IsAt r es (indices old ++ new ∷ []) new w.states.items =
     next_at r es (indices old) c.loop-turn.at c.loop-turn.before.items w c.in-Some-fault.more kept.here
-    (next_is r es c.deref.result.now c.loop-turn.at c.loop-turn.before.items c.deref-in-loop-turn.result.now (Some w)
+    (next_is r es c.deref.result.now c.loop-turn.at c.loop-turn.before.items
+    c.deref-in-loop-turn.result.now (Some w)
     c.in_ok-walk.field-0 c.deref.ensures.value c.deref-in-loop-turn.ensures.value c.in-Some.is
     c.in_ok-walk.ensures.next) c.in-Some-fault.is in
     let told : indices old ++ new ∷ [] ≡ indices (old ++ f ∷ []) =

@@ -27,14 +27,16 @@ returns-in_err-follow_all-clause-too_many c =
     slice_get_read es (length es) c.args.index e refl c.requires.within c.index-events-index.is in
     let answered : is_answered e.answer ≡ true =
     not_hung c.is_hung.result (is_answered e.answer) c.is_hung.ensures c.if-is_hung.false in
-    passed_on (IsNextOver c.args.rules es c.args.index c.args.states.now) c.from_residual-in_err-follow_all.result
+    passed_on (IsNextOver c.args.rules es c.args.index c.args.states.now)
+    c.from_residual-in_err-follow_all.result
     c.in_err-follow_all.field-0.0 c.from_residual-in_err-follow_all.ensures.1
     (λ many. (
       e,
       is,
       answered,
       subst (λ (l : List Sight). IsTooMuch c.args.rules l (drop (c.args.index + 1) es)) c.in_ok-starts.ensures
-          (subst (λ (l : List HistoryEvent). IsTooMuch c.args.rules c.in_ok-starts.starts.items l) (rest es (c.args.index + 1))
+          (subst (λ (l : List HistoryEvent). IsTooMuch c.args.rules c.in_ok-starts.starts.items l)
+          (rest es (c.args.index + 1))
           (c.in_err-follow_all.ensures.too_many many)),
     ))
 
@@ -51,7 +53,8 @@ returns-clause-next c =
       answered,
       subst (λ (l : List Sight). Walks c.args.rules l (drop (c.args.index + 1) es) c.in_ok-follow_all.field-0)
           c.in_ok-starts.ensures
-          (subst (λ (l : List HistoryEvent). Walks c.args.rules c.in_ok-starts.starts.items l c.in_ok-follow_all.field-0)
+          (subst (λ (l : List HistoryEvent). Walks c.args.rules c.in_ok-starts.starts.items l
+          c.in_ok-follow_all.field-0)
           (rest es (c.args.index + 1))
           (record {
             fault = c.in_ok-follow_all.ensures.fault;

@@ -47,7 +47,8 @@ returns c =
           fault = first.2;
           told = c.in-Ok.ensures.told;
           few = c.in-Ok.ensures.few;
-          report = subst (λ (fs : List JudgeFault). IsFaultsText c.args.extent (lines c.args.text.now) t fs c.in_ok-out-in-Ok.out.items)
+          report = subst (λ (fs : List JudgeFault). IsFaultsText c.args.extent (lines c.args.text.now) t fs
+              c.in_ok-out-in-Ok.out.items)
               c.deref-else-is_empty.ensures.value
               (subst (λ (ls : List (List ℕ)). IsFaultsText c.args.extent ls t c.deref-else-is_empty.result.now
               c.in_ok-out-in-Ok.out.items) (ap texts c.deref.ensures.value ∙ c.in_ok-lines.ensures)

@@ -7,7 +7,8 @@ use Rattle.judge_rules.proofs.Growing.{back_many, back_set}
 use Rattle.judge_rules.proofs.falls.all_maybe_back.Goals as goal
 
 pub loop-branch-preserved : goal.loop-branch-preserved
-loop-branch-preserved c = back_set c.args.works.now c.args.states.items c.loop-branch.back.items c.in_ok-more.more.items
+loop-branch-preserved c = back_set c.args.works.now c.args.states.items c.loop-branch.back.items
+    c.in_ok-more.more.items
     c.in_ok-back.back.items c.args.lost.now c.loop-branch.branch-index _ (omega arith) c.loop-branch.invariant
     c.in_ok-more.ensures c.in_ok-back.ensures.states
 
@@ -15,6 +16,7 @@ pub returns-in_err-back-clause-too_many : goal.returns-in_err-back-clause-too_ma
 returns-in_err-back-clause-too_many c = passed_on
     (AreTooManyStates (fold (maybe_back c.args.works.now) c.args.states.items c.args.lost.now))
     c.from_residual-in_err-back.result c.in_err-back.field-0.0 c.from_residual-in_err-back.ensures.1
-    (λ many. back_many c.args.works.now c.args.states.items c.loop-branch.back.items c.in_ok-more.more.items c.args.lost.now
+    (λ many. back_many c.args.works.now c.args.states.items c.loop-branch.back.items
+    c.in_ok-more.more.items c.args.lost.now
     c.loop-branch.branch-index _ (omega arith) c.loop-branch.invariant c.in_ok-more.ensures
     (c.in_err-back.ensures.too_many many))

@@ -9,5 +9,6 @@ returns-in_ok-push c =
     let old = c.args.states.now.items in
     let s = c.args.state in
     rw c.in_ok-push.ensures.items (adds_one old s (λ h.
-    let found = c.is_found.ensures.1 (subst (λ (us : List Sight). Contains us s) (sym c.deref.ensures.value) h) in
+    let found = c.is_found.ensures.1 (subst (λ (us : List Sight). Contains us s)
+    (sym c.deref.ensures.value) h) in
     search rules))

@@ -17,8 +17,11 @@ loop-state-preserved c = adds_more c.args.states.now.items c.loop-state.states.i
 pub returns : goal.returns
 returns c =
     let made = c.into_iter-state-iterator.ensures.into_iter_gives in
-    let t = YieldsList-end (YieldsList-from_vec {s = c.into_iter-state-iterator.result} c.args.more.items made.0
-    (made.1 ∙ c.args.more.ok.0)) c.loop-state.yielded c.loop-state.state-iterator c.loop-state.yielded_by c.next.result c.next.new.self c.in-None.is
+    let t = YieldsList-end (YieldsList-from_vec {s = c.into_iter-state-iterator.result}
+    c.args.more.items made.0
+    (made.1 ∙ c.args.more.ok.0)) c.loop-state.yielded c.loop-state.state-iterator c.loop-state.yielded_by
+    c.next.result c.next.new.self c.in-None.is
     c.next.ensures.steps in
     let all : c.loop-state.yielded ≡ c.args.more.items = sym (map-id c.loop-state.yielded) ∙ t.0 in
-    subst (λ (m : List Sight). Adds c.args.states.now.items c.loop-state.states.items m) all c.loop-state.invariant
+    subst (λ (m : List Sight). Adds c.args.states.now.items c.loop-state.states.items m) all
+    c.loop-state.invariant

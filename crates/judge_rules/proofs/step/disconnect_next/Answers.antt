@@ -9,7 +9,8 @@ use Rattle.judge_rules.proofs.step.disconnect_next.Goals as goal
 
 pub returns-then-is_answered-clause-too_many : goal.returns-then-is_answered-clause-too_many
 returns-then-is_answered-clause-too_many c =
-    let is : after_cut c.args.thread c.args.state.now ≡ disconnect_next c.args.thread c.args.state.now c.args.answer.now =
+    let is : after_cut c.args.thread c.args.state.now
+    ≡ disconnect_next c.args.thread c.args.state.now c.args.answer.now =
     search rules in
     subst (λ (us : List Sight). IfErr c.after_cut.result (λ e. e ≡ TooMany → AreTooManyStates us)) is
     c.after_cut.ensures.too_many

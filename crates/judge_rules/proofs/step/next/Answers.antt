@@ -31,7 +31,8 @@ pub returns-in_ok-states-in-Decide-clause-too_many : goal.returns-in_ok-states-i
 returns-in_ok-states-in-Decide-clause-too_many c =
     let is : c.in_ok-states-in-Decide.states.items
     ≡ next c.args.rules c.args.state.now c.args.call c.args.answer.now = search rules in
-    subst (λ (us : List Sight). IfErr c.each_once-in-Decide.result (λ e. e ≡ TooMany → AreTooManyStates us)) is
+    subst (λ (us : List Sight). IfErr c.each_once-in-Decide.result (λ e. e ≡ TooMany → AreTooManyStates us))
+    is
     c.each_once-in-Decide.ensures.too_many
 
 pub returns-in_ok-trim_next-in-Trim-clause-too_many : goal.returns-in_ok-trim_next-in-Trim-clause-too_many

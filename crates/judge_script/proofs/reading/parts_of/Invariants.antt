@@ -6,4 +6,5 @@ use Rattle.judge_script.proofs.reading.parts_of.Given as goal
 
 abbrev pub invariant-loop-place : goal.invariant-loop-place
 invariant-loop-place l =
-    (k : ℕ) → k < l.place → (a : TranscriptCall) (s : SaidAnswer) → AreParted (map (λ s. s.now) l.words) k a s → ⊥
+    (k : ℕ) → k < l.place → (a : TranscriptCall) (s : SaidAnswer) → AreParted (map (λ s. s.now) l.words) k a s
+    → ⊥

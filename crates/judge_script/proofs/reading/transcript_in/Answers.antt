@@ -22,8 +22,10 @@ loop-i-preserved c =
     let within : i < length ls = omega (arith, long c.args.lines.now) in
     let number : i + 1 ≡ length (take i ls) + 1 = omega (arith, length-take i ls) in
     subst (λ (q : List (List ℕ)). AreTranscript q c.add.new.self)
-    (ap (λ (l : List ℕ). take i ls ++ l ∷ []) (sym (text_at c.args.lines.now i)) ∙ sym (take_more ls i [] within))
-    (c.in_ok-add.ensures.added c.if-not-branch.false (take i ls) (sym c.if-is_blank.ensures) number c.loop-i.invariant)
+    (ap (λ (l : List ℕ). take i ls ++ l ∷ []) (sym (text_at c.args.lines.now i))
+    ∙ sym (take_more ls i [] within))
+    (c.in_ok-add.ensures.added c.if-not-branch.false (take i ls) (sym c.if-is_blank.ensures) number
+    c.loop-i.invariant)
 
 pub returns-then-not-branch : goal.returns-then-not-branch
 returns-then-not-branch c =
@@ -44,4 +46,5 @@ pub returns : goal.returns
 returns c =
     let ls = texts c.args.lines.now in
     let past : length ls ≤ c.loop-i.i = omega (arith, long c.args.lines.now, c.loop-i-test.false) in
-    subst (λ (q : List (List ℕ)). AreTranscript q c.loop-i.transcript) (take_all c.loop-i.i ls past) c.loop-i.invariant
+    subst (λ (q : List (List ℕ)). AreTranscript q c.loop-i.transcript) (take_all c.loop-i.i ls past)
+    c.loop-i.invariant

@@ -23,9 +23,12 @@ loop-state-preserved c =
     let front : take (i + 1) all ≡ take i all ++ s ∷ [] =
     take_more all i s within ∙ ap (λ (q : Sight). take i all ++ q ∷ []) (sym c.state-item.is) in
     record {
-      follows = subst (λ (l : List Sight). Follows c.args.rules l c.args.event.now c.add_all.new.states.items) (sym front)
-          (follows_more c.args.rules c.args.event.now (take i all) c.loop-state.after.items c.add_all.new.states.items
-          c.in_ok-more.more.items s c.loop-state.invariant.follows c.in_ok-add_all.ensures c.in_ok-more.ensures.states);
+      follows = subst (λ (l : List Sight). Follows c.args.rules l c.args.event.now c.add_all.new.states.items)
+          (sym front)
+          (follows_more c.args.rules c.args.event.now (take i all) c.loop-state.after.items
+          c.add_all.new.states.items
+          c.in_ok-more.more.items s c.loop-state.invariant.follows c.in_ok-add_all.ensures
+          c.in_ok-more.ensures.states);
       apart = c.in_ok-add_all.ensures.apart c.loop-state.invariant.apart;
       few = search rules;
     }
@@ -39,9 +42,12 @@ returns-then-len-gt-MOST_STATES-clause-too_many c =
     let front : take (i + 1) all ≡ take i all ++ s ∷ [] =
     take_more all i s within ∙ ap (λ (q : Sight). take i all ++ q ∷ []) (sym c.state-item.is) in
     λ e. many_follow c.args.rules c.args.event.now all c.add_all.new.states.items (i + 1)
-    (subst (λ (l : List Sight). Follows c.args.rules l c.args.event.now c.add_all.new.states.items) (sym front)
-    (follows_more c.args.rules c.args.event.now (take i all) c.loop-state.after.items c.add_all.new.states.items
-    c.in_ok-more.more.items s c.loop-state.invariant.follows c.in_ok-add_all.ensures c.in_ok-more.ensures.states))
+    (subst (λ (l : List Sight). Follows c.args.rules l c.args.event.now c.add_all.new.states.items)
+    (sym front)
+    (follows_more c.args.rules c.args.event.now (take i all) c.loop-state.after.items
+    c.add_all.new.states.items
+    c.in_ok-more.more.items s c.loop-state.invariant.follows c.in_ok-add_all.ensures
+    c.in_ok-more.ensures.states))
     (c.in_ok-add_all.ensures.apart c.loop-state.invariant.apart)
     (omega (arith, c.add_all.new.states.ok.0, c.len.ensures, c.if-len-gt-MOST_STATES.true))
 
@@ -50,9 +56,11 @@ returns-in_err-more-clause-too_many c =
     let all = c.args.states.now in
     let s = c.state-item.result in
     let within : c.loop-state.state-index < length all = omega arith in
-    passed_on (AreMany (MayFollow c.args.rules all c.args.event.now)) c.from_residual.result c.in_err-more.field-0.0
+    passed_on (AreMany (MayFollow c.args.rules all c.args.event.now)) c.from_residual.result
+    c.in_err-more.field-0.0
     c.from_residual.ensures.1
-    (λ many. one_leads_many c.args.rules c.args.event.now all c.loop-state.state-index s within c.state-item.is
+    (λ many. one_leads_many c.args.rules c.args.event.now all c.loop-state.state-index s
+    within c.state-item.is
     (c.in_err-more.ensures.too_many many))
 
 pub returns : goal.returns

@@ -24,7 +24,8 @@ loop-i-preserved c =
     let front : take (i + 1) all ≡ take i all ++ e ∷ [] =
     take_more all i e within ∙ ap (λ (q : HistoryEvent). take i all ++ q ∷ []) (sym c.index-events-i.is) in
     let left : AreStatesLeft c.args.rules c.args.starts.items (take (i + 1) all) c.in_ok-after.after.items =
-    subst (λ (l : List HistoryEvent). AreStatesLeft c.args.rules c.args.starts.items l c.in_ok-after.after.items)
+    subst (λ (l : List HistoryEvent). AreStatesLeft c.args.rules c.args.starts.items l
+    c.in_ok-after.after.items)
     (sym front) (left_more c.args.rules c.args.starts.items (take i all) e c.loop-i.states.items
     c.in_ok-after.after.items c.loop-i.invariant.left
     (subst (λ (l : List Sight). Follows c.args.rules l e c.in_ok-after.after.items) c.deref.ensures.value
@@ -32,7 +33,8 @@ loop-i-preserved c =
     record {
       left = left;
       some = search rules;
-      few = not_next c.args.rules c.args.starts.items all i c.in_ok-after.after.items c.loop-i.invariant.few left
+      few = not_next c.args.rules c.args.starts.items all i c.in_ok-after.after.items
+          c.loop-i.invariant.few left
           (omega (arith, c.in_ok-after.ensures.few, c.in_ok-after.after.ok.0));
     }
 
@@ -50,7 +52,8 @@ returns-in_err-after-clause-too_many c =
       i,
       within,
       subst (λ (l : List HistoryEvent). AreMany (MayLead c.args.rules c.args.starts.items l)) (sym front)
-          (many_more c.args.rules c.args.starts.items (take i all) e c.loop-i.states.items c.loop-i.invariant.left
+          (many_more c.args.rules c.args.starts.items (take i all) e c.loop-i.states.items
+          c.loop-i.invariant.left
           (subst (λ (l : List Sight). AreMany (MayFollow c.args.rules l e)) c.deref.ensures.value
           (c.in_err-after.ensures.too_many many))),
     ))
@@ -65,7 +68,8 @@ returns-then-is_empty c =
     take_more all i e within ∙ ap (λ (q : HistoryEvent). take i all ++ q ∷ []) (sym c.index-events-i.is) in
     let none : length c.in_ok-after.after.items ≡ 0 = search rules in
     let stops = leads_nowhere c.args.rules c.args.starts.items (take (i + 1) all) c.in_ok-after.after.items
-    (subst (λ (l : List HistoryEvent). AreStatesLeft c.args.rules c.args.starts.items l c.in_ok-after.after.items)
+    (subst (λ (l : List HistoryEvent). AreStatesLeft c.args.rules c.args.starts.items l
+    c.in_ok-after.after.items)
     (sym front) (left_more c.args.rules c.args.starts.items (take i all) e c.loop-i.states.items
     c.in_ok-after.after.items c.loop-i.invariant.left
     (subst (λ (l : List Sight). Follows c.args.rules l e c.in_ok-after.after.items) c.deref.ensures.value
@@ -86,10 +90,12 @@ pub returns : goal.returns
 returns c =
     let all = c.args.events.now in
     let past : length all ≤ c.loop-i.i = omega arith in
-    let left = subst (λ (l : List HistoryEvent). AreStatesLeft c.args.rules c.args.starts.items l c.loop-i.states.items)
+    let left = subst (λ (l : List HistoryEvent). AreStatesLeft c.args.rules c.args.starts.items l
+    c.loop-i.states.items)
     (take_all c.loop-i.i all past) c.loop-i.invariant.left in
     record {
-      fault = leads_on c.args.rules c.args.starts.items all c.loop-i.states.items left c.loop-i.invariant.some;
+      fault = leads_on c.args.rules c.args.starts.items all c.loop-i.states.items left
+          c.loop-i.invariant.some;
       states = left;
       few = λ (j, lt, many). c.loop-i.invariant.few j (omega (arith, lt, past)) many;
       too_many = tt;

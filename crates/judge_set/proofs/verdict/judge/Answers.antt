@@ -15,10 +15,12 @@ returns c =
       verdict = verdicts r es c.follow_all.result
           (subst (λ (l : List Sight). IfOk c.follow_all.result (λ walk. IsWalk r l es walk.fault)) first
           c.follow_all.ensures.fault);
-      states = subst (λ (l : List Sight). IfOk c.follow_all.result (λ walk. AreStatesLeft r l (followed es walk.fault)
+      states = subst (λ (l : List Sight). IfOk c.follow_all.result
+          (λ walk. AreStatesLeft r l (followed es walk.fault)
           walk.states.items)) first c.follow_all.ensures.states;
       few = subst (λ (l : List Sight). IfOk c.follow_all.result (λ walk. IsTooMuch r l es → ⊥)) first
           c.follow_all.ensures.few;
-      too_many = subst (λ (l : List Sight). IfErr c.follow_all.result (λ e. e ≡ TooMany → IsTooMuch r l es)) first
+      too_many = subst (λ (l : List Sight). IfErr c.follow_all.result (λ e. e ≡ TooMany → IsTooMuch r l es))
+          first
           c.follow_all.ensures.too_many;
     }

@@ -6,12 +6,17 @@ use Rattle.kv_manager.proofs.Restoring.{not_rebuilt}
 use Rattle.kv_manager.proofs.restart.rebuilt.Goals as goal
 
 pub store_of-requires : goal.store_of-requires
-store_of-requires c = (c.args.records.items, leaves_now c.args.records.items c.in-Ok.replayed c.in-Ok.ensures.ok)
+store_of-requires c = (
+  c.args.records.items,
+  leaves_now c.args.records.items c.in-Ok.replayed
+      c.in-Ok.ensures.ok,
+)
 
 pub returns-in-Ok-clause-ok : goal.returns-in-Ok-clause-ok
 returns-in-Ok-clause-ok c =
     IfOk-weaker c.store_of.result _ (λ made. LeavesStore c.args.records.items made.0 made.1)
-    (λ made left. left c.args.records.items (leaves_now c.args.records.items c.in-Ok.replayed c.in-Ok.ensures.ok))
+    (λ made left. left c.args.records.items
+    (leaves_now c.args.records.items c.in-Ok.replayed c.in-Ok.ensures.ok))
     c.store_of.ensures.ok
 
 pub returns-in-Ok-clause-err : goal.returns-in-Ok-clause-err

@@ -15,7 +15,8 @@ returns-in_err-store-clause-err g c =
     made_error (LeavesNone c.args.log.now c.args.log.now) c.in_err-store.field-0.0
     c.from_residual-in_err-store.result c.from_residual-in_err-store.ensures.1
     (none_left c.args.log.now c.in_err-store.field-0.0
-    (subst (λ ls. KvNotRebuilt ls c.in_err-store.field-0.0) c.in_ok-records.ensures c.in_err-store.ensures.err))
+    (subst (λ ls. KvNotRebuilt ls c.in_err-store.field-0.0) c.in_ok-records.ensures
+    c.in_err-store.ensures.err))
 
 pub write_boot-requires-clause-fits : goal.write_boot-requires-clause-fits
 write_boot-requires-clause-fits g c = boot_fits c.in_ok-store.ensures.ok.seen.boot c.in_ok-store.boot

@@ -24,8 +24,10 @@ stored-requires c =
 
 pub returns-in-Ok-clause-ok : goal.returns-in-Ok-clause-ok
 returns-in-Ok-clause-ok c = λ ls leaves.
-    left_store ls c.args.replayed c.in-Ok.store c.in-Some.boot leaves c.in-Ok.ensures.ok (sym c.in-Some.ensures)
+    left_store ls c.args.replayed c.in-Ok.store c.in-Some.boot leaves c.in-Ok.ensures.ok
+    (sym c.in-Some.ensures)
 
 pub returns-in-Err-clause-err : goal.returns-in-Err-clause-err
 returns-in-Err-clause-err c = λ ls leaves.
-    not_stored ls leaves.seen c.args.replayed.left.items c.in-Err.error leaves.read leaves.in_doubt c.in-Err.ensures.err
+    not_stored ls leaves.seen c.args.replayed.left.items c.in-Err.error leaves.read leaves.in_doubt
+    c.in-Err.ensures.err

@@ -20,7 +20,8 @@ write-requires-clause-room g c = subst (λ n. n ≤ c.reserve.new.self.room) c.s
 pub write-requires-clause-sound : goal.write-requires-clause-sound
 write-requires-clause-sound g c =
     subst (λ k. IsRecord k (frame_record c.in_ok-opened.opened))
-    (sym (ap (λ (s : LogSight). s.form.kind) c.reserve.ensures.stays ∙ c.requires.kind)) c.in_ok-opened.ensures.sound
+    (sym (ap (λ (s : LogSight). s.form.kind) c.reserve.ensures.stays ∙ c.requires.kind))
+    c.in_ok-opened.ensures.sound
 
 pub returns-in-Ok-clause-ok : goal.returns-in-Ok-clause-ok
 returns-in-Ok-clause-ok g c =

@@ -16,7 +16,8 @@ returns-in-Direct-clause-ok c = OnOk-map c.commit.result
     (AppliesCommit c.args.versions.now c.commit.new.versions c.as_slice.result.now) _
     (λ made. takes_direct c.args.seen.now c.args.next.now c.in-Direct.field-0
     c.in-Direct.writes _ _ c.in-Direct.is
-    (subst (AppliesCommit c.args.versions.now c.commit.new.versions) c.as_slice.ensures made)) c.commit.ensures.ok
+    (subst (AppliesCommit c.args.versions.now c.commit.new.versions) c.as_slice.ensures made))
+    c.commit.ensures.ok
 
 pub returns-else-count-ge-COMMITS-clause-ok : goal.returns-else-count-ge-COMMITS-clause-ok
 returns-else-count-ge-COMMITS-clause-ok c =

@@ -13,7 +13,8 @@ pub returns-in_ok-restore-in-HeurCommit : goal.returns-in_ok-restore-in-HeurComm
 returns-in_ok-restore-in-HeurCommit c =
     let made : NotesDecision c.args.heuristics.now c.restore.new.self c.name_xid-xid.result
     (Some (decided_as Committed)) =
-    subst (λ d. NotesDecision c.args.heuristics.now c.restore.new.self c.name_xid-xid.result (Some d)) c.new.ensures
+    subst (λ d. NotesDecision c.args.heuristics.now c.restore.new.self c.name_xid-xid.result (Some d))
+    c.new.ensures
     (c.in_ok-restore-in-HeurCommit.ensures.ok) in
     noted_record _ _ c.args.next.now c.name_xid-xid.result c.in-HeurCommit.branch
     (λ o. Some (decided_as Committed)) c.name_xid-xid.ensures

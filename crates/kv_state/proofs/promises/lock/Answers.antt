@@ -10,7 +10,8 @@ loop-rest-preserved c = locking_goes_on _ _ _ c.args.xid.now c.args.writes.now c
     (subst (λ ws. IsLocking c.args.locks.now c.loop-rest.locks c.args.xid.now c.args.writes.now ws)
     (first_and_rest c.loop-rest.rest.now c.write-item.result (search rules)
     (search rules)) c.loop-rest.invariant)
-    (subst (λ k. GivesLock c.loop-rest.locks c.exclusive.new.self c.args.xid.now k Exclusive) c.as_slice.ensures
+    (subst (λ k. GivesLock c.loop-rest.locks c.exclusive.new.self c.args.xid.now k Exclusive)
+    c.as_slice.ensures
     (c.in-Ok.ensures {u = tt}).ok)
 
 pub unreachable-requires : goal.unreachable-requires

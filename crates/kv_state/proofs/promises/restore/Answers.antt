@@ -40,7 +40,8 @@ loop-xid-preserved c =
       | then-is_open+in_ok-give_back w ↦
           let writes : LeavesWrites c.loop-xid.writes w.give_back.new.writes c.loop-xid-item.result.0
           (promised c.args.seen.now c.loop-xid-item.result.0) =
-          subst (LeavesWrites c.loop-xid.writes w.give_back.new.writes c.loop-xid-item.result.0) w.promised.ensures
+          subst (LeavesWrites c.loop-xid.writes w.give_back.new.writes c.loop-xid-item.result.0)
+          w.promised.ensures
           (w.in_ok-give_back.ensures {u = tt}).writes in
           let locks : LocksKeys c.loop-xid.locks w.give_back.new.locks c.loop-xid-item.result.0
           (promised c.args.seen.now c.loop-xid-item.result.0) =

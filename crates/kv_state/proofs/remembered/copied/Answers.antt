@@ -18,11 +18,13 @@ loop-xid-preserved c =
     item_and_rest listed i c.xid-item.result c.loop-xid-test.true c.xid-item.is in
     let copying : IsCopying t (c.xid-item.result ∷ drop (i + 1) listed) c.loop-xid.copy =
     subst (λ ks. IsCopying t ks c.loop-xid.copy) here
-    (subst (λ ks. IsCopying t (drop i ks) c.loop-xid.copy) (sym c.open_cases-branches.ensures) c.loop-xid.invariant) in
+    (subst (λ ks. IsCopying t (drop i ks) c.loop-xid.copy) (sym c.open_cases-branches.ensures)
+    c.loop-xid.invariant) in
     subst (λ ks. IsCopying t (drop (i + 1) ks) c.match-decision.copy) c.open_cases-branches.ensures
     (elim c.match-decision.branch [
       | in-Some+in_ok-restore w ↦ subst (IsCopying t (drop (i + 1) listed)) (sym w.copy-is)
-          (copying_goes_on t c.xid-item.result (drop (i + 1) listed) c.loop-xid.copy copying w.restore.new.self
+          (copying_goes_on t c.xid-item.result (drop (i + 1) listed) c.loop-xid.copy copying
+          w.restore.new.self
           w.in-Some.decision (sym c.decision.ensures ∙ w.in-Some.is) w.in_ok-restore.ensures.ok)
       | in_default w ↦ subst (IsCopying t (drop (i + 1) listed)) (sym w.copy-is)
           (copying_passes t c.xid-item.result (drop (i + 1) listed) c.loop-xid.copy copying
@@ -37,5 +39,6 @@ returns c =
     drop_all c.loop-xid.xid-index listed (omega (arith, c.loop-xid-test.false)) in
     copying_ends t c.loop-xid.copy
     (subst (λ ks. IsCopying t ks c.loop-xid.copy) over
-    (subst (λ ks. IsCopying t (drop c.loop-xid.xid-index ks) c.loop-xid.copy) (sym c.open_cases-branches.ensures)
+    (subst (λ ks. IsCopying t (drop c.loop-xid.xid-index ks) c.loop-xid.copy)
+    (sym c.open_cases-branches.ensures)
     c.loop-xid.invariant))

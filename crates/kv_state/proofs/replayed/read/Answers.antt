@@ -19,4 +19,5 @@ pub returns-clause-err : goal.returns-clause-err
 returns-clause-err c =
     let begun : ReadsNow [] c.new.result c.new-2.result =
     nothing_read c.new.result c.new-2.result c.new.ensures c.new-2.ensures in
-    IfErr-weaker c.read_on.result _ (ReplayFails c.args.records.items) (λ e fails. fails [] begun) c.read_on.ensures.err
+    IfErr-weaker c.read_on.result _ (ReplayFails c.args.records.items) (λ e fails. fails [] begun)
+    c.read_on.ensures.err

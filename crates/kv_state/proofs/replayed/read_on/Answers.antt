@@ -8,7 +8,8 @@ use Rattle.kv_state.proofs.replayed.read_on.Goals as goal
 
 pub loop-record-init : goal.loop-record-init
 loop-record-init c = reading_on_begins c.args.reading.seen c.args.reading.data c.args.records.items
-    c.into_iter-record-iterator.result.rest.items c.into_iter-record-iterator.ensures.into_iter_gives.0 c.requires
+    c.into_iter-record-iterator.result.rest.items
+    c.into_iter-record-iterator.ensures.into_iter_gives.0 c.requires
 
 pub loop-record-preserved : goal.loop-record-preserved
 loop-record-preserved c =
@@ -42,7 +43,8 @@ pub returns-clause-ok : goal.returns-clause-ok
 returns-clause-ok c =
     let none : c.loop-record.record-iterator.rest.items ≡ [] =
     nil_from_length _ (sym c.loop-record.record-iterator.rest.ok.0 ∙ c.in-None.ensures.steps.0) in
-    let over : ReadsOn c.args.reading.seen c.args.reading.data c.args.records.items [] c.loop-record.reading.seen
+    let over : ReadsOn c.args.reading.seen c.args.reading.data c.args.records.items []
+    c.loop-record.reading.seen
     c.loop-record.reading.data =
     subst (λ ks. ReadsOn c.args.reading.seen c.args.reading.data c.args.records.items ks
     c.loop-record.reading.seen c.loop-record.reading.data) none c.loop-record.invariant in
@@ -53,7 +55,8 @@ pub returns-clause-history : goal.returns-clause-history
 returns-clause-history c =
     let none : c.loop-record.record-iterator.rest.items ≡ [] =
     nil_from_length _ (sym c.loop-record.record-iterator.rest.ok.0 ∙ c.in-None.ensures.steps.0) in
-    let over : ReadsOn c.args.reading.seen c.args.reading.data c.args.records.items [] c.loop-record.reading.seen
+    let over : ReadsOn c.args.reading.seen c.args.reading.data c.args.records.items []
+    c.loop-record.reading.seen
     c.loop-record.reading.data =
     subst (λ ks. ReadsOn c.args.reading.seen c.args.reading.data c.args.records.items ks
     c.loop-record.reading.seen c.loop-record.reading.data) none c.loop-record.invariant in

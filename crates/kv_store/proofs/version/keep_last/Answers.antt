@@ -13,7 +13,8 @@ returns-then-is_none-clause-kept c =
 pub returns-then-is_none-clause-stays : goal.returns-then-is_none-clause-stays
 returns-then-is_none-clause-stays c =
     let none : is_none c.in-Some.last.value ≡ true = search rules in
-    ap has_any (kept_none c.args.versions.now.items c.pop.new.self.items c.in-Some.last c.in-Some.ensures.items none)
+    ap has_any (kept_none c.args.versions.now.items c.pop.new.self.items c.in-Some.last
+    c.in-Some.ensures.items none)
 
 pub returns-clause-kept : goal.returns-clause-kept
 returns-clause-kept c =
@@ -24,4 +25,5 @@ returns-clause-kept c =
 pub returns-clause-stays : goal.returns-clause-stays
 returns-clause-stays c =
     let some : is_none c.in-Some.last.value ≡ false = search rules in
-    ap has_any (kept_some c.args.versions.now.items c.pop.new.self.items c.in-Some.last c.in-Some.ensures.items some)
+    ap has_any (kept_some c.args.versions.now.items c.pop.new.self.items c.in-Some.last
+    c.in-Some.ensures.items some)

@@ -9,7 +9,8 @@ pub returns-in_default : goal.returns-in_default
 returns-in_default c =
     let none : c.loop-records.rest.now ≡ [] = nil_from_length _ c.in_default.ensures.cases in
     ends_early c.loop-records.out.items _ _
-    (subst (λ es. IsSoFar c.loop-records.out.items es (map (λ log. log.items) c.loop-records.records-iterator.rest.items)
+    (subst (λ es. IsSoFar c.loop-records.out.items es
+    (map (λ log. log.items) c.loop-records.records-iterator.rest.items)
     (c.args.out.now.items ++ data_lines c.args.entries.now (map (λ log. log.items) c.args.logs.items)))
     none c.loop-records.invariant)
 

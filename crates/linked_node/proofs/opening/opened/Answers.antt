@@ -11,7 +11,8 @@ returns-in-Ok-start c =
       entry = c.in-Some.entry.now;
       listed = sym c.in-Some.ensures;
       store = c.in_ok-store.store;
-      found = subst (FoundIn c.args.is_new c.args.file.now) (sym c.in_ok-store.ensures.text) c.in_ok-number.ensures;
+      found = subst (FoundIn c.args.is_new c.args.file.now) (sym c.in_ok-store.ensures.text)
+          c.in_ok-number.ensures;
       forced = c.in_ok-store.ensures.forced ∙ ap length (sym c.in_ok-store.ensures.text);
       works = c.in_ok-store.ensures.works;
       first = c.in-Ok-start.node;

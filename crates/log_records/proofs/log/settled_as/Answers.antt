@@ -9,8 +9,10 @@ pub returns-in-Empty-clause-ok : goal.returns-in-Empty-clause-ok
 returns-in-Empty-clause-ok g c =
     let found : IsLogFound c.args.form (g.L.LogStore.bytes c.args.store) Empty =
     subst (IsLogFound c.args.form (g.L.LogStore.bytes c.args.store)) c.in-Empty.is c.requires.found in
-    IfOk-weaker c.replaced.result _ _ (λ new r. settles_empty _ _ _ _ _ _ _ found (g.met.L.LogStore.front c.args.store)
-    (r.text_stands ∙ c.header.ensures) (r.all ∙ ap length c.header.ensures) r.failures_stay) c.replaced.ensures.ok
+    IfOk-weaker c.replaced.result _ _ (λ new r. settles_empty _ _ _ _ _ _ _ found
+    (g.met.L.LogStore.front c.args.store)
+    (r.text_stands ∙ c.header.ensures) (r.all ∙ ap length c.header.ensures) r.failures_stay)
+    c.replaced.ensures.ok
 
 pub returns-in-Ok-clause-ok : goal.returns-in-Ok-clause-ok
 returns-in-Ok-clause-ok g c =

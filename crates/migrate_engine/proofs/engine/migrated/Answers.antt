@@ -14,7 +14,8 @@ returns c =
       sym c.loop-entry.invariant.1 ∙ ap (λ es. first_damage es c.args.logs.now) end
           ∙ none_damaged c.args.logs.now,
       c.in_ok-logs_text.ensures
-          ∙ ap (logs_text c.args.entries.now) (c.deref.ensures.value ∙ sym (all_migrated c.loop-entry.new.items _ c.args.logs.now end)
+          ∙ ap (logs_text c.args.entries.now) (c.deref.ensures.value
+          ∙ sym (all_migrated c.loop-entry.new.items _ c.args.logs.now end)
           ∙ c.loop-entry.invariant.0),
     )
 

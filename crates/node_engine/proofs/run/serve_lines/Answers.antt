@@ -13,7 +13,8 @@ returns-in-Some-clause-ends g c = λ start opening h.
 
 pub returns-clause-stops : goal.returns-clause-stops
 returns-clause-stops g c = λ start opening h. record {
-  before = stand (g.R.Read.remaining c.loop.reader) (g.W.Write.contents c.loop.writer) (state_of c.loop.serving);
+  before = stand (g.R.Read.remaining c.loop.reader) (g.W.Write.contents c.loop.writer)
+      (state_of c.loop.serving);
   served = c.loop.invariant start opening h;
   state = refl;
   held = refl;

@@ -7,5 +7,7 @@ use Rattle.node_engine.proofs.run.serve_lines.Given as goal
 abbrev pub invariant-loop : goal.invariant-loop
 invariant-loop g l = (start : Stand) → (opening : AnyReaction)
     → Served start opening
-    (stand (g.R.Read.remaining l.initial.reader) (g.W.Write.contents l.initial.writer) (state_of l.initial.serving))
-    → Served start opening (stand (g.R.Read.remaining l.reader) (g.W.Write.contents l.writer) (state_of l.serving))
+    (stand (g.R.Read.remaining l.initial.reader) (g.W.Write.contents l.initial.writer)
+    (state_of l.initial.serving))
+    → Served start opening (stand (g.R.Read.remaining l.reader) (g.W.Write.contents l.writer)
+    (state_of l.serving))

@@ -15,7 +15,8 @@ loop-step-preserved c =
     let at = c.index-entries-step.is in
     record {
       numbers = c.in_ok-push_arrow.ensures.number
-          ∙ ap (λ xs. xs ++ option_to_list (option_map (λ (a : Arrow). a.number) c.arrow_of-found.result)) c.loop-step.invariant.numbers
+          ∙ ap (λ xs. xs ++ option_to_list (option_map (λ (a : Arrow). a.number) c.arrow_of-found.result))
+          c.loop-step.invariant.numbers
           ∙ ap (λ o. deliveries count (take k es) ++ option_to_list o) c.arrow_of-found.ensures.number
           ∙ sym (deliveries_more count es k e there at);
       ways = arrows_more c.args.seats.now c.args.rows.now (map (λ (f : Fate). f.sent) c.args.fates.now) es k e

@@ -18,11 +18,14 @@ loop-step-preserved c =
     let row = c.first_record-row.result in
     let written = c.as_slice.result.now in
     let first : row ≡ first_record e.step.happening (rows_in rows k).first =
-    c.first_record-row.ensures ∙ ap (λ (r : StepRows). first_record e.step.happening r.first) c.rows_at.ensures in
+    c.first_record-row.ensures ∙ ap (λ (r : StepRows). first_record e.step.happening r.first)
+    c.rows_at.ensures in
     record {
       logged = c.in_ok-push_marks.ensures.logged ∙ ap (λ xs. xs ++ written) c.loop-step.invariant.logged
           ∙ ap (λ xs. records_in (take k es) ++ xs) c.as_slice.ensures ∙ sym (records_more es k e there at);
-      spots = c.in_ok-push_marks.ensures.spots ∙ ap (λ xs. xs ++ spots_from place row written) c.loop-step.invariant.spots
-          ∙ (λ i. spots_in seats rows (take k es) ++ spots_from (c.place_of-place.ensures i) (first i) (c.as_slice.ensures i))
+      spots = c.in_ok-push_marks.ensures.spots ∙ ap (λ xs. xs ++ spots_from place row written)
+          c.loop-step.invariant.spots
+          ∙ (λ i. spots_in seats rows (take k es) ++ spots_from (c.place_of-place.ensures i) (first i)
+          (c.as_slice.ensures i))
           ∙ sym (spots_more seats rows es k e there at);
     }

@@ -12,8 +12,10 @@ loop-logged-preserved c =
     let there = c.loop-logged-test.true in
     record {
       logged = grind (arith, common_steps);
-      spots = ap (λ r. map spot_of c.push.new.self.items ++ spots_from c.args.place r (drop (i + 1) ws)) c.saturating_add-row.ensures
-          ∙ marks_more c.args.place c.loop-logged.row ws i _ c.loop-logged.marks.items c.push.new.self.items _ there
+      spots = ap (λ r. map spot_of c.push.new.self.items ++ spots_from c.args.place r (drop (i + 1) ws))
+          c.saturating_add-row.ensures
+          ∙ marks_more c.args.place c.loop-logged.row ws i _ c.loop-logged.marks.items
+          c.push.new.self.items _ there
           (get_or_default ws i _ _ there) c.in_ok-push.ensures.items refl ∙ c.loop-logged.invariant.spots;
     }
 
@@ -21,5 +23,6 @@ pub returns-clause-spots : goal.returns-clause-spots
 returns-clause-spots c =
     marks_end c.args.place c.loop-logged.row c.args.written.now c.loop-logged.logged-index
     (map spot_of c.loop-logged.marks.items)
-    (map spot_of c.args.marks.now.items ++ spots_from c.args.place c.args.row c.args.written.now) (search rules)
+    (map spot_of c.args.marks.now.items ++ spots_from c.args.place c.args.row c.args.written.now)
+    (search rules)
     c.loop-logged.invariant.spots

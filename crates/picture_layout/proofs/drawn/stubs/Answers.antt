@@ -20,7 +20,9 @@ loop-place-preserved c =
           c.if-has_stub.stubs.items w.stub_of.result there at (sym c.has_stub.ensures ∙ w.if-has_stub.true)
           (ap (λ v. v.items) w.stubs-is ∙ w.in_ok-push.ensures.items) w.stub_of.ensures was
       | else-has_stub w ↦
-          subst (λ v. map leaving_in v.items ≡ leavings c.args.seats.now c.args.rows.now c.args.entries.now (take (k + 1) fates)) (sym w.stubs-is)
-          (passed c.args.seats.now c.args.rows.now c.args.entries.now fates k f c.loop-place.stubs.items there at
+          subst (λ v. map leaving_in v.items ≡ leavings c.args.seats.now c.args.rows.now c.args.entries.now
+          (take (k + 1) fates)) (sym w.stubs-is)
+          (passed c.args.seats.now c.args.rows.now c.args.entries.now fates k f
+          c.loop-place.stubs.items there at
           (sym c.has_stub.ensures ∙ w.if-has_stub.false) was)
     ]

@@ -28,7 +28,8 @@ loop-step-preserved c =
     ∙ ap (λ ns. map (λ (f : Fate). f.sent) heard ++ ns) (sent_all c.len.result k)
     ∙ ap (λ n. map (λ (f : Fate). f.sent) heard ++ replicate n k) c.len.ensures in
     record {
-      sent = fates_more es k e c.loop-step.fates.items heard c.send.new.fates.items there at c.loop-step.invariant.sent
+      sent = fates_more es k e c.loop-step.fates.items heard c.send.new.fates.items there at
+          c.loop-step.invariant.sent
           c.hear_step.ensures.sent sent;
       heard = each_more es k c.len.result e heard c.send.new.fates.items there at
           (c.hear_step.ensures.heard (take k es) taken c.loop-step.invariant.heard) c.in_ok-send.ensures;
@@ -36,7 +37,8 @@ loop-step-preserved c =
 
 pub returns-clause-all : goal.returns-clause-all
 returns-clause-all c =
-    all_fates c.args.entries.now c.loop-step.fates.items (grind (arith, common_steps, c.loop-step.invariant.sent))
+    all_fates c.args.entries.now c.loop-step.fates.items
+    (grind (arith, common_steps, c.loop-step.invariant.sent))
 
 pub returns-clause-each : goal.returns-clause-each
 returns-clause-each c = record {

@@ -19,13 +19,16 @@ returns-in-Some-clause-heard c = λ es at all.
     let same : c.as_mut_slice.result.now ≡ items = search rules in
     let sent = ap (λ ns. length ns) c.hear.ensures.sent in
     let many : length new ≡ length items =
-    sym (length-map new (λ (f : Fate). f.sent)) ∙ sent ∙ length-map c.as_mut_slice.result.now (λ (f : Fate). f.sent)
+    sym (length-map new (λ (f : Fate). f.sent)) ∙ sent
+    ∙ length-map c.as_mut_slice.result.now (λ (f : Fate). f.sent)
     ∙ ap (λ (fs : List Fate). length fs) same in
     let len : length items ≡ c.args.fates.now.len = search rules in
     let whole : take c.args.fates.now.len (new ++ drop (length new) items) ≡ new =
     written_back new items c.args.fates.now.len (many ∙ len) in
-    let stay : is_known (length items) m ≡ true → new ≡ set items (m - 1) (heard_at (length es) (get_or items (m - 1) no_fate)) =
+    let stay : is_known (length items) m ≡ true → new ≡ set items (m - 1)
+    (heard_at (length es) (get_or items (m - 1) no_fate)) =
     λ is. grind (arith, at, same, c.hear.ensures.known, is) in
-    let other : is_known (length items) m ≡ false → new ≡ items = λ is. grind (arith, same, c.hear.ensures.other, is) in
+    let other : is_known (length items) m ≡ false → new ≡ items =
+    λ is. grind (arith, same, c.hear.ensures.other, is) in
     subst (λ fs. HeardFrom 1 (es ++ c.args.entry.now ∷ []) fs) (sym whole)
     (hears_one es c.args.entry.now m items new (sym c.heard_by.ensures ∙ c.in-Some.is) stay other all)

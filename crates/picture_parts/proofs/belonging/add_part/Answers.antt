@@ -8,4 +8,5 @@ returns-in_ok-push c =
 
 pub returns-else-not-is_among : goal.returns-else-not-is_among
 returns-else-not-is_among c =
-    part_there c.args.process c.args.parts.now.items (search (rules, c.is_among.ensures, c.deref.ensures.value))
+    part_there c.args.process c.args.parts.now.items
+    (search (rules, c.is_among.ensures, c.deref.ensures.value))

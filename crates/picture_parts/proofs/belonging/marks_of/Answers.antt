@@ -7,7 +7,8 @@ pub loop-place-init : goal.loop-place-init
 loop-place-init c = record {
   marked = none_marked c.args.choice.now c.new-marks.result.items c.new-marks.ensures.items;
   took =
-      nobody_took c.args.choice.now c.new-marks.result.items c.new-parts.result.items c.new-marks.ensures.items
+      nobody_took c.args.choice.now c.new-marks.result.items c.new-parts.result.items
+      c.new-marks.ensures.items
       c.new-parts.ensures.items;
 }
 

@@ -7,4 +7,5 @@ abbrev pub invariant-loop-envelope : goal.invariant-loop-envelope
 invariant-loop-envelope l =
     l.sent.items
     ≡ l.initial.sent.items
-    ++ map (λ e. l.marked.shown && message_stays l.only e) (take l.envelope-index l.marked.entry.reaction.messages)
+    ++ map (λ e. l.marked.shown && message_stays l.only e)
+    (take l.envelope-index l.marked.entry.reaction.messages)

@@ -8,7 +8,11 @@ use Rattle.picture_parts.proofs.Telling.{counted_more, counted_until}
 use Rattle.picture_parts.proofs.events.make_events.Goals as goal
 
 pub loop-event-init : goal.loop-event-init
-loop-event-init c = (subst (λ ns. Counts (state c.args.world.now) [] (state c.args.world.now) ns) (sym c.requires) nothing, refl)
+loop-event-init c = (
+  subst (λ ns. Counts (state c.args.world.now) [] (state c.args.world.now) ns)
+      (sym c.requires) nothing,
+  refl,
+)
 
 pub loop-event-preserved : goal.loop-event-preserved
 loop-event-preserved c =
@@ -21,7 +25,8 @@ loop-event-preserved c =
       counted_more (state c.args.world.now) events k c.in_ok-copied.field-0 rest next
           (state c.loop-event.world) c.loop-event.counts.items c.loop-event.invariant.0
           (state c.make_event.new.world) c.make_event.new.counts.items c.in_ok-make_event.ensures.counts
-          (subst (λ r. OnOk r (Applies (state c.loop-event.world) c.in_ok-copied.field-0 (state c.make_event.new.world)))
+          (subst (λ r. OnOk r (Applies (state c.loop-event.world) c.in_ok-copied.field-0
+          (state c.make_event.new.world)))
           c.in-Ok.is c.in_ok-make_event.ensures.made),
       c.in-Some.ensures.1 ∙ ap (λ n. n + 1) c.loop-event.invariant.1,
     )
@@ -38,7 +43,8 @@ returns-in-Err c =
     c.make_event.new.counts.items) (sym c.loop-event.invariant.1)
     (counted_until (state c.args.world.now) events k c.in_ok-copied.field-0 rest next
     (state c.loop-event.world) c.loop-event.counts.items c.loop-event.invariant.0
-    (state c.make_event.new.world) c.make_event.new.counts.items c.in_ok-make_event.ensures.counts c.in-Err.refusal
+    (state c.make_event.new.world) c.make_event.new.counts.items c.in_ok-make_event.ensures.counts
+    c.in-Err.refusal
     (subst (λ r. IfErr r (λ why. Stops (state c.loop-event.world) c.in_ok-copied.field-0 why
     (state c.make_event.new.world))) c.in-Err.is c.in_ok-make_event.ensures.refused)
     (subst (λ r. IfErr r IsOwn) c.in-Err.is c.in_ok-make_event.ensures.own))

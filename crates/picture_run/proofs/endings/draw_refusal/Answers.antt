@@ -7,15 +7,18 @@ use Rattle.picture_run.proofs.endings.draw_refusal.Goals as goal
 
 pub returns-in_default-get : goal.returns-in_default-get
 returns-in_default-get c =
-    none_refused (titles_of c.args.lines.now.items) (refused_in c.args.scene.now.events.now c.args.scene.now.refusal)
+    none_refused (titles_of c.args.lines.now.items)
+    (refused_in c.args.scene.now.events.now c.args.scene.now.refusal)
     (ap (λ r. refused_in c.args.scene.now.events.now r) c.in-Some.is
     ∙ slice_get_past c.args.scene.now.events.now c.in-Some.refused c.in_default-get.ensures.lookup.3)
 
 pub returns : goal.returns
 returns c =
-    refused_more c.args.lines.now.items c.push.new.self.items c.in_ok-draw_refused.field-0 c.in-Some-get.event.now
+    refused_more c.args.lines.now.items c.push.new.self.items c.in_ok-draw_refused.field-0
+    c.in-Some-get.event.now
     (refused_in c.args.scene.now.events.now c.args.scene.now.refusal) c.in_ok-push.ensures.items
     c.in_ok-draw_refused.ensures
     (ap (λ r. refused_in c.args.scene.now.events.now r) c.in-Some.is
-    ∙ event_at c.args.scene.now.events.now c.in-Some.refused c.in-Some-get.event.now c.in-Some-get.ensures.lookup.3.0
+    ∙ event_at c.args.scene.now.events.now c.in-Some.refused c.in-Some-get.event.now
+    c.in-Some-get.ensures.lookup.3.0
     (c.in-Some-get.ensures.lookup.3.1 c.in-Some-get.event.now))

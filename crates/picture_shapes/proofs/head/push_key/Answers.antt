@@ -8,14 +8,16 @@ pub returns : goal.returns
 unfolding key_text
 returns c =
     six _ _ _ _ _ _ _ _
-    (pair_text (codes "<g transform=\"translate(") (key_x c.args.frame c.args.entry) (key_y c.args.frame c.args.entry))
+    (pair_text (codes "<g transform=\"translate(") (key_x c.args.frame c.args.entry)
+    (key_y c.args.frame c.args.entry))
     (codes ")\">")
     c.args.drawn.now
     (codes "<text x=\"50\" y=\"4\" class=\"dim\">")
     c.args.meaning.now
     (codes "</text></g>\n")
     (c.in_ok-push_pair.ensures
-    ∙ ap₂ (λ x y. c.args.out.now.items ++ pair_text (codes "<g transform=\"translate(") x y) c.key_at-x.ensures.left
+    ∙ ap₂ (λ x y. c.args.out.now.items ++ pair_text (codes "<g transform=\"translate(") x y)
+    c.key_at-x.ensures.left
     c.key_at-x.ensures.line)
     c.in_ok-push.ensures
     c.in_ok-push-2.ensures

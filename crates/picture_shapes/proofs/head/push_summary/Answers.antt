@@ -10,7 +10,10 @@ returns c =
     six _ _ _ _ _ _ _ _
     (codes "<title id=\"title\">")
     (title_words c.args.summary.now)
-    (word_text (codes "</title>\n<desc id=\"desc\">Time runs downward. Each process is a line, each message an arrow. ") c.args.summary.now.messages)
+    (word_text
+    (codes
+    "</title>\n<desc id=\"desc\">Time runs downward. Each process is a line, each message an arrow. ")
+    c.args.summary.now.messages)
     (word_text (codes " messages, ") c.args.summary.now.open)
     (word_text (codes " of them never delivered; ") c.args.summary.now.crashes)
     (codes " crashes.</desc>\n")

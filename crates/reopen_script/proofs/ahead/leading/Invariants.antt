@@ -5,4 +5,5 @@ use Rattle.reopen_script.proofs.ahead.leading.Given as goal
 
 abbrev pub invariant-loop-i : goal.invariant-loop-i
 invariant-loop-i l =
-    l.i + prefix_len is_ahead (drop l.i (map (λ s. s.now) l.lines)) ≡ prefix_len is_ahead (map (λ s. s.now) l.lines)
+    l.i + prefix_len is_ahead (drop l.i (map (λ s. s.now) l.lines))
+    ≡ prefix_len is_ahead (map (λ s. s.now) l.lines)

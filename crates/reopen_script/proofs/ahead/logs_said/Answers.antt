@@ -5,7 +5,8 @@ use Rattle.reopen_script.proofs.ahead.logs_said.Goals as goal
 
 pub returns-in-Err-clause-err : goal.returns-in-Err-clause-err
 returns-in-Err-clause-err c =
-    wrong_numbered c.args.tree.now c.args.before c.in-Err.error (texts c.args.ahead.now) (texts c.args.behind.now)
+    wrong_numbered c.args.tree.now c.args.before c.in-Err.error (texts c.args.ahead.now)
+    (texts c.args.behind.now)
     c.in-Err.ensures.err
 
 pub returns-then-len-eq0-clause-ok : goal.returns-then-len-eq0-clause-ok
@@ -15,7 +16,8 @@ returns-then-len-eq0-clause-ok c =
 
 pub returns-then-not-are_of_all-clause-err : goal.returns-then-not-are_of_all-clause-err
 returns-then-not-are_of_all-clause-err c =
-    others_said c.args.tree.now c.args.before _ c.in-Ok.logs (texts c.args.ahead.now) (texts c.args.behind.now)
+    others_said c.args.tree.now c.args.before _ c.in-Ok.logs (texts c.args.ahead.now)
+    (texts c.args.behind.now)
     c.in-Ok.ensures.ok (λ none. omega (arith, none, c.if-len-eq0.false, c.len.ensures))
     (sym c.if-not-are_of_all.ensures) c.set_line-number.ensures
 

@@ -12,7 +12,8 @@ returns-in-Err-logs_said-clause-err c =
     let xs = front.lines.items in
     let count = c.leading-count.result in
     let same : count ≡ leading (texts xs) =
-    c.leading-count.ensures.count ∙ ap (λ (ls : List (Bor (List ℕ))). leading (texts ls)) c.deref.ensures.value in
+    c.leading-count.ensures.count ∙ ap (λ (ls : List (Bor (List ℕ))). leading (texts ls))
+    c.deref.ensures.value in
     let ahead : texts c.split_at.result.0.now ≡ ahead_in (texts xs) =
     ap texts (c.split_at.ensures.front ∙ ap (take count) c.deref-2.ensures.value)
     ∙ sym (take-map (λ (s : Bor (List ℕ)). s.now) count xs) ∙ ap (λ (k : ℕ). take k (texts xs)) same in
@@ -25,4 +26,5 @@ returns-in-Err-logs_said-clause-err c =
     (subst (λ (ls : List (List ℕ)). IsNumbered c.in-Err-logs_said.error
     (logs_said front.tree front.rule (ahead_in (texts xs)) ls)) behind
     (subst (λ (ls : List (List ℕ)). IsNumbered c.in-Err-logs_said.error
-    (logs_said front.tree front.rule ls (texts c.split_at.result.1.now))) ahead c.in-Err-logs_said.ensures.err))
+    (logs_said front.tree front.rule ls (texts c.split_at.result.1.now))) ahead
+    c.in-Err-logs_said.ensures.err))

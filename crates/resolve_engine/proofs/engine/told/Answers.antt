@@ -31,5 +31,6 @@ loop-name-preserved c = λ kept finds.
     rw (is_more (texts items) i (omega (arith, long items)) named)
     (rw (text_at items i)
     (one_more c.args.asked.now.form c.args.asked.now.trust n c.args.tree.now c.args.finder.now.logs.now kept
-    (filter is_name (take i (texts items))) _ c.loop-name.waiting c.in_ok-waiting.field-0 c.loop-name.out.items
+    (filter is_name (take i (texts items))) _ c.loop-name.waiting c.in_ok-waiting.field-0
+    c.loop-name.out.items
     c.push_name.new.out.items (c.loop-name.invariant kept finds) (c.in_ok-waiting.ensures kept finds)))

@@ -9,6 +9,7 @@ pub returns-in-Ok : goal.returns-in-Ok
 returns-in-Ok c =
     let opened = c.in-Ok.ensures in
     opens c.in-Ok.kept.value c.of.ensures
-    (told opened.first opened.opening c.in-Ok.kept.value c.in-Ok.kept.value.life c.status-status.result opened.serves
+    (told opened.first opened.opening c.in-Ok.kept.value c.in-Ok.kept.value.life
+    c.status-status.result opened.serves
     (subst (λ (k : Kept). TellsBy k.life c.status-status.result) c.deref.ensures c.status-status.ensures))
     opened

@@ -19,7 +19,8 @@ loop-case-preserved c =
     elim c.if-is_none.branch [
       | then-is_none+in-Some+in_ok-restore w ↦
           subst (IsCopying t (drop (c.loop-case.case-index + 1) c.args.cases.now)) (sym w.copy-is)
-          (copies_one t c.args.cases.now c.loop-case.case-index _ c.loop-case.copy w.restore.new.self w.in-Some.branch
+          (copies_one t c.args.cases.now c.loop-case.case-index _ c.loop-case.copy w.restore.new.self
+          w.in-Some.branch
           c.loop-case-test.true c.loop-case.invariant (sym w.in-Some.ensures) w.in_ok-restore.ensures.ok)
       | then-is_none+in_default w ↦
           subst (IsCopying t (drop (c.loop-case.case-index + 1) c.args.cases.now)) (sym w.copy-is)
@@ -36,4 +37,5 @@ loop-case-preserved c =
 pub returns-clause-branches : goal.returns-clause-branches
 returns-clause-branches c = copying_ends c.args.branches.now c.loop-case.copy
     (subst (λ ks. IsCopying c.args.branches.now ks c.loop-case.copy)
-    (drop_all c.loop-case.case-index c.args.cases.now (omega (arith, c.loop-case-test.false))) c.loop-case.invariant)
+    (drop_all c.loop-case.case-index c.args.cases.now (omega (arith, c.loop-case-test.false)))
+    c.loop-case.invariant)

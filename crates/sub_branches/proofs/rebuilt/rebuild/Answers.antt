@@ -26,7 +26,8 @@ returns-clause-ok c = λ ls is.
     rebuilt_copied c.args.me c.args.parent c.args.tree.now (ls ++ c.args.records.now) s
     (c.in_ok-cases.ensures.ok ls is.leaves) c.in_ok-branches.branches c.in_ok-messages.messages
     c.in_ok-branches.ensures.branches c.in_ok-branches.ensures.tickets
-    (c.in_ok-messages.ensures ∙ ap (flat_map (asks c.args.me c.args.parent s.branches)) c.as_slice.ensures.keys)
+    (c.in_ok-messages.ensures ∙ ap (flat_map (asks c.args.me c.args.parent s.branches))
+    c.as_slice.ensures.keys)
     (omega arith) (omega arith)
 
 pub returns-clause-remembered : goal.returns-clause-remembered

@@ -6,4 +6,5 @@ use Rattle.test_base.proofs.trims.append.Goals as goal
 pub append-requires-clause-sound : goal.append-requires-clause-sound
 append-requires-clause-sound c =
     subst (λ k. IsRecord k (frame_record c.in_ok-frame.frame))
-    (sym (ap (λ (s : LogSight). s.form.kind) c.reserve.ensures.stays ∙ c.requires)) c.in_ok-frame.ensures.sound
+    (sym (ap (λ (s : LogSight). s.form.kind) c.reserve.ensures.stays ∙ c.requires))
+    c.in_ok-frame.ensures.sound

@@ -15,7 +15,8 @@ pub returns-in-Ok-clause-err : goal.returns-in-Ok-clause-err
 returns-in-Ok-clause-err c =
     let turns = length c.deref.result.now in
     let few : turns ≤ length c.args.events.now =
-    subst (λ (xs : List EventSteps). length xs ≤ length c.args.events.now) (sym c.deref.ensures.value) c.in-Ok.ensures.few in
+    subst (λ (xs : List EventSteps). length xs ≤ length c.args.events.now) (sym c.deref.ensures.value)
+    c.in-Ok.ensures.few in
     IfErr-weaker c.drawn_run-drawn.result _ _
     (λ why. run_not_drawn c.args.events.now c.args.run c.make_turns.new.run turns why
     (c.in-Ok.ensures.goes_on (state c.args.run.world) [] c.requires) few)

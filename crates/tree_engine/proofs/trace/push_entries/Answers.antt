@@ -25,8 +25,10 @@ pub returns-in_default-clause-text : goal.returns-in_default-clause-text
 returns-in_default-clause-text c =
     let es = (state c.args.world.now).entries in
     let k = c.loop-place.place in
-    none_added es k c.loop-place.sent c.loop-place.out.items c.push_place.new.out.items _ (slice_get es k) refl
-    (subst (λ o. AddsStep (slice_get es k) c.loop-place.out.items c.push_place.new.out.items c.loop-place.sent o)
+    none_added es k c.loop-place.sent c.loop-place.out.items c.push_place.new.out.items _
+    (slice_get es k) refl
+    (subst (λ o. AddsStep (slice_get es k) c.loop-place.out.items c.push_place.new.out.items
+    c.loop-place.sent o)
     c.in_default.is c.in_ok-next.ensures.text) c.loop-place.invariant.0
 
 pub returns-in_err-next-clause-err : goal.returns-in_err-next-clause-err

@@ -12,7 +12,14 @@ use Rattle.tree_engine.proofs.TreeReports.{reads_start}
 use Rattle.tree_engine.proofs.tree.make_lines.Goals as goal
 
 pub loop-place-init : goal.loop-place-init
-loop-place-init c = ([], reads_start c.args.lines.now, c.requires, asks_none c.args.lines.now, omega arith, refl)
+loop-place-init c = (
+  [],
+  reads_start c.args.lines.now,
+  c.requires,
+  asks_none c.args.lines.now,
+  omega arith,
+  refl,
+)
 
 pub returns-in-Err-clause-fault : goal.returns-in-Err-clause-fault
 returns-in-Err-clause-fault c =
@@ -25,9 +32,11 @@ loop-place-preserved-in-Ok-None c =
     let h = c.loop-place.invariant in
     let few = h.4 in (
       h.0,
-      reads_nothing c.args.lines.now c.loop-place.place _ h.0 (omega arith) c.in-Ok-None.ensures (search rules) h.1,
+      reads_nothing c.args.lines.now c.loop-place.place _ h.0 (omega arith) c.in-Ok-None.ensures
+          (search rules) h.1,
       h.2,
-      asks_no_more c.args.lines.now c.loop-place.place _ h.0 (omega arith) c.in-Ok-None.ensures (search rules) h.3,
+      asks_no_more c.args.lines.now c.loop-place.place _ h.0 (omega arith) c.in-Ok-None.ensures
+          (search rules) h.3,
       omega (arith, few),
       h.5,
     )
@@ -63,7 +72,8 @@ returns-in_err-make-in-Ok-Some-clause-err c =
     (inr (
       c.loop-place.place + 1,
       all,
-      asks_one_more c.args.lines.now c.loop-place.place _ c.in-Ok-Some.event h.0 (omega arith) c.in-Ok-Some.ensures
+      asks_one_more c.args.lines.now c.loop-place.place _ c.in-Ok-Some.event h.0 (omega arith)
+          c.in-Ok-Some.ensures
           (search rules) h.3,
       breaks_off start all why short (c.in_err-make-in-Ok-Some.ensures.err start h.0 h.2),
     ))

@@ -7,8 +7,10 @@ use Rattle.tree_engine.proofs.tree.play.Goals as goal
 
 pub returns-in-Err-2-clause-fault : goal.returns-in-Err-2-clause-fault
 returns-in-Err-2-clause-fault c =
-    first_there c.args.input.now _ _ _ c.in-Err-2.process c.in-Err-2.place c.in_ok-first_fault-in-Err-2.field-0
-    c.in-Ok.ensures.ok (rw c.in-Err-2.is at c.in_ok-run.ensures.damage) c.in_ok-first_fault-in-Err-2.ensures.fault
+    first_there c.args.input.now _ _ _ c.in-Err-2.process c.in-Err-2.place
+    c.in_ok-first_fault-in-Err-2.field-0
+    c.in-Ok.ensures.ok (rw c.in-Err-2.is at c.in_ok-run.ensures.damage)
+    c.in_ok-first_fault-in-Err-2.ensures.fault
 
 pub returns-in_err-run-2-clause-err : goal.returns-in_err-run-2-clause-err
 returns-in_err-run-2-clause-err c =

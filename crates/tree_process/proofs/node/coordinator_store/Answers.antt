@@ -9,5 +9,6 @@ pub returns : goal.returns
 returns g c =
     let s = state c.args.coordinator in
     let store = c.into_store.result in
-    subst (λ k. (log_state (log_form s.place.me k) (g.L.LogStore.bytes store) (g.L.LogStore.forced store) (g.L.LogStore.failures store) 0
+    subst (λ k. (log_state (log_form s.place.me k) (g.L.LogStore.bytes store) (g.L.LogStore.forced store)
+    (g.L.LogStore.failures store) 0
     s.log.failed).sight ≡ s.log) (sym (role_kind c.args.coordinator.parent)) c.into_store.ensures

@@ -11,4 +11,5 @@ returns-in-Err-clause-err g c = rw c.of_log.ensures
 
 pub returns-in-Err-clause-handed_back : goal.returns-in-Err-clause-handed_back
 returns-in-Err-clause-handed_back g c = rw c.of_log.ensures
-    (log_handed_back _ _ _ _ c.args.me c.args.store c.in-Err.store c.in-Err.error c.requires c.in-Err.ensures.err)
+    (log_handed_back _ _ _ _ c.args.me c.args.store c.in-Err.store c.in-Err.error c.requires
+    c.in-Err.ensures.err)

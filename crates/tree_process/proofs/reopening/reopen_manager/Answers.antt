@@ -17,7 +17,8 @@ pub returns-in-Ok-reopen-clause-ok : goal.returns-in-Ok-reopen-clause-ok
 returns-in-Ok-reopen-clause-ok g c =
     manager_left c.args.me c.args.parent c.args.tree (g.L.LogStore.bytes c.args.store)
     (g.L.LogStore.forced c.args.store) (g.L.LogStore.failures c.args.store) c.in-Ok.manager
-    (state sight_of c.in-Ok-reopen.subordinate) (sight_of c.in-Ok-reopen.subordinate.manager) c.in-Ok-reopen.reaction
+    (state sight_of c.in-Ok-reopen.subordinate) (sight_of c.in-Ok-reopen.subordinate.manager)
+    c.in-Ok-reopen.reaction
     c.in-Ok.ensures.ok c.in-Ok-reopen.ensures.ok c.in-Ok-reopen.ensures.writes
 
 pub returns-in-Err-clause-err : goal.returns-in-Err-clause-err
@@ -31,7 +32,8 @@ returns-in-Err-reopen-clause-err g c = rw c.of_subordinate.ensures
 
 pub returns-in-Err-reopen-clause-handed_back : goal.returns-in-Err-reopen-clause-handed_back
 returns-in-Err-reopen-clause-handed_back g c = rw c.of_subordinate.ensures
-    (subordinate_handed_back g.L.LogStore.bytes g.L.LogStore.forced g.L.LogStore.failures c.args.me c.args.store
+    (subordinate_handed_back g.L.LogStore.bytes g.L.LogStore.forced g.L.LogStore.failures
+    c.args.me c.args.store
     c.into_store.result c.in-Ok.manager c.in-Ok.ensures.ok
     (subst (λ (s : KvSight). kept_of s.log.sight.form (g.L.LogStore.bytes c.into_store.result)
     (g.L.LogStore.forced c.into_store.result) ≡ s.log.sight.kept) c.in-Err-reopen.ensures.err.1

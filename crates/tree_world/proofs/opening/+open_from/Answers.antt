@@ -7,7 +7,8 @@ use Rattle.tree_world.proofs.opening.+open_from.Goals as goal
 
 pub returns-in_default-clause-ok : goal.returns-in_default-clause-ok
 returns-in_default-clause-ok g t c =
-    none_from c.args.tree.now c.args.place c.args.nodes.now.entries c.in_default.ensures.lookup.3 c.requires.empty
+    none_from c.args.tree.now c.args.place c.args.nodes.now.entries c.in_default.ensures.lookup.3
+    c.requires.empty
 
 -- There is no store for it.
 
@@ -21,7 +22,8 @@ returns-in_default-pop-clause-err g t c =
 pub returns-in_default-pop-clause-handed_back : goal.returns-in_default-pop-clause-handed_back
 returns-in_default-pop-clause-handed_back g t c =
     let at = found_at c.args.tree.now c.args.place c.in-Some.entry c.in-Some.ensures.lookup in
-    none_handed_back_at g.L.LogStore.bytes g.L.LogStore.forced g.L.LogStore.failures c.args.tree.now c.args.place
+    none_handed_back_at g.L.LogStore.bytes g.L.LogStore.forced g.L.LogStore.failures
+    c.args.tree.now c.args.place
     c.in-Some.entry.now at.0 at.1 c.args.stores.now.items c.pop.new.self.items _
     (nil_from_length c.args.stores.now.items (sym c.args.stores.now.ok.0 ∙ c.in_default-pop.ensures.cases.0))
     (nil_from_length c.pop.new.self.items (sym c.pop.new.self.ok.0 ∙ c.in_default-pop.ensures.cases.1))
@@ -32,7 +34,8 @@ pub returns-in-Err-clause-err : goal.returns-in-Err-clause-err
 returns-in-Err-clause-err g t c =
     let at = found_at c.args.tree.now c.args.place c.in-Some.entry c.in-Some.ensures.lookup in
     refused_at g.L.LogStore.bytes g.L.LogStore.forced g.L.LogStore.failures c.args.tree.now c.args.place
-    c.in-Some.entry.now at.0 at.1 c.args.stores.now.items c.pop.new.self.items c.in-Some-pop.store c.in-Err.error
+    c.in-Some.entry.now at.0 at.1 c.args.stores.now.items c.pop.new.self.items
+    c.in-Some-pop.store c.in-Err.error
     c.in-Some-pop.ensures.items c.in-Err.ensures.err
 
 pub returns-in-Err-clause-handed_back : goal.returns-in-Err-clause-handed_back

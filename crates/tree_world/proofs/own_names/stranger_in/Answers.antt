@@ -29,9 +29,11 @@ loop-kind-preserved c =
     omega (arith, size, within) in (
       ap (λ at. first_stranger (is_at_home c.args.tree.now c.args.entry.now) c.in-Some-passed.next
           (placed_in c.args.form at 0 c.in-Some.behind.now)) next
-          ∙ home_goes_on (is_at_home c.args.tree.now c.args.entry.now) c.loop-kind.boot c.in-Some-passed.next _ _ _
+          ∙ home_goes_on (is_at_home c.args.tree.now c.args.entry.now) c.loop-kind.boot
+          c.in-Some-passed.next _ _ _
           c.in-Ok.read _
-          (goes_on c.args.form _ c.loop-kind.rest.now _ c.in-Ok.read (sym c.in-Some.ensures) c.in-Ok.ensures.ok)
+          (goes_on c.args.form _ c.loop-kind.rest.now _ c.in-Ok.read (sym c.in-Some.ensures)
+          c.in-Ok.ensures.ok)
           c.in-Some-passed.ensures.some.0 c.in-Some-passed.ensures.some.1 c.loop-kind.invariant.0,
       omega (arith, size, within),
     )

@@ -8,7 +8,8 @@ use Rattle.tree_world.proofs.reopening.+ready_from.Goals as goal
 pub returns-in_default-clause-ok : goal.returns-in_default-clause-ok
 returns-in_default-clause-ok g t c =
     none_readied g.L.LogStore.bytes g.L.LogStore.failures c.args.tree.now c.args.place c.args.stores.now.items
-    (past_in c.entries.result.now c.args.tree.now c.args.place c.entries.ensures c.in_default.ensures.lookup.3)
+    (past_in c.entries.result.now c.args.tree.now c.args.place c.entries.ensures
+    c.in_default.ensures.lookup.3)
 
 -- There is no store for it.
 
@@ -24,7 +25,8 @@ pub returns-in_default-pop-clause-handed_back : goal.returns-in_default-pop-clau
 returns-in_default-pop-clause-handed_back g t c =
     let at = found_in c.entries.result.now c.args.tree.now c.args.place c.in-Some.entry c.entries.ensures
     c.in-Some.ensures.lookup in
-    no_store_returned g.L.LogStore.bytes g.L.LogStore.forced g.L.LogStore.failures c.args.tree.now c.args.place
+    no_store_returned g.L.LogStore.bytes g.L.LogStore.forced g.L.LogStore.failures
+    c.args.tree.now c.args.place
     c.in-Some.entry.now at.0 at.1 c.args.stores.now.items c.pop.new.self.items _
     (nil_from_length c.args.stores.now.items (sym c.args.stores.now.ok.0 ∙ c.in_default-pop.ensures.cases.0))
     (nil_from_length c.pop.new.self.items (sym c.pop.new.self.ok.0 ∙ c.in_default-pop.ensures.cases.1))
@@ -42,7 +44,8 @@ returns-in-Err-clause-err g t c =
     let at = found_in c.entries.result.now c.args.tree.now c.args.place c.in-Some.entry c.entries.ensures
     c.in-Some.ensures.lookup in
     not_readied_at g.L.LogStore.bytes g.L.LogStore.forced g.L.LogStore.failures c.args.tree.now c.args.place
-    c.in-Some.entry.now at.0 at.1 c.args.stores.now.items c.pop.new.self.items c.in-Some-pop.store c.in-Err.error
+    c.in-Some.entry.now at.0 at.1 c.args.stores.now.items c.pop.new.self.items
+    c.in-Some-pop.store c.in-Err.error
     c.in-Some-pop.ensures.items c.in-Err.ensures.err
 
 pub returns-in-Err-clause-handed_back : goal.returns-in-Err-clause-handed_back
@@ -72,7 +75,8 @@ returns-in-Err-ready_from-clause-err g t c =
     let at = found_in c.entries.result.now c.args.tree.now c.args.place c.in-Some.entry c.entries.ensures
     c.in-Some.ensures.lookup in
     not_readied_from g.L.LogStore.bytes g.L.LogStore.forced g.L.LogStore.failures c.args.tree.now c.args.place
-    c.in-Some.entry.now at.0 at.1 c.args.stores.now.items c.pop.new.self.items c.in-Some-pop.store c.in-Ok.store
+    c.in-Some.entry.now at.0 at.1 c.args.stores.now.items c.pop.new.self.items
+    c.in-Some-pop.store c.in-Ok.store
     c.in-Err-ready_from.error c.requires.tree c.in-Some-pop.ensures.items c.in-Ok.ensures.ok
     c.in-Err-ready_from.ensures.err
 

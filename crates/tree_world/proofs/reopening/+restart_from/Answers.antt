@@ -9,9 +9,11 @@ use Rattle.tree_world.proofs.reopening.+restart_from.Goals as goal
 
 pub returns-in_default-clause-ok : goal.returns-in_default-clause-ok
 returns-in_default-clause-ok g t c =
-    none_restarted g.L.LogStore.bytes c.args.tree.now c.args.place c.args.stores.now.items c.args.nodes.now.entries
+    none_restarted g.L.LogStore.bytes c.args.tree.now c.args.place c.args.stores.now.items
+    c.args.nodes.now.entries
     c.args.journal.now
-    (past_in c.entries.result.now c.args.tree.now c.args.place c.entries.ensures c.in_default.ensures.lookup.3)
+    (past_in c.entries.result.now c.args.tree.now c.args.place c.entries.ensures
+    c.in_default.ensures.lookup.3)
     c.requires.empty
 
 -- There is no store for it.
@@ -20,7 +22,8 @@ pub returns-in_default-pop-clause-err : goal.returns-in_default-pop-clause-err
 returns-in_default-pop-clause-err g t c =
     let at = found_in c.entries.result.now c.args.tree.now c.args.place c.in-Some.entry c.entries.ensures
     c.in-Some.ensures.lookup in
-    no_store_restarted g.L.LogStore.bytes g.L.LogStore.forced g.L.LogStore.failures c.args.tree.now c.args.place
+    no_store_restarted g.L.LogStore.bytes g.L.LogStore.forced g.L.LogStore.failures
+    c.args.tree.now c.args.place
     c.in-Some.entry.now at.0 at.1 c.args.stores.now.items
     (nil_from_length c.args.stores.now.items (sym c.args.stores.now.ok.0 ∙ c.in_default-pop.ensures.cases.0))
 
@@ -48,7 +51,8 @@ returns-in-Err-clause-err g t c =
     let at = found_in c.entries.result.now c.args.tree.now c.args.place c.in-Some.entry c.entries.ensures
     c.in-Some.ensures.lookup in
     not_restarted_at g.L.LogStore.bytes g.L.LogStore.forced g.L.LogStore.failures c.args.tree.now c.args.place
-    c.in-Some.entry.now at.0 at.1 c.args.stores.now.items c.pop.new.self.items c.in-Some-pop.store c.in-Err.error
+    c.in-Some.entry.now at.0 at.1 c.args.stores.now.items c.pop.new.self.items
+    c.in-Some-pop.store c.in-Err.error
     c.requires.tree c.in-Some-pop.ensures.items c.in-Err.ensures.err
 
 pub returns-in-Err-clause-handed_back : goal.returns-in-Err-clause-handed_back
@@ -72,7 +76,16 @@ restart_from-requires g t c =
     ready_behind g.L.LogStore.bytes g.L.LogStore.forced g.L.LogStore.failures c.args.tree.now c.args.place
     c.in-Some.entry.now at.0 at.1 c.args.stores.now.items c.pop.new.self.items c.in-Some-pop.store
     c.in-Some-pop.ensures.items c.requires.ready in
-    λ κs below. (search rules, (below, (c.requires.tree, (more, (c.requires.empty, (c.requires.room, ready))))))
+    λ κs below. (
+      search rules,
+      (
+        below,
+        (
+          c.requires.tree,
+          (more, (c.requires.empty, (c.requires.room, ready))),
+        ),
+      ),
+    )
 
 -- It did, and so did those after it.
 
@@ -81,10 +94,13 @@ returns-in-Ok-restart_from-clause-ok g t c =
     let at = found_in c.entries.result.now c.args.tree.now c.args.place c.in-Some.entry c.entries.ensures
     c.in-Some.ensures.lookup in
     restarted_from g.L.LogStore.bytes g.L.LogStore.forced g.L.LogStore.failures c.args.tree.now c.args.place
-    c.in-Some.entry.now at.0 at.1 c.args.stores.now.items c.pop.new.self.items c.in-Some-pop.store c.in-Ok.node
-    c.restart_from.new.nodes.entries c.put_by_name.new.values.entries c.args.journal.now c.restarted.new.journal
+    c.in-Some.entry.now at.0 at.1 c.args.stores.now.items c.pop.new.self.items
+    c.in-Some-pop.store c.in-Ok.node
+    c.restart_from.new.nodes.entries c.put_by_name.new.values.entries c.args.journal.now
+    c.restarted.new.journal
     c.restart_from.new.journal c.requires.tree c.in-Some-pop.ensures.items c.in-Ok.ensures.ok
-    (c.put_by_name.ensures.own ∙ ap Some c.new.ensures) c.put_by_name.ensures.others c.in-Ok-restart_from.ensures.ok
+    (c.put_by_name.ensures.own ∙ ap Some c.new.ensures) c.put_by_name.ensures.others
+    c.in-Ok-restart_from.ensures.ok
 
 -- It did, and one after it did not.
 
@@ -92,7 +108,8 @@ pub returns-in-Err-restart_from-clause-err : goal.returns-in-Err-restart_from-cl
 returns-in-Err-restart_from-clause-err g t c =
     let at = found_in c.entries.result.now c.args.tree.now c.args.place c.in-Some.entry c.entries.ensures
     c.in-Some.ensures.lookup in
-    not_restarted_from g.L.LogStore.bytes g.L.LogStore.forced g.L.LogStore.failures c.args.tree.now c.args.place
+    not_restarted_from g.L.LogStore.bytes g.L.LogStore.forced g.L.LogStore.failures
+    c.args.tree.now c.args.place
     c.in-Some.entry.now at.0 at.1 c.args.stores.now.items c.pop.new.self.items c.in-Some-pop.store
     c.in-Err-restart_from.error c.requires.tree c.in-Some-pop.ensures.items c.in-Err-restart_from.ensures.err
 

@@ -22,15 +22,18 @@ returns-in-Ok-reopen_over-clause-ok g c =
     restarts_in g.L.LogStore.bytes g.L.LogStore.forced g.L.LogStore.failures c.args.tree.now c.args.entry.now
     c.args.store c.in-Ok.copy (core_of c.in-Ok-reopen_over.node) (data_of c.in-Ok-reopen_over.node)
     c.in-Ok-reopen_over.reaction c.args.journal.now c.make_room.new.self c.enter.new.self
-    (c.in-Ok.ensures ∙ c.entries.ensures) c.in-Ok-reopen_over.ensures.ok c.make_room.ensures.keeps c.enter.ensures.net
+    (c.in-Ok.ensures ∙ c.entries.ensures) c.in-Ok-reopen_over.ensures.ok c.make_room.ensures.keeps
+    c.enter.ensures.net
     c.enter.ensures.delivered c.enter.ensures.entries
 
 -- It did not.
 
 pub returns-in-Err-clause-err : goal.returns-in-Err-clause-err
 returns-in-Err-clause-err g c = rw c.of_node.ensures
-    (not_restarted_by g.L.LogStore.bytes g.L.LogStore.forced g.L.LogStore.failures c.args.tree.now c.args.entry.now
-    c.args.store c.in-Ok.copy (c.in-Ok.ensures ∙ c.entries.ensures) c.requires c.in-Err.error c.in-Err.ensures.err)
+    (not_restarted_by g.L.LogStore.bytes g.L.LogStore.forced g.L.LogStore.failures c.args.tree.now
+    c.args.entry.now
+    c.args.store c.in-Ok.copy (c.in-Ok.ensures ∙ c.entries.ensures) c.requires c.in-Err.error
+    c.in-Err.ensures.err)
 
 pub returns-in-Err-clause-handed_back : goal.returns-in-Err-clause-handed_back
 returns-in-Err-clause-handed_back g c = rw c.of_node.ensures

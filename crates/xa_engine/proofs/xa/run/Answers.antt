@@ -28,7 +28,8 @@ loop-i-preserved c =
     let made = c.in_ok-step-in-Some.ensures in (
       inv.0 ++ c.in-Some.request ∷ [],
       inv.1 ++ made.answer ∷ [],
-      goes_on (texts c.args.lines.now) c.loop-i.i inv.0 c.in-Some.request (omega (arith, long c.args.lines.now))
+      goes_on (texts c.args.lines.now) c.loop-i.i inv.0 c.in-Some.request
+          (omega (arith, long c.args.lines.now))
           (ap is_skipped (text_at c.args.lines.now c.loop-i.i) ∙ sym c.if-says_nothing.ensures)
           (spelled c.args.lines.now c.loop-i.i _ c.in-Some.request c.in-Some.is
           c.in_ok-request.ensures.found) inv.2,

@@ -25,12 +25,15 @@ loop-entry-preserved c =
     let e = c.entry-item.result in
     let rest = at_drop_more (λ xs. xs) c.args.entries.now c.loop-entry.entry-index e c.loop-entry-test.true
     ∙ ap (λ x. x ∷ drop (c.loop-entry.entry-index + 1) c.args.entries.now) (sym c.entry-item.is) in
-    let found = sound_found c.of_bytes-form.result c.bytes_of-bytes.result.now c.in-Ok.found c.in-Ok.ensures.ok in (
+    let found = sound_found c.of_bytes-form.result c.bytes_of-bytes.result.now c.in-Ok.found
+    c.in-Ok.ensures.ok in (
       text_more c.loop-entry.out.items c.push_held.new.out.items _ e
           (drop (c.loop-entry.entry-index + 1) c.args.entries.now) _ c.args.logs.now
           (c.in_ok-push_held-in-Ok.ensures
-          ∙ ap (λ f. c.loop-entry.out.items ++ held_text f c.bytes_of-bytes.result.now) c.of_bytes-form.ensures
-          ∙ ap (λ t. c.loop-entry.out.items ++ held_text (form_in t e.id e.kind) t) c.bytes_of-bytes.ensures) rest
+          ∙ ap (λ f. c.loop-entry.out.items ++ held_text f c.bytes_of-bytes.result.now)
+          c.of_bytes-form.ensures
+          ∙ ap (λ t. c.loop-entry.out.items ++ held_text (form_in t e.id e.kind) t) c.bytes_of-bytes.ensures)
+          rest
           c.loop-entry.invariant.0,
       sym (ap (λ es. first_damage es c.args.logs.now) rest
           ∙ sound_more e (drop (c.loop-entry.entry-index + 1) c.args.entries.now) c.args.logs.now found.0
@@ -45,7 +48,8 @@ returns-in-Err-Damaged c =
     let e = c.entry-item.result in
     let rest = at_drop_more (λ xs. xs) c.args.entries.now c.loop-entry.entry-index e c.loop-entry-test.true
     ∙ ap (λ x. x ∷ drop (c.loop-entry.entry-index + 1) c.args.entries.now) (sym c.entry-item.is) in
-    let is = no_log c.of_bytes-form.result c.bytes_of-bytes.result.now c.in-Err-Damaged.field-0 c.in-Err-Damaged.place
+    let is = no_log c.of_bytes-form.result c.bytes_of-bytes.result.now c.in-Err-Damaged.field-0
+    c.in-Err-Damaged.place
     c.in-Err-Damaged.ensures.err c.in-Err-Damaged.field-0-is in (
       e.id,
       c.in-Err-Damaged.place,

@@ -6,4 +6,5 @@ use Rattle.audit_engine.proofs.namings.Namings.passing.Given as goal
 
 abbrev pub invariant-loop-case : goal.invariant-loop-case
 invariant-loop-case l =
-    fold (with_entry (λ e. Kept e.0 (stands_in e.1.kinds))) l.found l.case-iterator ≡ namings_of l.fn.notes.table
+    fold (with_entry (λ e. Kept e.0 (stands_in e.1.kinds))) l.found l.case-iterator
+    ≡ namings_of l.fn.notes.table

@@ -27,7 +27,8 @@ invariant_of-self g c =
           (still_found placed j.late links.turn j.found j.spots.items c.self.invariant.0),
       ap length marks ∙ as_many_all made j.marks ∙ c.self.invariant.1,
       subst (λ l. AreDelivered c.note.new.marks l) entries
-          (subst (λ ms. AreDelivered ms (xs ++ made)) (sym marks) (entered_all j.marks xs made c.self.invariant.2)),
+          (subst (λ ms. AreDelivered ms (xs ++ made)) (sym marks)
+          (entered_all j.marks xs made c.self.invariant.2)),
       omega (arith, long, count, more, before),
     )
 

@@ -35,11 +35,13 @@ returns c =
     let p = c.in_ok-place.place in
     let less = c.if-number-len.false in
     let len = c.len.ensures ∙ c.self.inside.marks.ok.0 in
-    let at = subst (λ l. position (processes.ghosts.eq to) l ≡ Some p) c.self.invariant.1 (sym c.in_ok-place.ensures.index) in
+    let at = subst (λ l. position (processes.ghosts.eq to) l ≡ Some p) c.self.invariant.1
+    (sym c.in_ok-place.ensures.index) in
     let there = named_found rs p to at in
     let mine = ap (λ x. x.process) c.index-2.ensures ∙ there.1 _ in
     let told = subst (IsTold ms) (sym c.index-2.ensures) (c.self.invariant.0.told p _ there.0) in
-    subst (λ l. (n < length l) × (is_to to (slice_get l r.first) ≡ true) × NoneOpen to l n r.first) c.self.view_is (
+    subst (λ l. (n < length l) × (is_to to (slice_get l r.first) ≡ true) × NoneOpen to l n r.first)
+    c.self.view_is (
       omega (arith, less, len),
       subst (λ q. is_to q (slice_get ms r.first) ≡ true) mine told.begins,
       λ k low high. subst (λ q. NoneOpen q ms 0 r.first) mine told.none k (omega arith) high,

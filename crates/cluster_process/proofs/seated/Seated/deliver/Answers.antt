@@ -40,9 +40,11 @@ invariant_of-self-in-Err-1 g c =
       search rules,
       search rules,
       subst (λ l. OwnRun tree me l (core_of new)) (sym own)
-          (same_stays tree me c.self.inside.seat.me.0.process.own (core_of old) (core_of new) c.self.invariant.5 why.same),
+          (same_stays tree me c.self.inside.seat.me.0.process.own (core_of old) (core_of new)
+          c.self.invariant.5 why.same),
       subst (λ l. RunsAlone tree me l (core_of new) (data_of new)) (sym own)
-          (stays_alone c.self.inside.seat.me.0.process.own (core_of old) (core_of new) (data_of old) (data_of new)
+          (stays_alone c.self.inside.seat.me.0.process.own (core_of old) (core_of new)
+          (data_of old) (data_of new)
           c.self.invariant.6 why.same why.rests),
     )
 
@@ -59,7 +61,8 @@ returns-in_err-marked-clause-refused g c =
     (subst (λ (j : ClusterState). CutHolds tree (entries_in j.entries)) first c.is_a_run.ensures)
     (c.meets.ensures.met ∙ ap (λ (j : ClusterState). pairs_by pass.caller 0 j.entries) (sym same))
     c.in_err-marked.ensures.refused in
-    answered_so (NotPosted tree c.args.self.now.me event pass) e c.from_residual.result c.from_residual.ensures.1
+    answered_so (NotPosted tree c.args.self.now.me event pass) e c.from_residual.result
+    c.from_residual.ensures.1
     (subst (λ (s : SeatedState). NotPosted tree s.me event pass e) c.self.view_is not)
 
 pub returns-in-Err-clause-refused : goal.returns-in-Err-clause-refused
@@ -76,7 +79,8 @@ returns-in-Err-clause-refused g c =
     let m = c.room_for_more-most.new.marked in
     let as_was = c.room_for_more-most.ensures.same in
     let marked = marked_still _ _ _ _ c.in_ok-marked.marked m as_was.0 as_was.1 c.in_ok-marked.ensures.ok in
-    let not = not_made tree c.self.inside.me event pass e now.entries c.self.inside.seat.me.0.process.own (core_of old)
+    let not = not_made tree c.self.inside.me event pass e now.entries
+    c.self.inside.seat.me.0.process.own (core_of old)
     (core_of new) (data_of old) (data_of new) m c.in-Err.error
     (subst (λ (j : ClusterState). CutHolds tree (entries_in j.entries)) first c.is_a_run.ensures)
     (c.meets.ensures.met ∙ ap (λ (j : ClusterState). pairs_by pass.caller 0 j.entries) (sym same))
@@ -113,10 +117,12 @@ enter-place-requires-clause-made g c =
     let h = m.wanted.step.happening in
     let finds = subst (λ l. FindsMessage l me h) (sym (ap (λ w. w.0.process.net) seat))
     (finds_it _ me (core_of old) (Deliver c.args.number) h m.keep marked.happens) in
-    let made = turn_made tree net me c.caller-caller.result own m.wanted m.keep (core_of old) (core_of mid) (core_of new)
+    let made = turn_made tree net me c.caller-caller.result own m.wanted m.keep (core_of old)
+    (core_of mid) (core_of new)
     (data_of old) (data_of mid) (data_of new) c.in-Ok.first zs c.self.invariant.4 c.self.invariant.5 marked.at
     mine finds c.in-Ok.ensures.ok c.make_more.ensures in
-    subst (λ l. MadeTurn tree net me c.meets.new.pass.caller l zs (core_of new)) (sym (ap (λ w. w.0.process.own) seat))
+    subst (λ l. MadeTurn tree net me c.meets.new.pass.caller l zs (core_of new))
+    (sym (ap (λ w. w.0.process.own) seat))
     (subst (λ n. MadeTurn tree net me n own zs (core_of new)) c.caller-caller.ensures made)
 
 pub invariant_of-self-in-Ok : goal.invariant_of-self-in-Ok
@@ -145,7 +151,8 @@ invariant_of-self-in-Ok g c =
       subst (λ l. OwnRun tree me l (core_of new)) (sym after) c.enter-place.ensures.own,
       subst (λ l. RunsAlone tree me l (core_of new) (data_of new)) (sym own)
           (turn_runs tree c.mark.new.seat.me.0.process.net me c.caller-caller.result
-          c.self.inside.seat.me.0.process.own m.wanted m.keep (core_of old) (core_of mid) (core_of new) (data_of old)
+          c.self.inside.seat.me.0.process.own m.wanted m.keep (core_of old) (core_of mid)
+          (core_of new) (data_of old)
           (data_of mid) (data_of new) c.in-Ok.first zs marked.at mine
           c.in-Ok.ensures.ok c.make_more.ensures c.self.invariant.6),
     )
@@ -167,9 +174,12 @@ returns-in-Ok-clause-ok g c =
     let delivers = subst (λ l. Delivers l me c.args.number h)
     (sym (ap (λ w. w.0.process.net) c.in_ok-marked.ensures.seat)) marked.happens in
     let turn = turn_delivers tree c.mark.new.seat.me.0.process.net me c.caller-caller.result
-    c.self.inside.seat.me.0.process.own c.args.number m.wanted m.keep (core_of old) (core_of mid) (core_of new)
-    (data_of old) (data_of mid) (data_of new) c.in-Ok.first c.make_more.new.made.turn.entries c.meets.new.pass left place
+    c.self.inside.seat.me.0.process.own c.args.number m.wanted m.keep (core_of old)
+    (core_of mid) (core_of new)
+    (data_of old) (data_of mid) (data_of new) c.in-Ok.first c.make_more.new.made.turn.entries
+    c.meets.new.pass left place
     marked.at mine delivers c.in-Ok.ensures.ok c.make_more.ensures c.self.invariant.6
     c.enter-place.ensures.pass in
-    subst (λ (s : SeatedState). DeliversTurn tree s.me c.args.number c.args.pass.now left place) c.self.view_is
+    subst (λ (s : SeatedState). DeliversTurn tree s.me c.args.number c.args.pass.now left place)
+    c.self.view_is
     (subst (λ (p : PassState). DeliversTurn tree me c.args.number p left place) c.meets.ensures.same.1 turn)

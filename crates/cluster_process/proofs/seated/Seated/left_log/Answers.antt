@@ -22,14 +22,18 @@ returns-clause-left g c =
     let own = c.compare.ensures.tied
     ∙ ap (λ n. own_of n (entries_in c.ledger.inside.seat.me.0.journal.all)) named
     ∙ ap (λ l. entries_of me (entries_in l)) all in
-    let run : OwnRun tree me (entries_of me xs) core = subst (λ l. OwnRun tree me l core) own c.self.invariant.5 in
+    let run : OwnRun tree me (entries_of me xs) core =
+    subst (λ l. OwnRun tree me l core) own c.self.invariant.5 in
     let alone : RunsAlone tree me (entries_of me xs) core held =
     subst (λ l. RunsAlone tree me l core held) own c.self.invariant.6 in
     let left : IfOk c.records.result (λ log. LeavesLog tree xs me log.items) =
-    IfOk-weaker c.records.result (λ log. log.items ≡ records_of core.log.kept) (λ log. LeavesLog tree xs me log.items)
-    (λ log is. record { core = core; held = held; own = run; alone = alone; log_is = is }) c.records.ensures in
+    IfOk-weaker c.records.result (λ log. log.items ≡ records_of core.log.kept)
+    (λ log. LeavesLog tree xs me log.items)
+    (λ log is. record { core = core; held = held; own = run; alone = alone; log_is = is }) c.records.ensures
+    in
     subst (λ (s : SeatedState). IfOk c.records.result
     (λ log. LeavesLog tree (entries_in c.args.ledger.now.entries) s.me log.items))
     c.self.view_is
-    (subst (λ (j : ClusterState). IfOk c.records.result (λ log. LeavesLog tree (entries_in j.entries) me log.items))
+    (subst (λ (j : ClusterState). IfOk c.records.result
+    (λ log. LeavesLog tree (entries_in j.entries) me log.items))
     c.ledger.view_is left)

@@ -42,13 +42,15 @@ enter-place-requires-clause-made g c =
     let new = c.make_step.new.node in
     let net = net_of (entries_in c.deref_mut-2.result.now.entries) in
     let zs = c.in-Ok.made.turn.entries in
-    let made = turn_made tree net me c.caller.result own m.wanted m.keep (core_of old) (core_of new) (core_of new)
+    let made = turn_made tree net me c.caller.result own m.wanted m.keep (core_of old)
+    (core_of new) (core_of new)
     (data_of old) (data_of new) (data_of new) c.in-Ok.made zs c.self.invariant.4 c.self.invariant.5 marked.at
     c.in_ok-marked.ensures.mine
     (finds_it net me (core_of old) c.args.event m.wanted.step.happening m.keep marked.happens) step
     (further_none tree net me c.caller.result zs (core_of new) (data_of new)) in
     let process = ap (λ w. w.0.process) c.in_ok-marked.ensures.seat in
-    subst (λ (p : ProcessView). MadeTurn tree p.net me c.meets.new.pass.caller p.own zs (core_of new)) (sym process)
+    subst (λ (p : ProcessView). MadeTurn tree p.net me c.meets.new.pass.caller p.own zs (core_of new))
+    (sym process)
     (subst (λ n. MadeTurn tree net me n own zs (core_of new)) c.caller.ensures made)
 
 pub returns-in-Ok-clause-ok : goal.returns-in-Ok-clause-ok
@@ -64,14 +66,16 @@ returns-in-Ok-clause-ok g c =
     subst (λ (s : SeatedState). PostsOne tree s.me c.args.event c.args.pass.now c.enter-place.new.pass place
     c.begun-begun.result) c.self.view_is (record {
       entry = made.entry;
-      notes = subst (λ (p : PassState). NotesOne p c.enter-place.new.pass place made.entry) c.meets.ensures.same.1 notes;
+      notes = subst (λ (p : PassState). NotesOne p c.enter-place.new.pass place made.entry)
+          c.meets.ensures.same.1 notes;
       own = c.self.inside.seat.me.0.process.own;
       before = core_of old;
       behind = core_of c.make_step.new.node;
       held = data_of old;
       kept = data_of c.make_step.new.node;
       ran = c.self.invariant.6;
-      step = step_alone tree me _ _ _ _ m.keep m.wanted made.entry marked.at c.in_ok-marked.ensures.mine made.step
+      step = step_alone tree me _ _ _ _ m.keep m.wanted made.entry marked.at
+          c.in_ok-marked.ensures.mine made.step
           made.makes;
       is_for = subst (λ (s : Step). AsksAt (core_of old) c.args.event s.happening) (sym made.step)
           (asks_it _ me (core_of old) c.args.event m.wanted.step.happening m.keep marked.happens);
@@ -93,9 +97,11 @@ invariant_of-self-in-Err g c =
       search rules,
       search rules,
       subst (λ l. OwnRun tree me l (core_of new)) (sym own)
-          (same_stays tree me c.self.inside.seat.me.0.process.own (core_of old) (core_of new) c.self.invariant.5 why.same),
+          (same_stays tree me c.self.inside.seat.me.0.process.own (core_of old) (core_of new)
+          c.self.invariant.5 why.same),
       subst (λ l. RunsAlone tree me l (core_of new) (data_of new)) (sym own)
-          (stays_alone c.self.inside.seat.me.0.process.own (core_of old) (core_of new) (data_of old) (data_of new)
+          (stays_alone c.self.inside.seat.me.0.process.own (core_of old) (core_of new)
+          (data_of old) (data_of new)
           c.self.invariant.6 why.same why.rests),
     )
 
@@ -121,9 +127,11 @@ invariant_of-self-in-Ok g c =
       search rules,
       subst (λ l. OwnRun tree me l (core_of new)) (sym after) c.enter-place.ensures.own,
       subst (λ l. RunsAlone tree me l (core_of new) (data_of new)) (sym own)
-          (steps_alone c.self.inside.seat.me.0.process.own made.entry (core_of old) (core_of new) (data_of old)
+          (steps_alone c.self.inside.seat.me.0.process.own made.entry (core_of old)
+          (core_of new) (data_of old)
           (data_of new) c.self.invariant.6
-          (step_alone tree me (core_of old) (core_of new) (data_of old) (data_of new) m.keep m.wanted made.entry
+          (step_alone tree me (core_of old) (core_of new) (data_of old) (data_of new) m.keep
+          m.wanted made.entry
           c.in_ok-marked.ensures.ok.at c.in_ok-marked.ensures.mine made.step made.makes)),
     )
 
@@ -140,7 +148,8 @@ returns-in_err-marked-clause-refused g c =
     (subst (λ (j : ClusterState). CutHolds tree (entries_in j.entries)) first c.is_a_run.ensures)
     (c.meets.ensures.met ∙ ap (λ (j : ClusterState). pairs_by pass.caller 0 j.entries) (sym same))
     c.in_err-marked.ensures.refused in
-    answered_so (NotPosted tree c.args.self.now.me event pass) e c.from_residual.result c.from_residual.ensures.1
+    answered_so (NotPosted tree c.args.self.now.me event pass) e c.from_residual.result
+    c.from_residual.ensures.1
     (subst (λ (s : SeatedState). NotPosted tree s.me event pass e) c.self.view_is not)
 
 pub returns-in-Err-clause-refused : goal.returns-in-Err-clause-refused
@@ -154,7 +163,8 @@ returns-in-Err-clause-refused g c =
     let first = c.deref.ensures ∙ sym c.deref_mut.ensures.value ∙ sym same in
     let old = c.self.inside.node in
     let new = c.make_step.new.node in
-    let not = not_made tree c.self.inside.me event pass e now.entries c.self.inside.seat.me.0.process.own (core_of old)
+    let not = not_made tree c.self.inside.me event pass e now.entries
+    c.self.inside.seat.me.0.process.own (core_of old)
     (core_of new) (data_of old) (data_of new) c.in_ok-marked.marked c.in-Err.error
     (subst (λ (j : ClusterState). CutHolds tree (entries_in j.entries)) first c.is_a_run.ensures)
     (c.meets.ensures.met ∙ ap (λ (j : ClusterState). pairs_by pass.caller 0 j.entries) (sym same))

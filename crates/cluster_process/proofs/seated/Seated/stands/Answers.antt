@@ -20,7 +20,8 @@ returns-clause-stands g c =
     let own = c.compare.ensures.tied
     ∙ ap (λ n. own_of n (entries_in c.ledger.inside.seat.me.0.journal.all)) named
     ∙ ap (λ l. entries_of me (entries_in l)) all in
-    let stands : StandsInRun tree xs me core = one_stands tree xs has.left me core c.ledger.invariant.2 has.cut
+    let stands : StandsInRun tree xs me core = one_stands tree xs has.left me core
+    c.ledger.invariant.2 has.cut
     (subst (λ l. OwnRun tree me l core) own c.self.invariant.5) in
     subst (λ (s : SeatedState). StandsInRun tree (entries_in c.args.ledger.now.entries) s.me (core_of s.node))
     c.self.view_is

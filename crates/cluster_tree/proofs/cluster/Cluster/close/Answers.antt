@@ -19,6 +19,7 @@ returns-in-Ok g c =
         both.0,
         both.1,
         subst (λ xs. AreBelow g.N.Seats.callers xs)
-            (sym (c.into_journal.ensures.same ∙ c.in-Ok.ensures.entries ∙ same)) c.callers_are_known.ensures.known,
+            (sym (c.into_journal.ensures.same ∙ c.in-Ok.ensures.entries ∙ same))
+            c.callers_are_known.ensures.known,
       );
     }

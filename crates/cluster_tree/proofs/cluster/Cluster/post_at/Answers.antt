@@ -9,4 +9,5 @@ returns-in_default-clause-refused g c =
 
 pub returns-clause-refused : goal.returns-clause-refused
 returns-clause-refused g c =
-    not_at c.post_in.result g.N.Seats.tree c.args.process c.args.event c.args.pass.now c.post_in.ensures.refused
+    not_at c.post_in.result g.N.Seats.tree c.args.process c.args.event c.args.pass.now
+    c.post_in.ensures.refused

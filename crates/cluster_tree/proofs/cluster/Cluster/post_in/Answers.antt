@@ -11,7 +11,8 @@ post-requires-clause-acts g c =
 
 pub returns-clause-ok : goal.returns-clause-ok
 returns-clause-ok g c =
-    subst (λ q. IfOk c.post.result (λ r. PostsOne g.N.Seats.tree q c.args.event c.args.pass.now c.post.new.pass r.place
+    subst (λ q. IfOk c.post.result (λ r. PostsOne g.N.Seats.tree q c.args.event c.args.pass.now
+    c.post.new.pass r.place
     r.begun)) (sym c.me.ensures ∙ c.if-not-is_same.ensures.yes refl) c.post.ensures.ok
 
 pub returns-clause-refused : goal.returns-clause-refused

@@ -14,7 +14,8 @@ returns-in-Deliver-clause-ok g c =
 
 pub returns-in-Deliver-clause-addressed : goal.returns-in-Deliver-clause-addressed
 returns-in-Deliver-clause-addressed g c =
-    subst (λ (e : Event). IfOk c.receiver.result (λ (q : ProcessId). IsAddressed g.N.Seats.tree c.args.pass.now q e))
+    subst (λ (e : Event). IfOk c.receiver.result
+    (λ (q : ProcessId). IsAddressed g.N.Seats.tree c.args.pass.now q e))
     (sym c.in-Deliver.is) c.receiver.ensures.ok
 
 pub returns-in-Deliver-clause-err : goal.returns-in-Deliver-clause-err

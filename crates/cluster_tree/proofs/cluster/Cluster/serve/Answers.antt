@@ -6,4 +6,8 @@ pub loop-init : goal.loop-init
 loop-init g c = (search rules, search rules, as_long _)
 
 pub loop-preserved : goal.loop-preserved
-loop-preserved g c = (search rules, search rules, longer_still _ _ _ c.loop.invariant.2 c.deliver_from.ensures)
+loop-preserved g c = (
+  search rules,
+  search rules,
+  longer_still _ _ _ c.loop.invariant.2 c.deliver_from.ensures,
+)

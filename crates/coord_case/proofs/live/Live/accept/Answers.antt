@@ -13,7 +13,15 @@ overflow_add-self c =
     let more : missing_in c.push_reserved.new.self.items ≡ c.self.inside.missing + 1 =
     ap missing_in pushed ∙ counted-push is_missing c.self.inside.children.items _
     ∙ ap (λ n. n + 1) (sym c.self.invariant.missing) in
-    record { fits = omega (arith, more, few_missing c.push_reserved.new.self.items, c.len-children.ensures.value, c.len-children.type_inv) }
+    record {
+      fits = omega (
+        arith,
+        more,
+        few_missing c.push_reserved.new.self.items,
+        c.len-children.ensures.value,
+        c.len-children.type_inv,
+      );
+    }
 
 pub invariant_of-self-2 : goal.invariant_of-self-2
 invariant_of-self-2 c =
@@ -24,7 +32,8 @@ invariant_of-self-2 c =
           ∙ distinct-push c.self.inside.children.items _ c.self.invariant.distinct (search rules);
       missing = ap (λ n. n + 1) c.self.invariant.missing
           ∙ sym (ap missing_in pushed ∙ counted-push is_missing c.self.inside.children.items _);
-      yes = c.self.invariant.yes ∙ sym (ap yes_in pushed ∙ counted-push (is_vote Yes) c.self.inside.children.items _
+      yes = c.self.invariant.yes ∙ sym (ap yes_in pushed
+          ∙ counted-push (is_vote Yes) c.self.inside.children.items _
           ∙ plain (yes_in c.self.inside.children.items));
     }
   where

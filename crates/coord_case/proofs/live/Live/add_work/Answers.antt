@@ -28,4 +28,5 @@ returns c =
     let is : c.args.sent + 1 ≡ works_of (works_in c.self.inside.children.items) c.args.ticket.now + 1 =
     ap (λ n. n + 1) (c.requires.sent ∙ sym (ap (λ v. works_of v.works c.args.ticket.now) c.self.view_is)) in
     rw (c.set_works.ensures.items, ← c.self.view_is) (sends-work c.self.inside.standing
-    c.self.inside.children.items _ _ _ _ c.args.ticket.now (c.args.sent + 1) c.self.invariant.distinct there is)
+    c.self.inside.children.items _ _ _ _ c.args.ticket.now (c.args.sent + 1)
+    c.self.invariant.distinct there is)

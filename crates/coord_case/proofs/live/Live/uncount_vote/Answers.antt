@@ -18,12 +18,14 @@ found_is t cs ds o w same found is = sym (ap (voted t) same) ∙ sym found ∙ i
 
 pub overflow_sub-self : goal.overflow_sub-self
 overflow_sub-self c =
-    let counts = vote_uncounts c.self.inside.children.items c.args.ticket.now c.in-Some.vote (found_is _ _ _ _ _ c.as_slice.ensures c.vote_of.ensures c.in-Some.is) in
+    let counts = vote_uncounts c.self.inside.children.items c.args.ticket.now c.in-Some.vote
+    (found_is _ _ _ _ _ c.as_slice.ensures c.vote_of.ensures c.in-Some.is) in
     omega (arith, counts.1, c.self.invariant.yes, c.yes_in_vote.ensures)
 
 pub overflow_add-self : goal.overflow_add-self
 overflow_add-self c =
-    let counts = vote_uncounts c.self.inside.children.items c.args.ticket.now c.in-Some.vote (found_is _ _ _ _ _ c.as_slice.ensures c.vote_of.ensures c.in-Some.is) in
+    let counts = vote_uncounts c.self.inside.children.items c.args.ticket.now c.in-Some.vote
+    (found_is _ _ _ _ _ c.as_slice.ensures c.vote_of.ensures c.in-Some.is) in
     let now = ap missing_in c.set_vote.ensures.items in
     record {
       fits = omega (
@@ -39,7 +41,8 @@ overflow_add-self c =
 
 pub invariant_of-self : goal.invariant_of-self
 invariant_of-self c =
-    let counts = vote_uncounts c.self.inside.children.items c.args.ticket.now c.in-Some.vote (found_is _ _ _ _ _ c.as_slice.ensures c.vote_of.ensures c.in-Some.is) in
+    let counts = vote_uncounts c.self.inside.children.items c.args.ticket.now c.in-Some.vote
+    (found_is _ _ _ _ _ c.as_slice.ensures c.vote_of.ensures c.in-Some.is) in
     let missing = ap missing_in c.set_vote.ensures.items in
     let yes = ap yes_in c.set_vote.ensures.items in
     record {

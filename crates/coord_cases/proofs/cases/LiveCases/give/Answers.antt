@@ -10,8 +10,10 @@ invariant_of-self-2 c =
     (record { given_for = Some c.args.parent; live = c.open.result }) c.args.parent
     c.self.invariant refl c.open.ensures (ap (λ slots. ticket_in slots c.args.parent) c.self.view_is
     ∙ c.requires.ungiven)
-    (fresh_ungiven c.self.inside.table (child_case c.args.parent.txn c.args.ticket) c.args.ticket c.self.invariant refl
-    (subst (λ slots. IsFreshTicket slots c.args.ticket) (sym c.self.view_is) c.requires.fresh)) c.in_ok-put.ensures.ok
+    (fresh_ungiven c.self.inside.table (child_case c.args.parent.txn c.args.ticket) c.args.ticket
+    c.self.invariant refl
+    (subst (λ slots. IsFreshTicket slots c.args.ticket) (sym c.self.view_is) c.requires.fresh))
+    c.in_ok-put.ensures.ok
 
 pub returns-clause-ok : goal.returns-clause-ok
 returns-clause-ok c =
@@ -20,5 +22,7 @@ returns-clause-ok c =
     (record { given_for = Some c.args.parent; live = c.open.result }) c.args.parent
     c.self.invariant refl c.open.ensures (ap (λ slots. ticket_in slots c.args.parent) c.self.view_is
     ∙ c.requires.ungiven)
-    (fresh_ungiven c.self.inside.table (child_case c.args.parent.txn c.args.ticket) c.args.ticket c.self.invariant refl
-    (subst (λ slots. IsFreshTicket slots c.args.ticket) (sym c.self.view_is) c.requires.fresh)) c.in_ok-put.ensures.ok)
+    (fresh_ungiven c.self.inside.table (child_case c.args.parent.txn c.args.ticket) c.args.ticket
+    c.self.invariant refl
+    (subst (λ slots. IsFreshTicket slots c.args.ticket) (sym c.self.view_is) c.requires.fresh))
+    c.in_ok-put.ensures.ok)

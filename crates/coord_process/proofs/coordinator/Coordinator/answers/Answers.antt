@@ -18,5 +18,6 @@ returns-clause-ok g c =
     (Takes c.args.case (met c.args.self.now c.args.case c.args.asked)) reaction) (sym c.reaction.ensures)
     (answered_turn c.args.self.now c.args.case c.args.asked c.in_ok-effect.effect c.requires.any
     c.requires.gone c.requires.apart c.requires.fits
-    (subst (λ s. DoesRow s (asked_row (seat_meant s) c.args.asked unknown_view) c.in_ok-effect.effect unknown_view)
+    (subst (λ s. DoesRow s (asked_row (seat_meant s) c.args.asked unknown_view)
+    c.in_ok-effect.effect unknown_view)
     here c.in_ok-effect.ensures))

@@ -97,7 +97,8 @@ invariant_of-self-in-Err g c =
     let breaks : Breaks c.make_room.new.log c.write_down.new.log
     (framed_of c.in_ok-effect.effect.written) = search rules in (
       record {
-        form = breaks.form ∙ ap (λ (s : LogSight). s.form) c.make_room.ensures.stays ∙ c.self.invariant.0.form;
+        form = breaks.form ∙ ap (λ (s : LogSight). s.form) c.make_room.ensures.stays
+            ∙ c.self.invariant.0.form;
         active = c.self.invariant.0.active;
         known = c.self.invariant.0.known;
         given = c.self.invariant.0.given;
@@ -150,7 +151,8 @@ returns-in_err-effect-clause-err g c =
     (sym c.self.view_is) told in
     let unwritten : (view : CoordinatorView) → NotWritten v.parent
     (unknown_forget (seat_meant (seat_for v c.args.case)) view).written c.in_err-effect.field-0.0 =
-    subst (λ (s : OwnCase). (view : CoordinatorView) → NotWritten s.parent (unknown_forget (seat_meant s) view).written
+    subst (λ (s : OwnCase). (view : CoordinatorView) → NotWritten s.parent
+    (unknown_forget (seat_meant s) view).written
     c.in_err-effect.field-0.0) c.seat.ensures c.in_err-effect.ensures.unwritten in
     subst (λ (w : CoordinatorValue). IfErr c.from_residual-in_err-effect.result
     (Stopped (state w) (state new) (meant w (Clears c.args.case)))) c.self.view_is

@@ -53,12 +53,15 @@ pub returns-in-Ack : goal.returns-in-Ack
 returns-in-Ack g c =
     let is : c.args.message.now ≡ Ack c.in-Ack.case c.in-Ack.outcome c.in-Ack.findings = search rules in
     let hears : HearsFrom c.args.self.now c.in-Ack.case (λ found. child_turn c.in-Ack.case
-    (λ t. ack_turn (state c.args.self.now) c.in-Ack.outcome c.in-Ack.findings t found)) c.hear_ack.result = search rules in
+    (λ t. ack_turn (state c.args.self.now) c.in-Ack.outcome c.in-Ack.findings t found))
+    c.hear_ack.result = search rules in
     subst (λ (m : Message). Hears c.args.self.now (MessageInput c.args.number m)
     (λ found. child_says (state c.args.self.now) found m) c.hear_ack.result) (sym is)
-    (heard_from c.args.self.now (MessageInput c.args.number (Ack c.in-Ack.case c.in-Ack.outcome c.in-Ack.findings))
+    (heard_from c.args.self.now (MessageInput c.args.number
+    (Ack c.in-Ack.case c.in-Ack.outcome c.in-Ack.findings))
     c.in-Ack.case
-    (λ found. child_says (state c.args.self.now) found (Ack c.in-Ack.case c.in-Ack.outcome c.in-Ack.findings)) c.hear_ack.result
+    (λ found. child_says (state c.args.self.now) found (Ack c.in-Ack.case c.in-Ack.outcome c.in-Ack.findings))
+    c.hear_ack.result
     refl (λ d u. refl) hears)
 
 pub returns-in-Inquire : goal.returns-in-Inquire

@@ -56,12 +56,14 @@ invariant_of-self-2 g c =
     let gives = c.in_ok-give.ensures.ok in (
       record {
         form = c.self.invariant.0.form;
-        active = given_active v.slots c.give.new.self c.args.case (own_ticket v (v.given + 1)) c.self.invariant.0.active
+        active = given_active v.slots c.give.new.self c.args.case (own_ticket v (v.given + 1))
+            c.self.invariant.0.active
             gives;
         known = given_known v.slots c.give.new.self c.args.case (own_ticket v (v.given + 1))
             c.self.invariant.0.known gives;
         given = given_after v c.give.new.self c.args.case c.self.invariant.0 gives.ticket gives.tickets;
       },
-      remembered_still v (record v { given = v.given + 1; slots = c.give.new.self }) c.self.inside.front refl refl
+      remembered_still v (record v { given = v.given + 1; slots = c.give.new.self })
+          c.self.inside.front refl refl
           c.self.invariant.1,
     )

@@ -23,10 +23,13 @@ returns-then-branch g c =
     let is : IsRemembered v (Some c.in-Some.front) =
     subst (λ (w : CoordinatorValue). IsRemembered w (Some c.in-Some.front)) (sym c.self.view_is)
     (subst (IsRemembered c.args.self.now) c.in-Some.is c.requires) in
-    subst (λ (w : CoordinatorValue). RemembersCases (own_records (place_of w) (left_by w.log.sight c.args.keep))
+    subst (λ (w : CoordinatorValue). RemembersCases
+    (own_records (place_of w) (left_by w.log.sight c.args.keep))
     c.read_on.new.self) c.self.view_is
-    (read_on v c.in-Some.front c.in_ok-records.records.items (left_by v.log.sight c.args.keep) c.read_on.new.self is
-    (c.in_ok-records.ensures {u = tt}) (λ front. own_append v.me v.parent v.tree front c.in_ok-records.records.items)
+    (read_on v c.in-Some.front c.in_ok-records.records.items (left_by v.log.sight c.args.keep)
+    c.read_on.new.self is
+    (c.in_ok-records.ensures {u = tt}) (λ front. own_append v.me v.parent v.tree front
+    c.in_ok-records.records.items)
     (λ front k. subst (λ ls. RemembersCases (own_records (place_of v) front ++ own_records (place_of v) ls)
     c.read_on.new.self) c.deref.ensures.value
     (c.in_ok-read_on.ensures {u = tt} c.if-branch.true (own_records (place_of v) front) k)))

@@ -16,6 +16,7 @@ returns-clause-known g c =
       given = c.self.inside.given;
       slots = c.self.inside.cases;
     } in
-    subst (λ (w : CoordinatorValue). KnowsCases (λ d. ((state w).view_of d).standing) c.len.result) c.self.view_is
+    subst (λ (w : CoordinatorValue). KnowsCases (λ d. ((state w).view_of d).standing) c.len.result)
+    c.self.view_is
     (subst (λ n. KnowsCases (λ d. ((state v).view_of d).standing) n) (sym c.len.ensures.count)
     (known_counted v.slots c.self.invariant.0.known c.len.ensures.apart))

@@ -17,7 +17,8 @@ returns-in-Err-clause-err g c =
       given = 0;
       slots = c.new.result;
     } in
-    subst (CoordinatorNotReopened (place_of v) c.args.log.sight c.into_log.result.sight) (sym c.reopen_error.ensures)
+    subst (CoordinatorNotReopened (place_of v) c.args.log.sight c.into_log.result.sight)
+    (sym c.reopen_error.ensures)
     (not_reopened v c.restart.new.self c.size-keep.result c.in-Err.error c.into_log.result
     c.size-keep.ensures.keeps c.into_log.ensures c.in-Err.ensures.err)
 

@@ -46,7 +46,8 @@ invariant_of-self-2 g c =
     c.deref.ensures.value c.in_default.ensures.ok in (
       is_coordinator v ls c.in_ok-rebuilt.rebuilt c.restart.new.self rebuilds
           (c.restart.ensures.form ∙ c.self.invariant.0.form),
-      remembered_restarted v c.args.keep c.in_ok-rebuilt.rebuilt c.restart.new.self c.size.result rebuilds restarted
+      remembered_restarted v c.args.keep c.in_ok-rebuilt.rebuilt c.restart.new.self c.size.result
+          rebuilds restarted
           (c.size.ensures.whole restarted.works),
     )
 
@@ -69,9 +70,11 @@ returns-clause-ok g c =
     let ls : List LogRecord = left_by v.log.sight c.args.keep in
     let rebuilds : RebuildsCases (place_of v) ls c.in_ok-rebuilt.rebuilt =
     c.in_ok-rebuilt.ensures.ok v.tree ls (c.in_ok-remembered.ensures {u = tt}) in
-    subst (λ (w : CoordinatorValue). ProcessRestarts (state w) c.args.keep (state (rebuilt_as v c.restart.new.self
+    subst (λ (w : CoordinatorValue). ProcessRestarts (state w) c.args.keep
+    (state (rebuilt_as v c.restart.new.self
     c.in_ok-rebuilt.rebuilt)) c.in_ok-rebuilt.rebuilt.reaction) c.self.view_is
-    (restarts v c.args.keep ls c.in_ok-rebuilt.rebuilt c.restart.new.self refl rebuilds c.self.invariant.0.form
+    (restarts v c.args.keep ls c.in_ok-rebuilt.rebuilt c.restart.new.self refl rebuilds
+    c.self.invariant.0.form
     restarted)
 
 pub returns-in_err-rebuilt-clause-err : goal.returns-in_err-rebuilt-clause-err
@@ -91,7 +94,8 @@ returns-in_err-rebuilt-clause-err g c =
     (made_error (ProcessNotRestarted (state v) c.args.keep (state v)) c.in_err-rebuilt.field-0.0
     c.from_residual-in_err-rebuilt.result c.from_residual-in_err-rebuilt.ensures.1
     (not_rebuilt v c.args.keep (left_by v.log.sight c.args.keep) c.in_err-rebuilt.field-0.0 refl
-    (c.in_err-rebuilt.ensures.err v.tree (left_by v.log.sight c.args.keep) (c.in_ok-remembered.ensures {u = tt}))))
+    (c.in_err-rebuilt.ensures.err v.tree (left_by v.log.sight c.args.keep)
+    (c.in_ok-remembered.ensures {u = tt}))))
 
 pub returns-in-Err-clause-err : goal.returns-in-Err-clause-err
 returns-in-Err-clause-err g c =
@@ -110,11 +114,14 @@ returns-in-Err-clause-err g c =
     c.in_ok-rebuilt.ensures.ok v.tree ls (c.in_ok-remembered.ensures {u = tt}) in
     let broke : LogNotRestarted c.self.inside.log c.restart.new.self c.args.keep
     (map frame_record c.in_ok-rebuilt.rebuilt.frames.items) c.in-Err.error =
-    subst (λ frames. LogNotRestarted c.self.inside.log c.restart.new.self c.args.keep (map frame_record frames)
+    subst (λ frames. LogNotRestarted c.self.inside.log c.restart.new.self c.args.keep
+    (map frame_record frames)
     c.in-Err.error) c.deref.ensures.value c.in-Err.ensures.err in
-    subst (ProcessNotRestarted (state c.args.self.now) c.args.keep (state (record v { log = c.restart.new.self })))
+    subst (ProcessNotRestarted (state c.args.self.now) c.args.keep
+    (state (record v { log = c.restart.new.self })))
     (sym c.step_error.ensures)
     (subst (λ (w : CoordinatorValue). ProcessNotRestarted (state w) c.args.keep
     (state (record v { log = c.restart.new.self })) (error_of c.in-Err.error)) c.self.view_is
-    (not_restarted v c.args.keep ls c.in_ok-rebuilt.rebuilt c.restart.new.self refl rebuilds c.self.invariant.0.form
+    (not_restarted v c.args.keep ls c.in_ok-rebuilt.rebuilt c.restart.new.self refl rebuilds
+    c.self.invariant.0.form
     c.in-Err.error broke))

@@ -9,7 +9,8 @@ use Rattle.coord_process.proofs.coordinator.Coordinator.step.Goals as goal
 
 pub returns-in-Begins-clause-ok : goal.returns-in-Begins-clause-ok
 returns-in-Begins-clause-ok g c =
-    let meets : Meets c.args.self.now (input_of c.args.input) (Begins c.in-Begins.presumption) = search rules in
+    let meets : Meets c.args.self.now (input_of c.args.input) (Begins c.in-Begins.presumption) = search rules
+    in
     step_ok c.args.self.now (state c.begins.new.self) (input_of c.args.input)
     (Begins c.in-Begins.presumption) c.begins.result meets
     (for_input RetiresNone (λ i reaction. Turned (state c.args.self.now) (state c.begins.new.self)

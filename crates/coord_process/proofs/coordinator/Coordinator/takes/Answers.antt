@@ -90,13 +90,16 @@ invariant_of-self-in-Err g c =
     let breaks : Breaks c.make_room.new.log c.write_down.new.log
     (framed_of c.in_ok-effect.effect.written) = search rules in (
       record {
-        form = breaks.form ∙ ap (λ (s : LogSight). s.form) c.make_room.ensures.stays ∙ c.self.invariant.0.form;
+        form = breaks.form ∙ ap (λ (s : LogSight). s.form) c.make_room.ensures.stays
+            ∙ c.self.invariant.0.form;
         active = takes.given;
         known = takes.known c.self.invariant.0.known;
         given = λ d n is. c.self.invariant.0.given d n
-            (active_before v.slots c.take.new.cases (is_retiring c.args.asked) c.args.case d _ (takes.tickets d) is);
+            (active_before v.slots c.take.new.cases (is_retiring c.args.asked) c.args.case d _
+            (takes.tickets d) is);
       },
-      remembered_broken v (record v { log = c.write_down.new.log; slots = c.take.new.cases }) c.self.inside.front
+      remembered_broken v (record v { log = c.write_down.new.log; slots = c.take.new.cases })
+          c.self.inside.front
           c.make_room.new.log (framed_of c.in_ok-effect.effect.written) refl c.make_room.ensures.stays breaks
           c.self.invariant.1,
     )
@@ -125,10 +128,13 @@ invariant_of-self-3 g c =
         active = takes.given;
         known = takes.known c.self.invariant.0.known;
         given = λ d n is. c.self.invariant.0.given d n
-            (active_before v.slots c.take.new.cases (is_retiring c.args.asked) c.args.case d _ (takes.tickets d) is);
+            (active_before v.slots c.take.new.cases (is_retiring c.args.asked) c.args.case d _
+            (takes.tickets d) is);
       },
-      remembered_written v (record v { log = c.write_down.new.log; slots = c.take.new.cases }) c.self.inside.front
-          c.make_room.new.log c.in_ok-effect.effect.written refl c.make_room.ensures.stays writes c.self.invariant.1,
+      remembered_written v (record v { log = c.write_down.new.log; slots = c.take.new.cases })
+          c.self.inside.front
+          c.make_room.new.log c.in_ok-effect.effect.written refl c.make_room.ensures.stays writes
+          c.self.invariant.1,
     )
 
 pub returns-in_err-effect-clause-err : goal.returns-in_err-effect-clause-err
@@ -146,9 +152,11 @@ returns-in_err-effect-clause-err g c =
     let new : CoordinatorValue = record v { log = c.make_room.new.log; slots = c.take.new.cases } in
     let same : SameCore (state v) (state new) =
     same_cases v c.make_room.new.log c.take.new.cases c.make_room.ensures.stays c.in_err-effect.ensures.err in
-    let untaken : RowNotTaken (seat_for v c.args.case) (asked_row (seat_meant (seat_for v c.args.case)) c.args.asked
+    let untaken : RowNotTaken (seat_for v c.args.case)
+    (asked_row (seat_meant (seat_for v c.args.case)) c.args.asked
     (view_in v.slots c.args.case)) c.in_err-effect.field-0.0 =
-    subst (λ (s : OwnCase). RowNotTaken s (asked_row (seat_meant s) c.args.asked (view_in v.slots s.case)) c.in_err-effect.field-0.0)
+    subst (λ (s : OwnCase). RowNotTaken s (asked_row (seat_meant s) c.args.asked (view_in v.slots s.case))
+    c.in_err-effect.field-0.0)
     c.seat-seat.ensures c.in_err-effect.ensures.untaken in
     subst (λ (w : CoordinatorValue). IfErr c.from_residual-in_err-effect.result
     (Stopped (state w) (state new) (Takes c.args.case (met w c.args.case c.args.asked)))) c.self.view_is

@@ -17,7 +17,8 @@ invariant_of-self g c = (
 )
 
 pub trim-requires-clause-own : goal.trim-requires-clause-own
-trim-requires-clause-own g c = sym (no_own_data c.self.inside.log.sight (ap (λ f. f.kind) c.self.invariant.0.form))
+trim-requires-clause-own g c = sym (no_own_data c.self.inside.log.sight
+    (ap (λ f. f.kind) c.self.invariant.0.form))
 
 pub invariant_of-self-2 : goal.invariant_of-self-2
 invariant_of-self-2 g c = (

@@ -9,13 +9,17 @@ loop-rest-init c = reading_begins _ _ _
 pub loop-rest-preserved : goal.loop-rest-preserved
 loop-rest-preserved c = reading_goes_on (place_below c.args.me c.args.parent c.args.tree.now) c.args.self.now
     c.loop-rest.self c.take.new.self c.args.records.now _ c.record-item.result
-    (subst (λ ls. ReadsOn (place_below c.args.me c.args.parent c.args.tree.now) c.args.self.now c.loop-rest.self
+    (subst (λ ls. ReadsOn (place_below c.args.me c.args.parent c.args.tree.now) c.args.self.now
+    c.loop-rest.self
     c.args.records.now ls)
-    (first_and_rest c.loop-rest.rest.now c.record-item.result (search rules) (search rules)) c.loop-rest.invariant)
+    (first_and_rest c.loop-rest.rest.now c.record-item.result (search rules) (search rules))
+    c.loop-rest.invariant)
     (c.in_ok-take.ensures {u = tt} (search rules))
 
 pub returns : goal.returns
-returns c = λ yes. reading_ends (place_below c.args.me c.args.parent c.args.tree.now) c.args.self.now c.loop-rest.self
+returns c = λ yes. reading_ends (place_below c.args.me c.args.parent c.args.tree.now) c.args.self.now
+    c.loop-rest.self
     c.args.records.now
-    (subst (λ ls. ReadsOn (place_below c.args.me c.args.parent c.args.tree.now) c.args.self.now c.loop-rest.self
+    (subst (λ ls. ReadsOn (place_below c.args.me c.args.parent c.args.tree.now) c.args.self.now
+    c.loop-rest.self
     c.args.records.now ls) (none_left c.loop-rest.rest.now c.in_default.len_below) c.loop-rest.invariant)

@@ -13,7 +13,8 @@ pub returns-in-Some-clause-added : goal.returns-in-Some-clause-added
 returns-in-Some-clause-added c t ls kept is h =
     let words : texts c.deref.result.now ≡ words_in c.args.line.now =
     ap texts c.deref.ensures.value ∙ c.in_ok-words.ensures in
-    rules_more ls c.args.line.now c.args.self.now c.in-Some.rules c.args.number kept is c.in-Some.ensures.found.0
+    rules_more ls c.args.line.now c.args.self.now c.in-Some.rules c.args.number kept is
+    c.in-Some.ensures.found.0
     (ap (ruled c.args.self.now.rules) (sym words) ∙ c.in-Some.ensures.found.1) h
 
 pub returns-clause-added : goal.returns-clause-added
@@ -23,7 +24,8 @@ returns-clause-added c t ls kept is h =
     let names = c.event_of.new.names in
     let e = c.in-Some-2.event in
     let read : IsLineEvent (table_of names) (texts c.deref-2.result.now) e =
-    subst (λ (o : Option HistoryEvent). IfSome o (λ ev. IsLineEvent (table_of names) (texts c.deref-2.result.now) ev))
+    subst (λ (o : Option HistoryEvent). IfSome o
+    (λ ev. IsLineEvent (table_of names) (texts c.deref-2.result.now) ev))
     c.in-Some-2.is c.in_ok-event_of.ensures.event in
     event_added ls c.args.line.now c.args.self.now
     (record {
@@ -31,7 +33,8 @@ returns-clause-added c t ls kept is h =
       events = c.push-in-Some-2.new.self;
       lines = c.push.new.self;
       names = names;
-    }) e c.args.number kept is refl c.in_ok-push-in-Some-2-2.ensures.items c.in_ok-push-in-Some-2.ensures.items
+    }) e c.args.number kept is refl c.in_ok-push-in-Some-2-2.ensures.items
+    c.in_ok-push-in-Some-2.ensures.items
     c.in_ok-event_of.ensures.grows
     (subst (λ (ws : List (List ℕ)). IsLineEvent (table_of names) ws e) words read) h
 

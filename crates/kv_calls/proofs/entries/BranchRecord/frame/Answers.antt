@@ -31,4 +31,5 @@ returns-clause-frame c =
     IfOk-weaker c.of_branch.result _ _ (λ frame e. e ∙ is) c.of_branch.ensures
 
 pub returns-clause-sound : goal.returns-clause-sound
-returns-clause-sound c = sound_entry c.args.self c.args.xid.now c.args.writes.now c.is_whole_name.ensures c.requires
+returns-clause-sound c = sound_entry c.args.self c.args.xid.now c.args.writes.now
+    c.is_whole_name.ensures c.requires

@@ -35,7 +35,8 @@ returns-clause-begun g c =
       boot = c.self.inside.boot;
     } in
     let works : s.log.sight.failed ≡ false = search rules in
-    subst (λ v. IfOk c.begin_idle.result (λ begun. KvCalls v after ⊥ (λ before behind. MovesTables before behind
+    subst (λ v. IfOk c.begin_idle.result (λ begun. KvCalls v after ⊥
+    (λ before behind. MovesTables before behind
     (λ old new. BeginsIdle old new c.args.xid.now begun)))) c.self.view_is
     (map_ok (λ begun. MovesTables s.store after.store (λ old new. BeginsIdle old new c.args.xid.now begun))
     (λ begun. KvCalls s after ⊥ (λ before behind. MovesTables before behind

@@ -14,10 +14,12 @@ use Rattle.kv_manager.proofs.SoundData.{AreSoundPairs, pairs_sound}
 use Rattle.kv_manager.proofs.Trimmed.{of_data, pairs_are_data}
 use Rattle.kv_manager.proofs.manager.KvManager.data_frames.Goals as goal
 
-module _ (s : KvSight) (ps : List (List ℕ × List ℕ)) (kept : IsKvManager s) (works : s.log.sight.failed ≡ false)
+module _ (s : KvSight) (ps : List (List ℕ × List ℕ)) (kept : IsKvManager s)
+    (works : s.log.sight.failed ≡ false)
     (pairs : ArePairsOf s.store.versions ps) where
   pairs_are : ps ≡ (logged s).pairs
-  pairs_are = pairs_are_data s.store.versions (logged s) ps (kept.stands works).are_data (kept.stands works).rise pairs
+  pairs_are = pairs_are_data s.store.versions (logged s) ps (kept.stands works).are_data
+      (kept.stands works).rise pairs
 
 pub base_frames-requires-clause-base : goal.base_frames-requires-clause-base
 base_frames-requires-clause-base g c =

@@ -6,6 +6,7 @@ use Rattle.kv_manager.proofs.manager.KvManager.over.Goals as goal
 
 pub invariant_of-result : goal.invariant_of-result
 invariant_of-result g c =
-    subst (λ (l : LogState). IsKvManager (record { store = c.in-Ok.store; log = l; boot = c.in-Ok.boot })) (sym c.new.ensures)
+    subst (λ (l : LogState). IsKvManager (record { store = c.in-Ok.store; log = l; boot = c.in-Ok.boot }))
+    (sym c.new.ensures)
     (kept_over c.args.log c.started.new.log c.in-Ok.store c.in-Ok.boot c.requires.kind
     c.started.ensures.form c.in-Ok.ensures.ok)

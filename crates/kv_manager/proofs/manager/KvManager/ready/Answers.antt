@@ -12,7 +12,11 @@ use Rattle.kv_manager.proofs.manager.KvManager.ready.Goals as goal
 
 pub invariant_of-self : goal.invariant_of-self
 invariant_of-self g c =
-    subst (λ (l : LogState). IsKvManager (record { store = c.self.inside.store; log = l; boot = c.self.inside.boot }))
+    subst (λ (l : LogState). IsKvManager (record {
+      store = c.self.inside.store;
+      log = l;
+      boot = c.self.inside.boot;
+    }))
     (sym c.made_ready.ensures.stays) c.self.invariant
 
 pub unreachable-requires : goal.unreachable-requires
@@ -28,7 +32,8 @@ unreachable-requires-in-Err-Unfit g c =
       boot = c.self.inside.boot;
     } in
     let why : KvNotRebuilt (left_by s.log.sight c.args.keep) Unfit =
-    subst (KvNotRebuilt (left_by s.log.sight c.args.keep)) c.in-Err-Unfit.field-0-is c.in-Err-Unfit.ensures.err in
+    subst (KvNotRebuilt (left_by s.log.sight c.args.keep)) c.in-Err-Unfit.field-0-is
+    c.in-Err-Unfit.ensures.err in
     let sound : AllByRecursion (IsSound Manager) (records_of s.log.sight.kept) =
     subst (λ (v : KvSight). AllByRecursion (IsSound Manager) (records_of v.log.sight.kept))
     (sym c.self.view_is) c.records_are_sound.ensures in
@@ -42,7 +47,8 @@ returns-clause-err g c =
       boot = c.self.inside.boot;
     } in
     elim c.match-made_ready.branch [
-      | in-Ok w ↦ subst (λ r. IfErr r (NotReady (left_by c.args.self.now.log.sight c.args.keep))) (sym w.result-is) tt
+      | in-Ok w ↦ subst (λ r. IfErr r (NotReady (left_by c.args.self.now.log.sight c.args.keep)))
+          (sym w.result-is) tt
       | in-Err-Memory w ↦
           subst (λ r. IfErr r (NotReady (left_by c.args.self.now.log.sight c.args.keep))) (sym w.result-is) tt
       | in-Err-Exhausted w ↦

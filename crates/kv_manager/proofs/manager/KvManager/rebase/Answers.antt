@@ -16,5 +16,6 @@ invariant_of-self g c =
       log = c.self.inside.log;
       boot = c.self.inside.boot;
     } in
-    let works : s.log.sight.failed ≡ false = ap (λ (v : KvSight). v.log.sight.failed) c.self.view_is ∙ c.requires in
+    let works : s.log.sight.failed ≡ false = ap (λ (v : KvSight). v.log.sight.failed) c.self.view_is
+    ∙ c.requires in
     kept_forgetting s c.rebase.new.self c.rebase.ensures works c.self.invariant

@@ -11,7 +11,8 @@ use Rattle.kv_manager.proofs.manager.KvManager.reopen.Goals as goal
 
 pub restart-requires-clause-says : goal.restart-requires-clause-says
 restart-requires-clause-says g c =
-    subst (λ (v : KvSight). RemembersData (left_by v.log.sight c.args.keep) c.args.remembered) (sym c.self.view_is)
+    subst (λ (v : KvSight). RemembersData (left_by v.log.sight c.args.keep) c.args.remembered)
+    (sym c.self.view_is)
     c.requires.says
 
 pub invariant_of-self : goal.invariant_of-self

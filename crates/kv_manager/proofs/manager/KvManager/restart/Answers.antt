@@ -7,7 +7,8 @@ use Rattle.kv_manager.proofs.manager.KvManager.restart.Goals as goal
 
 pub reopen-reopened-requires-clause-ready : goal.reopen-reopened-requires-clause-ready
 reopen-reopened-requires-clause-ready g c =
-    subst (λ (v : KvSight). IsReady (left_by v.log.sight c.args.keep) c.in_ok-ready.ready) (sym c.ready.ensures.stays)
+    subst (λ (v : KvSight). IsReady (left_by v.log.sight c.args.keep) c.in_ok-ready.ready)
+    (sym c.ready.ensures.stays)
     c.in_ok-ready.ensures.ok
 
 pub reopen-reopened-requires-clause-says : goal.reopen-reopened-requires-clause-says

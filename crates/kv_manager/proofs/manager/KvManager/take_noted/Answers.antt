@@ -11,7 +11,8 @@ use Rattle.kv_manager.proofs.Turns.{due_has, due_same, fails_by, kept_broken, ke
 use Rattle.kv_manager.proofs.manager.KvManager.take_noted.Goals as goal
 
 pub frame-requires-clause-some : goal.frame-requires-clause-some
-frame-requires-clause-some g c = due_has c.args.self.now c.args.xid.now c.requires.due.0 c.args.turn c.args.entry
+frame-requires-clause-some g c = due_has c.args.self.now c.args.xid.now c.requires.due.0
+    c.args.turn c.args.entry
     c.requires.due.1 c.requires.entry
 
 pub finish-requires-clause-turn : goal.finish-requires-clause-turn

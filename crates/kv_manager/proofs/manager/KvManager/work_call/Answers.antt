@@ -53,7 +53,8 @@ returns-clause-answer g c =
     } in
     let works : s.log.sight.failed ≡ false = search rules in
     subst (λ v. IfOk c.work_call.result (λ answer. (wanted : Wanted) → KvCalls v after (answer ≡ code.RmFail)
-    (λ before behind. MovesTables before behind (λ old new. AnswersCall wanted old new c.args.verb c.args.thread
+    (λ before behind. MovesTables before behind
+    (λ old new. AnswersCall wanted old new c.args.verb c.args.thread
     c.args.xid.now c.args.flags.0 answer)))) c.self.view_is
     (map_ok (λ answer. (wanted : Wanted) → MovesTables s.store after.store
     (λ old new. AnswersCall wanted old new c.args.verb c.args.thread c.args.xid.now c.args.flags.0 answer))

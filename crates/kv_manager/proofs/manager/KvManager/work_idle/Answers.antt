@@ -40,7 +40,8 @@ returns-clause-ok g c =
     subst (λ v. IfOk c.work_idle.result (λ done. KvCalls v after ⊥
     (λ before behind. KeyStoreWorksIdle before behind c.args.xid.now c.args.op.now done))) c.self.view_is
     (map_ok (KeyStoreWorksIdle s.store after.store c.args.xid.now c.args.op.now)
-    (λ done. KvCalls s after ⊥ (λ before behind. KeyStoreWorksIdle before behind c.args.xid.now c.args.op.now done))
+    (λ done. KvCalls s after ⊥ (λ before behind. KeyStoreWorksIdle before behind c.args.xid.now
+    c.args.op.now done))
     c.work_idle.result c.work_idle.ensures.ok
     (λ done made. record {
       failed = λ no_more. absurd (let never : true ≡ false = sym no_more ∙ works in cc);

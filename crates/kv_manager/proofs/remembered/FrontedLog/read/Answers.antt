@@ -12,13 +12,15 @@ pub invariant_of-self : goal.invariant_of-self
 invariant_of-self g c =
     header_front c.self.inside.log c.replace-size.new.dest
     (ap (λ (f : Front). f.size) c.replace-size.ensures.after ∙ c.header.ensures.size)
-    (subst (λ (f : Front). RemembersData [] f.remembered) (sym c.replace-size.ensures.after) c.header.ensures.says)
+    (subst (λ (f : Front). RemembersData [] f.remembered) (sym c.replace-size.ensures.after)
+    c.header.ensures.says)
 
 pub invariant_of-self-2 : goal.invariant_of-self-2
 invariant_of-self-2 g c =
     header_front c.self.inside.log c.replace-size.new.dest
     (ap (λ (f : Front). f.size) c.replace-size.ensures.after ∙ c.header.ensures.size)
-    (subst (λ (f : Front). RemembersData [] f.remembered) (sym c.replace-size.ensures.after) c.header.ensures.says)
+    (subst (λ (f : Front). RemembersData [] f.remembered) (sym c.replace-size.ensures.after)
+    c.header.ensures.says)
 
 pub read_on-requires : goal.read_on-requires
 read_on-requires g c =

@@ -10,5 +10,6 @@ write-requires-clause-sound g c =
     c.requires.sound
 
 pub invariant_of-self : goal.invariant_of-self
-invariant_of-self g c = front_written c.self.inside.log c.write.new.log (frame_record c.args.frame.now) c.args.forced
+invariant_of-self g c = front_written c.self.inside.log c.write.new.log
+    (frame_record c.args.frame.now) c.args.forced
     c.self.inside.front c.write.result c.write.ensures.ok c.write.ensures.err c.self.invariant

@@ -10,7 +10,8 @@ use Rattle.kv_manager.proofs.resource.KvManagerResourceManager.commit.Goals as g
 pub returns-clause-answer : goal.returns-clause-answer
 returns-clause-answer g c =
     map_ok (KvFinishes c.args.self.now c.commit.new.self Commit c.args.xid.now c.args.flags.0)
-    (ManagerFinishes (sight_of c.args.self.now) (sight_of c.commit.new.self) Commit c.args.xid.now c.args.flags.0)
+    (ManagerFinishes (sight_of c.args.self.now) (sight_of c.commit.new.self) Commit
+    c.args.xid.now c.args.flags.0)
     c.commit.result c.commit.ensures.answer
     (λ answer made. finished c.args.self.now c.commit.new.self Commit c.args.xid.now
     c.args.flags.0 answer refl made)

@@ -20,4 +20,5 @@ returns-clause-answer g c =
     (λ old new. AnswersCall wanted old new End c.args.thread c.args.xid.now c.args.flags.0 answer))
     c.end.result c.end.ensures.answer
     (λ answer made wanted. called c.args.self.now c.end.new.self (answer ≡ code.RmFail)
-    (λ old new. AnswersCall wanted old new End c.args.thread c.args.xid.now c.args.flags.0 answer) (made wanted))
+    (λ old new. AnswersCall wanted old new End c.args.thread c.args.xid.now c.args.flags.0 answer)
+    (made wanted))

@@ -10,7 +10,8 @@ use Rattle.kv_manager.proofs.resource.KvManagerResourceManager.prepare.Goals as 
 pub returns-clause-answer : goal.returns-clause-answer
 returns-clause-answer g c =
     map_ok (KvFinishes c.args.self.now c.prepare.new.self Prepare c.args.xid.now c.args.flags.0)
-    (ManagerFinishes (sight_of c.args.self.now) (sight_of c.prepare.new.self) Prepare c.args.xid.now c.args.flags.0)
+    (ManagerFinishes (sight_of c.args.self.now) (sight_of c.prepare.new.self) Prepare
+    c.args.xid.now c.args.flags.0)
     c.prepare.result c.prepare.ensures.answer
     (λ answer made. finished c.args.self.now c.prepare.new.self Prepare c.args.xid.now
     c.args.flags.0 answer refl made)

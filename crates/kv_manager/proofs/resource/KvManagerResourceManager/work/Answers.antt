@@ -9,7 +9,8 @@ use Rattle.kv_manager.proofs.resource.KvManagerResourceManager.work.Goals as goa
 
 pub returns-in_ok-_value-in-Get-clause-ok : goal.returns-in_ok-_value-in-Get-clause-ok
 returns-in_ok-_value-in-Get-clause-ok g c =
-    let reads : KvCalls c.args.self.now c.get.new.self ⊥ (λ before behind. ReadsKey before behind c.args.thread
+    let reads : KvCalls c.args.self.now c.get.new.self ⊥
+    (λ before behind. ReadsKey before behind c.args.thread
     c.as_slice-in-Get.result.now c.in_ok-_value-in-Get._value) = search rules in
     let is : c.args.op.now ≡ Get c.as_slice-in-Get.result.now = search rules in
     subst (ThreadWorks (sight_of c.args.self.now) (sight_of c.get.new.self) c.args.thread) (sym is)

@@ -50,9 +50,11 @@ returns-clause-leaves c = λ ls is.
     } in
     let inside : RemembersData ls m = subst (RemembersData ls) (sym c.self.view_is) is in
     let reads : ReadsNow ls m.seen c.in_ok-data.data =
-    remembered_data ls m c.in_ok-data.data c.deref.result.now c.deref.ensures.value inside c.in_ok-data.ensures.set
+    remembered_data ls m c.in_ok-data.data c.deref.result.now c.deref.ensures.value inside
+    c.in_ok-data.ensures.set
     c.in_ok-data.ensures.pairs in
-    let now : ReadsNow (ls ++ c.args.records.items) c.in_ok-reading.reading.seen c.in_ok-reading.reading.data =
+    let now : ReadsNow (ls ++ c.args.records.items) c.in_ok-reading.reading.seen
+    c.in_ok-reading.reading.data =
     c.in_ok-reading.ensures.ok ls reads in
     let decided : KnowDecided (ls ++ c.args.records.items) c.in_ok-decisions.decisions =
     subst (λ ks. KnowDecided (ls ++ ks) c.in_ok-decisions.decisions) c.deref-2.ensures.value
@@ -80,14 +82,17 @@ returns-clause-remembers c = λ ls is.
     } in
     let inside : RemembersData ls m = subst (RemembersData ls) (sym c.self.view_is) is in
     let reads : ReadsNow ls m.seen c.in_ok-data.data =
-    remembered_data ls m c.in_ok-data.data c.deref.result.now c.deref.ensures.value inside c.in_ok-data.ensures.set
+    remembered_data ls m c.in_ok-data.data c.deref.result.now c.deref.ensures.value inside
+    c.in_ok-data.ensures.set
     c.in_ok-data.ensures.pairs in
-    let now : ReadsNow (ls ++ c.args.records.items) c.in_ok-reading.reading.seen c.in_ok-reading.reading.data =
+    let now : ReadsNow (ls ++ c.args.records.items) c.in_ok-reading.reading.seen
+    c.in_ok-reading.reading.data =
     c.in_ok-reading.ensures.ok ls reads in
     let decided : KnowDecided (ls ++ c.args.records.items) c.in_ok-decisions.decisions =
     subst (λ ks. KnowDecided (ls ++ ks) c.in_ok-decisions.decisions) c.deref-2.ensures.value
     (c.in_ok-decisions.ensures {u = tt} ls inside.decided) in
-    remembers_read (ls ++ c.args.records.items) c.in_ok-reading.reading.seen c.in_ok-reading.reading.data _ now refl
+    remembers_read (ls ++ c.args.records.items) c.in_ok-reading.reading.seen
+    c.in_ok-reading.reading.data _ now refl
     decided c.count-count.ensures (c.in_ok-pairs.ensures {u = tt})
 
 pub returns-in_err-data-clause-err : goal.returns-in_err-data-clause-err
@@ -143,5 +148,6 @@ returns-in_err-held-clause-err c =
     (λ ls is. restore_fails (ls ++ c.args.records.items) c.in_ok-reading.reading.seen
     (c.in_ok-reading.ensures.ok ls
     (remembered_data ls m c.in_ok-data.data c.deref.result.now c.deref.ensures.value
-    (subst (RemembersData ls) (sym c.self.view_is) is) c.in_ok-data.ensures.set c.in_ok-data.ensures.pairs)).read
+    (subst (RemembersData ls) (sym c.self.view_is) is) c.in_ok-data.ensures.set
+    c.in_ok-data.ensures.pairs)).read
     c.in_err-held.field-0.0 c.in_err-held.ensures.err)

@@ -9,7 +9,8 @@ pub returns-clause-ok : goal.returns-clause-ok
 returns-clause-ok c =
     let given = subst (λ (s : KeySight). IsReadyCall s.tables c.args.verb c.args.xid.now c.args.flags.0
     c.in_ok-call.call c.in_ok-call.place c.in_ok-call.from) c.self.view_is c.in_ok-call.ensures.ok in
-    let listed = subst (λ (s : KeySight). ListedAt s.writes c.args.xid.now c.place-written.result) c.self.view_is
+    let listed = subst (λ (s : KeySight). ListedAt s.writes c.args.xid.now c.place-written.result)
+    c.self.view_is
     c.place-written.ensures in
     let due = is_due c.args.self.now c.args.verb c.args.xid.now c.args.flags.0 c.in_ok-call.call c.turn.result
     c.requires given.checked c.turn.ensures in

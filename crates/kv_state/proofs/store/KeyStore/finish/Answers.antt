@@ -48,7 +48,8 @@ invariant_of-self c =
     let gone : is_let_go c.args.turn.to ≡ true = sym c.is_let_go.ensures ∙ c.if-is_let_go.true in
     let takes : TakesTurn s after c.args.xid.now c.args.turn = record {
       tables = c.finish.ensures.taken c.args.xid.now stands;
-      keeps = subst (λ b. MatchBool b (LeavesWrites s.writes after.writes c.args.xid.now [] × ReleasesLocks s.locks
+      keeps = subst (λ b. MatchBool b (LeavesWrites s.writes after.writes c.args.xid.now []
+          × ReleasesLocks s.locks
           after.locks c.args.xid.now) ((after.writes ≡ s.writes) × (after.locks ≡ s.locks)))
           (sym gone) (c.remove_at.ensures c.args.xid.now listed, c.release.ensures);
       versions = refl;
@@ -80,7 +81,8 @@ invariant_of-self-else-is_let_go c =
     let goes_on : is_let_go c.args.turn.to ≡ false = sym c.is_let_go.ensures ∙ c.if-is_let_go.false in
     let takes : TakesTurn s after c.args.xid.now c.args.turn = record {
       tables = c.finish.ensures.taken c.args.xid.now stands;
-      keeps = subst (λ b. MatchBool b (LeavesWrites s.writes after.writes c.args.xid.now [] × ReleasesLocks s.locks
+      keeps = subst (λ b. MatchBool b (LeavesWrites s.writes after.writes c.args.xid.now []
+          × ReleasesLocks s.locks
           after.locks c.args.xid.now) ((after.writes ≡ s.writes) × (after.locks ≡ s.locks)))
           (sym goes_on) (refl, refl);
       versions = refl;
@@ -110,7 +112,8 @@ returns-then-is_let_go c =
     let gone : is_let_go c.args.turn.to ≡ true = sym c.is_let_go.ensures ∙ c.if-is_let_go.true in
     subst (λ v. TakesTurn v after c.args.xid.now c.args.turn) c.self.view_is (record {
       tables = c.finish.ensures.taken c.args.xid.now stands;
-      keeps = subst (λ b. MatchBool b (LeavesWrites s.writes after.writes c.args.xid.now [] × ReleasesLocks s.locks
+      keeps = subst (λ b. MatchBool b (LeavesWrites s.writes after.writes c.args.xid.now []
+          × ReleasesLocks s.locks
           after.locks c.args.xid.now) ((after.writes ≡ s.writes) × (after.locks ≡ s.locks)))
           (sym gone) (c.remove_at.ensures c.args.xid.now listed, c.release.ensures);
       versions = refl;
@@ -137,7 +140,8 @@ returns-else-is_let_go c =
     let goes_on : is_let_go c.args.turn.to ≡ false = sym c.is_let_go.ensures ∙ c.if-is_let_go.false in
     subst (λ v. TakesTurn v after c.args.xid.now c.args.turn) c.self.view_is (record {
       tables = c.finish.ensures.taken c.args.xid.now stands;
-      keeps = subst (λ b. MatchBool b (LeavesWrites s.writes after.writes c.args.xid.now [] × ReleasesLocks s.locks
+      keeps = subst (λ b. MatchBool b (LeavesWrites s.writes after.writes c.args.xid.now []
+          × ReleasesLocks s.locks
           after.locks c.args.xid.now) ((after.writes ≡ s.writes) × (after.locks ≡ s.locks)))
           (sym goes_on) (refl, refl);
       versions = refl;

@@ -18,7 +18,8 @@ invariant_of-self-in-Ok c =
     } in
     let value : Option (List ℕ) = option_map (λ v. v.now) c.args.value in
     let works : is_let_go (state_of s c.args.xid.now) ≡ false = search rules in
-    let gave : GivesLock s.locks c.exclusive.new.self c.args.xid.now c.args.key.now Exclusive = search rules in
+    let gave : GivesLock s.locks c.exclusive.new.self c.args.xid.now c.args.key.now Exclusive = search rules
+    in
     let room : HasRoomFor c.room_for.new.self c.args.xid.now c.args.key.now
     (Some c.in-Some.place) = search rules in
     let key_is : c.in_ok-from_slice.field-0 ≡ c.args.key.now = search rules in

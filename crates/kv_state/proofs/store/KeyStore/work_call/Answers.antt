@@ -26,7 +26,8 @@ invariant_of-self c =
     keeps : (q : BranchState → Bool) → IsApart q → KeepsTest q c.self.inside.states c.work_call.new.self
     keeps q apart = either_way (λ answer. (wanted : Wanted) → AnswersCall wanted c.self.inside.states
         c.work_call.new.self c.args.verb c.args.thread c.args.xid.now c.args.flags.0 answer)
-        ((leaves (legal c.args.verb c.args.flags.0) ≡ false) × SameStates c.self.inside.states c.work_call.new.self)
+        ((leaves (legal c.args.verb c.args.flags.0) ≡ false)
+        × SameStates c.self.inside.states c.work_call.new.self)
         (KeepsTest q c.self.inside.states c.work_call.new.self) c.work_call.result
         c.work_call.ensures.answer c.work_call.ensures.err
         (λ answer made. works_keep q (λ k. (Proto, S0)) _ _ c.args.verb

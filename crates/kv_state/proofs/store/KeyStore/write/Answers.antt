@@ -23,5 +23,6 @@ returns-clause-err c =
     (IsRefusedWork c.args.self.now c.write_for.new.self
     (work_refusal c.args.self.now c.args.thread c.args.key.now value Exclusive))
     c.write_for.result c.write_for.ensures.err
-    (λ e why. refused_by c.args.self.now c.write_for.new.self c.args.thread c.in_ok-xid.xid c.args.key.now value
+    (λ e why. refused_by c.args.self.now c.write_for.new.self c.args.thread c.in_ok-xid.xid
+    c.args.key.now value
     Exclusive e at why)

@@ -12,7 +12,8 @@ invariant_of-self c =
     unstaged c.self.invariant in
     subst (λ b. IsVersions c.self.inside.count c.self.inside.count b
     (table_of c.keep_last_of_each.new.keys.entries)) (sym unstaged)
-    (kept_rebased c.self.inside.keys.entries (table_of c.keep_last_of_each.new.keys.entries) c.self.inside.count
+    (kept_rebased c.self.inside.keys.entries (table_of c.keep_last_of_each.new.keys.entries)
+    c.self.inside.count
     c.keep_last_of_each.ensures.once c.keep_last_of_each.ensures.kept c.self.inside.base kept)
 
 pub returns-clause-rebases : goal.returns-clause-rebases
@@ -32,6 +33,7 @@ returns-clause-rebases c =
       count = refl;
       is_staged = unstaged;
       values = values_stay c.self.inside.keys.entries (table_of c.keep_last_of_each.new.keys.entries)
-          c.self.inside.count c.keep_last_of_each.ensures.once c.keep_last_of_each.ensures.kept c.self.inside.base
+          c.self.inside.count c.keep_last_of_each.ensures.once c.keep_last_of_each.ensures.kept
+          c.self.inside.base
           kept;
     })

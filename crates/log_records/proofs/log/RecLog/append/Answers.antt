@@ -25,7 +25,8 @@ returns-in-Err-clause-err g c =
           (append_breaks _ _ _ _ _ _ _ (g.L.LogStore.room c.self.inside.store)
           (g.L.LogStore.room c.append_frame.new.store) b.came _ _ works
           (subst (λ k. IsRecord k (frame_record c.args.frame.now))
-          (sym (ap (λ s. s.sight.form.kind) c.self.view_is)) c.requires.sound c.self.inside.form refl) c.self.invariant.0
+          (sym (ap (λ s. s.sight.form.kind) c.self.view_is)) c.requires.sound c.self.inside.form refl)
+          c.self.invariant.0
           (g.met.L.LogStore.front c.self.inside.store)
           b.text b.forced_stays b.cause),
     )
@@ -53,7 +54,8 @@ returns-clause-ok g c =
     (appended _ _ _ _ _ _ _ (g.L.LogStore.room c.self.inside.store)
     (g.L.LogStore.room c.append_frame.new.store) _ _ works
     (subst (λ k. IsRecord k (frame_record c.args.frame.now))
-    (sym (ap (λ s. s.sight.form.kind) c.self.view_is)) c.requires.sound c.self.inside.form refl) c.self.invariant.0
+    (sym (ap (λ s. s.sight.form.kind) c.self.view_is)) c.requires.sound c.self.inside.form refl)
+    c.self.invariant.0
     (g.met.L.LogStore.front c.self.inside.store)
     a.text a.forced_stays
     a.failures_stay c.in_default.ensures.room)

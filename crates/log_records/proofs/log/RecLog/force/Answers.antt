@@ -9,7 +9,8 @@ returns-in-Err-clause-err g c =
       breaks_of _ _ _ _ c.self.view_is
           (force_breaks _ _ _ _ _ _ _ (g.L.LogStore.room c.self.inside.store)
           (g.L.LogStore.room c.force.new.self) _
-          c.self.invariant.0.second c.self.invariant.0.header_forced (g.met.L.LogStore.front c.self.inside.store)
+          c.self.invariant.0.second c.self.invariant.0.header_forced
+          (g.met.L.LogStore.front c.self.inside.store)
           (g.met.L.LogStore.front c.force.new.self) b.text b.no_less b.cause),
     )
 

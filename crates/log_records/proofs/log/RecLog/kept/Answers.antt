@@ -14,5 +14,6 @@ returns g c =
     ∙ ap (take (forced + c.args.keep)) c.bytes.ensures in
     let is = ap (records_in c.self.inside.form 0) (c.body.ensures ∙ ap body left) in
     IfOk-weaker c.records_in.result _ _ (λ v e. left_of_view _ _ _ _ _ _ _ _ _ c.self.view_is
-    c.self.invariant.0.second c.self.invariant.0.header_forced (g.met.L.LogStore.front c.self.inside.store) (e ∙ is))
+    c.self.invariant.0.second c.self.invariant.0.header_forced
+    (g.met.L.LogStore.front c.self.inside.store) (e ∙ is))
     c.records_in.ensures

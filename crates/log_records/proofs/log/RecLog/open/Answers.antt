@@ -33,6 +33,7 @@ returns-clause-ok g c =
     let store = c.in_ok-store.store in
     subst (λ f. OpensLog f (g.L.LogStore.bytes c.args.store) (g.L.LogStore.forced c.args.store)
     (g.L.LogStore.failures c.args.store)
-    (log_state c.of-form.result (g.L.LogStore.bytes store) (g.L.LogStore.forced store) (g.L.LogStore.failures store)
+    (log_state c.of-form.result (g.L.LogStore.bytes store) (g.L.LogStore.forced store)
+    (g.L.LogStore.failures store)
     (g.L.LogStore.room store) false)) c.of-form.ensures
     (opens _ _ _ _ _ _ _ (g.L.LogStore.room store) c.in_ok-store.ensures.ok)

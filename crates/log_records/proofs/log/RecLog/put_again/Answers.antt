@@ -21,13 +21,15 @@ invariant_of-self g c =
     let asked = c.deref.result.now in
     let same : asked ≡ text = c.deref.ensures.value ∙ c.in-Ok.ensures.items ∙ c.bytes.ensures in
     let form : c.self-2.inside.form ≡ p =
-    ap (λ s. s.sight.form) c.self-2.view_is ∙ c.put.ensures.form ∙ sym (ap (λ s. s.sight.form) c.self.view_is) in
+    ap (λ s. s.sight.form) c.self-2.view_is ∙ c.put.ensures.form ∙ sym (ap (λ s. s.sight.form) c.self.view_is)
+    in
     let made : Rewritten old c.put.new.self (records_in p 0 (body asked)) =
     subst (λ f. Rewritten old c.put.new.self (records_in f 0 (body asked)))
     (sym (ap (λ s. s.sight.form) c.self.view_is)) c.in-Ok-put.ensures.ok in (
       c.self-2.invariant.0,
       c.self-2.invariant.1,
-      trimmed_again p _ text _ asked _ _ _ _ c.self.inside.trimmed old c.put.new.self c.self-2.view_is form same made
+      trimmed_again p _ text _ asked _ _ _ _ c.self.inside.trimmed old c.put.new.self
+          c.self-2.view_is form same made
           c.self.invariant.2,
     )
 
@@ -39,8 +41,10 @@ returns-in-Ok-put-clause-ok g c =
     let stood : Rewritten c.args.self.now c.put.new.self (records_of c.args.self.now.sight.kept) =
     subst (Rewritten c.args.self.now c.put.new.self)
     (ap (λ s. records_in s.sight.form 0 (body asked)) (sym c.self.view_is)
-    ∙ kept_is c.self.inside.form _ (body asked) _ _ _ _ _ c.self.view_is (ap body same)) c.in-Ok-put.ensures.ok in
-    subst (λ new. Rewritten c.args.self.now new (records_of c.args.self.now.sight.kept)) (sym c.self-2.view_is) stood
+    ∙ kept_is c.self.inside.form _ (body asked) _ _ _ _ _ c.self.view_is (ap body same))
+    c.in-Ok-put.ensures.ok in
+    subst (λ new. Rewritten c.args.self.now new (records_of c.args.self.now.sight.kept))
+    (sym c.self-2.view_is) stood
 
 pub returns-clause-err : goal.returns-clause-err
 returns-clause-err g c =

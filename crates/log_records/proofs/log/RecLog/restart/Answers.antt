@@ -18,10 +18,12 @@ invariant_of-self-in-Ok-write_left g c =
     let is_left : c.left_by-left.result.now ≡ take (forced + c.args.keep) text =
     c.left_by-left.ensures.left ∙ ap (λ n. take (n + c.args.keep) c.bytes.result.now) c.forced-forced.ensures
     ∙ ap (take (forced + c.args.keep)) c.bytes.ensures in
-    let writes : WritesLeft form (take (forced + c.args.keep) text) rs c.in-Ok.left.is_torn c.deref.result.now =
+    let writes : WritesLeft form (take (forced + c.args.keep) text) rs c.in-Ok.left.is_torn
+    c.deref.result.now =
     subst (λ t. WritesLeft form (take (forced + c.args.keep) text) rs c.in-Ok.left.is_torn t)
     (sym c.deref.ensures.value)
-    (subst (λ t. WritesLeft form t rs c.in-Ok.left.is_torn c.in-Ok.left.text.items) is_left c.in-Ok.ensures) in
+    (subst (λ t. WritesLeft form t rs c.in-Ok.left.is_torn c.in-Ok.left.text.items) is_left c.in-Ok.ensures)
+    in
     let stays = c.in_default.ensures.stays in
     let crash = c.crash.ensures.left in
     let old_is : g.L.LogStore.bytes c.crash.new.self ≡ take (forced + c.args.keep) text =
@@ -32,7 +34,8 @@ invariant_of-self-in-Ok-write_left g c =
     (g.L.LogStore.bytes c.write_left.new.store) =
     leaves_text _ _ c.deref.result.now _ _ c.in-Ok.left.is_torn writes (ok.text_stands
     ∙ ap (λ o. if c.in-Ok.left.is_torn then c.deref.result.now else o ++ c.deref.result.now) old_is) in
-    let settled = text_settled _ _ _ rs _ c.self.invariant.0.second are (front_begins (forced + c.args.keep) text _
+    let settled = text_settled _ _ _ rs _ c.self.invariant.0.second are
+    (front_begins (forced + c.args.keep) text _
     (omega (arith, c.self.invariant.0.header_forced)) c.self.invariant.0.begins) leaves ok.all in (
       settled,
       known_all _ _ _ _ (log_is_long _ _ _ _ settled) (settled.whole refl)
@@ -51,10 +54,12 @@ returns-in-Ok-write_left-clause-ok g c =
     let is_left : c.left_by-left.result.now ≡ take (forced + c.args.keep) text =
     c.left_by-left.ensures.left ∙ ap (λ n. take (n + c.args.keep) c.bytes.result.now) c.forced-forced.ensures
     ∙ ap (take (forced + c.args.keep)) c.bytes.ensures in
-    let writes : WritesLeft form (take (forced + c.args.keep) text) rs c.in-Ok.left.is_torn c.deref.result.now =
+    let writes : WritesLeft form (take (forced + c.args.keep) text) rs c.in-Ok.left.is_torn
+    c.deref.result.now =
     subst (λ t. WritesLeft form (take (forced + c.args.keep) text) rs c.in-Ok.left.is_torn t)
     (sym c.deref.ensures.value)
-    (subst (λ t. WritesLeft form t rs c.in-Ok.left.is_torn c.in-Ok.left.text.items) is_left c.in-Ok.ensures) in
+    (subst (λ t. WritesLeft form t rs c.in-Ok.left.is_torn c.in-Ok.left.text.items) is_left c.in-Ok.ensures)
+    in
     let stays = c.in_default.ensures.stays in
     let crash = c.crash.ensures.left in
     let old_is : g.L.LogStore.bytes c.crash.new.self ≡ take (forced + c.args.keep) text =
@@ -81,10 +86,12 @@ invariant_of-self-in-Err-write_left g c =
     let is_left : c.left_by-left.result.now ≡ take (forced + c.args.keep) text =
     c.left_by-left.ensures.left ∙ ap (λ n. take (n + c.args.keep) c.bytes.result.now) c.forced-forced.ensures
     ∙ ap (take (forced + c.args.keep)) c.bytes.ensures in
-    let writes : WritesLeft form (take (forced + c.args.keep) text) rs c.in-Ok.left.is_torn c.deref.result.now =
+    let writes : WritesLeft form (take (forced + c.args.keep) text) rs c.in-Ok.left.is_torn
+    c.deref.result.now =
     subst (λ t. WritesLeft form (take (forced + c.args.keep) text) rs c.in-Ok.left.is_torn t)
     (sym c.deref.ensures.value)
-    (subst (λ t. WritesLeft form t rs c.in-Ok.left.is_torn c.in-Ok.left.text.items) is_left c.in-Ok.ensures) in
+    (subst (λ t. WritesLeft form t rs c.in-Ok.left.is_torn c.in-Ok.left.text.items) is_left c.in-Ok.ensures)
+    in
     let stays = c.in_default.ensures.stays in
     let crash = c.crash.ensures.left in
     let old_is : g.L.LogStore.bytes c.crash.new.self ≡ take (forced + c.args.keep) text =
@@ -124,10 +131,12 @@ returns-clause-err g c =
     let is_left : c.left_by-left.result.now ≡ take (forced + c.args.keep) text =
     c.left_by-left.ensures.left ∙ ap (λ n. take (n + c.args.keep) c.bytes.result.now) c.forced-forced.ensures
     ∙ ap (take (forced + c.args.keep)) c.bytes.ensures in
-    let writes : WritesLeft form (take (forced + c.args.keep) text) rs c.in-Ok.left.is_torn c.deref.result.now =
+    let writes : WritesLeft form (take (forced + c.args.keep) text) rs c.in-Ok.left.is_torn
+    c.deref.result.now =
     subst (λ t. WritesLeft form (take (forced + c.args.keep) text) rs c.in-Ok.left.is_torn t)
     (sym c.deref.ensures.value)
-    (subst (λ t. WritesLeft form t rs c.in-Ok.left.is_torn c.in-Ok.left.text.items) is_left c.in-Ok.ensures) in
+    (subst (λ t. WritesLeft form t rs c.in-Ok.left.is_torn c.in-Ok.left.text.items) is_left c.in-Ok.ensures)
+    in
     let stays = c.in_default.ensures.stays in
     let crash = c.crash.ensures.left in
     let old_is : g.L.LogStore.bytes c.crash.new.self ≡ take (forced + c.args.keep) text =

@@ -15,7 +15,8 @@ returns-clause-keeps g c =
     let forced = g.L.LogStore.forced c.self.inside.store in
     let keep = length c.bytes.result.now in
     let all : length text ≤ forced + keep = let e = ap length c.bytes.ensures in omega (arith, e) in
-    sym (left_of_view p text forced keep _ _ _ _ _ c.self.view_is c.self.invariant.0.second c.self.invariant.0.header_forced
+    sym (left_of_view p text forced keep _ _ _ _ _ c.self.view_is c.self.invariant.0.second
+    c.self.invariant.0.header_forced
     (g.met.L.LogStore.front c.self.inside.store)
     (sym (ap (λ s. records_of s.sight.kept) c.self.view_is) ∙ records_stand p text forced
     ∙ ap (λ t. records_in p 0 (body t)) (sym (take_all (forced + keep) text all))))

@@ -17,13 +17,15 @@ invariant_of-self g c =
     let read : records_in p 0 (body asked) ≡ trim_of old rs =
     trim_read _ _ _ _ asked _ _ _ _ _ _ c.self.view_is bytes c.deref-2.ensures.value c.in-Ok.ensures.text in
     let form : c.self-2.inside.form ≡ p =
-    ap (λ s. s.sight.form) c.self-2.view_is ∙ c.put.ensures.form ∙ sym (ap (λ s. s.sight.form) c.self.view_is) in
+    ap (λ s. s.sight.form) c.self-2.view_is ∙ c.put.ensures.form ∙ sym (ap (λ s. s.sight.form) c.self.view_is)
+    in
     let made : Rewritten old c.put.new.self (records_in p 0 (body asked)) =
     subst (λ f. Rewritten old c.put.new.self (records_in f 0 (body asked)))
     (sym (ap (λ s. s.sight.form) c.self.view_is)) c.in-Ok-put.ensures.ok in (
       c.self-2.invariant.0,
       c.self-2.invariant.1,
-      trim_counts p _ text _ c.deref.result.now c.bytes-bytes.result.now asked _ _ _ _ _ _ c.in-Ok.trimmed.count _ _
+      trim_counts p _ text _ c.deref.result.now c.bytes-bytes.result.now asked _ _ _ _ _ _
+          c.in-Ok.trimmed.count _ _
           c.settled_count-settled.result old c.put.new.self rs c.self.view_is c.self-2.view_is form
           (c.deref-2.ensures.value ∙ sym c.deref.ensures.value) c.bytes-bytes.ensures c.requires.own read
           (count_stands _ _ _ _ _ _ _ _ _ _ c.self.view_is bytes c.in-Ok.ensures.count) made

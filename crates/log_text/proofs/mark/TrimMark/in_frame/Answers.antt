@@ -9,7 +9,8 @@ returns-in-Some c = λ f l e. unnamed_mark f c.args.kind c.args.payload.now _ l
 pub returns-in-Ok : goal.returns-in-Ok
 returns-in-Ok c = λ f l e.
     let ok = c.in-Ok.ensures.ok in
-    front_mark f c.args.kind c.args.payload.now _ _ _ _ l (sym c.nameless.ensures ∙ c.in_default.is) ok.0 ok.1 ok.2
+    front_mark f c.args.kind c.args.payload.now _ _ _ _ l
+    (sym c.nameless.ensures ∙ c.in_default.is) ok.0 ok.1 ok.2
     c.split_at.ensures.back c.deed_in.ensures e
 
 pub returns-in-Err : goal.returns-in-Err

@@ -18,7 +18,8 @@ returns-then-name-ne20-clause-all c = λ x fits same e. absurd (omega (arith, le
 
 pub returns-clause-spelled : goal.returns-clause-spelled
 returns-clause-spelled c = (
-  txn_spells c.args.name.now _ _ _ c.args.presumption (λ k. Fits-lt-pow {w = w8} (c.type_inv.name k)) (omega arith)
+  txn_spells c.args.name.now _ _ _ c.args.presumption
+      (λ k. Fits-lt-pow {w = w8} (c.type_inv.name k)) (omega arith)
       c.read_u32.ensures c.read_u64.ensures c.read_u64-2.ensures,
   refl,
 )

@@ -13,8 +13,10 @@ returns-then-is-clause-ok g c =
     mine_ok (λ text. text.items) (same_process (process_of_act (root_of c.args.self.now.tree) c.args.act.now)
     c.args.self.now.me) (state_of c.args.self.now)
     (state_of c.make.new.self) (ActInput c.args.act.now) c.make.result
-    (process_tested c.process_of.result (process_of_act (root_of c.args.self.now.tree) c.args.act.now) c.args.self.now.me
-    c.is.result true (c.process_of.ensures ∙ ap (λ (r : ProcessId). process_of_act r c.args.act.now) c.root.ensures)
+    (process_tested c.process_of.result (process_of_act (root_of c.args.self.now.tree) c.args.act.now)
+    c.args.self.now.me
+    c.is.result true (c.process_of.ensures ∙ ap
+    (λ (r : ProcessId). process_of_act r c.args.act.now) c.root.ensures)
     c.is.ensures c.if-is.true) c.make.ensures.ok
 
 pub returns-then-is-clause-err : goal.returns-then-is-clause-err
@@ -22,17 +24,22 @@ returns-then-is-clause-err g c =
     mine_err (same_process (process_of_act (root_of c.args.self.now.tree) c.args.act.now)
     c.args.self.now.me) (state_of c.args.self.now)
     (state_of c.make.new.self) (ActInput c.args.act.now) c.make.result
-    (process_tested c.process_of.result (process_of_act (root_of c.args.self.now.tree) c.args.act.now) c.args.self.now.me
-    c.is.result true (c.process_of.ensures ∙ ap (λ (r : ProcessId). process_of_act r c.args.act.now) c.root.ensures)
+    (process_tested c.process_of.result (process_of_act (root_of c.args.self.now.tree) c.args.act.now)
+    c.args.self.now.me
+    c.is.result true (c.process_of.ensures ∙ ap
+    (λ (r : ProcessId). process_of_act r c.args.act.now) c.root.ensures)
     c.is.ensures c.if-is.true) c.make.ensures.err
 
 pub returns-else-is-clause-ok : goal.returns-else-is-clause-ok
 returns-else-is-clause-ok g c =
-    others_ok (λ text. text.items) (same_process (process_of_act (root_of c.args.self.now.tree) c.args.act.now)
+    others_ok (λ text. text.items) (same_process
+    (process_of_act (root_of c.args.self.now.tree) c.args.act.now)
     c.args.self.now.me) (state_of c.args.self.now)
     (state_of c.args.self.now) (ActInput c.args.act.now) c.refusal.result
-    (process_tested c.process_of.result (process_of_act (root_of c.args.self.now.tree) c.args.act.now) c.args.self.now.me
-    c.is.result false (c.process_of.ensures ∙ ap (λ (r : ProcessId). process_of_act r c.args.act.now) c.root.ensures)
+    (process_tested c.process_of.result (process_of_act (root_of c.args.self.now.tree) c.args.act.now)
+    c.args.self.now.me
+    c.is.result false (c.process_of.ensures ∙ ap (λ (r : ProcessId). process_of_act r c.args.act.now)
+    c.root.ensures)
     c.is.ensures c.if-is.false) refl c.refusal.ensures.text
 
 pub returns-else-is-clause-err : goal.returns-else-is-clause-err
@@ -40,6 +47,8 @@ returns-else-is-clause-err g c =
     others_err (same_process (process_of_act (root_of c.args.self.now.tree) c.args.act.now)
     c.args.self.now.me) (state_of c.args.self.now)
     (state_of c.args.self.now) (ActInput c.args.act.now) c.refusal.result
-    (process_tested c.process_of.result (process_of_act (root_of c.args.self.now.tree) c.args.act.now) c.args.self.now.me
-    c.is.result false (c.process_of.ensures ∙ ap (λ (r : ProcessId). process_of_act r c.args.act.now) c.root.ensures)
+    (process_tested c.process_of.result (process_of_act (root_of c.args.self.now.tree) c.args.act.now)
+    c.args.self.now.me
+    c.is.result false (c.process_of.ensures ∙ ap (λ (r : ProcessId). process_of_act r c.args.act.now)
+    c.root.ensures)
     c.is.ensures c.if-is.false) refl c.refusal.ensures.err

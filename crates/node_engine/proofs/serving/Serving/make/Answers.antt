@@ -6,7 +6,8 @@ use Rattle.node_engine.proofs.serving.Serving.make.Goals as goal
 
 pub returns-in-Ok-clause-ok : goal.returns-in-Ok-clause-ok
 returns-in-Ok-clause-ok g c =
-    shown_ok (λ text. text.items) (state_of c.args.self.now) (core_of c.handle.new.self) (data_of c.handle.new.self)
+    shown_ok (λ text. text.items) (state_of c.args.self.now) (core_of c.handle.new.self)
+    (data_of c.handle.new.self)
     (input_of c.args.input) c.in-Ok.reaction (state_of c.show.new.self) c.show.result
     c.in-Ok.ensures.ok c.show.ensures.ok
 

@@ -22,20 +22,25 @@ loop-arrow-preserved c =
     let stroke = c.in_ok-draw_arrow.field-0 in
     let same = ap (λ (f : PictureFrame). f.grid) c.loop-arrow.invariant.frame in
     record {
-      titles = titles_more c.args.messages.now drawn k a c.loop-arrow.strokes.items c.push.new.self.items stroke there
+      titles = titles_more c.args.messages.now drawn k a c.loop-arrow.strokes.items
+          c.push.new.self.items stroke there
           at c.in_ok-push.ensures.items c.in_ok-draw_arrow.ensures.title
           c.loop-arrow.invariant.titles;
-      along = along_more c.args.self.now.frame.grid drawn k a c.loop-arrow.strokes.items c.push.new.self.items stroke there
+      along = along_more c.args.self.now.frame.grid drawn k a c.loop-arrow.strokes.items
+          c.push.new.self.items stroke there
           at c.in_ok-push.ensures.items
           (subst (λ g. RunsAlong g a.way stroke) same c.in_ok-draw_arrow.ensures.along)
           c.loop-arrow.invariant.along;
       words = words_more
-          (λ (b : Arrow). Some (caption_along c.args.self.now.frame.grid c.args.self.now.frame.room.messages c.args.messages.now
+          (λ (b : Arrow). Some (caption_along c.args.self.now.frame.grid c.args.self.now.frame.room.messages
+          c.args.messages.now
           b.way b.number)) drawn k a (map caption_of c.args.self.now.sheet.words.items)
-          (map caption_of c.loop-arrow.self.sheet.words.items) (map caption_of c.draw_arrow.new.self.sheet.words.items) there at
+          (map caption_of c.loop-arrow.self.sheet.words.items)
+          (map caption_of c.draw_arrow.new.self.sheet.words.items) there at
           c.loop-arrow.invariant.words
           (c.in_ok-draw_arrow.ensures.words
           ∙ ap (λ (f : PictureFrame). map caption_of c.loop-arrow.self.sheet.words.items
-          ++ Some (caption_along f.grid f.room.messages c.args.messages.now a.way a.number) ∷ []) c.loop-arrow.invariant.frame);
+          ++ Some (caption_along f.grid f.room.messages c.args.messages.now a.way a.number) ∷ [])
+          c.loop-arrow.invariant.frame);
       frame = c.draw_arrow.ensures.frame ∙ c.loop-arrow.invariant.frame;
     }

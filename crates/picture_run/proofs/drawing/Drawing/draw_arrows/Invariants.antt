@@ -10,9 +10,11 @@ abbrev pub invariant-loop-arrow : goal.invariant-loop-arrow
 invariant-loop-arrow l = record {
   titles : map (λ (s : Stroke). s.title.items) l.strokes.items
       ≡ map (λ (a : Arrow). title_in l.messages a.number) (take l.arrow-index l.arrows);
-  along : RunAlong l.initial.self.frame.grid (map (λ (a : Arrow). a.way) (take l.arrow-index l.arrows)) l.strokes.items;
+  along : RunAlong l.initial.self.frame.grid (map (λ (a : Arrow). a.way) (take l.arrow-index l.arrows))
+      l.strokes.items;
   words : map caption_of l.self.sheet.words.items ≡ map caption_of l.initial.self.sheet.words.items
-      ++ map (λ (a : Arrow). Some (caption_along l.initial.self.frame.grid l.initial.self.frame.room.messages l.messages
+      ++ map (λ (a : Arrow). Some (caption_along l.initial.self.frame.grid
+      l.initial.self.frame.room.messages l.messages
       a.way a.number)) (take l.arrow-index l.arrows);
   frame : l.self.frame ≡ l.initial.self.frame;
 }

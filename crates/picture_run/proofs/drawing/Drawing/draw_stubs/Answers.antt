@@ -19,12 +19,16 @@ loop-stub-preserved c =
     let stroke = c.in_ok-draw_stub.field-0 in
     let same = ap (λ (f : PictureFrame). f.grid) c.loop-stub.invariant.frame in
     record {
-      titles = stubs_more c.args.messages.now stubs k t c.loop-stub.lines.items c.push.new.self.items stroke there at
+      titles = stubs_more c.args.messages.now stubs k t c.loop-stub.lines.items
+          c.push.new.self.items stroke there at
           c.in_ok-push.ensures.items c.in_ok-draw_stub.ensures.title c.loop-stub.invariant.titles;
-      depart = depart_more c.args.self.now.frame.grid stubs k t c.loop-stub.lines.items c.push.new.self.items stroke there at
-          c.in_ok-push.ensures.items (subst (λ g. Departs g (leaving_in t) stroke) same c.in_ok-draw_stub.ensures.departs)
+      depart = depart_more c.args.self.now.frame.grid stubs k t c.loop-stub.lines.items
+          c.push.new.self.items stroke there at
+          c.in_ok-push.ensures.items (subst (λ g. Departs g (leaving_in t) stroke) same
+          c.in_ok-draw_stub.ensures.departs)
           c.loop-stub.invariant.depart;
-      words = words_more (λ (s : Stub). says_of c.args.self.now.frame.room.messages c.args.messages.now s.number) stubs k t
+      words = words_more (λ (s : Stub). says_of c.args.self.now.frame.room.messages c.args.messages.now
+          s.number) stubs k t
           (map said_of c.args.self.now.sheet.words.items) (map said_of c.loop-stub.self.sheet.words.items)
           (map said_of c.draw_stub.new.self.sheet.words.items) there at c.loop-stub.invariant.words
           (c.in_ok-draw_stub.ensures.words

@@ -8,7 +8,8 @@ use Rattle.sub_branches.proofs.table.LiveBranches.open.Goals as goal
 
 pub invariant_of-self : goal.invariant_of-self
 invariant_of-self c =
-    entered_kept c.self.inside.branches c.self.invariant c.insert.new.self c.args.given_for c.args.ticket c.args.xid
+    entered_kept c.self.inside.branches c.self.invariant c.insert.new.self c.args.given_for
+    c.args.ticket c.args.xid
     (ap (λ t. branch_in t (child_case c.args.given_for.txn c.args.ticket)) c.self.view_is ∙ c.requires.fresh)
     (ap (λ t. ticket_in t c.args.given_for) c.self.view_is ∙ c.requires.ungiven)
     c.insert.result c.insert.ensures.ok c.insert.ensures.err
@@ -17,7 +18,8 @@ pub returns-clause-ok : goal.returns-clause-ok
 returns-clause-ok c =
     subst (λ t. OnOk c.insert.result (OpensBranch t (table (tickets_of c.insert.new.self) c.insert.new.self)
     c.args.given_for c.args.ticket c.args.xid)) c.self.view_is
-    (entered c.self.inside.branches c.self.invariant c.insert.new.self c.args.given_for c.args.ticket c.args.xid
+    (entered c.self.inside.branches c.self.invariant c.insert.new.self c.args.given_for
+    c.args.ticket c.args.xid
     (ap (λ t. branch_in t (child_case c.args.given_for.txn c.args.ticket)) c.self.view_is ∙ c.requires.fresh)
     (ap (λ t. ticket_in t c.args.given_for) c.self.view_is ∙ c.requires.ungiven)
     c.insert.result c.insert.ensures.ok)
@@ -26,4 +28,5 @@ pub returns-clause-err : goal.returns-clause-err
 returns-clause-err c =
     subst (λ t. OnErr c.insert.result (SameTable t (table (tickets_of c.insert.new.self) c.insert.new.self)))
     c.self.view_is
-    (not_entered c.self.inside.branches c.self.invariant c.insert.new.self c.insert.result c.insert.ensures.err)
+    (not_entered c.self.inside.branches c.self.invariant c.insert.new.self c.insert.result
+    c.insert.ensures.err)

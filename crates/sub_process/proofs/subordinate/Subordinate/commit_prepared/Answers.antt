@@ -85,8 +85,10 @@ returns-in-Ok-clause-ok g c =
     let ends = commit_row s c.args.key c.args.case c.args.xid.now
     (subst (λ v. IsBranchTable v.table) (sym c.self.view_is) c.requires.kept) at in
     let said : c.in_ok-reaction.reaction
-    ≡ outcome_reply record_kind.Committed c.args.case CommittedOutcome [] c.self.inside.me c.self.inside.parent =
-    subst (λ fs. c.in_ok-reaction.reaction ≡ outcome_reply record_kind.Committed c.args.case CommittedOutcome fs
+    ≡ outcome_reply record_kind.Committed c.args.case CommittedOutcome [] c.self.inside.me
+    c.self.inside.parent =
+    subst (λ fs. c.in_ok-reaction.reaction ≡ outcome_reply record_kind.Committed c.args.case
+    CommittedOutcome fs
     c.self.inside.me c.self.inside.parent) c.new.ensures c.in_ok-reaction.ensures in
     subst (λ v. Hears (seen g.M.ResourceManager.sight v) (behind s c.remove.new.self m) (Commit c.args.case)
     c.in_ok-reaction.reaction) c.self.view_is

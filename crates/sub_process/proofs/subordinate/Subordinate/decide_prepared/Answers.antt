@@ -54,7 +54,8 @@ invariant_of-self-in-Err-1 g c =
     let b : LiveBranch = prepared c.args.xid.now in
     let at : IsAt c.self.inside.branches c.args.key c.args.case b =
     subst (λ v. IsAt v.table c.args.key c.args.case b) (sym c.self.view_is) c.requires.at in
-    undecided_tied s (g.M.ResourceManager.sight c.decide.new.manager) c.args.case b c.args.outcome c.in-Err.error
+    undecided_tied s (g.M.ResourceManager.sight c.decide.new.manager) c.args.case b
+    c.args.outcome c.in-Err.error
     c.self.invariant at.live c.in-Err.ensures.err
 
 pub returns-in-Ok-clause-ok : goal.returns-in-Ok-clause-ok
@@ -75,7 +76,8 @@ returns-in-Ok-clause-ok g c =
     (Decide c.args.case c.args.outcome) c.in_ok-reaction.reaction) c.self.view_is
     (subst (λ r. Acts s (behind s c.decide-in-Ok.new.self m) (Decide c.args.case c.args.outcome) r)
     (sym (c.in_ok-reaction.ensures ∙ ap (λ k. logged_alone k c.args.case) c.decision_kind.ensures))
-    (decides s c.args.key c.args.case c.args.xid.now c.args.outcome c.self.invariant at c.decide-in-Ok.new.self m
+    (decides s c.args.key c.args.case c.args.xid.now c.args.outcome c.self.invariant at
+    c.decide-in-Ok.new.self m
     c.decide-in-Ok.ensures c.in-Ok.ensures.ok))
 
 pub returns-in-Err-clause-err : goal.returns-in-Err-clause-err

@@ -19,7 +19,8 @@ returns g c =
     let x = c.args.xid.now in
     let told = c.requires.at.1 in
     let at : IsAt s.table c.requires.at.0 c.args.case (decided x told) =
-    subst (λ v. IsAt v.table c.requires.at.0 c.args.case (decided x told)) (sym c.self.view_is) c.requires.at.2 in
+    subst (λ v. IsAt v.table c.requires.at.0 c.args.case (decided x told)) (sym c.self.view_is)
+    c.requires.at.2 in
     subst (λ v. IfOk c.decided_findings.result
     (λ findings. findings ≡ decided_found (seen g.M.ResourceManager.sight v) c.args.case c.args.outcome))
     c.self.view_is

@@ -72,7 +72,8 @@ returns-in-Ok-clause-ok g c =
     let b : LiveBranch = decided c.args.xid.now c.args.told in
     let at : IsAt c.self.inside.branches c.args.key c.args.case b =
     subst (λ v. IsAt v.table c.args.key c.args.case b) (sym c.self.view_is) c.requires.at in
-    let kept : IsBranchTable s.table = subst (λ v. IsBranchTable v.table) (sym c.self.view_is) c.requires.kept in
+    let kept : IsBranchTable s.table = subst (λ v. IsBranchTable v.table) (sym c.self.view_is) c.requires.kept
+    in
     let m : ManagerSight = g.M.ResourceManager.sight c.forget.new.manager in
     subst (λ v. Acts (seen g.M.ResourceManager.sight v) (behind s c.remove.new.self m) (Forget c.args.case)
     c.in_ok-reaction.reaction) c.self.view_is
@@ -93,7 +94,8 @@ returns-in-Err-clause-err g c =
     let b : LiveBranch = decided c.args.xid.now c.args.told in
     let at : IsAt c.self.inside.branches c.args.key c.args.case b =
     subst (λ v. IsAt v.table c.args.key c.args.case b) (sym c.self.view_is) c.requires.at in
-    let kept : IsBranchTable s.table = subst (λ v. IsBranchTable v.table) (sym c.self.view_is) c.requires.kept in
+    let kept : IsBranchTable s.table = subst (λ v. IsBranchTable v.table) (sym c.self.view_is) c.requires.kept
+    in
     let m : ManagerSight = g.M.ResourceManager.sight c.forget.new.manager in
     subst (λ v. NotActed (seen g.M.ResourceManager.sight v) (behind s s.table m) (Forget c.args.case)
     c.in-Err.error) c.self.view_is

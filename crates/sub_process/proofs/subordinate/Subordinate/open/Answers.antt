@@ -8,7 +8,8 @@ pub invariant_of-result : goal.invariant_of-result
 invariant_of-result g c =
     let old : ManagerSight = g.M.ResourceManager.sight c.args.manager in
     let new : ManagerSight = g.M.ResourceManager.sight c.open.new.self in
-    opened_tied old new c.requires.new (λ answer. answer ≡ code.RmFail) c.open.result c.open.ensures c.header.result
+    opened_tied old new c.requires.new (λ answer. answer ≡ code.RmFail) c.open.result
+    c.open.ensures c.header.result
     c.args.me c.args.parent c.args.tree c.new.result c.header.ensures
     c.new.ensures.tickets c.new.ensures.branches c.requires.own
 

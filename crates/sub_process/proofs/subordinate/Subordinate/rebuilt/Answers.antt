@@ -23,7 +23,8 @@ rebuild-requires g c =
       manager = g.M.ResourceManager.sight c.self.inside.manager;
     } in
     let front : IsFrontOf (place_of s) s.manager.log c.args.front =
-    subst (λ v. IsFrontOf (leaf_place v.me v.parent v.tree) (g.M.ResourceManager.sight v.manager).log c.args.front)
+    subst (λ v. IsFrontOf (leaf_place v.me v.parent v.tree)
+    (g.M.ResourceManager.sight v.manager).log c.args.front)
     (sym c.self.view_is) c.requires in
     (front.first, front.says s.parent refl)
 
@@ -38,10 +39,12 @@ returns-in-Ok-clause-ok g c =
       manager = g.M.ResourceManager.sight c.self.inside.manager;
     } in
     let front : IsFrontOf (place_of s) s.manager.log c.args.front =
-    subst (λ v. IsFrontOf (leaf_place v.me v.parent v.tree) (g.M.ResourceManager.sight v.manager).log c.args.front)
+    subst (λ v. IsFrontOf (leaf_place v.me v.parent v.tree)
+    (g.M.ResourceManager.sight v.manager).log c.args.front)
     (sym c.self.view_is) c.requires in
     let left : front.first ++ c.deref.result.now ≡ left_by s.manager.log c.args.keep =
-    ap (λ ks. front.first ++ ks) c.deref.ensures.value ∙ c.in_ok-records.ensures {u = tt} front.first front.stands in
+    ap (λ ks. front.first ++ ks) c.deref.ensures.value
+    ∙ c.in_ok-records.ensures {u = tt} front.first front.stands in
     subst (λ v. RebuildsBranches (leaf_place v.me v.parent v.tree) v.parent
     (left_by (g.M.ResourceManager.sight v.manager).log c.args.keep) c.in-Ok.rebuilt.0) c.self.view_is
     (subst (λ ls. RebuildsBranches (place_of s) s.parent ls c.in-Ok.rebuilt.0) left
@@ -58,14 +61,18 @@ returns-in-Ok-clause-remembered g c =
       manager = g.M.ResourceManager.sight c.self.inside.manager;
     } in
     let front : IsFrontOf (place_of s) s.manager.log c.args.front =
-    subst (λ v. IsFrontOf (leaf_place v.me v.parent v.tree) (g.M.ResourceManager.sight v.manager).log c.args.front)
+    subst (λ v. IsFrontOf (leaf_place v.me v.parent v.tree)
+    (g.M.ResourceManager.sight v.manager).log c.args.front)
     (sym c.self.view_is) c.requires in
     let left : front.first ++ c.deref.result.now ≡ left_by s.manager.log c.args.keep =
-    ap (λ ks. front.first ++ ks) c.deref.ensures.value ∙ c.in_ok-records.ensures {u = tt} front.first front.stands in
+    ap (λ ks. front.first ++ ks) c.deref.ensures.value
+    ∙ c.in_ok-records.ensures {u = tt} front.first front.stands in
     subst (λ v. RemembersBranches (leaf_place v.me v.parent v.tree) v.parent
-    (left_by (g.M.ResourceManager.sight v.manager).log c.args.keep ++ boot_record (c.in-Ok.rebuilt.0.boot + 1) ∷ [])
+    (left_by (g.M.ResourceManager.sight v.manager).log c.args.keep ++ boot_record
+    (c.in-Ok.rebuilt.0.boot + 1) ∷ [])
     c.in-Ok.rebuilt.1) c.self.view_is
-    (subst (λ ls. RemembersBranches (place_of s) s.parent (ls ++ boot_record (c.in-Ok.rebuilt.0.boot + 1) ∷ [])
+    (subst (λ ls. RemembersBranches (place_of s) s.parent
+    (ls ++ boot_record (c.in-Ok.rebuilt.0.boot + 1) ∷ [])
     c.in-Ok.rebuilt.1) left
     (c.in-Ok.ensures.remembered front.first (front.says s.parent refl)))
 
@@ -80,10 +87,12 @@ returns-in-Err-Exhausted-clause-err g c =
       manager = g.M.ResourceManager.sight c.self.inside.manager;
     } in
     let front : IsFrontOf (place_of s) s.manager.log c.args.front =
-    subst (λ v. IsFrontOf (leaf_place v.me v.parent v.tree) (g.M.ResourceManager.sight v.manager).log c.args.front)
+    subst (λ v. IsFrontOf (leaf_place v.me v.parent v.tree)
+    (g.M.ResourceManager.sight v.manager).log c.args.front)
     (sym c.self.view_is) c.requires in
     let left : front.first ++ c.deref.result.now ≡ left_by s.manager.log c.args.keep =
-    ap (λ ks. front.first ++ ks) c.deref.ensures.value ∙ c.in_ok-records.ensures {u = tt} front.first front.stands in
+    ap (λ ks. front.first ++ ks) c.deref.ensures.value
+    ∙ c.in_ok-records.ensures {u = tt} front.first front.stands in
     let why : BranchesNotRebuilt (place_of s) (front.first ++ c.deref.result.now) Exhausted =
     subst (BranchesNotRebuilt (place_of s) (front.first ++ c.deref.result.now)) c.in-Err-Exhausted.field-0-is
     (c.in-Err-Exhausted.ensures.err front.first (front.says s.parent refl)) in
@@ -102,12 +111,15 @@ unreachable-requires g c =
       manager = g.M.ResourceManager.sight c.self.inside.manager;
     } in
     let front : IsFrontOf (place_of s) s.manager.log c.args.front =
-    subst (λ v. IsFrontOf (leaf_place v.me v.parent v.tree) (g.M.ResourceManager.sight v.manager).log c.args.front)
+    subst (λ v. IsFrontOf (leaf_place v.me v.parent v.tree)
+    (g.M.ResourceManager.sight v.manager).log c.args.front)
     (sym c.self.view_is) c.requires in
     let left : front.first ++ c.deref.result.now ≡ left_by s.manager.log c.args.keep =
-    ap (λ ks. front.first ++ ks) c.deref.ensures.value ∙ c.in_ok-records.ensures {u = tt} front.first front.stands in
+    ap (λ ks. front.first ++ ks) c.deref.ensures.value
+    ∙ c.in_ok-records.ensures {u = tt} front.first front.stands in
     let fit : AreFit (place_of s) (left_by s.manager.log c.args.keep) =
-    left_fit s c.args.keep c.self.invariant.reached c.records_are_sound.ensures c.records_are_in_order.ensures in
+    left_fit s c.args.keep c.self.invariant.reached c.records_are_sound.ensures c.records_are_in_order.ensures
+    in
     let why : BranchesNotRebuilt (place_of s) (front.first ++ c.deref.result.now) Unfit =
     subst (BranchesNotRebuilt (place_of s) (front.first ++ c.deref.result.now)) c.in-Err-Unfit.field-0-is
     (c.in-Err-Unfit.ensures.err front.first (front.says s.parent refl)) in

@@ -49,7 +49,8 @@ returns-in-Ok-clause-ok g c = λ before all restarts old so keep left.
     subst (λ (ws : List ShownRecord). ProcessRestarts old keep (core_of n)
     (record { begun = None; written = ws; told = None; messages = r.messages; kept = None }))
     (sym c.in-Ok.ensures.written)
-    (over_left s all r (g.M.ResourceManager.sight c.args.manager) m (λ answer. answer ≡ code.RmFail) c.open.result
+    (over_left s all r (g.M.ResourceManager.sight c.args.manager) m
+    (λ answer. answer ≡ code.RmFail) c.open.result
     c.in-Ok.ensures.ok restarts c.open.ensures
     (sym (ap (λ (l : LogSight). l.form) restarts.log) ∙ c.requires.own) old so keep left)
 
@@ -64,7 +65,8 @@ returns-in-Ok-clause-writes g c = λ before all restarts.
       table = r.branches;
       manager = before;
     } in
-    over_promises s all r (g.M.ResourceManager.sight c.args.manager) (g.M.ResourceManager.sight c.open.new.self)
+    over_promises s all r (g.M.ResourceManager.sight c.args.manager)
+    (g.M.ResourceManager.sight c.open.new.self)
     (λ answer. answer ≡ code.RmFail) c.open.result c.in-Ok.ensures.ok restarts c.open.ensures
     (sym (ap (λ (l : LogSight). l.form) restarts.log) ∙ c.requires.own)
 

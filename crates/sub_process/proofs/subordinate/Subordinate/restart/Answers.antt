@@ -41,7 +41,8 @@ invariant_of-self g c =
       table = c.self.inside.branches;
       manager = g.M.ResourceManager.sight c.self.inside.manager;
     } in
-    header_tied c.replace-front.new.dest s (subst IsHeader (sym c.replace-front.ensures.after) c.header.ensures) c.self.invariant
+    header_tied c.replace-front.new.dest s (subst IsHeader (sym c.replace-front.ensures.after)
+    c.header.ensures) c.self.invariant
 
 pub invariant_of-self-in_err-rebuilt : goal.invariant_of-self-in_err-rebuilt
 invariant_of-self-in_err-rebuilt g c =
@@ -53,7 +54,8 @@ invariant_of-self-in_err-rebuilt g c =
       table = c.self.inside.branches;
       manager = g.M.ResourceManager.sight c.self.inside.manager;
     } in
-    header_tied c.replace-front.new.dest s (subst IsHeader (sym c.replace-front.ensures.after) c.header.ensures)
+    header_tied c.replace-front.new.dest s (subst IsHeader (sym c.replace-front.ensures.after)
+    c.header.ensures)
     c.self.invariant
 
 pub invariant_of-self-in-Ok : goal.invariant_of-self-in-Ok
@@ -70,7 +72,8 @@ invariant_of-self-in-Ok g c =
     let re : Reopens s.manager (g.M.ResourceManager.sight c.reopen.new.manager)
     c.args.keep = c.in-Ok.ensures.ok in
     let m : ManagerSight = g.M.ResourceManager.sight c.reopen.new.manager in
-    let made : RebuildsBranches (leaf_place s.me s.parent s.tree) s.parent (left_by s.manager.log c.args.keep) r =
+    let made : RebuildsBranches (leaf_place s.me s.parent s.tree) s.parent
+    (left_by s.manager.log c.args.keep) r =
     c.in_ok-rebuilt.ensures.ok in
     let f : Front = record { size = c.log_size.result; remembered = c.in_ok-rebuilt.remembered } in
     let works = reopened_works s c.args.keep r re.mid m (λ answer. answer ≡ code.RmFail)
@@ -105,7 +108,8 @@ returns-in-Ok-clause-ok g c =
       table = r.branches;
       manager = m;
     } in
-    let made : RebuildsBranches (leaf_place s.me s.parent s.tree) s.parent (left_by s.manager.log c.args.keep) r =
+    let made : RebuildsBranches (leaf_place s.me s.parent s.tree) s.parent
+    (left_by s.manager.log c.args.keep) r =
     c.in_ok-rebuilt.ensures.ok in
     subst (λ v. ProcessRestarts (state g.M.ResourceManager.sight v) c.args.keep (core_of n)
     (record {
@@ -131,8 +135,10 @@ invariant_of-self-in-Err-Memory g c =
       table = c.self.inside.branches;
       manager = g.M.ResourceManager.sight c.self.inside.manager;
     } in
-    let header : IsHeader c.replace-front.new.dest = subst IsHeader (sym c.replace-front.ensures.after) c.header.ensures in
-    let tied : IsTied c.replace-front.new.dest s = header_tied c.replace-front.new.dest s header c.self.invariant in
+    let header : IsHeader c.replace-front.new.dest = subst IsHeader (sym c.replace-front.ensures.after)
+    c.header.ensures in
+    let tied : IsTied c.replace-front.new.dest s = header_tied c.replace-front.new.dest s header
+    c.self.invariant in
     same_tied s (g.M.ResourceManager.sight c.reopen.new.manager) tied
     (subst (λ e. ManagerNotRestarted s.manager (g.M.ResourceManager.sight c.reopen.new.manager) c.args.keep e)
     c.in-Err-Memory.field-0-is c.in-Err-Memory.ensures.err)
@@ -147,10 +153,13 @@ invariant_of-self-in-Err-Exhausted g c =
       table = c.self.inside.branches;
       manager = g.M.ResourceManager.sight c.self.inside.manager;
     } in
-    let why = subst (λ e. ManagerNotRestarted s.manager (g.M.ResourceManager.sight c.reopen.new.manager) c.args.keep e)
+    let why = subst (λ e. ManagerNotRestarted s.manager
+    (g.M.ResourceManager.sight c.reopen.new.manager) c.args.keep e)
     c.in-Err-Exhausted.field-0-is c.in-Err-Exhausted.ensures.err in
-    let header : IsHeader c.replace-front.new.dest = subst IsHeader (sym c.replace-front.ensures.after) c.header.ensures in
-    let tied : IsTied c.replace-front.new.dest s = header_tied c.replace-front.new.dest s header c.self.invariant in
+    let header : IsHeader c.replace-front.new.dest = subst IsHeader (sym c.replace-front.ensures.after)
+    c.header.ensures in
+    let tied : IsTied c.replace-front.new.dest s = header_tied c.replace-front.new.dest s header
+    c.self.invariant in
     same_tied s (g.M.ResourceManager.sight c.reopen.new.manager) tied why.0
 
 pub invariant_of-self-in-Err-Device : goal.invariant_of-self-in-Err-Device
@@ -163,8 +172,10 @@ invariant_of-self-in-Err-Device g c =
       table = c.self.inside.branches;
       manager = g.M.ResourceManager.sight c.self.inside.manager;
     } in
-    let header : IsHeader c.replace-front.new.dest = subst IsHeader (sym c.replace-front.ensures.after) c.header.ensures in
-    let tied : IsTied c.replace-front.new.dest s = header_tied c.replace-front.new.dest s header c.self.invariant in
+    let header : IsHeader c.replace-front.new.dest = subst IsHeader (sym c.replace-front.ensures.after)
+    c.header.ensures in
+    let tied : IsTied c.replace-front.new.dest s = header_tied c.replace-front.new.dest s header
+    c.self.invariant in
     broken_tied s (g.M.ResourceManager.sight c.reopen.new.manager) c.args.keep tied
     (subst (λ e. ManagerNotRestarted s.manager (g.M.ResourceManager.sight c.reopen.new.manager) c.args.keep e)
     c.in-Err-Device.field-0-is c.in-Err-Device.ensures.err)
@@ -241,4 +252,5 @@ returns-in-Ok-clause-writes g c =
       table = c.in_ok-rebuilt.rebuilt.branches;
       manager = m;
     })) c.self.view_is
-    (promises_left s.manager re.mid m c.args.keep (λ answer. answer ≡ code.RmFail) re.answer re.restarts re.calls)
+    (promises_left s.manager re.mid m c.args.keep (λ answer. answer ≡ code.RmFail) re.answer
+    re.restarts re.calls)

@@ -39,7 +39,8 @@ invariant_of-self-in-Ok-true g c =
     let named : IsNamed s.parent (next_case s c.args.case) c.child_xid-xid.result =
     subst (λ (t : Ticket). IsNamed s.parent (child_case c.args.case.txn t) c.child_xid-xid.result)
     fresh c.child_xid-xid.ensures in
-    let opens : OpensBranch s.table c.open.new.self c.args.case (next_ticket (core_of s)) c.child_xid-xid.result =
+    let opens : OpensBranch s.table c.open.new.self c.args.case (next_ticket (core_of s))
+    c.child_xid-xid.result =
     subst (λ (t : Ticket). OpensBranch s.table c.open.new.self c.args.case t c.child_xid-xid.result)
     fresh c.in_ok-key.ensures.ok in
     let h : HasBegun s.manager m c.child_xid-xid.result true = subst (λ r. HasBegun s.manager m
@@ -60,7 +61,8 @@ invariant_of-self-in-Ok-false g c =
     let m : ManagerSight = g.M.ResourceManager.sight c.begin.new.manager in
     let fresh : c.args.ticket ≡ next_ticket (core_of s) = c.requires.fresh
     ∙ sym (ap (λ v. next_ticket (core_of (seen g.M.ResourceManager.sight v))) c.self.view_is) in
-    let kept : IsBranchTable s.table = subst (λ v. IsBranchTable v.table) (sym c.self.view_is) c.requires.kept in
+    let kept : IsBranchTable s.table = subst (λ v. IsBranchTable v.table) (sym c.self.view_is) c.requires.kept
+    in
     let ungiven : ticket_in s.table c.args.case ≡ None =
     ap (λ v. ticket_in v.table c.args.case) c.self.view_is ∙ c.requires.ungiven in
     let vacant : branch_in s.table (child_case c.args.case.txn c.args.ticket) ≡ None =
@@ -87,7 +89,8 @@ invariant_of-self-in-Err g c =
     let m : ManagerSight = g.M.ResourceManager.sight c.begin.new.manager in
     let fresh : c.args.ticket ≡ next_ticket (core_of s) = c.requires.fresh
     ∙ sym (ap (λ v. next_ticket (core_of (seen g.M.ResourceManager.sight v))) c.self.view_is) in
-    let kept : IsBranchTable s.table = subst (λ v. IsBranchTable v.table) (sym c.self.view_is) c.requires.kept in
+    let kept : IsBranchTable s.table = subst (λ v. IsBranchTable v.table) (sym c.self.view_is) c.requires.kept
+    in
     let ungiven : ticket_in s.table c.args.case ≡ None =
     ap (λ v. ticket_in v.table c.args.case) c.self.view_is ∙ c.requires.ungiven in
     let vacant : branch_in s.table (child_case c.args.case.txn c.args.ticket) ≡ None =
@@ -115,7 +118,8 @@ returns-in-Ok-true-clause-ok g c =
     let named : IsNamed s.parent (next_case s c.args.case) c.child_xid-xid.result =
     subst (λ (t : Ticket). IsNamed s.parent (child_case c.args.case.txn t) c.child_xid-xid.result)
     fresh c.child_xid-xid.ensures in
-    let opens : OpensBranch s.table c.open.new.self c.args.case (next_ticket (core_of s)) c.child_xid-xid.result =
+    let opens : OpensBranch s.table c.open.new.self c.args.case (next_ticket (core_of s))
+    c.child_xid-xid.result =
     subst (λ (t : Ticket). OpensBranch s.table c.open.new.self c.args.case t c.child_xid-xid.result)
     fresh c.in_ok-key.ensures.ok in
     let h : HasBegun s.manager m c.child_xid-xid.result true = subst (λ r. HasBegun s.manager m
@@ -141,7 +145,8 @@ returns-in-Ok-false-clause-ok g c =
     let named : IsNamed s.parent (next_case s c.args.case) c.child_xid-xid.result =
     subst (λ (t : Ticket). IsNamed s.parent (child_case c.args.case.txn t) c.child_xid-xid.result)
     fresh c.child_xid-xid.ensures in
-    let kept : IsBranchTable s.table = subst (λ v. IsBranchTable v.table) (sym c.self.view_is) c.requires.kept in
+    let kept : IsBranchTable s.table = subst (λ v. IsBranchTable v.table) (sym c.self.view_is) c.requires.kept
+    in
     let ungiven : ticket_in s.table c.args.case ≡ None =
     ap (λ v. ticket_in v.table c.args.case) c.self.view_is ∙ c.requires.ungiven in
     let vacant : branch_in s.table (child_case c.args.case.txn c.args.ticket) ≡ None =
@@ -170,7 +175,8 @@ returns-in-Err-clause-err g c =
     let m : ManagerSight = g.M.ResourceManager.sight c.begin.new.manager in
     let fresh : c.args.ticket ≡ next_ticket (core_of s) = c.requires.fresh
     ∙ sym (ap (λ v. next_ticket (core_of (seen g.M.ResourceManager.sight v))) c.self.view_is) in
-    let kept : IsBranchTable s.table = subst (λ v. IsBranchTable v.table) (sym c.self.view_is) c.requires.kept in
+    let kept : IsBranchTable s.table = subst (λ v. IsBranchTable v.table) (sym c.self.view_is) c.requires.kept
+    in
     let ungiven : ticket_in s.table c.args.case ≡ None =
     ap (λ v. ticket_in v.table c.args.case) c.self.view_is ∙ c.requires.ungiven in
     let vacant : branch_in s.table (child_case c.args.case.txn c.args.ticket) ≡ None =
@@ -180,5 +186,6 @@ returns-in-Err-clause-err g c =
     undone s.table c.open.new.self c.remove-in-Err.new.self c.in_ok-key.key c.args.case c.args.ticket
     c.child_xid-xid.result kept vacant ungiven c.in_ok-key.ensures.ok
     c.in_ok-key.ensures.at c.remove-in-Err.ensures in
-    subst (λ v. KeepsProcess (seen g.M.ResourceManager.sight v) (behind s c.remove-in-Err.new.self m)) c.self.view_is
+    subst (λ v. KeepsProcess (seen g.M.ResourceManager.sight v) (behind s c.remove-in-Err.new.self m))
+    c.self.view_is
     (undone_keeps s c.remove-in-Err.new.self m same c.in-Err.ensures.err)

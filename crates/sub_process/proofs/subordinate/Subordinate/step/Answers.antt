@@ -82,5 +82,6 @@ returns-in-Act-clause-kept g c =
 
 pub returns-in-Message-clause-kept : goal.returns-in-Message-clause-kept
 returns-in-Message-clause-kept g c =
-    hear_kept (seen g.M.ResourceManager.sight c.args.self.now) (seen g.M.ResourceManager.sight c.hear.new.self)
+    hear_kept (seen g.M.ResourceManager.sight c.args.self.now)
+    (seen g.M.ResourceManager.sight c.hear.new.self)
     c.in-Message.message.now c.hear.result c.hear.ensures.err

@@ -26,7 +26,8 @@ returns-in_ok-acknowledges-clause-ok g c =
     let at : IsAt s.table key c.args.case (decided x (Some c.args.told)) =
     subst (λ v. IsAt v.table key c.args.case (decided x (Some c.args.told)))
     (sym c.self.view_is) c.requires.at.1 in
-    let kept : IsBranchTable s.table = subst (λ v. IsBranchTable v.table) (sym c.self.view_is) c.requires.kept in
+    let kept : IsBranchTable s.table = subst (λ v. IsBranchTable v.table) (sym c.self.view_is) c.requires.kept
+    in
     let same : same_outcome c.args.told c.args.outcome ≡ true = search rules in
     let found : c.in_ok-found.found ≡ decided_found s c.args.case c.args.outcome =
     subst (λ v. c.in_ok-found.found ≡ decided_found (seen g.M.ResourceManager.sight v)
@@ -56,7 +57,8 @@ returns-else-is_same-clause-ok g c =
     let at : IsAt s.table key c.args.case (decided x (Some c.args.told)) =
     subst (λ v. IsAt v.table key c.args.case (decided x (Some c.args.told)))
     (sym c.self.view_is) c.requires.at.1 in
-    let kept : IsBranchTable s.table = subst (λ v. IsBranchTable v.table) (sym c.self.view_is) c.requires.kept in
+    let kept : IsBranchTable s.table = subst (λ v. IsBranchTable v.table) (sym c.self.view_is) c.requires.kept
+    in
     let other : same_outcome c.args.told c.args.outcome ≡ false = search rules in
     subst (λ v. Hears (seen g.M.ResourceManager.sight v) (seen g.M.ResourceManager.sight v)
     (tells_outcome c.args.outcome c.args.case) c.silence.result) c.self.view_is

@@ -49,9 +49,11 @@ invariant_of-self g c =
     let b : LiveBranch = decided c.args.xid.now None in
     let at : IsAt c.self.inside.branches c.args.key c.args.case b =
     subst (λ v. IsAt v.table c.args.key c.args.case b) (sym c.self.view_is) c.requires.at in
-    let kept : IsBranchTable s.table = subst (λ v. IsBranchTable v.table) (sym c.self.view_is) c.requires.kept in
+    let kept : IsBranchTable s.table = subst (λ v. IsBranchTable v.table) (sym c.self.view_is) c.requires.kept
+    in
     let m : ManagerSight = g.M.ResourceManager.sight c.tell.new.manager in
-    told_tied s c.args.key c.args.case c.args.xid.now c.args.outcome c.self.invariant kept at c.decide.new.self m
+    told_tied s c.args.key c.args.case c.args.xid.now c.args.outcome c.self.invariant kept at
+    c.decide.new.self m
     c.decide.ensures c.in-Ok.ensures.ok
 
 pub invariant_of-self-in-Err-1 : goal.invariant_of-self-in-Err-1
@@ -83,7 +85,8 @@ returns-in-Ok-clause-ok g c =
     let b : LiveBranch = decided c.args.xid.now None in
     let at : IsAt c.self.inside.branches c.args.key c.args.case b =
     subst (λ v. IsAt v.table c.args.key c.args.case b) (sym c.self.view_is) c.requires.at in
-    let kept : IsBranchTable s.table = subst (λ v. IsBranchTable v.table) (sym c.self.view_is) c.requires.kept in
+    let kept : IsBranchTable s.table = subst (λ v. IsBranchTable v.table) (sym c.self.view_is) c.requires.kept
+    in
     let m : ManagerSight = g.M.ResourceManager.sight c.tell.new.manager in
     let found : c.in_ok-found.found ≡ decided_found s c.args.case c.args.outcome =
     subst (λ v. c.in_ok-found.found ≡ decided_found (seen g.M.ResourceManager.sight v)
@@ -96,7 +99,8 @@ returns-in-Ok-clause-ok g c =
     (tells_outcome c.args.outcome c.args.case) c.in_ok-reaction.reaction) c.self.view_is
     (subst (λ r. Hears s (behind s c.decide.new.self m) (tells_outcome c.args.outcome c.args.case) r)
     (sym said)
-    (told_first s c.args.key c.args.case c.args.xid.now c.args.outcome c.self.invariant kept at c.decide.new.self
+    (told_first s c.args.key c.args.case c.args.xid.now c.args.outcome c.self.invariant kept at
+    c.decide.new.self
     m c.decide.ensures c.in-Ok.ensures.ok))
 
 pub returns-in-Err-clause-err : goal.returns-in-Err-clause-err
@@ -112,7 +116,8 @@ returns-in-Err-clause-err g c =
     let b : LiveBranch = decided c.args.xid.now None in
     let at : IsAt c.self.inside.branches c.args.key c.args.case b =
     subst (λ v. IsAt v.table c.args.key c.args.case b) (sym c.self.view_is) c.requires.at in
-    let kept : IsBranchTable s.table = subst (λ v. IsBranchTable v.table) (sym c.self.view_is) c.requires.kept in
+    let kept : IsBranchTable s.table = subst (λ v. IsBranchTable v.table) (sym c.self.view_is) c.requires.kept
+    in
     let m : ManagerSight = g.M.ResourceManager.sight c.tell.new.manager in
     subst (λ v. NotHeard (seen g.M.ResourceManager.sight v) (behind s s.table m)
     (tells_outcome c.args.outcome c.args.case) c.in-Err.error) c.self.view_is

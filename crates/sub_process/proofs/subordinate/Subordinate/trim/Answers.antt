@@ -33,11 +33,14 @@ invariant_of-self g c =
     elim c.match-trim.branch [
       | in-Ok w ↦ trimmed_tied s m order tied header w.in-Ok.count w.in-Ok.ensures.ok
       | in-Err-Memory w ↦ untrimmed_tied s m order tied header trim_error.Memory
-          (subst (λ e. ManagerNotTrimmed s.manager m e) w.in-Err-Memory.field-0-is w.in-Err-Memory.ensures.err)
+          (subst (λ e. ManagerNotTrimmed s.manager m e) w.in-Err-Memory.field-0-is
+          w.in-Err-Memory.ensures.err)
       | in-Err-Device w ↦ untrimmed_tied s m order tied header trim_error.Device
-          (subst (λ e. ManagerNotTrimmed s.manager m e) w.in-Err-Device.field-0-is w.in-Err-Device.ensures.err)
+          (subst (λ e. ManagerNotTrimmed s.manager m e) w.in-Err-Device.field-0-is
+          w.in-Err-Device.ensures.err)
       | in-Err-Failed w ↦ untrimmed_tied s m order tied header trim_error.Failed
-          (subst (λ e. ManagerNotTrimmed s.manager m e) w.in-Err-Failed.field-0-is w.in-Err-Failed.ensures.err)
+          (subst (λ e. ManagerNotTrimmed s.manager m e) w.in-Err-Failed.field-0-is
+          w.in-Err-Failed.ensures.err)
     ]
 
 pub returns-clause-ok : goal.returns-clause-ok
@@ -82,15 +85,18 @@ returns-clause-err g c =
           (subst (λ v. ProcessNotTrimmed (state g.M.ResourceManager.sight v) (core_of (behind s s.table m))
           step_error.Memory) c.self.view_is
           (not_trimmed s m c.records_are_sound.ensures c.self.invariant.own trim_error.Memory
-          (subst (λ e. ManagerNotTrimmed s.manager m e) w.in-Err-Memory.field-0-is w.in-Err-Memory.ensures.err)))
+          (subst (λ e. ManagerNotTrimmed s.manager m e) w.in-Err-Memory.field-0-is
+          w.in-Err-Memory.ensures.err)))
       | in-Err-Device w ↦ subst P (sym w.result-is)
           (subst (λ v. ProcessNotTrimmed (state g.M.ResourceManager.sight v) (core_of (behind s s.table m))
           step_error.Device) c.self.view_is
           (not_trimmed s m c.records_are_sound.ensures c.self.invariant.own trim_error.Device
-          (subst (λ e. ManagerNotTrimmed s.manager m e) w.in-Err-Device.field-0-is w.in-Err-Device.ensures.err)))
+          (subst (λ e. ManagerNotTrimmed s.manager m e) w.in-Err-Device.field-0-is
+          w.in-Err-Device.ensures.err)))
       | in-Err-Failed w ↦ subst P (sym w.result-is)
           (subst (λ v. ProcessNotTrimmed (state g.M.ResourceManager.sight v) (core_of (behind s s.table m))
           step_error.Failed) c.self.view_is
           (not_trimmed s m c.records_are_sound.ensures c.self.invariant.own trim_error.Failed
-          (subst (λ e. ManagerNotTrimmed s.manager m e) w.in-Err-Failed.field-0-is w.in-Err-Failed.ensures.err)))
+          (subst (λ e. ManagerNotTrimmed s.manager m e) w.in-Err-Failed.field-0-is
+          w.in-Err-Failed.ensures.err)))
     ]

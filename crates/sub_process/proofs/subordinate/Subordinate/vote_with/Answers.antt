@@ -16,7 +16,8 @@ pub promise-requires-clause-named : goal.promise-requires-clause-named
 promise-requires-clause-named g c =
     let at = subst (λ v. IsAt v.table c.args.key c.args.case
     (active c.args.xid.now c.requires.at.0 c.args.works false)) (sym c.self.view_is) c.requires.at.1 in
-    (c.self.invariant.named c.args.case (active c.args.xid.now c.requires.at.0 c.args.works false) at.live).real
+    (c.self.invariant.named c.args.case (active c.args.xid.now c.requires.at.0 c.args.works false)
+    at.live).real
 
 pub promise-requires-clause-state : goal.promise-requires-clause-state
 promise-requires-clause-state g c =

@@ -51,7 +51,8 @@ invariant_of-self g c =
     let at : IsAt c.self.inside.branches c.args.key c.args.case b =
     subst (λ v. IsAt v.table c.args.key c.args.case b) (sym c.self.view_is) c.requires.at in
     let m : ManagerSight = g.M.ResourceManager.sight c.work.new.manager in
-    let does : BranchWorks s.manager m c.args.xid.now c.args.op.now true = subst (λ r. BranchWorks s.manager m c.args.xid.now
+    let does : BranchWorks s.manager m c.args.xid.now c.args.op.now true =
+    subst (λ r. BranchWorks s.manager m c.args.xid.now
     c.args.op.now r) c.in-Ok-true.field-0-test c.in-Ok-true.ensures.ok in
     did_tied s c.args.key c.args.case c.args.given_for c.args.done c.args.number c.args.xid.now c.args.op.now
     c.self.invariant at c.requires.next c.note.new.self m c.note.ensures does
@@ -70,9 +71,11 @@ invariant_of-self-in-Ok-false g c =
     let at : IsAt c.self.inside.branches c.args.key c.args.case b =
     subst (λ v. IsAt v.table c.args.key c.args.case b) (sym c.self.view_is) c.requires.at in
     let m : ManagerSight = g.M.ResourceManager.sight c.work.new.manager in
-    let does : BranchWorks s.manager m c.args.xid.now c.args.op.now false = subst (λ r. BranchWorks s.manager m c.args.xid.now
+    let does : BranchWorks s.manager m c.args.xid.now c.args.op.now false =
+    subst (λ r. BranchWorks s.manager m c.args.xid.now
     c.args.op.now r) c.in-Ok-false.field-0-test c.in-Ok-false.ensures.ok in
-    spoils_tied s c.args.key c.args.case c.args.given_for c.args.done c.args.number c.args.xid.now c.args.op.now
+    spoils_tied s c.args.key c.args.case c.args.given_for c.args.done c.args.number
+    c.args.xid.now c.args.op.now
     c.self.invariant at c.requires.next c.note-in-Ok-false.new.self m c.note-in-Ok-false.ensures does
 
 pub invariant_of-self-in-Err : goal.invariant_of-self-in-Err
@@ -89,7 +92,8 @@ invariant_of-self-in-Err g c =
     let at : IsAt c.self.inside.branches c.args.key c.args.case b =
     subst (λ v. IsAt v.table c.args.key c.args.case b) (sym c.self.view_is) c.requires.at in
     let m : ManagerSight = g.M.ResourceManager.sight c.work.new.manager in
-    idles_tied s c.args.key c.args.case c.args.given_for c.args.done c.args.number c.args.xid.now c.args.op.now
+    idles_tied s c.args.key c.args.case c.args.given_for c.args.done c.args.number
+    c.args.xid.now c.args.op.now
     c.self.invariant at c.requires.next m c.in-Err.ensures.err
 
 pub returns-in-Ok-true-clause-ok : goal.returns-in-Ok-true-clause-ok
@@ -106,7 +110,8 @@ returns-in-Ok-true-clause-ok g c =
     let at : IsAt c.self.inside.branches c.args.key c.args.case b =
     subst (λ v. IsAt v.table c.args.key c.args.case b) (sym c.self.view_is) c.requires.at in
     let m : ManagerSight = g.M.ResourceManager.sight c.work.new.manager in
-    let does : BranchWorks s.manager m c.args.xid.now c.args.op.now true = subst (λ r. BranchWorks s.manager m c.args.xid.now
+    let does : BranchWorks s.manager m c.args.xid.now c.args.op.now true =
+    subst (λ r. BranchWorks s.manager m c.args.xid.now
     c.args.op.now r) c.in-Ok-true.field-0-test c.in-Ok-true.ensures.ok in
     subst (λ v. Hears (seen g.M.ResourceManager.sight v) (behind s c.note.new.self m)
     (Work c.args.case c.args.number c.args.op.now) c.silence.result) c.self.view_is
@@ -129,7 +134,8 @@ returns-in-Ok-false-clause-ok g c =
     let at : IsAt c.self.inside.branches c.args.key c.args.case b =
     subst (λ v. IsAt v.table c.args.key c.args.case b) (sym c.self.view_is) c.requires.at in
     let m : ManagerSight = g.M.ResourceManager.sight c.work.new.manager in
-    let does : BranchWorks s.manager m c.args.xid.now c.args.op.now false = subst (λ r. BranchWorks s.manager m c.args.xid.now
+    let does : BranchWorks s.manager m c.args.xid.now c.args.op.now false =
+    subst (λ r. BranchWorks s.manager m c.args.xid.now
     c.args.op.now r) c.in-Ok-false.field-0-test c.in-Ok-false.ensures.ok in
     subst (λ v. Hears (seen g.M.ResourceManager.sight v) (behind s c.note-in-Ok-false.new.self m)
     (Work c.args.case c.args.number c.args.op.now) c.silence-in-Ok-false.result) c.self.view_is

@@ -11,4 +11,5 @@ returns-clause-answer g c =
     let new = g.M.ResourceManager.sight c.commit.new.self in
     IfOk-weaker c.commit.result (ManagerFinishes old new Commit c.args.xid.now c.args.flags.0)
     (ManagerFinishes (limited old) (limited new) Commit c.args.xid.now c.args.flags.0)
-    (λ answer made. finishes_limited old new Commit c.args.xid.now c.args.flags.0 answer made) c.commit.ensures.answer
+    (λ answer made. finishes_limited old new Commit c.args.xid.now c.args.flags.0 answer made)
+    c.commit.ensures.answer

@@ -17,5 +17,6 @@ returns-clause-answer g c =
     (λ answer. (wanted : Wanted) → ManagerCalls (limited before) (limited later) (answer ≡ code.RmFail)
     (λ old new. AnswersCall wanted old new End c.args.thread c.args.xid.now c.args.flags.0 answer))
     (λ answer made wanted. calls_limited before later (answer ≡ code.RmFail)
-    (λ old new. AnswersCall wanted old new End c.args.thread c.args.xid.now c.args.flags.0 answer) (made wanted))
+    (λ old new. AnswersCall wanted old new End c.args.thread c.args.xid.now c.args.flags.0 answer)
+    (made wanted))
     c.end.ensures.answer

@@ -11,4 +11,5 @@ returns-clause-answer g c =
     let new = g.M.ResourceManager.sight c.forget.new.self in
     IfOk-weaker c.forget.result (ManagerFinishes old new Forget c.args.xid.now c.args.flags.0)
     (ManagerFinishes (limited old) (limited new) Forget c.args.xid.now c.args.flags.0)
-    (λ answer made. finishes_limited old new Forget c.args.xid.now c.args.flags.0 answer made) c.forget.ensures.answer
+    (λ answer made. finishes_limited old new Forget c.args.xid.now c.args.flags.0 answer made)
+    c.forget.ensures.answer

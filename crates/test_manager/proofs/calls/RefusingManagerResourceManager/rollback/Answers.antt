@@ -11,4 +11,5 @@ returns-clause-answer g c =
     let new = g.M.ResourceManager.sight c.rollback.new.self in
     IfOk-weaker c.rollback.result (ManagerFinishes old new Rollback c.args.xid.now c.args.flags.0)
     (ManagerFinishes (limited old) (limited new) Rollback c.args.xid.now c.args.flags.0)
-    (λ answer made. finishes_limited old new Rollback c.args.xid.now c.args.flags.0 answer made) c.rollback.ensures.answer
+    (λ answer made. finishes_limited old new Rollback c.args.xid.now c.args.flags.0 answer made)
+    c.rollback.ensures.answer

@@ -11,4 +11,5 @@ returns-clause-answer g c =
     let new = g.M.ResourceManager.sight c.prepare.new.self in
     IfOk-weaker c.prepare.result (ManagerFinishes old new Prepare c.args.xid.now c.args.flags.0)
     (ManagerFinishes (limited old) (limited new) Prepare c.args.xid.now c.args.flags.0)
-    (λ answer made. finishes_limited old new Prepare c.args.xid.now c.args.flags.0 answer made) c.prepare.ensures.answer
+    (λ answer made. finishes_limited old new Prepare c.args.xid.now c.args.flags.0 answer made)
+    c.prepare.ensures.answer

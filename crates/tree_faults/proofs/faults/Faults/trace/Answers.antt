@@ -9,7 +9,8 @@ loop-failed-init c =
     let same : c.args.self.now.counted ≡ c.deref-failed-items.result.now =
     sym (c.deref-failed-items.ensures.value ∙ ap (λ (f : FaultsSight). f.counted) c.self.view_is) in (
       subst (λ fs. AreInOrder 0 fs (length c.args.journal.now.entries)) same c.requires,
-      ap (λ xs. xs ++ woven 0 c.args.journal.now.entries c.deref-failed-items.result.now) c.new-trace.ensures.items,
+      ap (λ xs. xs ++ woven 0 c.args.journal.now.entries c.deref-failed-items.result.now)
+          c.new-trace.ensures.items,
     )
 
 pub push_made-requires-clause-order : goal.push_made-requires-clause-order
@@ -41,11 +42,13 @@ loop-failed-preserved c =
     let order = subst (λ fs. AreInOrder made fs (length es)) here c.loop-failed.invariant.0 in
     let pushed : c.push.new.self.items
     ≡ (told ++ take (f.made - made) (drop made es)) ++ failed_entry f.step ∷ [] =
-    c.in_ok-push.ensures.items ∙ (λ j. c.in_ok-push_made.ensures j ++ c.in_ok-copied_entry.ensures j ∷ []) in (
+    c.in_ok-push.ensures.items ∙ (λ j. c.in_ok-push_made.ensures j ++ c.in_ok-copied_entry.ensures j ∷ [])
+    in (
       order.1,
       ap (λ xs. xs ++ woven f.made (drop f.made es) (drop (i + 1) items)) pushed
           ∙ told_to made es f (drop (i + 1) items) told (woven 0 es items) order.0
-          (subst (λ fs. told ++ woven made (drop made es) fs ≡ woven 0 es items) here c.loop-failed.invariant.1),
+          (subst (λ fs. told ++ woven made (drop made es) fs ≡ woven 0 es items) here
+          c.loop-failed.invariant.1),
     )
 
 pub push_made-requires-2-clause-order : goal.push_made-requires-2-clause-order
@@ -62,7 +65,8 @@ returns c =
     let items = c.deref-failed-items.result.now in
     let made = c.loop-failed.made in
     let told = c.loop-failed.trace.items in
-    let none : drop c.loop-failed.failed-index items ≡ [] = drop_of_length-le items c.loop-failed-test.false in
+    let none : drop c.loop-failed.failed-index items ≡ [] = drop_of_length-le items c.loop-failed-test.false
+    in
     let same : items ≡ c.args.self.now.counted =
     c.deref-failed-items.ensures.value ∙ ap (λ (f : FaultsSight). f.counted) c.self.view_is in
     c.in_ok-push_made-2.ensures

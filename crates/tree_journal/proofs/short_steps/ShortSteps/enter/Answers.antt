@@ -25,7 +25,8 @@ returns-clause-entries c =
     (Some c.begin.result)
     ≡ entries_of (parts_of c.self.inside.parts) (placed_steps c.self.inside.steps.items) c.self.inside.last
     ++ step_entry c.args.process c.args.happening c.args.reaction ∷ [] =
-    ap (λ ps. entries_of ps (placed_steps c.self.inside.steps.items) (Some c.begin.result)) c.begin.ensures.parts
+    ap (λ ps. entries_of ps (placed_steps c.self.inside.steps.items) (Some c.begin.result))
+    c.begin.ensures.parts
     ∙ ap (λ l. entries_of (parts_begun (parts_of c.self.inside.parts) c.args.happening c.args.reaction)
     (placed_steps c.self.inside.steps.items) (Some l)) c.begin.ensures.last
     ∙ (begun_behind (parts_of c.self.inside.parts) (placed_steps c.self.inside.steps.items)

@@ -30,7 +30,8 @@ returns-then-place-len c =
     subst (λ o. IfOk c.entry-then-place-len.result (λ f. f ≡ o))
     (ap (entry_of_part (happening_in (parts_of c.self.inside.parts) c.in-Some-last.last.cause))
     c.last_shown.ensures
-    ∙ last_entry_found (parts_of c.self.inside.parts) (placed_steps c.self.inside.steps.items) c.self.inside.last
+    ∙ last_entry_found (parts_of c.self.inside.parts) (placed_steps c.self.inside.steps.items)
+    c.self.inside.last
     c.in-Some-last.last c.args.place c.self.invariant.whole c.in-Some-last.is last
     ∙ ap (λ (j : StepsState). slice_get j.entries c.args.place) c.self.view_is) c.entry-then-place-len.ensures
 
@@ -41,5 +42,6 @@ returns-else-place-len c =
     let many = placed_length first_starts c.self.inside.steps.items in
     sym
     (ap (λ (j : StepsState). slice_get j.entries c.args.place) (sym c.self.view_is)
-    ∙ entry_past_last (parts_of c.self.inside.parts) (placed_steps c.self.inside.steps.items) c.self.inside.last
+    ∙ entry_past_last (parts_of c.self.inside.parts) (placed_steps c.self.inside.steps.items)
+    c.self.inside.last
     c.in-Some-last.last c.args.place c.self.invariant.whole c.in-Some-last.is past (search (rules, many)))

@@ -8,7 +8,8 @@ pub invariant_of-self-in-Some-take : goal.invariant_of-self-in-Some-take
 invariant_of-self-in-Some-take c =
     let old : parts_of c.reserve_for.new.self ≡ parts_of c.self.inside.parts =
     c.reserve_for.ensures.keeps ∙ c.reserve_one.ensures.keeps in
-    let parts : parts_of c.place-step.new.self ≡ parts_placed (parts_of c.self.inside.parts) c.in-Some-take.last =
+    let parts : parts_of c.place-step.new.self ≡ parts_placed (parts_of c.self.inside.parts)
+    c.in-Some-take.last =
     c.place-step.ensures.parts ∙ ap (λ ps. parts_placed ps c.in-Some-take.last) old in
     let steps : c.push_reserved.new.self.items
     ≡ c.self.inside.steps.items ++ short_step (parts_of c.self.inside.parts) c.in-Some-take.last ∷ [] =
@@ -27,7 +28,8 @@ pub returns-in-Some-take-clause-ok : goal.returns-in-Some-take-clause-ok
 returns-in-Some-take-clause-ok c =
     let old : parts_of c.reserve_for.new.self ≡ parts_of c.self.inside.parts =
     c.reserve_for.ensures.keeps ∙ c.reserve_one.ensures.keeps in
-    let parts : parts_of c.place-step.new.self ≡ parts_placed (parts_of c.self.inside.parts) c.in-Some-take.last =
+    let parts : parts_of c.place-step.new.self ≡ parts_placed (parts_of c.self.inside.parts)
+    c.in-Some-take.last =
     c.place-step.ensures.parts ∙ ap (λ ps. parts_placed ps c.in-Some-take.last) old in
     let steps : c.push_reserved.new.self.items
     ≡ c.self.inside.steps.items ++ short_step (parts_of c.self.inside.parts) c.in-Some-take.last ∷ [] =

@@ -29,7 +29,8 @@ returns-then-place-len c =
     let last : c.args.place ≡ length (placed_steps c.self.inside.steps.items) =
     search (rules, placed_length first_starts c.self.inside.steps.items) in
     c.last_shown.ensures
-    ∙ last_part_found (parts_of c.self.inside.parts) (placed_steps c.self.inside.steps.items) c.self.inside.last
+    ∙ last_part_found (parts_of c.self.inside.parts) (placed_steps c.self.inside.steps.items)
+    c.self.inside.last
     c.in-Some-last.last c.args.place c.self.invariant.whole c.in-Some-last.is last
     ∙ ap (λ (j : StepsState). option_map entry_part (slice_get j.entries c.args.place)) c.self.view_is
 
@@ -41,5 +42,6 @@ returns-else-place-len c =
     sym
     (ap (λ (j : StepsState). option_map entry_part (slice_get j.entries c.args.place)) (sym c.self.view_is)
     ∙ ap (option_map entry_part)
-    (entry_past_last (parts_of c.self.inside.parts) (placed_steps c.self.inside.steps.items) c.self.inside.last
+    (entry_past_last (parts_of c.self.inside.parts) (placed_steps c.self.inside.steps.items)
+    c.self.inside.last
     c.in-Some-last.last c.args.place c.self.invariant.whole c.in-Some-last.is past (search (rules, many))))

@@ -15,10 +15,12 @@ loop-place-preserved-in-Ok-None c =
 pub loop-place-preserved : goal.loop-place-preserved
 loop-place-preserved c =
     rw c.in_ok-push-in-Ok-Some.ensures.items
-    (reads_event c.args.self.now c.loop-place.place _ c.in-Ok-Some.event c.loop-place.events.items (omega arith)
+    (reads_event c.args.self.now c.loop-place.place _ c.in-Ok-Some.event
+    c.loop-place.events.items (omega arith)
     c.in-Ok-Some.ensures (search rules) c.loop-place.invariant)
 
 pub returns-clause-ok : goal.returns-clause-ok
 returns-clause-ok c =
-    reads_all c.args.self.now c.loop-place.place c.loop-place.events.items (omega (arith, c.loop-place-test.false))
+    reads_all c.args.self.now c.loop-place.place c.loop-place.events.items
+    (omega (arith, c.loop-place-test.false))
     c.loop-place.invariant

@@ -17,10 +17,12 @@ pub returns-clause-ok : goal.returns-clause-ok
 returns-clause-ok g c =
     restarted _ _ c.args.process c.args.bytes c.in-Some.node.now
     c.restart.new.self c.restart.result
-    (search rules) (search rules) (search (rules, process_equality)) (rw (← c.count.ensures.same) c.restart.ensures.ok)
+    (search rules) (search rules) (search (rules, process_equality))
+    (rw (← c.count.ensures.same) c.restart.ensures.ok)
 
 pub returns-clause-err : goal.returns-clause-err
 returns-clause-err g c =
     not_restarted _ _ c.args.process c.args.bytes c.in-Some.node.now
     c.restart.new.self c.restart.result
-    (search rules) (search rules) (search (rules, process_equality)) (rw (← c.count.ensures.same) c.restart.ensures.err)
+    (search rules) (search rules) (search (rules, process_equality))
+    (rw (← c.count.ensures.same) c.restart.ensures.err)

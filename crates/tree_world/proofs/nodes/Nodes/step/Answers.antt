@@ -27,6 +27,7 @@ returns-clause-err g c =
 
 pub returns-clause-under : goal.returns-clause-under
 returns-clause-under g c =
-    broken_under _ _ c.args.process (input_of c.args.input) c.in-Some.node.now c.handle.new.self c.handle.result
+    broken_under _ _ c.args.process (input_of c.args.input) c.in-Some.node.now
+    c.handle.new.self c.handle.result
     (search rules) (search rules)
     (search (rules, process_equality)) (rw (← c.count.ensures.same) c.handle.ensures.under)

@@ -12,7 +12,8 @@ loop-made-preserved g c = (
       c.loop-made.made c.index-events-made.result c.loop-made-test.true c.index-events-made.is
       c.loop-made.invariant.0 c.in_default.ensures.ok,
   c.make_copy.ensures.places,
-  adds_then (running_state c.args.self.now) (running_state c.loop-made.self) (running_state c.make_copy.new.self)
+  adds_then (running_state c.args.self.now) (running_state c.loop-made.self)
+      (running_state c.make_copy.new.self)
       c.args.self.now.faults c.loop-made.self.faults c.make_copy.new.self.faults [] c.loop-made.invariant.2
       c.in_default.ensures.adds,
 )
@@ -36,9 +37,12 @@ loop-made-init g c = (
 
 pub returns-in-Err-clause-until : goal.returns-in-Err-clause-until
 returns-in-Err-clause-until g c =
-    until_after (running_state c.args.self.now) (running_state c.loop-made.self) (running_state c.make_copy.new.self)
-    c.args.self.now.faults c.loop-made.self.faults c.make_copy.new.self.faults c.args.events.now c.loop-made.made
+    until_after (running_state c.args.self.now) (running_state c.loop-made.self)
+    (running_state c.make_copy.new.self)
+    c.args.self.now.faults c.loop-made.self.faults c.make_copy.new.self.faults c.args.events.now
+    c.loop-made.made
     c.index-events-made.result c.in-Err.refusal
-    (slice_get_read c.args.events.now (length c.args.events.now) c.loop-made.made c.index-events-made.result refl
+    (slice_get_read c.args.events.now (length c.args.events.now) c.loop-made.made
+    c.index-events-made.result refl
     c.loop-made-test.true c.index-events-made.is) c.loop-made.invariant.0 c.loop-made.invariant.2
     c.in-Err.ensures.until

@@ -5,6 +5,7 @@ use Rattle.tree_world.specs.Worlds.{running_state}
 use Rattle.tree_world.proofs.running_tree.RunningTree.make_all.Given as goal
 
 abbrev pub invariant-loop-made : goal.invariant-loop-made
-invariant-loop-made g l = EventsLead (running_state l.initial.self) (take l.made l.events) (running_state l.self)
+invariant-loop-made g l = EventsLead (running_state l.initial.self) (take l.made l.events)
+    (running_state l.self)
     × AreInPlace (running_state l.self) l.self.faults
     × AddsToTrace (running_state l.initial.self) l.initial.self.faults (running_state l.self) l.self.faults []

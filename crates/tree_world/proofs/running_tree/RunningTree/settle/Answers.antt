@@ -43,8 +43,10 @@ returns-in_err-number-clause-err g c =
 
 pub returns-in_err-number-clause-noted : goal.returns-in_err-number-clause-noted
 returns-in_err-number-clause-noted g c =
-    passed_on c.from_residual.result Memory (NotedUntil (running_state c.args.self.now) c.args.self.now.faults Settle
-    (world c.loop.self.tree (kept_at c.loop.self.nodes.nodes.entries) c.least_open.new.self) c.loop.self.faults)
+    passed_on c.from_residual.result Memory
+    (NotedUntil (running_state c.args.self.now) c.args.self.now.faults Settle
+    (world c.loop.self.tree (kept_at c.loop.self.nodes.nodes.entries) c.least_open.new.self)
+    c.loop.self.faults)
     c.from_residual.ensures.1 c.loop.invariant.1
 
 pub returns-clause-ok : goal.returns-clause-ok

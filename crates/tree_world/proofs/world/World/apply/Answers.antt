@@ -20,7 +20,8 @@ invariant_of-self g c =
           (applied_tree old new c.args.event c.make.result c.make.ensures.ok c.make.ensures.err)
           (applied_from old new c.args.event c.make.result is_tree c.make.ensures.ok c.make.ensures.err);
       trace = stays_traced b old new (trace_by old before) (trace_by new behind) c.self.invariant.trace
-          (applied_traced old new before behind is_tree c.args.event c.make.result c.make.ensures.ok c.make.ensures.err
+          (applied_traced old new before behind is_tree c.args.event c.make.result c.make.ensures.ok
+          c.make.ensures.err
           c.make.ensures.adds c.make.ensures.until);
       places = c.make.ensures.places;
     }
@@ -30,7 +31,8 @@ returns-clause-goes_on g c =
     let old = running_state c.self.inside.running in
     rw (← c.self.view_is) (λ es w f.
     (applied_from old (running_state c.make.new.self) c.args.event c.make.result
-    (is_tree_of c.self.inside.reopened old c.self.invariant.run) c.make.ensures.ok c.make.ensures.err es w f).goes_on_so)
+    (is_tree_of c.self.inside.reopened old c.self.invariant.run) c.make.ensures.ok c.make.ensures.err es
+    w f).goes_on_so)
 
 pub returns-clause-goes_on_since : goal.returns-clause-goes_on_since
 returns-clause-goes_on_since g c =
@@ -42,7 +44,8 @@ pub returns-clause-traced : goal.returns-clause-traced
 returns-clause-traced g c =
     let old = running_state c.self.inside.running in
     rw (← c.self.view_is) (applied_traced old (running_state c.make.new.self) c.self.inside.running.faults
-    c.make.new.self.faults (is_tree_of c.self.inside.reopened old c.self.invariant.run) c.args.event c.make.result
+    c.make.new.self.faults (is_tree_of c.self.inside.reopened old c.self.invariant.run)
+    c.args.event c.make.result
     c.make.ensures.ok c.make.ensures.err c.make.ensures.adds c.make.ensures.until)
 
 pub returns-clause-headline : goal.returns-clause-headline

@@ -7,20 +7,25 @@ use Rattle.tree_world.proofs.world.World.reopen.Goals as goal
 
 pub returns-in-Err-clause-handed_back : goal.returns-in-Err-clause-handed_back
 returns-in-Err-clause-handed_back g c =
-    all_returned g.L.LogStore.bytes g.L.LogStore.forced g.L.LogStore.failures c.args.tree c.args.stores.items _
+    all_returned g.L.LogStore.bytes g.L.LogStore.forced g.L.LogStore.failures c.args.tree
+    c.args.stores.items _
 
 -- A log was not made ready.
 
 pub returns-in-Err-ready_from-clause-err : goal.returns-in-Err-ready_from-clause-err
 returns-in-Err-ready_from-clause-err g c =
-    not_readied_first g.L.LogStore.bytes g.L.LogStore.forced g.L.LogStore.failures c.args.tree c.args.stores.items
+    not_readied_first g.L.LogStore.bytes g.L.LogStore.forced g.L.LogStore.failures c.args.tree
+    c.args.stores.items
     c.reverse.new.self.items c.reverse.ensures.items c.in-Err-ready_from.error c.in-Err-ready_from.ensures.err
 
 pub returns-in-Err-ready_from-clause-handed_back : goal.returns-in-Err-ready_from-clause-handed_back
 returns-in-Err-ready_from-clause-handed_back g c =
-    returned_first g.L.LogStore.bytes g.L.LogStore.forced g.L.LogStore.failures c.args.tree c.args.stores.items
-    c.reverse.new.self.items c.reverse.ensures.items c.ready_from.new.stores.items c.reverse-in-Err-ready_from.new.self.items
-    c.in-Err-ready_from.error c.reverse-in-Err-ready_from.ensures.items c.in-Err-ready_from.ensures.handed_back
+    returned_first g.L.LogStore.bytes g.L.LogStore.forced g.L.LogStore.failures c.args.tree
+    c.args.stores.items
+    c.reverse.new.self.items c.reverse.ensures.items c.ready_from.new.stores.items
+    c.reverse-in-Err-ready_from.new.self.items
+    c.in-Err-ready_from.error c.reverse-in-Err-ready_from.ensures.items
+    c.in-Err-ready_from.ensures.handed_back
 
 -- A process did not restart.
 
@@ -31,7 +36,8 @@ restart_from-requires-clause-ready g c =
 
 pub returns-in-Err-restart_from-clause-err : goal.returns-in-Err-restart_from-clause-err
 returns-in-Err-restart_from-clause-err g c =
-    not_restarted_first g.L.LogStore.bytes g.L.LogStore.forced g.L.LogStore.failures c.args.tree c.args.stores.items
+    not_restarted_first g.L.LogStore.bytes g.L.LogStore.forced g.L.LogStore.failures c.args.tree
+    c.args.stores.items
     c.reverse.new.self.items c.reverse.ensures.items c.ready_from.new.stores.items c.in_default.ensures.ok
     c.in-Err-restart_from.error c.in-Err-restart_from.ensures.err
 
@@ -55,10 +61,12 @@ returns-clause-sound g c =
 
 pub returns-clause-reopened : goal.returns-clause-reopened
 returns-clause-reopened g c =
-    (reopened_first g.L.LogStore.bytes g.L.LogStore.forced g.L.LogStore.failures c.args.tree c.args.stores.items
+    (reopened_first g.L.LogStore.bytes g.L.LogStore.forced g.L.LogStore.failures c.args.tree
+    c.args.stores.items
     c.reverse.new.self.items c.reverse.ensures.items c.ready_from.new.stores.items c.in_default.ensures.ok
     (kept_at c.restart_from.new.nodes.entries) c.new-journal.result c.restart_from.new.journal
-    c.in_default-restart_from.ensures.ok c.new-journal.ensures.net c.new-journal.ensures.delivered c.new-journal.ensures.entries)
+    c.in_default-restart_from.ensures.ok c.new-journal.ensures.net c.new-journal.ensures.delivered
+    c.new-journal.ensures.entries)
 
 pub returns-clause-goes_on : goal.returns-clause-goes_on
 returns-clause-goes_on g c es w =

@@ -18,7 +18,8 @@ invariant_of-self g c =
     record {
       run = stays_kept b old new c.self.invariant.run
           (ran_tree old new c.args.events.now c.make_all.result c.make_all.ensures.ok c.make_all.ensures.err)
-          (ran_from old new c.args.events.now c.make_all.result is_tree c.make_all.ensures.ok c.make_all.ensures.err);
+          (ran_from old new c.args.events.now c.make_all.result is_tree c.make_all.ensures.ok
+          c.make_all.ensures.err);
       trace = stays_traced b old new (trace_by old before) (trace_by new behind) c.self.invariant.trace
           (ran_traced old new before behind is_tree c.args.events.now c.make_all.result c.make_all.ensures.ok
           c.make_all.ensures.err c.make_all.ensures.adds c.make_all.ensures.until);
@@ -30,12 +31,14 @@ returns-clause-goes_on g c =
     let old = running_state c.self.inside.running in
     rw (← c.self.view_is) (λ es w f.
     (ran_from old (running_state c.make_all.new.self) c.args.events.now c.make_all.result
-    (is_tree_of c.self.inside.reopened old c.self.invariant.run) c.make_all.ensures.ok c.make_all.ensures.err es w f).goes_on_so)
+    (is_tree_of c.self.inside.reopened old c.self.invariant.run) c.make_all.ensures.ok c.make_all.ensures.err
+    es w f).goes_on_so)
 
 pub returns-clause-goes_on_since : goal.returns-clause-goes_on_since
 returns-clause-goes_on_since g c =
     let old = running_state c.self.inside.running in
-    rw (← c.self.view_is) (ran_since old (running_state c.make_all.new.self) c.args.events.now c.make_all.result
+    rw (← c.self.view_is) (ran_since old (running_state c.make_all.new.self) c.args.events.now
+    c.make_all.result
     (is_tree_of c.self.inside.reopened old c.self.invariant.run) c.make_all.ensures.ok c.make_all.ensures.err)
 
 pub returns-clause-traced : goal.returns-clause-traced
@@ -43,7 +46,8 @@ returns-clause-traced g c =
     let old = running_state c.self.inside.running in
     rw (← c.self.view_is) (ran_traced old (running_state c.make_all.new.self) c.self.inside.running.faults
     c.make_all.new.self.faults (is_tree_of c.self.inside.reopened old c.self.invariant.run) c.args.events.now
-    c.make_all.result c.make_all.ensures.ok c.make_all.ensures.err c.make_all.ensures.adds c.make_all.ensures.until)
+    c.make_all.result c.make_all.ensures.ok c.make_all.ensures.err c.make_all.ensures.adds
+    c.make_all.ensures.until)
 
 pub returns-clause-headline : goal.returns-clause-headline
 returns-clause-headline g c =

@@ -14,11 +14,13 @@ returns-in-Err-clause-err g c =
 
 pub returns-in-Err-clause-handed_back : goal.returns-in-Err-clause-handed_back
 returns-in-Err-clause-handed_back g c =
-    handed_back_all g.L.LogStore.bytes g.L.LogStore.forced g.L.LogStore.failures c.args.tree c.args.stores.items
+    handed_back_all g.L.LogStore.bytes g.L.LogStore.forced g.L.LogStore.failures c.args.tree
+    c.args.stores.items
 
 pub invariant_of-result : goal.invariant_of-result
 invariant_of-result g c =
-    let opened = all_opened c.args.tree c.entries-2.result.now (kept_at c.open_from.new.nodes.entries) c.new-journal.result
+    let opened = all_opened c.args.tree c.entries-2.result.now (kept_at c.open_from.new.nodes.entries)
+    c.new-journal.result
     c.entries-2.ensures c.in_default.ensures.ok c.new-journal.ensures.net c.new-journal.ensures.delivered
     c.new-journal.ensures.entries in
     rw c.new-faults.ensures (record {
@@ -29,14 +31,16 @@ invariant_of-result g c =
 
 pub returns-clause-opened : goal.returns-clause-opened
 returns-clause-opened g c =
-    (all_opened c.args.tree c.entries-2.result.now (kept_at c.open_from.new.nodes.entries) c.new-journal.result
+    (all_opened c.args.tree c.entries-2.result.now (kept_at c.open_from.new.nodes.entries)
+    c.new-journal.result
     c.entries-2.ensures c.in_default.ensures.ok c.new-journal.ensures.net c.new-journal.ensures.delivered
     c.new-journal.ensures.entries)
 
 pub returns-clause-trace : goal.returns-clause-trace
 returns-clause-trace g c =
     rw c.new-faults.ensures
-    (no_trace (world c.args.tree (kept_at c.open_from.new.nodes.entries) c.new-journal.result) c.new-journal.ensures.entries)
+    (no_trace (world c.args.tree (kept_at c.open_from.new.nodes.entries) c.new-journal.result)
+    c.new-journal.ensures.entries)
 
 pub returns-clause-headline : goal.returns-clause-headline
 returns-clause-headline g c =

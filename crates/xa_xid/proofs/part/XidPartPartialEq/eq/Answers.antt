@@ -5,4 +5,5 @@ pub returns-then-self-other : goal.returns-then-self-other
 returns-then-self-other c =
     told_by_eights c.self.inside.len c.other.inside.len c.div_ceil.result c.self.inside.bytes
     c.other.inside.bytes c.args.self.now c.args.other.now c.are_equal.result c.self.invariant
-    c.other.invariant c.if-self-other.true c.self.view_is c.other.view_is c.div_ceil.ensures c.are_equal.ensures.yes c.are_equal.ensures.no
+    c.other.invariant c.if-self-other.true c.self.view_is c.other.view_is c.div_ceil.ensures
+    c.are_equal.ensures.yes c.are_equal.ensures.no

@@ -29,7 +29,8 @@ pub returns-in-Some-clause-writes : goal.returns-in-Some-clause-writes
 returns-in-Some-clause-writes c = λ x at.
     let is : c.args.place ≡ Some c.in-Some.place = search rules in
     let these : c.as_slice.result.now ≡ c.index.result.now.items = search rules in
-    these ∙ sym (subst (λ t. ListedAt t x c.args.place → writes_of t x ≡ c.index.result.now.items) c.self.view_is
+    these ∙ sym (subst (λ t. ListedAt t x c.args.place → writes_of t x ≡ c.index.result.now.items)
+    c.self.view_is
     (λ here. writes_at c.self.inside.lists.entries x c.in-Some.place c.index.result.now
     (listed c.self.inside.lists.entries x (Some c.in-Some.place) (here ∙ is)) c.index.ensures) at)
 

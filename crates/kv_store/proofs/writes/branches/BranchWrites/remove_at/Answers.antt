@@ -16,7 +16,8 @@ returns-in-Some c =
     let is : c.args.place ≡ Some c.in-Some.place = search rules in
     let after : c.match-swap_remove_index.self ≡ table_of c.swap_remove_index.new.self.entries =
     elim c.match-swap_remove_index.branch [ in-Some-1 w ↦ w.self-is | in-None-1 w ↦ w.self-is ] in
-    subst (λ u. (x : Xid) → ListedAt c.args.self.now x c.args.place → LeavesWrites c.args.self.now u x []) (sym after)
+    subst (λ u. (x : Xid) → ListedAt c.args.self.now x c.args.place → LeavesWrites c.args.self.now u x [])
+    (sym after)
     (subst (λ t. (x : Xid) → ListedAt t x c.args.place
     → LeavesWrites t (table_of c.swap_remove_index.new.self.entries) x []) c.self.view_is
     (λ x at. taken_out c.self.inside.lists c.swap_remove_index.new.self x
