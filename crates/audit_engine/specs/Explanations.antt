@@ -149,7 +149,7 @@ abbrev pub reported_text : List TreeProcess → Case → Reports → List ℕ
 reported_text tree root r =
     flat_map (mixed_text tree root) r.mixed ++ flat_map (unreported_text tree root) r.unreported
 
--- the same, where it reports
+-- who reported what the root's End reports, and what to do; nothing, if it reports nothing
 abbrev pub reports_text : List TreeProcess → Case → Option Reports → List ℕ
 reports_text tree root None = []
 reports_text tree root (Some r) = reported_text tree root r

@@ -193,8 +193,8 @@ fn push_do(out: &mut Vec<u8>, line: &ReportLine, steps: &[AuditStep]) -> Result<
 
 /// Why a case stands as its line says, and what to do.
 fn push_explanation(
-    out: &mut Vec<u8>,
     alloc: Global,
+    out: &mut Vec<u8>,
     tree: &Tree,
     namings: &TreeNamings,
     line: &ReportLine,
@@ -292,7 +292,7 @@ fn push_unreported(
     push(out, "\n")
 }
 
-/// The same of each of these tickets that an operator decided otherwise.
+/// Who reported of each of these tickets that an operator decided it otherwise, and what to do.
 fn push_all_mixed(
     out: &mut Vec<u8>,
     tree: &Tree,
@@ -309,7 +309,7 @@ fn push_all_mixed(
     Ok(())
 }
 
-/// The same of each of these tickets of which nobody can say what became.
+/// For each of these tickets, who cannot say what became of it, and what to do.
 fn push_all_unreported(
     out: &mut Vec<u8>,
     tree: &Tree,
@@ -365,8 +365,8 @@ fn is_explained(line: &ReportLine) -> bool
 
 /// Why a case stands as its line says, where it is in doubt or shows a mismatch.
 fn push_why(
-    out: &mut Vec<u8>,
     alloc: Global,
+    out: &mut Vec<u8>,
     tree: &Tree,
     namings: &TreeNamings,
     line: &ReportLine,
@@ -376,7 +376,7 @@ fn push_why(
         → out.new.items ≡ out.old.items ++ why_text tree.now logs line.now) }
 {
     if is_explained(line) {
-        push_explanation(out, alloc, tree, namings, line)?;
+        push_explanation(alloc, out, tree, namings, line)?;
     }
     Ok(())
 }
@@ -384,8 +384,8 @@ fn push_why(
 /// A line, and after it why its case stands so, where it is in doubt or shows a mismatch, and who reported
 /// what the root's End reports.
 pub(crate) fn push_explained(
-    out: &mut Vec<u8>,
     alloc: Global,
+    out: &mut Vec<u8>,
     tree: &Tree,
     namings: &TreeNamings,
     line: &ReportLine,
@@ -395,6 +395,6 @@ pub(crate) fn push_explained(
         → out.new.items ≡ out.old.items ++ explained_line tree.now logs line.now) }
 {
     push_line(out, line)?;
-    push_why(out, alloc, tree, namings, line)?;
+    push_why(alloc, out, tree, namings, line)?;
     push_reports(out, tree, &line.case, &line.reports)
 }

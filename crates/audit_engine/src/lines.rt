@@ -98,8 +98,8 @@ fn text_of(alloc: Global, report: &Report) -> Result<Vec<u8>, AllocError>
 
 /// The lines, each explained that is in doubt, shows a mismatch or reports tickets.
 fn push_all_explained(
-    out: &mut Vec<u8>,
     alloc: Global,
+    out: &mut Vec<u8>,
     tree: &Tree,
     namings: &TreeNamings,
     lines: &[ReportLine],
@@ -109,7 +109,7 @@ fn push_all_explained(
         → out.new.items ≡ out.old.items ++ flat_map (explained_line tree.now logs) lines.now) }
 {
     for line in lines {
-        push_explained(out, alloc, tree, namings, line)?;
+        push_explained(alloc, out, tree, namings, line)?;
     }
     Ok(())
 }
@@ -128,7 +128,7 @@ fn explained_of(
 {
     let namings = all_namings(alloc, tree, notes)?;
     let mut out = Vec::new(alloc);
-    push_all_explained(&mut out, alloc, tree, &namings, report.lines.as_slice())?;
+    push_all_explained(alloc, &mut out, tree, &namings, report.lines.as_slice())?;
     push_count(&mut out, report.mismatches)?;
     Ok(out)
 }

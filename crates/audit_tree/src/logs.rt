@@ -33,7 +33,7 @@ fn noted(
     let mut notes = NotedCases::new(alloc);
     let mut rest = frames;
     while let Some((kind, payload, behind)) = first_frame(form.format, rest) {
-        match read_record(form, kind, payload, alloc) {
+        match read_record(alloc, form, kind, payload) {
             Ok(record) => notes.take(tree, entry, &record)?,
             Err(ReadFault::Malformed) => return Ok(notes),
             Err(ReadFault::Memory) => return Err(AllocError),
@@ -54,7 +54,7 @@ fn notes_of(
     ensures err { IfErr result (λ e. IsDamage entry.now bytes.now e) }
 {
     let form = LogForm::of_bytes(bytes, entry.id, entry.kind);
-    match find(form, bytes, alloc) {
+    match find(alloc, form, bytes) {
         Ok(StoreText::Empty) => Ok(NotedCases::new(alloc)),
         Ok(StoreText::Sound(_)) => {
             let (_, frames) = bytes.split_at(HEADER_SIZE);

@@ -102,7 +102,7 @@ module _ {V : Type 0} where
       (p : Case × V) × (entry_at slots k ≡ Some p) × (live_value slots p.0 ≡ Some p.1)
       × (same_txn p.0.txn x ≡ true) × answers p.1 true
 
-  -- the same, as a record
+  -- the key found is that of a live case of the transaction whose value passes a test; none, if none passes
   pub record FindsBy (answers : V → Bool
       → Type 0) (slots : List (Option (Case × V))) (x : Txn) (found : Option ℕ) : Type 0 where
     pub key : FindsIn answers slots x found

@@ -90,7 +90,7 @@ fn trim(node: &mut Process<MemoryStore>) -> Result<u64, StepError>
     remain
 }
 
-/// The same, as it is shown.
+/// The log of a process is trimmed. Gives the reaction that shows how many records remain.
 fn trim_shown(alloc: Global, node: &mut Process<MemoryStore>) -> Result<Reaction, StepError>
     ensures ok { IfOk result (MakesAlone (core_of node.old) (core_of node.new) (data_of node.old)
         (data_of node.new) 0 kinds.Trim) }

@@ -60,12 +60,15 @@ pub record IsFront (net all : List Envelope) : Type 0 where
 
 -- Parts of a view.
 
+-- no part of a journal
 abbrev pub no_journal : JournalView
 no_journal = record { keeps = false; names = []; opened = 0; given = 0; all = [] }
 
+-- no process
 abbrev pub no_process : ProcessView
 no_process = record { works = false; place = 0; name = None; own = []; net = [] }
 
+-- no pass
 abbrev pub no_pass : PassView
 no_pass = record { holds = false; caller = 0; pairs = [] }
 
@@ -97,9 +100,11 @@ spent = record { journal = no_journal; process = no_process; pass = no_pass }
 abbrev pub beside : View → View → View
 beside v w = record v { process = w.process }
 
+-- a seat without its process
 abbrev pub without_process : View → View
 without_process v = record v { process = no_process }
 
+-- of a seat, its process alone
 abbrev pub process_part : View → View
 process_part v = record { journal = no_journal; process = v.process; pass = no_pass }
 
@@ -107,9 +112,11 @@ process_part v = record { journal = no_journal; process = v.process; pass = no_p
 abbrev pub beside_pass : View → View → View
 beside_pass v w = record v { pass = w.pass }
 
+-- a seat without its pass
 abbrev pub without_pass : View → View
 without_pass v = record v { pass = no_pass }
 
+-- of a seat, its pass alone
 abbrev pub pass_part : View → View
 pass_part v = record { journal = no_journal; process = no_process; pass = v.pass }
 

@@ -33,6 +33,7 @@ fn log_of<N: Seats>(
     ensures left { IfOk result (λ log. LeavesLog N.tree (entries_in ledger.old.entries) process log.items) }
     ensures same { ledger.new ≡ ledger.old }
 {
+    // The processes lie in the order of the tree, so this is never so: it is asked for the proof alone.
     if !is_same(seated.me(), process) {
         return Err(AllocError);
     }
@@ -57,7 +58,8 @@ fn log_at<N: Seats>(
     }
 }
 
-/// Adds the logs of these processes, in the order of the tree.
+/// Adds the logs of these processes, in the order of the tree, to an empty list. After an error it may have
+/// some of them: the caller lets them go.
 fn add_logs<N: Seats>(
     ties: &Ties,
     tree: &[TreeProcess],
@@ -71,6 +73,7 @@ fn add_logs<N: Seats>(
     ensures logs { OnOk result (LeaveLogs N.tree (entries_in ledger.old.entries) tree.now
         (map (λ log. log.items) logs.new.items)) }
 {
+    // The loop's invariant, in proofs/closing/add_logs, uses the names of these locals.
     for place in 0..tree.len() {
         let log = log_at(ties, processes, ledger, place, tree[place].id)?;
         logs.push(log)?;

@@ -3,7 +3,7 @@
 ghost use Rattle.std.specs.Prelude.{◌≡◌, ◌⊎◌, ◌+◌, ◌<◌, ◌≤◌, None, Some, IfErr, IfNone, IfOk, OnErr, false, map};
 ghost use Rattle.protocol.specs.declared.messages.Envelope.{Envelope as AnyEnvelope};
 ghost use Rattle.protocol.specs.Nodes.{is_listed};
-ghost use Rattle.protocol.specs.Plays.{process_of_act, sent_as};
+ghost use Rattle.protocol.specs.Plays.{sent_as};
 ghost use Rattle.protocol.specs.Trees.{IsTree, root_of};
 ghost use Rattle.tree_state.specs.Cuts.{net_of};
 ghost use Rattle.cluster_ties.specs.Views.{AreBelow, entries_in};
@@ -20,7 +20,7 @@ use crate::opening::{give_passes, open_all};
 use cluster_process::{Delivered, Gate, Ledger, Pass, PostError, Posted, Seated, is_same};
 use cluster_ties::seats::{Opened, Seats, Ties};
 use cluster_turns::ClosedJournal;
-use protocol::{Act, Event, LogRecord, ProcessId, StepError, Tree, TreeProcess, Txn};
+use protocol::{Event, LogRecord, ProcessId, StepError, Tree, TreeProcess, Txn};
 use std::alloc::{AllocError, Global};
 use std::sync::{Condvar, Mutex, Wait};
 use tree_process::ProcessOpenError;
@@ -42,24 +42,6 @@ pub struct Cluster<N: Seats> {
     ghost words: { 0 < N.table.words },
     ghost tree_is: { tree ≡ N.tree },
     ghost is_tree: { IsTree N.tree },
-}
-
-/// The process of an act: its case's ticket's child, or the root.
-fn process_of(root: ProcessId, act: &Act) -> ProcessId
-    ensures { result ≡ process_of_act root act.now }
-{
-    match act {
-        Act::Begin(_) => root,
-        Act::Join(case, _)
-        | Act::Work(case, _, _)
-        | Act::Ask(case)
-        | Act::Decide(case, _)
-        | Act::Forget(case) => match case.ticket {
-            None => case.txn.root,
-            Some(ticket) => ticket.child,
-        },
-        Act::Commit(txn) | Act::Abort(txn) => txn.root,
-    }
 }
 
 /// The place of a process in the tree, if it is there.
@@ -132,7 +114,7 @@ impl<N: Seats> Cluster<N> {
         ensures same { pass.new ≡ pass.old }
     {
         match event {
-            Event::Act(act) => Ok(process_of(self.tree.root(), act)),
+            Event::Act(act) => Ok(act.process(self.tree.root())),
             Event::Deliver(number) => self.receiver(rt, *number, pass),
             Event::Settle => Err(PostError::Stranger),
             Event::Restart(process, _) => Ok(*process),

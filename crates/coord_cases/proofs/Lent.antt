@@ -12,8 +12,8 @@ use Rattle.coord_cases.proofs.Changing.{Relives-with_live}
 use Rattle.coord_effects.specs.declared.seat.OwnCase.{OwnCase}
 use Rattle.coord_effects.specs.declared.effect.RowEffect.{RowEffect}
 use Rattle.coord_effects.specs.Rows.{DoesRow, seat_meant}
-use Rattle.coord_cases.specs.declared.asked.CaseInput.{CaseInput}
-use Rattle.coord_cases.specs.Asks.{asked_row}
+use Rattle.coord_rows.specs.declared.asked.CaseInput.{CaseInput}
+use Rattle.coord_rows.specs.Asks.{asked_row}
 use Rattle.coord_cases.specs.Takes.{IsLiveAt, SameCases, TakesLive}
 use Rattle.coord_cases.proofs.Taken.{refused}
 

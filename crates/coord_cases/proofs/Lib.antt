@@ -10,4 +10,3 @@ pub mod Framed
 pub mod Restores
 pub mod OwnCases
 pub mod Rebuilds
-mod Untaken

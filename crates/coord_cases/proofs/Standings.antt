@@ -9,9 +9,9 @@ use Rattle.protocol.specs.Memory.{has_child}
 use Rattle.protocol.specs.Standings.{CoordinatorView}
 use Rattle.protocol.specs.CoordinatorRows.{Row, Seat, active_joined, on_ack, on_joined, quiet}
 use Rattle.process_state.specs.Turns.{this_version}
-use Rattle.coord_cases.specs.declared.asked.CaseInput.{CaseInput}
-use Rattle.coord_cases.specs.declared.asked.CaseInput.TheVariants.{Join, Work, Commit, AbortActive, AbortCollecting, Ask, Joined, Vote, Ack, Inquire, Prepare, Commits, Aborts}
-use Rattle.coord_cases.specs.Asks.{asked_row, is_of_root, is_retiring}
+use Rattle.coord_rows.specs.declared.asked.CaseInput.{CaseInput}
+use Rattle.coord_rows.specs.declared.asked.CaseInput.TheVariants.{Join, Work, Commit, AbortActive, AbortCollecting, Ask, Joined, Vote, Ack, Inquire, Prepare, Commits, Aborts}
+use Rattle.coord_rows.specs.Asks.{asked_row, is_of_root, is_retiring}
 
 -- of two rows the one that a test picks leaves the standing that both leave
 either : (b : Bool) (r q : Row) → r.view.standing ≡ Active → q.view.standing ≡ Active

@@ -16,8 +16,8 @@ use Rattle.coord_cases.specs.Cases.{EndsCase, Relives, Retires, Slots, is_for, l
 use Rattle.coord_effects.specs.declared.seat.OwnCase.{OwnCase}
 use Rattle.coord_effects.specs.declared.effect.RowEffect.{RowEffect}
 use Rattle.coord_effects.specs.Rows.{DoesRow, seat_meant}
-use Rattle.coord_cases.specs.declared.asked.CaseInput.{CaseInput}
-use Rattle.coord_cases.specs.Asks.{asked_row, is_of_root, is_retiring}
+use Rattle.coord_rows.specs.declared.asked.CaseInput.{CaseInput}
+use Rattle.coord_rows.specs.Asks.{asked_row, is_of_root, is_retiring}
 use Rattle.coord_cases.specs.Takes.{AreKnown, GivenAreActive, LetsCaseGo, RetiresIf, SameCases, TakesLive, TakesRowOf, retired_if}
 use Rattle.coord_cases.proofs.Given.{given_retires, others_keep, unretired}
 use Rattle.coord_cases.proofs.Standings.{stays_active}

@@ -21,9 +21,9 @@ use Rattle.protocol.specs.Standings.{CoordinatorView, unknown_view}
 use Rattle.protocol.specs.CoordinatorRows.{Reason, ByAbort, ByAct, ByVote, Row, Seat, active_commit, active_commit_alone, active_commit_with, awaits, collecting_abort, collecting_abort_by, collecting_after, collecting_full, collecting_read_only, collecting_vote, decided_ack, decided_ack_by, decides, on_abort, on_ack, on_commit, on_inquiry, on_joined, on_prepare, on_vote, other_tickets, prepared_abort_by, prepared_commit_by, quiet, root_commits, unknown_abort_by, unknown_commit_by}
 use Rattle.protocol.proofs.NameTests.{ticket_tells}
 use Rattle.process_state.specs.Turns.{this_version}
-use Rattle.coord_cases.specs.declared.asked.CaseInput.{CaseInput}
-use Rattle.coord_cases.specs.declared.asked.CaseInput.TheVariants.{Join, Work, Commit, AbortActive, AbortCollecting, Ask, Joined, Vote as VoteAsked, Ack, Inquire, Prepare, Commits, Aborts}
-use Rattle.coord_cases.specs.Asks.{asked_row}
+use Rattle.coord_rows.specs.declared.asked.CaseInput.{CaseInput}
+use Rattle.coord_rows.specs.declared.asked.CaseInput.TheVariants.{Join, Work, Commit, AbortActive, AbortCollecting, Ask, Joined, Vote as VoteAsked, Ack, Inquire, Prepare, Commits, Aborts}
+use Rattle.coord_rows.specs.Asks.{asked_row}
 
 -- A view that says what nothing known says.
 

@@ -1,25 +1,20 @@
 -- What a row leaves in the table of a coordinator's live cases.
-use Rattle.std.specs.Prelude.{◌≡◌, ◌&&◌, ◌⊎◌, ⊤, ℕ, Bool, true, false, if◌then◌else◌, Option, Some, None}
+use Rattle.std.specs.Prelude.{◌≡◌, ◌&&◌, ◌⊎◌, ℕ, Bool, true, false, if◌then◌else◌, Option, Some, None}
 use Rattle.protocol.specs.declared.names.Case.{Case}
-use Rattle.protocol.specs.declared.names.Kind.TheVariants.{Coordinator}
 use Rattle.protocol.specs.declared.names.Ticket.{Ticket}
-use Rattle.protocol.specs.declared.events.StepError.{StepError}
-use Rattle.protocol.specs.declared.events.StepError.TheVariants.{Exhausted, Memory}
-use Rattle.protocol.specs.CoordinatorRows.{Row}
 use Rattle.protocol.specs.declared.standings.Standing.TheVariants.{Active}
 use Rattle.protocol.specs.Names.{child_case, same_case}
 use Rattle.protocol.specs.Restarts.{is_known}
 use Rattle.protocol.specs.Standings.{CoordinatorView, unknown_view}
 use Rattle.protocol.specs.SameViews.{SameView}
 use Rattle.case_table.specs.Tables.{AreApart, case_of, entry_at, live_value}
-use Rattle.process_state.specs.Bounds.{FitsBounds}
 use Rattle.coord_cases.specs.declared.held.Held.{Held}
 use Rattle.coord_cases.specs.Cases.{EndsCase, FitsGiven, Relives, Retires, Slots, is_for, live_at, ticket_in, view_in}
 use Rattle.coord_effects.specs.declared.seat.OwnCase.{OwnCase}
 use Rattle.coord_effects.specs.declared.effect.RowEffect.{RowEffect}
 use Rattle.coord_effects.specs.Rows.{DoesRow, seat_meant}
-use Rattle.coord_cases.specs.declared.asked.CaseInput.{CaseInput}
-use Rattle.coord_cases.specs.Asks.{asked_row, is_retiring}
+use Rattle.coord_rows.specs.declared.asked.CaseInput.{CaseInput}
+use Rattle.coord_rows.specs.Asks.{asked_row, is_retiring}
 
 -- the case is live under the key
 abbrev pub IsLiveAt : Slots → ℕ → Case → Type 0
@@ -83,9 +78,3 @@ pub record TakesRowOf (old new : Slots) (s : OwnCase) (asked : CaseInput) (effec
   pub given : GivenAreActive new
   pub known : AreKnown old → AreKnown new
   pub cases : AddsNone old new
-
--- why the row is not taken: memory was refused, or what it does is beyond the bounds of numbers
-abbrev pub RowNotTaken : OwnCase → Row → StepError → Type 0
-RowNotTaken s row Memory = ⊤
-RowNotTaken s row Exhausted = FitsBounds Coordinator s.parent row.written row.messages → ⊥
-RowNotTaken s row e = ⊥

@@ -61,7 +61,7 @@ pub(crate) fn framed(
 {
     let mut frames = Vec::new(alloc);
     for record in records {
-        let frame = coordinator_frame(record, parent, alloc)?;
+        let frame = coordinator_frame(alloc, record, parent)?;
         push_frame(&mut frames, frame)?;
     }
     Ok(frames)

@@ -4,14 +4,12 @@ ghost use Rattle.std.specs.Prelude.{◌≡◌, true, None, Some, IfErr, IfOk, Is
 ghost use Rattle.protocol.specs.Standings.{unknown_view};
 ghost use Rattle.case_table.specs.Tables.{entry_at};
 ghost use Rattle.coord_cases.specs.Cases.{live_at, view_in};
-ghost use Rattle.coord_cases.specs.Asks.{Accepts, asked_row, is_of_root};
+ghost use Rattle.coord_rows.specs.Asks.{Accepts, RowNotTaken, asked_row, is_of_root};
 ghost use Rattle.coord_effects.specs.Rows.{seat_meant};
-ghost use Rattle.coord_cases.specs.Takes.{GivenAreActive, IsLiveAt, LetsCaseGo, RowNotTaken, RetiresIf, SameCases, TakesLive, TakesRowOf};
+ghost use Rattle.coord_cases.specs.Takes.{GivenAreActive, IsLiveAt, LetsCaseGo, RetiresIf, SameCases, TakesLive, TakesRowOf};
 
-use crate::asked::{CaseInput, retires};
 use crate::cases::LiveCases;
-use crate::rows::take_row;
-use coord_rows::{OwnCase, RowEffect};
+use coord_rows::{CaseInput, OwnCase, RowEffect, retires, take_row};
 use protocol::StepError;
 use std::alloc::Global;
 

@@ -51,7 +51,7 @@ impl RowRecord {
         ensures unwritten { IfErr result (NotWritten seat.now.parent (meant self.now ∷ [])) }
     {
         Ok(RowFrame {
-            frame: coordinator_frame(&self.entry, seat.parent, alloc)?,
+            frame: coordinator_frame(alloc, &self.entry, seat.parent)?,
             forced: self.forced,
         })
     }

@@ -32,9 +32,9 @@ use Rattle.case_table.proofs.Writes.{live_found}
 use Rattle.process_state.specs.Turns.{Turn, Refuses as RefusesTurn, Takes as TakesTurn, FindsChildCase, ack_turn, act_turn, asked_by, asked_of, cascaded_turn, child_says, child_turn, clear_turn, coordinator_act, inquiry_turn, is_case_of, kept_records, message_turn, seat_in, turn_of, vote_turn, work_for_turn, work_turn, no_answer}
 use Rattle.coord_cases.specs.declared.held.Held.{Held}
 use Rattle.coord_cases.specs.Cases.{Slots, has_child, held_view, view_in}
-use Rattle.coord_cases.specs.declared.asked.CaseInput.{CaseInput}
-use Rattle.coord_cases.specs.declared.asked.CaseInput.TheVariants.{Joined as AskedJoined, Vote as AskedVote, Ack as AskedAck, Inquire as AskedInquire, Prepare as AskedPrepare, Commits, Aborts, Join, Work, Commit as AskedCommit, AbortActive, AbortCollecting, Ask}
-use Rattle.coord_cases.specs.Asks.{Accepts, is_of_root, is_retiring}
+use Rattle.coord_rows.specs.declared.asked.CaseInput.{CaseInput}
+use Rattle.coord_rows.specs.declared.asked.CaseInput.TheVariants.{Joined as AskedJoined, Vote as AskedVote, Ack as AskedAck, Inquire as AskedInquire, Prepare as AskedPrepare, Commits, Aborts, Join, Work, Commit as AskedCommit, AbortActive, AbortCollecting, Ask}
+use Rattle.coord_rows.specs.Asks.{Accepts, is_of_root, is_retiring}
 use Rattle.coord_cases.specs.Takes.{IsLiveAt}
 use Rattle.coord_process.specs.declared.turn.Met.{Met}
 use Rattle.coord_process.specs.declared.turn.Met.TheVariants.{Refuses, Takes, Clears, Presumes, Nothing}

@@ -35,10 +35,10 @@ use Rattle.coord_effects.specs.declared.seat.OwnCase.{OwnCase}
 use Rattle.coord_effects.specs.declared.effect.RowFrame.{RowFrame}
 use Rattle.coord_effects.specs.declared.effect.RowEffect.{RowEffect}
 use Rattle.coord_effects.specs.Rows.{AreFramed, DoesRow, NotWritten, reaction_by, seat_meant, written_of}
-use Rattle.coord_cases.specs.declared.asked.CaseInput.{CaseInput}
-use Rattle.coord_cases.specs.declared.asked.CaseInput.TheVariants.{Join, Work, Commit, AbortActive, AbortCollecting, Ask, Joined, Vote, Ack, Inquire, Prepare, Commits, Aborts}
-use Rattle.coord_cases.specs.Asks.{asked_row, is_for_any, is_retiring}
-use Rattle.coord_cases.specs.Takes.{RowNotTaken, SameCases, TakesRowOf, retired_if}
+use Rattle.coord_rows.specs.declared.asked.CaseInput.{CaseInput}
+use Rattle.coord_rows.specs.declared.asked.CaseInput.TheVariants.{Join, Work, Commit, AbortActive, AbortCollecting, Ask, Joined, Vote, Ack, Inquire, Prepare, Commits, Aborts}
+use Rattle.coord_rows.specs.Asks.{RowNotTaken, asked_row, is_for_any, is_retiring}
+use Rattle.coord_cases.specs.Takes.{SameCases, TakesRowOf, retired_if}
 use Rattle.coord_cases.proofs.Given.{gone_keeps}
 use Rattle.coord_process.specs.declared.turn.Met.{Met}
 use Rattle.coord_process.specs.declared.turn.Met.TheVariants.{Refuses, Begins as BeginsOne, Issues as IssuesOne, Clears}

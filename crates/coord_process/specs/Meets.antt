@@ -18,9 +18,9 @@ use Rattle.case_table.specs.Tables.{AreApart, live_value}
 use Rattle.process_state.specs.Turns.{Turn, Refuses as RefusesTurn, Begins as BeginsTurn, Issues as IssuesTurn, Takes as TakesTurn, Says, FindsChildCase, asked_by, asked_of, clear_turn, coordinator_act, kept_records, next_begun, next_ticket, seat_in, turn_of, no_answer, is_refusal}
 use Rattle.process_state.specs.Makes.{retires}
 use Rattle.coord_cases.specs.Cases.{FitsGiven, Slots, has_child, ticket_in, view_in}
-use Rattle.coord_cases.specs.declared.asked.CaseInput.{CaseInput}
-use Rattle.coord_cases.specs.declared.asked.CaseInput.TheVariants.{Vote, Ack, Inquire}
-use Rattle.coord_cases.specs.Asks.{Accepts, asked_row, is_for_any, is_of_root, is_retiring}
+use Rattle.coord_rows.specs.declared.asked.CaseInput.{CaseInput}
+use Rattle.coord_rows.specs.declared.asked.CaseInput.TheVariants.{Vote, Ack, Inquire}
+use Rattle.coord_rows.specs.Asks.{Accepts, asked_row, is_for_any, is_of_root, is_retiring}
 use Rattle.coord_cases.specs.Takes.{IsLiveAt}
 use Rattle.coord_process.specs.declared.turn.Met.{Met}
 use Rattle.coord_process.specs.declared.turn.Met.TheVariants.{Refuses, Begins, Issues, Takes, Clears, Answers, Repeats, Presumes, Nothing}

@@ -21,12 +21,9 @@ use coord_records::RememberedCases;
 use coord_rows::OwnCase;
 use log_records::RecLog;
 use log_store::{LogStore, MemoryStore};
-use protocol::{Case, LogRecord, ProcessId, Standing, Ticket, Tree, Txn};
+use protocol::{Case, LAST_NUMBER, LogRecord, ProcessId, Standing, Ticket, Tree, Txn};
 use std::alloc::{AllocError, Global};
 use std::marker::Model;
-
-/// The largest number of a transaction and of a ticket.
-const LAST_NUMBER: u64 = (1 << 63) - 1;
 
 /// The front of a log as a restart remembers it: how many bytes it has, and what its records say.
 #[derive(Drop)]
@@ -190,7 +187,7 @@ impl<L: LogStore> Coordinator<L> {
         ensures { IfOk result (λ count. count
             ≡ length (whole_within ((state self.now).log.behind + keep) (state self.now).log.kept.unforced)) }
     {
-        self.log.unforced_left(keep, self.alloc)
+        self.log.unforced_left(self.alloc, keep)
     }
 
     /// Each record of its log can be in a coordinator's log.

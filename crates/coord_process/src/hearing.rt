@@ -5,13 +5,13 @@ ghost use Rattle.protocol_words.specs.Types.{AnyInput};
 ghost use Rattle.protocol_words.specs.input;
 ghost use Rattle.process_state.specs.Turns.{Takes, ack_turn, cascaded_turn, child_says, child_turn, inquiry_turn, joined_turn, message_turn, no_answer, vote_turn};
 ghost use Rattle.coord_cases.specs.Cases.{ticket_in};
-ghost use Rattle.coord_cases.specs.Asks.{is_for_any};
+ghost use Rattle.coord_rows.specs.Asks.{is_for_any};
 ghost use Rattle.coord_process.specs.Meets.{Hears, HearsFrom, HearsOf, May, RetiresAs, is_of_child, meant, met};
 ghost use Rattle.coord_process.specs.States.{place_of, state};
 
 use crate::coordinator::Coordinator;
 use crate::turn::Met;
-use coord_cases::CaseInput;
+use coord_rows::CaseInput;
 use log_store::LogStore;
 use protocol::{Case, Finding, Message, Outcome, ProcessId, Ticket, Txn, Vote};
 

@@ -12,7 +12,7 @@ ghost use Rattle.coord_process.specs.Meets.{IsClosed, May, Meets, MeetsAct, mean
 use crate::coordinator::Coordinator;
 use crate::places::{is_child, is_manager};
 use crate::turn::Met;
-use coord_cases::CaseInput;
+use coord_rows::CaseInput;
 use log_store::LogStore;
 use process_state::{InputRef, is_listed};
 use protocol::{Act, Case, Op, Presumption, ProcessId, Standing, StepError, Txn};

@@ -24,7 +24,7 @@ fn write_opened<L: LogStore>(alloc: Global, log: &mut RecLog<L>) -> Result<(), S
     ensures err { IfErr result (CoordinatorNotOpened log.old log.new) }
 {
     make_room(log)?;
-    let frame = coordinator_frame(&Record::Opened(1), None, alloc)?;
+    let frame = coordinator_frame(alloc, &Record::Opened(1), None)?;
     if let Err(_) = write(log, &frame, true) {
         return Err(StepError::Device);
     }

@@ -72,7 +72,7 @@ fn reopen_error(error: StepError) -> CoordinatorReopenError
 }
 
 /// Trims a coordinator's log again that a trim leaves as it is: it is put in its own place, and not read.
-fn trim_again<L: LogStore>(log: &mut RecLog<L>, count: usize, alloc: Global) -> Result<(), LogError>
+fn trim_again<L: LogStore>(alloc: Global, log: &mut RecLog<L>, count: usize) -> Result<(), LogError>
     requires works { log.old.sight.failed ≡ false }
     requires coordinators { log.old.sight.form.kind ≡ kind.Coordinator }
     requires settled { StaysTrimmed log.old count }
@@ -97,12 +97,12 @@ impl<L: LogStore> Coordinator<L> {
                 size,
                 mut remembered,
             } = front;
-            let records = self.log.kept_after(size, keep, self.alloc)?;
+            let records = self.log.kept_after(self.alloc, size, keep)?;
             if remembered.read_on(self.me, self.parent, &self.tree, &records)? {
                 return Ok(remembered);
             }
         }
-        let records = self.log.kept(keep, self.alloc)?;
+        let records = self.log.kept(self.alloc, keep)?;
         RememberedCases::of(self.alloc, self.me, self.parent, &self.tree, &records)
     }
 
@@ -120,7 +120,7 @@ impl<L: LogStore> Coordinator<L> {
         let front = self.front.take();
         let remembered = self.left(front, keep)?;
         let rebuilt = rebuild(self.alloc, self.me, self.parent, remembered)?;
-        if let Err(error) = self.log.restart(keep, &rebuilt.frames, self.alloc) {
+        if let Err(error) = self.log.restart(self.alloc, keep, &rebuilt.frames) {
             return Err(step_error(error));
         }
         self.boot = rebuilt.boot;
@@ -147,12 +147,12 @@ impl<L: LogStore> Coordinator<L> {
         }
         self.front = None;
         if let Some(count) = self.log.trimmed() {
-            return match trim_again(&mut self.log, count, self.alloc) {
+            return match trim_again(self.alloc, &mut self.log, count) {
                 Ok(()) => Ok(count as u64),
                 Err(error) => Err(step_error(error)),
             };
         }
-        match self.log.trim(&[], self.alloc) {
+        match self.log.trim(self.alloc, &[]) {
             Ok(count) => Ok(count as u64),
             Err(error) => Err(step_error(error)),
         }

@@ -1,6 +1,6 @@
 //! What an input meets at a coordinator.
 
-use coord_cases::CaseInput;
+use coord_rows::CaseInput;
 use protocol::{Case, Presumption, ProcessId, StepError, Ticket, Txn};
 
 /// What an input meets.

@@ -10,11 +10,8 @@ ghost use Rattle.coord_records.specs.Remembered.{RemembersCases};
 use crate::reading::CaseReading;
 use crate::recorded::Recorded;
 use crate::remembered::RememberedCases;
-use protocol::{Case, Record, Standing, StepError};
+use protocol::{Case, LAST_NUMBER, Record, Standing, StepError};
 use std::alloc::{AllocError, Global};
-
-/// The largest boot.
-const LAST_BOOT: u64 = (1 << 63) - 1;
 
 /// What a restart appends to a log, and what all records of the log then say.
 #[derive(Drop)]
@@ -63,7 +60,7 @@ pub fn plan(alloc: Global, remembered: RememberedCases) -> Result<RestartPlan, S
         → NotPlanned (boot_of rs) e) }
 {
     let mut remembered = remembered;
-    if remembered.reading.boot >= LAST_BOOT {
+    if remembered.reading.boot >= LAST_NUMBER {
         return Err(StepError::Exhausted);
     }
     let appended = reopens(alloc, &remembered.reading)?;

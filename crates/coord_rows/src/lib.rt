@@ -25,9 +25,11 @@
 //! | Prepared | COMMIT, ABORT, PREPARE, ask | `prepared_commit`, `prepared_abort`, `prepared_prepare`, `prepared_ask` |
 //! | Committing, Aborting | ACK, INQUIRE | `decided_ack`, `decided_inquiry` |
 //! | Committing, Aborting | COMMIT, ABORT, PREPARE again | `committing_commit`, `aborting_abort`, `aborting_prepare` |
-//! | any | COMMIT, ABORT | `on_commit`, `on_abort`: the row that is met there |
 //! | none | PREPARE, COMMIT, ABORT, INQUIRE | `unknown_prepare`, `unknown_commit`, `unknown_abort`, `unknown_inquiry` |
 //! | none, reported at the root | forget | `clears` |
+//!
+//! `take_row` finds the row that an input meets where the case stands, and `answer` that of a case that is not
+//! live; `outcomes` has COMMIT and ABORT of the parent, `rows` all else.
 //!
 //! A coordinator below the root acknowledges an outcome after the last ACK that it is owed, with what was
 //! found below it: `decided_ack`. So its ACK speaks for its whole subtree, and `committing_commit` and
@@ -40,19 +42,14 @@
 #![tactic(auto)]
 
 mod active;
+mod asked;
 mod collecting;
 mod decided;
 mod found;
 mod outcomes;
+mod rows;
 
-pub use active::{active_abort, active_commit, active_join, active_joined, active_work};
-pub use collecting::{collecting_abort, collecting_vote};
-pub use coord_effects::{
-    OwnCase, Reason, RowEffect, RowFrame, prepared_abort, prepared_ask, prepared_commit,
-    prepared_prepare, resume,
-};
-pub use decided::{
-    aborting_abort, aborting_prepare, clears, committing_commit, decided_ack, decided_inquiry,
-    unknown_abort, unknown_commit, unknown_inquiry, unknown_prepare,
-};
-pub use outcomes::{on_abort, on_commit};
+pub use asked::{CaseInput, retires};
+pub use coord_effects::{OwnCase, RowEffect, RowFrame, resume};
+pub use decided::{clears, unknown_inquiry};
+pub use rows::{answer, take_row};

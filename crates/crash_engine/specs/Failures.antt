@@ -71,7 +71,8 @@ pub record CannotGoDown (o : Origin) (events deliveries : List Event) (why : Fai
   pub within : before < length deliveries
   pub cannot : CannotTryAll o (events ++ take (suc before) deliveries) why
 
--- the same of the deliveries of a settle after these events
+-- not each crash after these events and the first delivery of a settle made after them, or the first two,
+-- and so on, is tried, for this reason
 abbrev pub CannotSettle : Origin → List Event → Failure → Type 0
 CannotSettle o events why = (deliveries : List Event) × SettlesBy o events deliveries
     × CannotGoDown o events deliveries why

@@ -167,7 +167,7 @@ fn count_mismatches(trials: &[Trial]) -> usize
         .count()
 }
 
-/// A word and a number.
+/// Adds a word, a space and a number.
 fn push_count(out: &mut Vec<u8>, word: &str, count: usize) -> Result<(), AllocError>
     ensures { OnOk result (out.new.items ≡ out.old.items ++ (word.now ++ number_word count)) }
 {

@@ -158,7 +158,9 @@ pub fn refusal_text(alloc: Global, script: Script, input: &[u8]) -> Result<Strin
     Ok(cleaned(alloc, &out)?)
 }
 
-/// The same of a tree script for a program that takes no logs ahead of its events.
+/// Why a program that reads a tree script without logs refused this input, or an event of it, in some
+/// lines; none, if it did not. An error says why the run could not be made again, or that memory was
+/// refused.
 pub fn plain_refusal_text(alloc: Global, input: &[u8]) -> Result<String, Failure> {
     let mut out = String::new(alloc);
     push_plain(alloc, &mut out, input)?;

@@ -85,7 +85,8 @@ fn opened_notes(alloc: Global, world: &World<MemoryStore>) -> Result<Notes, Allo
     Notes::new(alloc, world.tree().entries(), &logs)
 }
 
-/// The same of a tree that has just opened, and the events that are made in it.
+/// Makes these events in a run that has just opened, and adds its notes: what is told of its steps, if that
+/// is to be explained, and how many messages it leaves undelivered, unless an event is refused.
 fn push_notes(
     alloc: Global,
     out: &mut String,

@@ -76,7 +76,7 @@ pub fn damaged_log(
     for entry in tree.entries() {
         let bytes = bytes_of(logs, entry.id);
         let form = LogForm::of_bytes(bytes, entry.id, entry.kind);
-        match find(form, bytes, alloc) {
+        match find(alloc, form, bytes) {
             Ok(_) => continue,
             Err(LogOpenError::Damaged(place)) => {
                 return Ok(Some(LogFault::Damaged {

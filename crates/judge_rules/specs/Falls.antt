@@ -35,7 +35,7 @@ half_done verb.Commit s o = one (gone o.xid.number s)
 half_done verb.Rollback s o = one (rolled o.xid.number s)
 half_done verb.Forget s o = []
 
--- the same, where the manager failed
+-- what a call on a branch may have done besides, if the manager failed
 abbrev pub done_failing : BranchVerb → Sight → On → List Sight
 done_failing verb.Start s o = []
 done_failing verb.End s o = one (marked o.xid.number (unlinked o.thread o.xid.number s))

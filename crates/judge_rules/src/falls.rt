@@ -267,7 +267,7 @@ fn all_marked(alloc: Global, x: u32, states: &[State]) -> Result<Vec<State>, All
     Ok(marked)
 }
 
-/// A branch may stay, be gone, or be one that can only be rolled back.
+/// These states, then each with this branch gone, then each with it marked: it can only be rolled back.
 fn maybe_gone(
     alloc: Global,
     states: Vec<State>,

@@ -12,7 +12,8 @@ use crate::words::Rules;
 use judge_state::State;
 use std::alloc::{AllocError, Global};
 
-/// Whether an open or a close may be answered so where it fails.
+/// Whether an open or a close may fail by this answer: RmFail is none of its answers. It is true of an
+/// answer that is no failure, too: `failed` gives no state for one.
 fn may_fail(reply: Reply) -> bool
     ensures { result ≡ may_fail reply }
 {

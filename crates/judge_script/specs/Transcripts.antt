@@ -66,6 +66,6 @@ pub record IsFirstBadLine (ls : List (List ℕ)) (number : ℕ) : Type 0 where
   pub before : AreTranscript (take index ls) front
   pub bad : IsNoLine front (slice_index_or ls index [])
 
--- the same of the lines of a text
+-- the line of this number in a text, counted from 1, is the first that asks for nothing
 abbrev pub IsBadLine : List ℕ → ℕ → Type 0
 IsBadLine text number = IsFirstBadLine (lines text) number

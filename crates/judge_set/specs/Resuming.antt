@@ -25,7 +25,7 @@ abbrev pub known_by : Option JudgedBranch → On → Sight → Sight
 known_by (Some b) o s = s
 known_by None o s = begun o.thread o.xid.number s
 
--- the same, by what is known of it
+-- a state, with the branch of this name known: begun by the thread, if the state does not know it
 abbrev pub known : On → Sight → Sight
 known o s = known_by (branch_at o.xid.number s) o s
 

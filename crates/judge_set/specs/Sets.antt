@@ -58,6 +58,6 @@ abbrev pub IsVerdict : Rules → List HistoryEvent → Option ℕ → Type 0
 IsVerdict r es None = IsLegal r es
 IsVerdict r es (Some i) = IsFirstIllegal r es i
 
--- the same excuses, and no promise
+-- these rules without their promises; the excuses stay
 abbrev pub without_promises : Rules → Rules
 without_promises r = record r { never = record { heuristics = false; failures = false; rollback = false } }

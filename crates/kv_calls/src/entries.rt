@@ -114,13 +114,13 @@ impl BranchRecord {
     }
 
     /// The record of a branch that has written this, as it is in a log.
-    pub fn frame(self, xid: &Xid, writes: &[Write], alloc: Global) -> Result<Frame, AllocError>
+    pub fn frame(self, alloc: Global, xid: &Xid, writes: &[Write]) -> Result<Frame, AllocError>
         requires { IsEntry self writes.now }
         ensures frame { IfOk result (λ frame. frame_record frame ≡ entry_record self xid.now writes.now) }
         ensures sound { IsSound kind.Manager (entry_record self xid.now writes.now) }
     {
         is_whole_name(xid);
         let entry = self.with_writes(writes);
-        Frame::of_branch(&entry, xid, alloc)
+        Frame::of_branch(alloc, &entry, xid)
     }
 }

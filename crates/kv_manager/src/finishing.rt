@@ -70,7 +70,7 @@ impl<L: LogStore> KvManager<L> {
         ensures sound { IfOk result (λ frame. IsRecord kind.Manager (frame_record frame)) }
         ensures stays { OnlyRoom self.old self.new }
     {
-        let frame = entry.frame(xid, self.writes_in(xid, written, entry), self.alloc)?;
+        let frame = entry.frame(self.alloc, xid, self.writes_in(xid, written, entry))?;
         self.log.reserve(frame.size())?;
         Ok(frame)
     }

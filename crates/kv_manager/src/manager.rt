@@ -112,7 +112,7 @@ impl<L: LogStore> KvManager<L> {
         ensures { IfOk result (λ count. count
             ≡ length (whole_within (self.now.log.sight.behind + keep) self.now.log.sight.kept.unforced)) }
     {
-        self.log.log().unforced_left(keep, self.alloc)
+        self.log.log().unforced_left(self.alloc, keep)
     }
 
     /// Each record of its log can be in a manager's log.
@@ -165,7 +165,7 @@ impl<L: LogStore> KvManager<L> {
     pub fn left(&self, keep: usize) -> Result<Vec<LogRecord>, AllocError>
         ensures { IfOk result (λ records. records.items ≡ left_by self.now.log.sight keep) }
     {
-        self.log.log().kept(keep, self.alloc)
+        self.log.log().kept(self.alloc, keep)
     }
 
     /// Of the records that a crash would leave that keeps N bytes after the forced front, those after the
@@ -174,7 +174,7 @@ impl<L: LogStore> KvManager<L> {
         ensures { IfOk result (λ records. (first : List AnyRecord) → IsLogFront self.now.log.sight size first
             → first ++ records.items ≡ left_by self.now.log.sight keep) }
     {
-        self.log.log().kept_after(size, keep, self.alloc)
+        self.log.log().kept_after(self.alloc, size, keep)
     }
 
     /// Whether its device has failed: it answers nothing until a restart.
@@ -368,7 +368,7 @@ impl<L: LogStore> KvManager<L> {
         ensures err { IfErr result (NotReady (left_by self.old.log.sight keep)) }
     {
         self.records_are_sound();
-        match made_ready(&mut self.log, keep, self.alloc) {
+        match made_ready(self.alloc, &mut self.log, keep) {
             Ok(ready) => Ok(ready),
             Err(RecordsError::Memory) => Err(RestartError::Memory),
             Err(RecordsError::Exhausted) => Err(RestartError::Exhausted),
@@ -392,7 +392,7 @@ impl<L: LogStore> KvManager<L> {
         ensures err { IfErr result (KvNotRestarted self.old self.new keep) }
     {
         self.log
-            .restart(keep, &ready.opened, remembered, self.alloc)?;
+            .restart(self.alloc, keep, &ready.opened, remembered)?;
         mem::swap(&mut self.store, &mut ready.store);
         self.boot = ready.boot;
         Ok(())
@@ -418,16 +418,16 @@ impl<L: LogStore> KvManager<L> {
 
     /// A manager over a log that was opened. Device: its record of the boot could not be written. With an
     /// error the log is handed back.
-    fn over(mut log: RecLog<L>, alloc: Global) -> Result<Self, (RecordsError, RecLog<L>)>
+    fn over(alloc: Global, mut log: RecLog<L>) -> Result<Self, (RecordsError, RecLog<L>)>
         requires works { log.sight.failed ≡ false }
         requires kind { log.sight.form.kind ≡ kind.Manager }
         ensures ok { IfOk result (StartsOver log) }
         ensures err { IfErr result (λ e. LeavesNone log e.1 e.0 × (e.1.sight.form ≡ log.sight.form)) }
     {
-        match started(&mut log, alloc) {
+        match started(alloc, &mut log) {
             Ok((store, boot)) => Ok(KvManager {
                 alloc,
-                log: FrontedLog::new(log, alloc),
+                log: FrontedLog::new(alloc, log),
                 boot,
                 store,
             }),
@@ -439,14 +439,14 @@ impl<L: LogStore> KvManager<L> {
 impl<L: LogStore + Drop> KvManager<L> {
     /// A manager of this process over an empty store, which is not open: its log has the record of its first
     /// boot. The errors are those of `restore`.
-    pub fn create(store: L, process: ProcessId, alloc: Global) -> Result<Self, (RestoreError, L)>
+    pub fn create(alloc: Global, store: L, process: ProcessId) -> Result<Self, (RestoreError, L)>
         requires { L.bytes store ≡ [] }
         ensures ok { IfOk result (λ manager. IsNewManager (sight_of manager)) }
         ensures form { IfOk result (λ manager. manager.log.sight.form ≡ log_form process kind.Manager) }
         ensures failures { IfOk result (λ manager. manager.log.sight.failures ≡ L.failures store) }
         ensures err { IfErr result (λ e. NotRestored L.bytes L.forced L.failures process store e.1 e.0) }
     {
-        KvManager::restore(store, process, alloc)
+        KvManager::restore(alloc, store, process)
     }
 
     /// The store under its log, as it is.
@@ -467,15 +467,15 @@ impl<L: LogStore + Drop> KvManager<L> {
     /// say, and the record of its boot is written after them. With a refusal the store is handed back. Log:
     /// the bytes are no log, or it was not opened. Records: the log's records leave no manager, and the log
     /// is as it was opened; or the record could not be written.
-    pub fn restore(store: L, process: ProcessId, alloc: Global) -> Result<Self, (RestoreError, L)>
+    pub fn restore(alloc: Global, store: L, process: ProcessId) -> Result<Self, (RestoreError, L)>
         ensures ok { IfOk result (RestoredFrom process (L.bytes store) (L.forced store) (L.failures store)) }
         ensures err { IfErr result (λ e. NotRestored L.bytes L.forced L.failures process store e.1 e.0) }
     {
-        let log = match RecLog::open(store, process, Kind::Manager, alloc) {
+        let log = match RecLog::open(alloc, store, process, Kind::Manager) {
             Ok(log) => log,
             Err((error, store)) => return Err((RestoreError::Log(error), store)),
         };
-        match KvManager::over(log, alloc) {
+        match KvManager::over(alloc, log) {
             Ok(manager) => Ok(manager),
             Err((error, log)) => Err((RestoreError::Records(error), log.into_store())),
         }

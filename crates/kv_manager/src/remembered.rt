@@ -61,7 +61,7 @@ impl<L: LogStore> Model for FrontedLog<L> {
 
 impl<L: LogStore> FrontedLog<L> {
     /// A log of which nothing is remembered.
-    pub(crate) fn new(log: RecLog<L>, alloc: Global) -> FrontedLog<L>
+    pub(crate) fn new(alloc: Global, log: RecLog<L>) -> FrontedLog<L>
         ensures { result ≡ log }
     {
         FrontedLog {
@@ -98,8 +98,8 @@ impl<L: LogStore> FrontedLog<L> {
     /// are those of `kv_core::replay`.
     pub(crate) fn read(
         &mut self,
-        keep: usize,
         alloc: Global,
+        keep: usize,
     ) -> Result<(Replayed, RememberedData), ReplayError>
         ensures stays { self.new ≡ self.old }
         ensures leaves { IfOk result (λ r. LeavesNow (left_by self.old.sight keep) r.0) }
@@ -107,12 +107,12 @@ impl<L: LogStore> FrontedLog<L> {
         ensures err { IfErr result (ReplayFails (left_by self.old.sight keep)) }
     {
         let Front { size, remembered } = mem::replace(&mut self.front, Front::header(alloc));
-        let records = self.log.kept_after(size, keep, alloc)?;
-        remembered.read_on(records, alloc)
+        let records = self.log.kept_after(alloc, size, keep)?;
+        remembered.read_on(alloc, records)
     }
 
     /// Trims the log, with these records of the data: nothing is remembered of what it was.
-    pub(crate) fn trim(&mut self, behind: &[Frame], alloc: Global) -> Result<usize, LogError>
+    pub(crate) fn trim(&mut self, alloc: Global, behind: &[Frame]) -> Result<usize, LogError>
         requires works { self.old.sight.failed ≡ false }
         requires sound { AreRecords self.old.sight.form.kind (map frame_record behind.now) }
         requires own { map frame_record behind.now ≡ own_data self.old.sight }
@@ -122,7 +122,7 @@ impl<L: LogStore> FrontedLog<L> {
             (trim_of self.old (map frame_record behind.now)) e) }
     {
         self.front = Front::header(alloc);
-        self.log.trim(behind, alloc)
+        self.log.trim(alloc, behind)
     }
 
     /// How many records stand, if a trim would leave the log as it is.
@@ -160,10 +160,10 @@ impl<L: LogStore> FrontedLog<L> {
     /// on.
     pub(crate) fn restart(
         &mut self,
+        alloc: Global,
         keep: usize,
         opened: &Frame,
         remembered: RememberedData,
-        alloc: Global,
     ) -> Result<(), RestartError>
         requires sound { IsRecord self.old.sight.form.kind (frame_record opened.now) }
         requires says { RemembersData (left_by self.old.sight keep) remembered }
@@ -171,7 +171,7 @@ impl<L: LogStore> FrontedLog<L> {
         ensures ok { OnOk result (LogRestarts self.old self.new keep (frame_record opened.now ∷ [])) }
         ensures err { IfErr result (λ e. FailsToRestart self.old self.new keep (frame_record opened.now) e) }
     {
-        match self.log.restart(keep, slice::from_ref(opened), alloc) {
+        match self.log.restart(alloc, keep, slice::from_ref(opened)) {
             Ok(()) => {
                 let all = self.log.size();
                 let last = opened.size();

@@ -19,7 +19,7 @@ use log_records::RecLog;
 use log_store::LogStore;
 use log_text::Frame;
 use log_writing::write;
-use protocol::{LogRecord, Record};
+use protocol::{LAST_NUMBER, LogRecord, Record};
 use std::alloc::{AllocError, Global};
 use thiserror::Error;
 use xa_xid::Xid;
@@ -66,7 +66,7 @@ impl From<AllocError> for RecordsError {
     }
 }
 
-/// The same, for what replays.
+/// Why records that did not replay leave no manager: malformed ones are unfit.
 fn replay_error(error: ReplayError) -> RecordsError
     ensures { result ≡ error_of error }
 {
@@ -83,17 +83,14 @@ fn next_boot(last: Option<u64>) -> Option<u64>
 {
     match last {
         None => Some(1),
-        Some(boot) if boot < BOOTS => Some(boot + 1),
+        Some(boot) if boot < LAST_NUMBER => Some(boot + 1),
         Some(_) => None,
     }
 }
 
-/// The last boot that a log holds.
-const BOOTS: u64 = 0x7fff_ffff_ffff_ffff;
-
 /// The key store of what replayed. Memory: there was none. Unfit: more branches are in doubt than it holds,
 /// or one of them twice.
-fn stored(replayed: Replayed, alloc: Global) -> Result<KeyStore, RecordsError>
+fn stored(alloc: Global, replayed: Replayed) -> Result<KeyStore, RecordsError>
     requires { (t : AnyStates) → Restored replayed.left.items t
         → IsTidy (record {
           tables = t;
@@ -123,7 +120,7 @@ fn stored(replayed: Replayed, alloc: Global) -> Result<KeyStore, RecordsError>
 
 /// The key store of what replayed, and the boot after the last one. Memory: there was none. Unfit: more
 /// branches are in doubt than it holds, or one of them twice. Exhausted: no boot comes after the last one.
-fn store_of(replayed: Replayed, alloc: Global) -> Result<(KeyStore, u64), RecordsError>
+fn store_of(alloc: Global, replayed: Replayed) -> Result<(KeyStore, u64), RecordsError>
     requires { (ls : List AnyRecord) × LeavesNow ls replayed }
     ensures ok { IfOk result (λ made. (ls : List AnyRecord) → LeavesNow ls replayed
         → LeavesStore ls made.0 made.1) }
@@ -133,7 +130,7 @@ fn store_of(replayed: Replayed, alloc: Global) -> Result<(KeyStore, u64), Record
         drop(replayed);
         return Err(RecordsError::Exhausted);
     };
-    match stored(replayed, alloc) {
+    match stored(alloc, replayed) {
         Ok(store) => Ok((store, boot)),
         Err(error) => Err(error),
     }
@@ -142,18 +139,18 @@ fn store_of(replayed: Replayed, alloc: Global) -> Result<(KeyStore, u64), Record
 /// What the records of a log leave of a key store, and the boot after them. Memory: there was none. Unfit:
 /// they are not the records of a key store. Exhausted: the boots or the commits count 2^63. With an error the
 /// records are gone.
-pub fn rebuilt(records: Vec<LogRecord>, alloc: Global) -> Result<(KeyStore, u64), RecordsError>
+pub fn rebuilt(alloc: Global, records: Vec<LogRecord>) -> Result<(KeyStore, u64), RecordsError>
     ensures ok { IfOk result (λ made. LeavesStore records.items made.0 made.1) }
     ensures err { IfErr result (KvNotRebuilt records.items) }
 {
-    match replay(records, alloc) {
-        Ok(replayed) => store_of(replayed, alloc),
+    match replay(alloc, records) {
+        Ok(replayed) => store_of(alloc, replayed),
         Err(error) => Err(replay_error(error)),
     }
 }
 
 /// The frame of the record of a boot.
-fn opened(boot: u64, alloc: Global) -> Result<Frame, AllocError>
+fn opened(alloc: Global, boot: u64) -> Result<Frame, AllocError>
     requires { boot < 2 ^ 63 }
     ensures spells { IfOk result (λ frame. frame_record frame ≡ opened boot) }
     ensures sound { IfOk result (λ frame. IsRecord kind.Manager (frame_record frame)) }
@@ -162,7 +159,7 @@ fn opened(boot: u64, alloc: Global) -> Result<Frame, AllocError>
         entry: Record::Opened(boot),
         parent: None,
     };
-    Frame::new(record, alloc)
+    Frame::new(alloc, record)
 }
 
 /// What a manager restarts as. All that takes memory is made.
@@ -192,25 +189,25 @@ impl Ready {
 }
 
 /// The branches in doubt of a store, and the frame of its boot.
-fn announced(store: &KeyStore, boot: u64, alloc: Global) -> Result<(Vec<Xid>, Frame), AllocError>
+fn announced(alloc: Global, store: &KeyStore, boot: u64) -> Result<(Vec<Xid>, Frame), AllocError>
     requires { boot < 2 ^ 63 }
     ensures listed { IfOk result (λ made. made.0.items ≡ in_doubt store.now.tables.branches.branches) }
     ensures spells { IfOk result (λ made. frame_record made.1 ≡ opened boot) }
     ensures sound { IfOk result (λ made. IsRecord kind.Manager (frame_record made.1)) }
 {
-    let opened = opened(boot, alloc)?;
+    let opened = opened(alloc, boot)?;
     let in_doubt = store.in_doubt()?;
     Ok((in_doubt, opened))
 }
 
 /// What a manager restarts as by what replayed. The errors are those of `store_of`.
-fn ready_for(replayed: Replayed, alloc: Global) -> Result<Ready, RecordsError>
+fn ready_for(alloc: Global, replayed: Replayed) -> Result<Ready, RecordsError>
     requires { (ls : List AnyRecord) × LeavesNow ls replayed }
     ensures ok { IfOk result (λ ready. (ls : List AnyRecord) → LeavesNow ls replayed → IsReady ls ready) }
     ensures err { IfErr result (λ e. (ls : List AnyRecord) → LeavesNow ls replayed → KvNotRebuilt ls e) }
 {
-    let (store, boot) = store_of(replayed, alloc)?;
-    match announced(&store, boot, alloc) {
+    let (store, boot) = store_of(alloc, replayed)?;
+    match announced(alloc, &store, boot) {
         Ok((in_doubt, opened)) => Ok(Ready {
             store,
             boot,
@@ -227,17 +224,17 @@ fn ready_for(replayed: Replayed, alloc: Global) -> Result<Ready, RecordsError>
 /// What a manager restarts as after a crash that keeps N bytes of its log after the forced front, and what it
 /// is to remember of what is left; what it remembered is gone. The errors are those of `rebuilt`.
 pub(crate) fn made_ready<L: LogStore>(
+    alloc: Global,
     log: &mut FrontedLog<L>,
     keep: usize,
-    alloc: Global,
 ) -> Result<(Ready, RememberedData), RecordsError>
     ensures stays { log.new ≡ log.old }
     ensures ok { IfOk result (λ r. IsReady (left_by log.old.sight keep) r.0) }
     ensures remembered { IfOk result (λ r. RemembersData (left_by log.old.sight keep) r.1) }
     ensures err { IfErr result (KvNotRebuilt (left_by log.old.sight keep)) }
 {
-    match log.read(keep, alloc) {
-        Ok((replayed, remembered)) => match ready_for(replayed, alloc) {
+    match log.read(alloc, keep) {
+        Ok((replayed, remembered)) => match ready_for(alloc, replayed) {
             Ok(ready) => Ok((ready, remembered)),
             Err(error) => {
                 drop(remembered);
@@ -250,9 +247,9 @@ pub(crate) fn made_ready<L: LogStore>(
 
 /// Writes the record of a boot, forced. Memory: nothing changed. Device: the device failed under it.
 fn write_boot<L: LogStore>(
+    alloc: Global,
     log: &mut RecLog<L>,
     boot: u64,
-    alloc: Global,
 ) -> Result<(), RecordsError>
     requires fits { boot < 2 ^ 63 }
     requires works { log.old.sight.failed ≡ false }
@@ -261,7 +258,7 @@ fn write_boot<L: LogStore>(
     ensures err { IfErr result (NotBegun log.old log.new boot) }
     ensures form { log.new.sight.form ≡ log.old.sight.form }
 {
-    let opened = opened(boot, alloc)?;
+    let opened = opened(alloc, boot)?;
     log.reserve(opened.size())?;
     match write(log, &opened, true) {
         Ok(()) => Ok(()),
@@ -272,8 +269,8 @@ fn write_boot<L: LogStore>(
 /// What a manager over a log that was opened starts as; the record of its boot is in the log, forced.
 /// Device: the record could not be written. The other errors are those of `rebuilt`.
 pub(crate) fn started<L: LogStore>(
-    log: &mut RecLog<L>,
     alloc: Global,
+    log: &mut RecLog<L>,
 ) -> Result<(KeyStore, u64), RecordsError>
     requires works { log.old.sight.failed ≡ false }
     requires kind { log.old.sight.form.kind ≡ kind.Manager }
@@ -283,8 +280,8 @@ pub(crate) fn started<L: LogStore>(
     ensures form { log.new.sight.form ≡ log.old.sight.form }
 {
     let records = log.records(alloc)?;
-    let (store, boot) = rebuilt(records, alloc)?;
-    match write_boot(log, boot, alloc) {
+    let (store, boot) = rebuilt(alloc, records)?;
+    match write_boot(alloc, log, boot) {
         Ok(()) => Ok((store, boot)),
         Err(error) => {
             drop(store);

@@ -32,9 +32,9 @@ fn trim_error(error: LogError) -> TrimError
 
 /// Trims a manager's log again that a trim leaves as it is: it is put in its own place, and not read.
 fn trim_again<L: LogStore>(
+    alloc: Global,
     log: &mut FrontedLog<L>,
     count: usize,
-    alloc: Global,
 ) -> Result<(), LogError>
     requires works { log.old.sight.failed ≡ false }
     requires managers { log.old.sight.form.kind ≡ kind.Manager }
@@ -59,7 +59,7 @@ impl<L: LogStore> KvManager<L> {
     {
         self.records_are_sound();
         let pairs = self.store.pairs()?;
-        base_frames(self.store.count(), &pairs, self.alloc)
+        base_frames(self.alloc, self.store.count(), &pairs)
     }
 
     /// Trims its log, and nothing else moves. Gives how many records remain. A log that its last trim left as
@@ -74,13 +74,13 @@ impl<L: LogStore> KvManager<L> {
         }
         self.records_are_sound();
         if let Some(count) = self.log.trimmed() {
-            return match trim_again(&mut self.log, count, self.alloc) {
+            return match trim_again(self.alloc, &mut self.log, count) {
                 Ok(()) => Ok(count),
                 Err(error) => Err(trim_error(error)),
             };
         }
         let frames = self.data_frames()?;
-        match self.log.trim(&frames, self.alloc) {
+        match self.log.trim(self.alloc, &frames) {
             Ok(count) => Ok(count),
             Err(error) => Err(trim_error(error)),
         }

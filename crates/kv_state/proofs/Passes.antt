@@ -15,7 +15,7 @@ use Rattle.kv_state.specs.Folds.{AreData, GoBack, base_after, data_behind, last_
 use Rattle.protocol.specs.LogNames.{by_xid}
 use Rattle.kv_state.specs.Replays.{AreCountedCommits, CountTooFar, ReplayFails, KeepsBefore, Reads, TakeFails, DataTake, error_of, seen_after, seen_of}
 use Rattle.kv_state.specs.Remembered.{HasRead, ReadsNow}
-use Rattle.kv_state.specs.declared.replayed.Replay.{Replay}
+use Rattle.kv_state.specs.declared.replayed.ReplayState.{ReplayState}
 use Rattle.kv_state.proofs.Counting.{counted_next, counted_whole}
 use Rattle.kv_state.proofs.Lawful.{lawful_of}
 
@@ -218,7 +218,7 @@ module _ (old : SeenLog) (before : VersionTable) (all : List LogRecord) (s : See
   history_on_ends ls reads back = subst (λ ks. GoBack v (ls ++ ks)) is_done (reading.history ls reads back)
 
 -- all records are read on from none
-pub read_all : (ls : List LogRecord) (old : SeenLog) (before : VersionTable) (r : Result Replay ReplayError)
+pub read_all : (ls : List LogRecord) (old : SeenLog) (before : VersionTable) (r : Result ReplayState ReplayError)
     → ReadsNow [] old before → GoBack before []
     → IfOk r (λ all. (ks : List LogRecord) → ReadsNow ks old before → ReadsNow (ks ++ ls) all.seen all.data)
     → IfOk r (λ all. (ks : List LogRecord) → ReadsNow ks old before → GoBack before ks

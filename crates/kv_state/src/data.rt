@@ -8,11 +8,8 @@ use crate::fault::ReplayError;
 use kv_store::Versions;
 use log_rules::order::Seen;
 use log_text::name_xid;
-use protocol::{Bytes, LogRecord, Record, Write};
+use protocol::{Bytes, LAST_NUMBER, LogRecord, NUMBERS, Record, Write};
 use std::alloc::{AllocError, Global};
-
-/// Fewer commits than this are counted.
-const COMMITS: u64 = 1 << 63;
 
 /// Makes a commit of these writes.
 fn commit(versions: &mut Versions, writes: &[Write]) -> Result<(), ReplayError>
@@ -21,7 +18,7 @@ fn commit(versions: &mut Versions, writes: &[Write]) -> Result<(), ReplayError>
     ensures counted { OnOk result (versions.new.count < 2 ^ 63) }
     ensures err { IfErr result (CommitFails versions.old) }
 {
-    if versions.count() >= COMMITS - 1 {
+    if versions.count() >= LAST_NUMBER {
         return Err(ReplayError::Exhausted);
     }
     versions.apply(writes)?;
@@ -29,7 +26,7 @@ fn commit(versions: &mut Versions, writes: &[Write]) -> Result<(), ReplayError>
 }
 
 /// Sets a key of the base.
-fn set(versions: &mut Versions, key: &Bytes, value: &Bytes, alloc: Global) -> Result<(), AllocError>
+fn set(alloc: Global, versions: &mut Versions, key: &Bytes, value: &Bytes) -> Result<(), AllocError>
     requires { versions.old.is_staged ≡ false }
     ensures { OnOk result (Sets versions.old versions.new (pair_write (key.now, value.now))) }
 {
@@ -42,10 +39,10 @@ fn set(versions: &mut Versions, key: &Bytes, value: &Bytes, alloc: Global) -> Re
 
 /// The data take the next record after those that have been seen.
 pub(crate) fn take(
+    alloc: Global,
     versions: &mut Versions,
     seen: &Seen,
     next: &LogRecord,
-    alloc: Global,
 ) -> Result<(), ReplayError>
     requires unstaged { versions.old.is_staged ≡ false }
     requires counted { versions.old.count < 2 ^ 63 }
@@ -64,14 +61,14 @@ pub(crate) fn take(
         }
         Record::Direct(_, writes) => commit(versions, writes.as_slice()),
         Record::Base(count) => {
-            if *count >= COMMITS {
+            if *count >= NUMBERS {
                 return Err(ReplayError::Exhausted);
             }
             *versions = Versions::new(alloc, *count);
             Ok(())
         }
         Record::Pair(key, value) => {
-            set(versions, key, value, alloc)?;
+            set(alloc, versions, key, value)?;
             Ok(())
         }
         _ => Ok(()),

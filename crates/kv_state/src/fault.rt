@@ -1,4 +1,4 @@
-//! Why records leave nothing.
+//! Why records leave nothing. `from_gives` is the contract of a `from`: what `?` makes of the error.
 
 ghost use Rattle.std.specs.Prelude.{◌≡◌};
 ghost use Rattle.kv_state.specs.Replays.{replay_number};

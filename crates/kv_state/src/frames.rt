@@ -15,7 +15,7 @@ use protocol::{Bytes, LogRecord, Record};
 use std::alloc::{AllocError, Global};
 
 /// The frame of the count of a base.
-fn base(count: u64, alloc: Global) -> Result<Frame, AllocError>
+fn base(alloc: Global, count: u64) -> Result<Frame, AllocError>
     requires { IsSound kind.Manager (unnamed (record_of.Base count)) }
     ensures { IfOk result (λ frame. frame_record frame ≡ unnamed (record_of.Base count)) }
 {
@@ -23,11 +23,11 @@ fn base(count: u64, alloc: Global) -> Result<Frame, AllocError>
         entry: Record::Base(count),
         parent: None,
     };
-    Frame::new(entry, alloc)
+    Frame::new(alloc, entry)
 }
 
 /// The frame of a pair.
-fn pair(key: &Bytes, value: &Bytes, alloc: Global) -> Result<Frame, AllocError>
+fn pair(alloc: Global, key: &Bytes, value: &Bytes) -> Result<Frame, AllocError>
     requires { IsSound kind.Manager (unnamed (record_of.Pair key.now value.now)) }
     ensures { IfOk result (λ frame. frame_record frame ≡ unnamed (record_of.Pair key.now value.now)) }
 {
@@ -35,14 +35,14 @@ fn pair(key: &Bytes, value: &Bytes, alloc: Global) -> Result<Frame, AllocError>
         entry: Record::Pair(key.copied(alloc)?, value.copied(alloc)?),
         parent: None,
     };
-    Frame::new(entry, alloc)
+    Frame::new(alloc, entry)
 }
 
 /// The frames of a base of N commits and of these pairs.
 pub fn base_frames(
+    alloc: Global,
     count: u64,
     pairs: &[(Bytes, Bytes)],
-    alloc: Global,
 ) -> Result<Vec<Frame>, AllocError>
     requires base { IsSound kind.Manager (unnamed (record_of.Base count)) }
     requires pairs { AllByRecursion (λ p. IsSound kind.Manager (unnamed (pair_record p))) pairs.now }
@@ -51,9 +51,9 @@ pub fn base_frames(
     ensures sound { IfOk result (λ frames. AreRecords kind.Manager (map frame_record frames.items)) }
 {
     let mut frames = Vec::new(alloc);
-    frames.push(base(count, alloc)?)?;
+    frames.push(base(alloc, count)?)?;
     for (key, value) in pairs {
-        frames.push(pair(key, value, alloc)?)?;
+        frames.push(pair(alloc, key, value)?)?;
     }
     Ok(frames)
 }

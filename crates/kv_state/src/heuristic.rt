@@ -70,7 +70,7 @@ pub(crate) fn decided_after(
 }
 
 /// What operators decided by the records of a log.
-pub(crate) fn decided(records: &[LogRecord], alloc: Global) -> Result<Heuristics, AllocError>
+pub(crate) fn decided(alloc: Global, records: &[LogRecord]) -> Result<Heuristics, AllocError>
     ensures { IfOk result (KnowDecided records.now) }
 {
     decided_after(Heuristics::new(alloc), records)

@@ -77,9 +77,9 @@ fn give_back(
 
 /// What the open branches hold, of those that are left.
 fn restore(
+    alloc: Global,
     seen: &Seen,
     left: &[(Xid, bool)],
-    alloc: Global,
 ) -> Result<(BranchWrites, Locks), ReplayError>
     requires orderly { IsOrderly seen.now }
     requires left { left.now ≡ in_doubt_by seen.now }
@@ -105,14 +105,14 @@ pub(crate) struct InDoubt {
 }
 
 /// The branches that records left in doubt, and what the open ones hold.
-pub(crate) fn in_doubt(seen: &Seen, alloc: Global) -> Result<InDoubt, ReplayError>
+pub(crate) fn in_doubt(alloc: Global, seen: &Seen) -> Result<InDoubt, ReplayError>
     requires { IsOrderly seen.now }
     ensures left { IfOk result (λ held. held.left.items ≡ in_doubt_by seen.now) }
     ensures held { IfOk result (λ held. Restores seen.now held.writes held.locks) }
     ensures err { IfErr result (RestoreFails seen.now) }
 {
     let left = seen.left()?;
-    let (writes, locks) = restore(seen, &left, alloc)?;
+    let (writes, locks) = restore(alloc, seen, &left)?;
     Ok(InDoubt {
         left,
         writes,

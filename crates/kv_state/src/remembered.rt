@@ -9,7 +9,7 @@ ghost use Rattle.kv_state.specs.Replays.{ReplayFails};
 use crate::fault::ReplayError;
 use crate::heuristic::decided_after;
 use crate::promises::{InDoubt, in_doubt};
-use crate::replayed::{Replay, Replayed, read_on};
+use crate::replayed::{ReplayState, Replayed, read_on};
 use kv_store::Versions;
 use log_rules::order::Seen;
 use protocol::{Bytes, LogRecord};
@@ -41,7 +41,7 @@ impl Model for RememberedData {
 }
 
 /// These decisions, as a table made again.
-fn copied(decisions: &Heuristics, alloc: Global) -> Result<Heuristics, AllocError>
+fn copied(alloc: Global, decisions: &Heuristics) -> Result<Heuristics, AllocError>
     ensures { IfOk result (λ copy. SameDecisions decisions.now copy) }
 {
     let branches = decisions.open_cases();
@@ -72,8 +72,8 @@ impl RememberedData {
     /// are those of `replay` of all these records. With an error what was remembered is gone.
     pub fn read_on(
         self,
-        records: Vec<LogRecord>,
         alloc: Global,
+        records: Vec<LogRecord>,
     ) -> Result<(Replayed, RememberedData), ReplayError>
         requires { IsOfSome self }
         ensures leaves { IfOk result (λ r. (ls : List AnyRecord) → RemembersData ls self
@@ -91,13 +91,13 @@ impl RememberedData {
         } = self;
         let data = Versions::from_pairs(alloc, count, &pairs)?;
         let decisions = decided_after(decisions, &records)?;
-        let reading = read_on(Replay { seen, data }, records, alloc)?;
-        let held = in_doubt(&reading.seen, alloc)?;
-        let given = copied(&decisions, alloc)?;
+        let reading = read_on(alloc, ReplayState { seen, data }, records)?;
+        let held = in_doubt(alloc, &reading.seen)?;
+        let given = copied(alloc, &decisions)?;
         let pairs = reading.data.pairs()?;
         let count = reading.data.count();
         let boot = reading.seen.boot();
-        let Replay { seen, data } = reading;
+        let ReplayState { seen, data } = reading;
         let InDoubt {
             left,
             writes,

@@ -39,14 +39,14 @@ pub struct Replayed {
 
 /// The records so far: what they have said, and the data that they make.
 #[derive(Drop)]
-pub(crate) struct Replay {
+pub(crate) struct ReplayState {
     pub(crate) seen: Seen,
     pub(crate) data: Versions,
 }
 
-impl Replay {
+impl ReplayState {
     /// Takes the next record.
-    fn take(&mut self, next: LogRecord, alloc: Global) -> Result<(), ReplayError>
+    fn take(&mut self, alloc: Global, next: LogRecord) -> Result<(), ReplayError>
         requires unstaged { self.old.data.is_staged ≡ false }
         requires counted { self.old.data.count < 2 ^ 63 }
         ensures may { OnOk result (after self.old.seen next ≡ Some self.new.seen) }
@@ -55,7 +55,7 @@ impl Replay {
         ensures counted { OnOk result (self.new.data.count < 2 ^ 63) }
         ensures err { IfErr result (TakeFails self.old.seen next self.old.data) }
     {
-        data::take(&mut self.data, &self.seen, &next, alloc)?;
+        data::take(alloc, &mut self.data, &self.seen, &next)?;
         self.seen.take(next)?;
         Ok(())
     }
@@ -63,10 +63,10 @@ impl Replay {
 
 /// Reads on in these records. With an error they and what was read are gone.
 pub(crate) fn read_on(
-    reading: Replay,
-    records: Vec<LogRecord>,
     alloc: Global,
-) -> Result<Replay, ReplayError>
+    reading: ReplayState,
+    records: Vec<LogRecord>,
+) -> Result<ReplayState, ReplayError>
     requires { HasRead reading.seen reading.data }
     ensures ok { IfOk result (λ all. (ls : List AnyRecord) → ReadsNow ls reading.seen reading.data
         → ReadsNow (ls ++ records.items) all.seen all.data) }
@@ -77,21 +77,21 @@ pub(crate) fn read_on(
 {
     let mut reading = reading;
     for record in records {
-        reading.take(record, alloc)?;
+        reading.take(alloc, record)?;
     }
     Ok(reading)
 }
 
 /// What all records have said, and the data that they make.
-fn read(records: Vec<LogRecord>, alloc: Global) -> Result<Replay, ReplayError>
+fn read(alloc: Global, records: Vec<LogRecord>) -> Result<ReplayState, ReplayError>
     ensures ok { IfOk result (λ all. Reads records.items all.seen all.data) }
     ensures err { IfErr result (ReplayFails records.items) }
 {
-    let nothing = Replay {
+    let nothing = ReplayState {
         seen: Seen::new(alloc),
         data: Versions::new(alloc, 0),
     };
-    read_on(nothing, records, alloc)
+    read_on(alloc, nothing, records)
 }
 
 /// What the records of a log leave of a key store. It goes through them twice.
@@ -99,15 +99,15 @@ fn read(records: Vec<LogRecord>, alloc: Global) -> Result<Replay, ReplayError>
 /// Malformed: a record may not follow those before it, or a branch that is open after the last one promised
 /// more than 64 writes, a key that has not 1 to 64 bytes, or a value of more than 256. Exhausted: some
 /// records in front count 2^63 commits or more. With an error the records are gone.
-pub fn replay(records: Vec<LogRecord>, alloc: Global) -> Result<Replayed, ReplayError>
+pub fn replay(alloc: Global, records: Vec<LogRecord>) -> Result<Replayed, ReplayError>
     ensures ok { IfOk result (λ r. ReplayLeaves records.items r.boot r.left.items r.data
         r.writes r.locks r.decisions) }
     ensures err { IfErr result (ReplayFails records.items) }
 {
-    let decisions = decided(&records, alloc)?;
-    let reading = read(records, alloc)?;
-    let held = in_doubt(&reading.seen, alloc)?;
-    let Replay { seen, data } = reading;
+    let decisions = decided(alloc, &records)?;
+    let reading = read(alloc, records)?;
+    let held = in_doubt(alloc, &reading.seen)?;
+    let ReplayState { seen, data } = reading;
     let InDoubt {
         left,
         writes,

@@ -27,7 +27,7 @@ use kv_calls::{BranchRecord, CallRow, branch_of};
 use kv_locks::Locks;
 use kv_store::Versions;
 use kv_store::writes::BranchWrites;
-use protocol::{Bytes, Op, Outcome, Write};
+use protocol::{Bytes, LAST_NUMBER, Op, Outcome, Write};
 use std::alloc::{AllocError, Global};
 use std::marker::Model;
 use xa_assoc::{States, WorkError};
@@ -40,9 +40,6 @@ use xa_xid::Xid;
 const KEY: usize = 64;
 
 const VALUE: usize = 256;
-
-/// The most commits that are counted.
-const COMMITS: u64 = 0x7fff_ffff_ffff_ffff;
 
 /// The tables of calls, what each branch at work has written, the locks, the data, and what operators
 /// decided.
@@ -121,7 +118,7 @@ fn note(heuristics: &mut Heuristics, xid: &Xid, entry: Option<BranchRecord>)
 }
 
 /// A copy of these bytes, if there are any.
-fn copied(bytes: Option<&[u8]>, alloc: Global) -> Result<Option<Bytes>, AllocError>
+fn copied(alloc: Global, bytes: Option<&[u8]>) -> Result<Option<Bytes>, AllocError>
     ensures { IfOk result (λ copy. copy ≡ option_map (λ v. v.now) bytes.entry) }
 {
     match bytes {
@@ -197,7 +194,7 @@ impl KeyStore {
     pub fn has_numbers(&self) -> bool
         ensures { result ≡ has_numbers self.now }
     {
-        self.versions.count() < COMMITS
+        self.versions.count() < LAST_NUMBER
     }
 
     /// How many commits were made.
@@ -321,7 +318,7 @@ impl KeyStore {
         ensures ok { IfOk result (ReadsFor self.old self.new xid.now key.now) }
         ensures err { IfErr result (λ e. IsRefusedIfFree self.old self.new xid.now key.now mode.Shared e) }
     {
-        let found = copied(self.value(xid, key), self.alloc)?;
+        let found = copied(self.alloc, self.value(xid, key))?;
         match self.locks.shared(xid, key) {
             Ok(()) => Ok(found),
             Err(_) => Err(WorkError::Memory),
@@ -372,7 +369,7 @@ impl KeyStore {
         };
         let write = Write {
             key: Bytes::from_slice(self.alloc, key)?,
-            value: copied(value, self.alloc)?,
+            value: copied(self.alloc, value)?,
         };
         match self.locks.exclusive(xid, key) {
             Ok(()) => {

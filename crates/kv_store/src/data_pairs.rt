@@ -9,7 +9,7 @@ use protocol::Bytes;
 use std::alloc::{AllocError, Global};
 
 /// The bytes of each of these keys.
-fn bytes_of(keys: &[Vec<u8>], alloc: Global) -> Result<Vec<&[u8]>, AllocError>
+fn bytes_of(alloc: Global, keys: &[Vec<u8>]) -> Result<Vec<&[u8]>, AllocError>
     ensures { IfOk result (λ bytes. map (λ k. k.now) bytes.items ≡ map (λ k. k.items) keys.now) }
 {
     let mut bytes = Vec::new(alloc);
@@ -20,7 +20,7 @@ fn bytes_of(keys: &[Vec<u8>], alloc: Global) -> Result<Vec<&[u8]>, AllocError>
 }
 
 /// The pair of a key that has this value.
-fn pair(key: &[u8], value: &[u8], alloc: Global) -> Result<(Bytes, Bytes), AllocError>
+fn pair(alloc: Global, key: &[u8], value: &[u8]) -> Result<(Bytes, Bytes), AllocError>
     ensures { IfOk result (λ pair. pair ≡ (key.now, value.now)) }
 {
     let key = Bytes::from_slice(alloc, key)?;
@@ -40,32 +40,32 @@ fn is_next(key: &[u8], behind: &[&[u8]]) -> bool
 
 /// Adds the pair of a key that has a value.
 fn add_pair(
+    alloc: Global,
     pairs: &mut Vec<(Bytes, Bytes)>,
     key: &[u8],
     versions: &Versions,
-    alloc: Global,
 ) -> Result<(), AllocError>
     ensures { OnOk result (pairs.new.items
         ≡ pairs.old.items ++ pair_if key.now (value_at versions.now versions.now.count key.now)) }
 {
     if let Some(value) = versions.read(key) {
-        pairs.push(pair(key, value, alloc)?)?;
+        pairs.push(pair(alloc, key, value)?)?;
     }
     Ok(())
 }
 
 /// The pairs of these keys that have a value; of a key that is beside itself, one.
 fn pairs_at(
+    alloc: Global,
     keys: &[&[u8]],
     versions: &Versions,
-    alloc: Global,
 ) -> Result<Vec<(Bytes, Bytes)>, AllocError>
     ensures { IfOk result (λ pairs. pairs.items ≡ pairs_at versions.now (map (λ k. k.now) keys.now)) }
 {
     let mut pairs = Vec::new(alloc);
     for (i, key) in keys.iter().enumerate() {
         if !is_next(key, &keys[i + 1..]) {
-            add_pair(&mut pairs, key, versions, alloc)?;
+            add_pair(alloc, &mut pairs, key, versions)?;
         }
     }
     Ok(pairs)
@@ -73,14 +73,14 @@ fn pairs_at(
 
 /// The data, keys rising.
 pub(crate) fn pairs_of(
+    alloc: Global,
     keys: &[Vec<u8>],
     versions: &Versions,
-    alloc: Global,
 ) -> Result<Vec<(Bytes, Bytes)>, AllocError>
     requires { AreKeysOf versions.now (map (λ k. k.items) keys.now) }
     ensures { IfOk result (λ pairs. ArePairsOf versions.now pairs.items) }
 {
-    let mut keys = bytes_of(keys, alloc)?;
+    let mut keys = bytes_of(alloc, keys)?;
     keys.sort_unstable();
-    pairs_at(&keys, versions, alloc)
+    pairs_at(alloc, &keys, versions)
 }

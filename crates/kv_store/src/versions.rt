@@ -137,7 +137,7 @@ impl Versions {
     pub fn pairs(&self) -> Result<Vec<(Bytes, Bytes)>, AllocError>
         ensures { IfOk result (λ pairs. ArePairsOf self.now pairs.items) }
     {
-        pairs_of(self.keys.keys().as_slice(), self, self.alloc)
+        pairs_of(self.alloc, self.keys.keys().as_slice(), self)
     }
 
     fn find(&self, count: u64, key: &[u8]) -> Option<&[u8]>

@@ -25,7 +25,7 @@ pub(crate) fn pairs_in(
 ) -> Result<Vec<(Bytes, Bytes)>, Failure>
     ensures { IfOk result (λ pairs. pairs.items ≡ (data_of records.items).pairs) }
 {
-    match replay(records, alloc) {
+    match replay(alloc, records) {
         Ok(replayed) => Ok(pairs_of(&replayed)?),
         Err(ReplayError::Memory) => Err(Failure::Memory),
         Err(ReplayError::Malformed | ReplayError::Exhausted) => Err(Failure::Exhausted),

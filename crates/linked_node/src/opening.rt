@@ -137,7 +137,7 @@ const FIRST_FRAME: usize = 5;
 /// Whether these bytes begin as the log of this process: with a header and a record of its own.
 fn begins_as(alloc: Global, entry: &TreeProcess, bytes: &[u8]) -> Result<bool, AllocError> {
     let copy = MemoryStore::from_bytes(Vec::from_slice(alloc, bytes)?);
-    match RecLog::open(copy, entry.id, entry.kind, alloc) {
+    match RecLog::open(alloc, copy, entry.id, entry.kind) {
         Ok(_) => Ok(true),
         Err((log_records::LogOpenError::Damaged(place), _)) => Ok(place > FIRST_FRAME),
         Err((log_records::LogOpenError::Memory, _)) => Err(AllocError),

@@ -21,7 +21,7 @@ impl Trouble {
         }
     }
 
-    /// The same, for somebody else.
+    /// Another handle, for somebody else: both tell the error of the last call that failed.
     pub fn shared(&self) -> Result<Trouble, AllocError> {
         Ok(Trouble {
             last: self.last.clone()?,

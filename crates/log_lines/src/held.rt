@@ -106,7 +106,7 @@ fn push_records(
     let mut rest = frames;
     while let Some((frame_kind, payload, behind)) = first_frame(form.format, rest) {
         let place = HEADER_SIZE + (frames.len() - rest.len());
-        match read_record(form, frame_kind, payload, alloc) {
+        match read_record(alloc, form, frame_kind, payload) {
             Ok(read) => push_record(alloc, out, place, &read.entry)?,
             Err(ReadFault::Malformed) => return Ok(()),
             Err(ReadFault::Memory) => return Err(AllocError),

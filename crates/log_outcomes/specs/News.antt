@@ -24,7 +24,7 @@ news_behind n (Ended outcome.Committed) = news.Committed
 news_behind n (Ended outcome.Aborted) = news.Aborted
 news_behind n Over = forgotten n
 
--- the same after what any record says
+-- what is known of a transaction after what a record says: it changes only if the record is of a case of it
 abbrev pub said_behind : Txn → News → Saying → News
 said_behind x n None = n
 said_behind x n (Some s) = if same_txn s.0.txn x then news_behind n s.1 else n

@@ -13,7 +13,7 @@ use Rattle.log_outcomes.specs.declared.saying.SayingStage.TheVariants.{Open, Dou
 abbrev pub Saying : Type 0
 Saying = Option (Case × SayingStage)
 
--- the same of a record of a branch; of a branch that is no case nothing is said
+-- what a record of a branch says that has come so far, by the branch's case; nothing, if it is no case
 abbrev pub of_case : Option Case → SayingStage → Saying
 of_case None stage = None
 of_case (Some c) stage = Some (c, stage)

@@ -99,16 +99,16 @@ fn left_by(bytes: &[u8], forced: usize, keep: usize) -> &[u8]
 
 /// The records at the front of the bytes after a header.
 pub(crate) fn records_in(
+    alloc: Global,
     form: LogForm,
     bytes: &[u8],
-    alloc: Global,
 ) -> Result<Vec<LogRecord>, AllocError>
     ensures { IfOk result (λ records. records.items ≡ records_in form 0 bytes.now) }
 {
     let mut records = Vec::new(alloc);
     let mut rest = bytes;
     while let Some((frame_kind, payload, behind)) = first_frame(form.format, rest) {
-        match read_record(form, frame_kind, payload, alloc) {
+        match read_record(alloc, form, frame_kind, payload) {
             Ok(record) => records.push(record)?,
             Err(ReadFault::Malformed) => return Ok(records),
             Err(ReadFault::Memory) => return Err(AllocError),
@@ -120,16 +120,16 @@ pub(crate) fn records_in(
 
 /// The records at the front of what is after the known bytes.
 pub(crate) fn records_behind(
+    alloc: Global,
     form: LogForm,
     left: &[u8],
     known: usize,
-    alloc: Global,
 ) -> Result<Vec<LogRecord>, AllocError>
     requires { known ≤ length left.now }
     ensures { IfOk result (λ records. records.items ≡ records_in form 0 (drop known left.now)) }
 {
     let (_, behind) = left.split_at(known);
-    records_in(form, behind, alloc)
+    records_in(alloc, form, behind)
 }
 
 /// The records that are read off these bytes can be in a log.
@@ -138,7 +138,7 @@ fn are_sound(form: LogForm, bytes: &[u8])
 {}
 
 /// The first bytes, as a list of their own.
-fn front_of(bytes: &[u8], size: usize, alloc: Global) -> Result<Vec<u8>, AllocError>
+fn front_of(alloc: Global, bytes: &[u8], size: usize) -> Result<Vec<u8>, AllocError>
     requires { size ≤ length bytes.now }
     ensures { IfOk result (λ front. front.items ≡ take size bytes.now) }
 {
@@ -147,12 +147,12 @@ fn front_of(bytes: &[u8], size: usize, alloc: Global) -> Result<Vec<u8>, AllocEr
 }
 
 /// Where the whole frames of records at the front end.
-fn sound_front(form: LogForm, bytes: &[u8], alloc: Global) -> Result<usize, AllocError>
+fn sound_front(alloc: Global, form: LogForm, bytes: &[u8]) -> Result<usize, AllocError>
     ensures { IfOk result (λ end. Sounds form bytes.now end) }
 {
     let mut rest = bytes;
     while let Some((frame_kind, payload, behind)) = first_frame(form.format, rest) {
-        match read_record(form, frame_kind, payload, alloc) {
+        match read_record(alloc, form, frame_kind, payload) {
             Ok(_) => {}
             Err(ReadFault::Malformed) => return Ok(bytes.len() - rest.len()),
             Err(ReadFault::Memory) => return Err(AllocError),
@@ -180,12 +180,12 @@ pub(crate) fn push_frames(
 }
 
 /// Where the whole frames of records at the front end, looked for after the known bytes.
-fn sound_end(form: LogForm, left: &[u8], known: usize, alloc: Global) -> Result<usize, AllocError>
+fn sound_end(alloc: Global, form: LogForm, left: &[u8], known: usize) -> Result<usize, AllocError>
     requires { IsKnown form left.now (length left.now) known }
     ensures { IfOk result (λ end. EndsSound form left.now end) }
 {
     let (_, behind) = left.split_at(known);
-    let size = sound_front(form, behind, alloc)?;
+    let size = sound_front(alloc, form, behind)?;
     Ok(known + size)
 }
 
@@ -219,18 +219,18 @@ struct Rewrite {
 
 /// What a restart writes over what a crash left.
 fn text_left(
+    alloc: Global,
     form: LogForm,
     left: &[u8],
     known: usize,
     new: &[Frame],
-    alloc: Global,
 ) -> Result<Rewrite, AllocError>
     requires second { form.format ≡ LogFormat.Second }
     requires known { IsKnown form left.now (length left.now) known }
     ensures { IfOk result (λ r. WritesLeft form left.now (map frame_record new.now) r.is_torn
         r.text.items) }
 {
-    let end = sound_end(form, left, known, alloc)?;
+    let end = sound_end(alloc, form, left, known)?;
     let is_torn = end < left.len();
     let mut text = Vec::new(alloc);
     if is_torn {
@@ -256,7 +256,7 @@ fn write_left<L: LogStore>(store: &mut L, anew: bool, text: &[u8]) -> Result<(),
 }
 
 /// The text of a log of these records alone.
-fn text_of(form: LogForm, new: &[Frame], alloc: Global) -> Result<Vec<u8>, AllocError>
+fn text_of(alloc: Global, form: LogForm, new: &[Frame]) -> Result<Vec<u8>, AllocError>
     requires { form.format ≡ LogFormat.Second }
     ensures { IfOk result (λ text. text.items
         ≡ header form.format ++ records_text form (map frame_record new.now)) }
@@ -281,28 +281,29 @@ pub(crate) fn replaced<L: LogStore + Drop>(store: L, text: &[u8]) -> Result<L, (
 
 /// A store in which a log of whole frames stands that begins with these bytes.
 pub(crate) fn settled<L: LogStore + Drop>(
+    alloc: Global,
     form: LogForm,
     store: L,
-    alloc: Global,
 ) -> Result<L, (LogOpenError, L)>
     requires { is_old (L.bytes store) ≡ false }
     ensures ok { IfOk result (λ new. SettlesText form (L.bytes store) (L.forced store) (L.failures store)
         (L.bytes new) (L.forced new) (L.failures new)) }
     ensures err { IfErr result (λ e. LogNotOpened L.bytes L.forced L.failures form store e.1 e.0) }
 {
-    let found = match find(form, store.bytes(), alloc) {
+    let found = match find(alloc, form, store.bytes()) {
         Err(error) => return Err((error, store)),
         Ok(found) => found,
     };
-    settled_as(form, store, found, alloc)
+    settled_as(alloc, form, store, found)
 }
 
-/// The same, where it is known what the store's bytes are.
+/// A store in which a log of whole frames stands that begins with this store's bytes, of which `found` says
+/// what they are.
 fn settled_as<L: LogStore + Drop>(
+    alloc: Global,
     form: LogForm,
     store: L,
     found: StoreText,
-    alloc: Global,
 ) -> Result<L, (LogOpenError, L)>
     requires old { is_old (L.bytes store) ≡ false }
     requires found { IsLogFound form (L.bytes store) found }
@@ -319,7 +320,7 @@ fn settled_as<L: LogStore + Drop>(
         return Ok(store);
     }
     let size = store.bytes().len() - torn;
-    match front_of(store.bytes(), size, alloc) {
+    match front_of(alloc, store.bytes(), size) {
         Ok(front) => replaced(store, &front),
         Err(_) => Err((LogOpenError::Memory, store)),
     }
@@ -349,10 +350,10 @@ impl<L: LogStore + Drop> RecLog<L> {
     /// The log of this process over a store. A torn tail is removed, and an empty log is given its header, by
     /// one `replace`; otherwise the store is left as it is. A refusal hands the store back.
     pub fn open(
+        alloc: Global,
         store: L,
         process: ProcessId,
         kind: Kind,
-        alloc: Global,
     ) -> Result<RecLog<L>, (LogOpenError, L)>
         ensures ok { IfOk result (λ log. OpensLog (log_form process kind) (L.bytes store) (L.forced store)
             (L.failures store) log) }
@@ -364,7 +365,7 @@ impl<L: LogStore + Drop> RecLog<L> {
             return Err((LogOpenError::OldFormat, store));
         }
         let form = LogForm::of(process, kind);
-        let store = settled(form, store, alloc)?;
+        let store = settled(alloc, form, store)?;
         let known = known_of(store.bytes().len(), store.forced());
         Ok(RecLog {
             form,
@@ -468,43 +469,43 @@ impl<L: LogStore> RecLog<L> {
     pub fn records(&self, alloc: Global) -> Result<Vec<LogRecord>, AllocError>
         ensures { IfOk result (λ records. records.items ≡ records_of self.now.sight.kept) }
     {
-        records_in(self.form, body(self.store.bytes()), alloc)
+        records_in(alloc, self.form, body(self.store.bytes()))
     }
 
     /// The records that a crash would leave which keeps N bytes after the forced front, as a list
     /// made again: those that stand whole within the forced bytes and these.
-    pub fn kept(&self, keep: usize, alloc: Global) -> Result<Vec<LogRecord>, AllocError>
+    pub fn kept(&self, alloc: Global, keep: usize) -> Result<Vec<LogRecord>, AllocError>
         ensures { IfOk result (λ records. records.items ≡ left_by self.now.sight keep) }
     {
         let forced = self.store.forced();
         let left = left_by(self.store.bytes(), forced, keep);
-        records_in(self.form, body(left), alloc)
+        records_in(alloc, self.form, body(left))
     }
 
     /// Of the records that a crash would leave that keeps N bytes after the forced front, those after the
     /// first ones, if the header and the first ones, all of them forced, are `size` bytes.
     pub fn kept_after(
         &self,
+        alloc: Global,
         size: usize,
         keep: usize,
-        alloc: Global,
     ) -> Result<Vec<LogRecord>, AllocError>
         ensures { IfOk result (λ records. (first : List AnyRecord) → IsLogFront self.now.sight size first
             → first ++ records.items ≡ left_by self.now.sight keep) }
     {
         let left = left_by(self.store.bytes(), self.store.forced(), keep);
-        records_behind(self.form, left, size.min(left.len()), alloc)
+        records_behind(alloc, self.form, left, size.min(left.len()))
     }
 
     /// How many of the records after the forced ones a crash would leave that keeps N bytes after
     /// the forced front.
-    pub fn unforced_left(&self, keep: usize, alloc: Global) -> Result<usize, AllocError>
+    pub fn unforced_left(&self, alloc: Global, keep: usize) -> Result<usize, AllocError>
         ensures { IfOk result (λ count. count
             ≡ length (whole_within (self.now.sight.behind + keep) self.now.sight.kept.unforced)) }
     {
         let (bytes, forced) = (self.store.bytes(), self.store.forced());
-        let left = records_behind(self.form, left_by(bytes, forced, keep), self.known, alloc)?;
-        let front = records_behind(self.form, left_by(bytes, forced, 0), self.known, alloc)?;
+        let left = records_behind(alloc, self.form, left_by(bytes, forced, keep), self.known)?;
+        let front = records_behind(alloc, self.form, left_by(bytes, forced, 0), self.known)?;
         Ok(left.len() - front.len())
     }
 
@@ -520,7 +521,7 @@ impl<L: LogStore> RecLog<L> {
     /// a torn tail is left, by one `replace`. All memory is taken before the crash. Memory: nothing changed.
     /// Device: what is left stands, and after it any first ones of the new records; what was forced is; and
     /// the log has failed.
-    pub fn restart(&mut self, keep: usize, new: &[Frame], alloc: Global) -> Result<(), LogError>
+    pub fn restart(&mut self, alloc: Global, keep: usize, new: &[Frame]) -> Result<(), LogError>
         requires { AreRecords self.old.sight.form.kind (map frame_record new.now) }
         ensures form { self.new.sight.form ≡ self.old.sight.form }
         ensures ok { OnOk result (LogRestarts self.old self.new keep (map frame_record new.now)) }
@@ -529,7 +530,7 @@ impl<L: LogStore> RecLog<L> {
     {
         let forced = self.store.forced();
         let left = left_by(self.store.bytes(), forced, keep);
-        let left = match text_left(self.form, left, self.known, new, alloc) {
+        let left = match text_left(alloc, self.form, left, self.known, new) {
             Ok(left) => left,
             Err(_) => return Err(LogError::Memory),
         };
@@ -555,13 +556,13 @@ impl<L: LogStore> RecLog<L> {
     /// Puts these records in place of all that stand, forced by one `replace`. All memory is taken before.
     /// Memory: nothing changed. Device: the log stands as it was or these records do, and the log has
     /// failed.
-    pub fn rewrite(&mut self, new: &[Frame], alloc: Global) -> Result<(), LogError>
+    pub fn rewrite(&mut self, alloc: Global, new: &[Frame]) -> Result<(), LogError>
         requires works { self.old.sight.failed ≡ false }
         requires sound { AreRecords self.old.sight.form.kind (map frame_record new.now) }
         ensures ok { OnOk result (Rewritten self.old self.new (map frame_record new.now)) }
         ensures err { IfErr result (λ e. NotRewritten self.old self.new (map frame_record new.now) e) }
     {
-        match text_of(self.form, new, alloc) {
+        match text_of(alloc, self.form, new) {
             Ok(text) => self.put(&text),
             Err(_) => Err(LogError::Memory),
         }
@@ -623,8 +624,9 @@ impl<L: LogStore> RecLog<L> {
     /// Puts the records that stay in a trim in place of all that stand, and those of the data after them,
     /// forced by one `replace`: the last Opened, the records of the cases and branches that are not
     /// forgotten, and these. Gives how many they are. All memory is taken before. Memory: nothing changed.
-    /// Device: the log stands as it was or trimmed, and the log has failed.
-    pub fn trim(&mut self, behind: &[Frame], alloc: Global) -> Result<usize, LogError>
+    /// Device: the log stands as it was or trimmed, and the log has failed. `own`: `behind` is what the log
+    /// itself says of the data, nothing at a coordinator; so the next trim leaves the text as it is.
+    pub fn trim(&mut self, alloc: Global, behind: &[Frame]) -> Result<usize, LogError>
         requires works { self.old.sight.failed ≡ false }
         requires sound { AreRecords self.old.sight.form.kind (map frame_record behind.now) }
         requires own { map frame_record behind.now ≡ own_data self.old.sight }
@@ -634,7 +636,7 @@ impl<L: LogStore> RecLog<L> {
             (trim_of self.old (map frame_record behind.now)) e) }
     {
         let bytes = self.store.bytes();
-        let trimmed = match trimmed_text(self.form, body(bytes), behind, alloc) {
+        let trimmed = match trimmed_text(alloc, self.form, body(bytes), behind) {
             Ok(trimmed) => trimmed,
             Err(_) => return Err(LogError::Memory),
         };

@@ -58,41 +58,41 @@ fn migrate_error(error: LogOpenError) -> MigrateError
 /// Adds the frames of these records in a log of this form, which is that of a process.
 #[tactic(auto, unfolding(log_text::specs::Payloads::records_text))]
 fn push_records(
+    alloc: Global,
     text: &mut Vec<u8>,
     form: LogForm,
     records: &[LogRecord],
-    alloc: Global,
 ) -> Result<(), AllocError>
     requires second { form.format ≡ LogFormat.Second }
     requires fit { All FitsFrame records.now }
     ensures { OnOk result (text.new.items ≡ text.old.items ++ records_text form records.now) }
 {
     for record in records {
-        let frame = Frame::of(&record.entry, record.parent, alloc)?;
+        let frame = Frame::of(alloc, &record.entry, record.parent)?;
         frame.push(form, text)?;
     }
     Ok(())
 }
 
 /// The text of a log of the first format, carried over into this form: the same records, without a torn tail.
-fn carried_text(form: LogForm, bytes: &[u8], alloc: Global) -> Result<Vec<u8>, LogOpenError>
+fn carried_text(alloc: Global, form: LogForm, bytes: &[u8]) -> Result<Vec<u8>, LogOpenError>
     requires second { form.format ≡ LogFormat.Second }
     requires old { is_old bytes.now ≡ true }
     ensures ok { IfOk result (λ text. Carries form bytes.now text.items) }
     ensures err { IfErr result (λ e. IsNoLog (old_form form) bytes.now e) }
 {
-    let _ = find(form.old(), bytes, alloc)?;
-    let records = records_in(form.old(), body(bytes), alloc)?;
+    let _ = find(alloc, form.old(), bytes)?;
+    let records = records_in(alloc, form.old(), body(bytes))?;
     let mut text = Vec::from_slice(alloc, &form.format.header())?;
-    push_records(&mut text, form, &records, alloc)?;
+    push_records(alloc, &mut text, form, &records)?;
     Ok(text)
 }
 
 /// A store in which a log of the first format is carried over into this form.
 fn carried<L: LogStore + Drop>(
+    alloc: Global,
     form: LogForm,
     store: L,
-    alloc: Global,
 ) -> Result<L, (LogOpenError, L)>
     requires second { form.format ≡ LogFormat.Second }
     requires old { is_old (L.bytes store) ≡ true }
@@ -100,7 +100,7 @@ fn carried<L: LogStore + Drop>(
         × Replaces L.bytes L.forced L.failures store new text) }
     ensures err { IfErr result (λ e. NotCarried L.bytes L.forced L.failures form store e.1 e.0) }
 {
-    match carried_text(form, store.bytes(), alloc) {
+    match carried_text(alloc, form, store.bytes()) {
         Ok(text) => replaced(store, &text),
         Err(error) => Err((error, store)),
     }
@@ -112,10 +112,10 @@ impl<L: LogStore + Drop> RecLog<L> {
     /// second only loses its torn tail, and an empty log is given its header. Memory, Damaged: nothing
     /// changed. Device: the old bytes stand or the new.
     pub fn migrate(
+        alloc: Global,
         store: L,
         process: ProcessId,
         kind: Kind,
-        alloc: Global,
     ) -> Result<L, (MigrateError, L)>
         ensures ok { IfOk result (λ new. Migrates L.bytes L.forced L.failures (log_form process kind)
             store new) }
@@ -124,9 +124,9 @@ impl<L: LogStore + Drop> RecLog<L> {
     {
         let form = LogForm::of(process, kind);
         let migrated = if is_old(store.bytes()) {
-            carried(form, store, alloc)
+            carried(alloc, form, store)
         } else {
-            settled(form, store, alloc)
+            settled(alloc, form, store)
         };
         match migrated {
             Ok(store) => Ok(store),

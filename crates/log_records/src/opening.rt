@@ -56,23 +56,23 @@ impl From<AllocError> for LogOpenError {
 /// Takes the record of a frame. Malformed comes exactly if there is none, or it may not follow the records so
 /// far. After an error nothing more is known.
 fn take_frame(
+    alloc: Global,
     seen: &mut Seen,
     form: LogForm,
     frame_kind: u8,
     payload: &[u8],
-    alloc: Global,
 ) -> Result<(), ReadFault>
     ensures ok { OnOk result (after_frame seen.old
         (read_record form frame_kind payload.now) ≡ Some seen.new) }
     ensures err { IfErr result (λ e. e ≡ ReadFault.Malformed
         → after_frame seen.old (read_record form frame_kind payload.now) ≡ None) }
 {
-    let record = read_record(form, frame_kind, payload, alloc)?;
+    let record = read_record(alloc, form, frame_kind, payload)?;
     seen.take(record)
 }
 
 /// How many bytes of a torn tail are after the sound frames in the bytes after a header.
-fn torn_tail(form: LogForm, bytes: &[u8], alloc: Global) -> Result<usize, LogOpenError>
+fn torn_tail(alloc: Global, form: LogForm, bytes: &[u8]) -> Result<usize, LogOpenError>
     ensures ok { IfOk result (λ torn. EndsTorn form bytes.now torn) }
     ensures err { IfErr result (λ e. IsFault form bytes.now e) }
 {
@@ -80,7 +80,7 @@ fn torn_tail(form: LogForm, bytes: &[u8], alloc: Global) -> Result<usize, LogOpe
     let mut rest = bytes;
     while let Some((frame_kind, payload, behind)) = first_frame(form.format, rest) {
         let place = HEADER_SIZE + (bytes.len() - rest.len());
-        match take_frame(&mut seen, form, frame_kind, payload, alloc) {
+        match take_frame(alloc, &mut seen, form, frame_kind, payload) {
             Ok(()) => {}
             Err(ReadFault::Malformed) => return Err(LogOpenError::Damaged(place)),
             Err(ReadFault::Memory) => return Err(LogOpenError::Memory),
@@ -101,7 +101,7 @@ pub enum StoreText {
 
 /// What these bytes are as a log of this form.
 #[tactic(auto, unfolding(log_rules::specs::order::Logs::read_log))]
-pub fn find(form: LogForm, bytes: &[u8], alloc: Global) -> Result<StoreText, LogOpenError>
+pub fn find(alloc: Global, form: LogForm, bytes: &[u8]) -> Result<StoreText, LogOpenError>
     ensures ok { IfOk result (λ found. IsLogFound form bytes.now found) }
     ensures err { IfErr result (λ e. IsNoLog form bytes.now e) }
 {
@@ -116,7 +116,7 @@ pub fn find(form: LogForm, bytes: &[u8], alloc: Global) -> Result<StoreText, Log
     if !is_same(header, &form.format.header()) {
         return Err(LogOpenError::Damaged(0));
     }
-    let torn = torn_tail(form, frames, alloc)?;
+    let torn = torn_tail(alloc, form, frames)?;
     Ok(StoreText::Sound(torn))
 }
 

@@ -54,9 +54,9 @@ fn last_opened<'a>(opened: &'a [u8], mark: &TrimMark, frame: &'a [u8]) -> &'a [u
 
 /// The frame of the last Opened, and what the records say of each name. No bytes if there is no Opened.
 fn read_marks<'a>(
+    alloc: Global,
     form: LogForm,
     bytes: &'a [u8],
-    alloc: Global,
 ) -> Result<(&'a [u8], Lives), AllocError>
     requires { is_whole form 0 bytes.now ≡ true }
     ensures opened { IfOk result (λ r. Holds form r.0.now (last_opened (records_in form 0 bytes.now))) }
@@ -94,10 +94,10 @@ fn one_if(keeps: bool) -> usize
 
 /// The records that stay, of those in these bytes.
 fn kept_frames(
+    alloc: Global,
     form: LogForm,
     bytes: &[u8],
     lives: &Lives,
-    alloc: Global,
 ) -> Result<Staying, AllocError>
     requires { is_whole form 0 bytes.now ≡ true }
     ensures held { IfOk result (λ kept. Holds form kept.frames.items
@@ -122,10 +122,10 @@ fn kept_frames(
 
 /// A text of the header, the frame of the last Opened, and the frames that stay.
 fn front_text(
+    alloc: Global,
     format: LogFormat,
     opened: &[u8],
     frames: &[u8],
-    alloc: Global,
 ) -> Result<Vec<u8>, AllocError>
     ensures { IfOk result (λ text. text.items ≡ (header format ++ opened.now) ++ frames.now) }
 {
@@ -144,10 +144,10 @@ fn opened_count(opened: &[u8]) -> usize
 
 /// A log of what stays of the records in these bytes, and of these records after it.
 pub(crate) fn trimmed_text(
+    alloc: Global,
     form: LogForm,
     bytes: &[u8],
     behind: &[Frame],
-    alloc: Global,
 ) -> Result<TrimmedText, AllocError>
     requires second { form.format ≡ LogFormat.Second }
     requires records { AreRecords form.kind (map frame_record behind.now) }
@@ -157,9 +157,9 @@ pub(crate) fn trimmed_text(
     ensures count { IfOk result (λ log. log.count
         ≡ length (front_of_trim (records_in form 0 bytes.now) ++ map frame_record behind.now)) }
 {
-    let (opened, lives) = read_marks(form, bytes, alloc)?;
-    let kept = kept_frames(form, bytes, &lives, alloc)?;
-    let mut text = front_text(form.format, opened, &kept.frames, alloc)?;
+    let (opened, lives) = read_marks(alloc, form, bytes)?;
+    let kept = kept_frames(alloc, form, bytes, &lives)?;
+    let mut text = front_text(alloc, form.format, opened, &kept.frames)?;
     push_frames(&mut text, form, behind)?;
     Ok(TrimmedText {
         text,

@@ -92,7 +92,7 @@ abbrev pub opened_by : LogFormat → LogForm → ℕ → List ℕ
 opened_by First f n = big_bytes 8 n
 opened_by Second f n = big_bytes 8 n ++ owner_text f
 
--- the same by the format of the log
+-- what Opened carries in a log of this form: its boot, and by the second format whose log it is
 abbrev pub opened_text : LogForm → ℕ → List ℕ
 opened_text f n = opened_by f.format f n
 

@@ -119,7 +119,8 @@ manager_record kind payload =
 abbrev pub owned_boot : LogForm → List ℕ → Option ℕ
 owned_boot f payload = if bytes_eq (drop 8 payload) (owner_text f) then below (take 8 payload) else None
 
--- the same by either
+-- the boot of a log's Opened by either format: by the first it stands alone, by the second with whose log
+-- it is; none, if the payload is not exactly that
 abbrev pub boot_by : LogFormat → LogForm → List ℕ → Option ℕ
 boot_by First f payload = below payload
 boot_by Second f payload = owned_boot f payload

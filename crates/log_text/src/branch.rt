@@ -81,9 +81,9 @@ fn push_branch(text: &mut Vec<u8>, xid: &Xid, entry: &BranchEntry<'_>) -> Result
 /// The record of this XID's branch as it is in the log of any process.
 #[tactic(auto, unfolding(crate::specs::Payloads::record_text, crate::specs::Frames::frame_text))]
 pub(crate) fn branch_bytes(
+    alloc: Global,
     entry: &BranchEntry<'_>,
     xid: &Xid,
-    alloc: Global,
 ) -> Result<Vec<u8>, AllocError>
     requires { FitsFrame (branch_record entry.now xid.now) }
     ensures { IfOk result (λ text. text.items ≡ record_text unowned (branch_record entry.now xid.now)) }

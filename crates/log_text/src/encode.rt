@@ -303,10 +303,10 @@ pub(crate) fn write_length(text: &mut Vec<u8>, format: LogFormat)
 /// The record as it is in a log of this form.
 #[tactic(auto, unfolding(crate::specs::Payloads::record_text, crate::specs::Frames::frame_text))]
 fn record_bytes(
+    alloc: Global,
     form: LogForm,
     entry: &Record,
     parent: Option<ProcessId>,
-    alloc: Global,
 ) -> Result<Vec<u8>, AllocError>
     requires { FitsFrameIn form (record { entry = entry.now; parent = parent }) }
     ensures { IfOk result (λ text. text.items
@@ -333,15 +333,15 @@ pub struct Frame {
 
 /// The record as it is in the log of a process, whosever it is.
 fn frame_bytes(
+    alloc: Global,
     entry: &Record,
     parent: Option<ProcessId>,
-    alloc: Global,
 ) -> Result<Vec<u8>, AllocError>
     requires { FitsFrame (record { entry = entry.now; parent = parent }) }
     ensures { IfOk result (λ text. text.items
         ≡ record_text unowned (record { entry = entry.now; parent = parent })) }
 {
-    record_bytes(LogForm::unowned(), entry, parent, alloc)
+    record_bytes(alloc, LogForm::unowned(), entry, parent)
 }
 
 /// The boot of an Opened.
@@ -359,12 +359,12 @@ impl Frame {
     ghost use Rattle.log_text.specs.Made.{frame_record};
 
     /// The frame of a record under the parent of its name.
-    pub fn of(entry: &Record, parent: Option<ProcessId>, alloc: Global) -> Result<Frame, AllocError>
+    pub fn of(alloc: Global, entry: &Record, parent: Option<ProcessId>) -> Result<Frame, AllocError>
         requires { FitsFrame (record { entry = entry.now; parent = parent }) }
         ensures { IfOk result (λ frame. frame_record frame
             ≡ record { entry = entry.now; parent = parent }) }
     {
-        let bytes = frame_bytes(entry, parent, alloc)?;
+        let bytes = frame_bytes(alloc, entry, parent)?;
         Ok(Frame {
             made_of: GhostRecord::of(entry, &parent),
             bytes,
@@ -373,11 +373,11 @@ impl Frame {
     }
 
     /// The frame of a record of the branch of this XID, made of the XID's bytes: no name is spelled.
-    pub fn of_branch(entry: &BranchEntry<'_>, xid: &Xid, alloc: Global) -> Result<Frame, AllocError>
+    pub fn of_branch(alloc: Global, entry: &BranchEntry<'_>, xid: &Xid) -> Result<Frame, AllocError>
         requires { FitsFrame (branch_record entry.now xid.now) }
         ensures { IfOk result (λ frame. frame_record frame ≡ branch_record entry.now xid.now) }
     {
-        let bytes = branch_bytes(entry, xid, alloc)?;
+        let bytes = branch_bytes(alloc, entry, xid)?;
         Ok(Frame {
             made_of: GhostRecord::of_branch(xid, entry),
             bytes,
@@ -386,11 +386,11 @@ impl Frame {
     }
 
     /// The frame of a record.
-    pub fn new(entry: LogRecord, alloc: Global) -> Result<Frame, AllocError>
+    pub fn new(alloc: Global, entry: LogRecord) -> Result<Frame, AllocError>
         requires { FitsFrame entry }
         ensures { IfOk result (λ frame. frame_record frame ≡ entry) }
     {
-        Frame::of(&entry.entry, entry.parent, alloc)
+        Frame::of(alloc, &entry.entry, entry.parent)
     }
 
     /// How many bytes it has in the log of a process.

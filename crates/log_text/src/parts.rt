@@ -5,11 +5,8 @@ ghost use Rattle.log_text.specs.Parts.{all_of, front_of, key_at, left_at, piece_
 
 use crate::records::ReadFault;
 use byteorder::{BigEndian, ByteOrder};
-use protocol::{Bytes, ProcessId, Reports, Sequence, Ticket, Tickets, Write, Writes};
+use protocol::{Bytes, NUMBERS, ProcessId, Reports, Sequence, Ticket, Tickets, Write, Writes};
 use std::alloc::{AllocError, Global};
-
-/// Numbers of boots and tickets are below this.
-pub const LIMIT: u64 = 1 << 63;
 
 /// The ticket at the front, and the bytes after it.
 #[tactic(auto, unfolding(crate::specs::Parts::ticket_at))]
@@ -24,7 +21,7 @@ fn ticket_at(bytes: &[u8]) -> Option<(Ticket, &[u8])>
         boot: BigEndian::read_u64(&bytes[4..]),
         number: BigEndian::read_u64(&bytes[12..]),
     };
-    if ticket.boot < LIMIT && ticket.number < LIMIT {
+    if ticket.boot < NUMBERS && ticket.number < NUMBERS {
         Some((ticket, &bytes[20..]))
     } else {
         None
@@ -32,7 +29,7 @@ fn ticket_at(bytes: &[u8]) -> Option<(Ticket, &[u8])>
 }
 
 /// N tickets at the front, and the bytes after them.
-fn tickets_front(count: u8, bytes: &[u8], alloc: Global) -> Result<(Tickets, &[u8]), ReadFault>
+fn tickets_front(alloc: Global, count: u8, bytes: &[u8]) -> Result<(Tickets, &[u8]), ReadFault>
     ensures ok { IfOk result (λ p. front_of ticket_at count bytes.now ≡ Some (p.0, p.1.now)) }
     ensures err { IfErr result (λ e. e ≡ ReadFault.Malformed → front_of ticket_at count bytes.now ≡ None) }
 {
@@ -49,22 +46,22 @@ fn tickets_front(count: u8, bytes: &[u8], alloc: Global) -> Result<(Tickets, &[u
 }
 
 /// Tickets at the front after their number, and the bytes after them.
-fn tickets_at(bytes: &[u8], alloc: Global) -> Result<(Tickets, &[u8]), ReadFault>
+fn tickets_at(alloc: Global, bytes: &[u8]) -> Result<(Tickets, &[u8]), ReadFault>
     ensures ok { IfOk result (λ p. tickets_at bytes.now ≡ Some (p.0, p.1.now)) }
     ensures err { IfErr result (λ e. e ≡ ReadFault.Malformed → tickets_at bytes.now ≡ None) }
 {
     match bytes {
-        [count, rest @ ..] => tickets_front(*count, rest, alloc),
+        [count, rest @ ..] => tickets_front(alloc, *count, rest),
         [] => Err(ReadFault::Malformed),
     }
 }
 
 /// Tickets after their number, with nothing after them.
-pub fn tickets_of(bytes: &[u8], alloc: Global) -> Result<Tickets, ReadFault>
+pub fn tickets_of(alloc: Global, bytes: &[u8]) -> Result<Tickets, ReadFault>
     ensures ok { IfOk result (λ tickets. tickets_of bytes.now ≡ Some tickets) }
     ensures err { IfErr result (λ e. e ≡ ReadFault.Malformed → tickets_of bytes.now ≡ None) }
 {
-    let (tickets, rest) = tickets_at(bytes, alloc)?;
+    let (tickets, rest) = tickets_at(alloc, bytes)?;
     if rest.is_empty() {
         Ok(tickets)
     } else {
@@ -73,12 +70,12 @@ pub fn tickets_of(bytes: &[u8], alloc: Global) -> Result<Tickets, ReadFault>
 }
 
 /// What an End reports: the mixed tickets and the unreported ones, with nothing after them.
-pub fn reports_of(bytes: &[u8], alloc: Global) -> Result<Reports, ReadFault>
+pub fn reports_of(alloc: Global, bytes: &[u8]) -> Result<Reports, ReadFault>
     ensures ok { IfOk result (λ reports. reports_of bytes.now ≡ Some reports) }
     ensures err { IfErr result (λ e. e ≡ ReadFault.Malformed → reports_of bytes.now ≡ None) }
 {
-    let (mixed, rest) = tickets_at(bytes, alloc)?;
-    let unreported = tickets_of(rest, alloc)?;
+    let (mixed, rest) = tickets_at(alloc, bytes)?;
+    let unreported = tickets_of(alloc, rest)?;
     Ok(Reports { mixed, unreported })
 }
 
@@ -116,28 +113,28 @@ pub fn value_at(bytes: &[u8]) -> Option<(&[u8], &[u8])>
 }
 
 /// The bytes, as keys and values hold them.
-pub fn bytes_of(bytes: &[u8], alloc: Global) -> Result<Bytes, AllocError>
+pub fn bytes_of(alloc: Global, bytes: &[u8]) -> Result<Bytes, AllocError>
     ensures { IfOk result (λ copy. copy ≡ bytes.now) }
 {
     Bytes::from_slice(alloc, bytes)
 }
 
 /// What a write leaves at its key: nothing, or the value.
-fn left_at<'a>(key: &[u8], bytes: &'a [u8], alloc: Global) -> Result<(Write, &'a [u8]), ReadFault>
+fn left_at<'a>(alloc: Global, key: &[u8], bytes: &'a [u8]) -> Result<(Write, &'a [u8]), ReadFault>
     ensures ok { IfOk result (λ p. left_at key.now bytes.now ≡ Some (p.0, p.1.now)) }
     ensures err { IfErr result (λ e. e ≡ ReadFault.Malformed → left_at key.now bytes.now ≡ None) }
 {
     match bytes {
         [0, rest @ ..] => {
-            let key = bytes_of(key, alloc)?;
+            let key = bytes_of(alloc, key)?;
             Ok((Write { key, value: None }, rest))
         }
         [1, rest @ ..] => {
             let Some((value, rest)) = value_at(rest) else {
                 return Err(ReadFault::Malformed);
             };
-            let key = bytes_of(key, alloc)?;
-            let value = Some(bytes_of(value, alloc)?);
+            let key = bytes_of(alloc, key)?;
+            let value = Some(bytes_of(alloc, value)?);
             Ok((Write { key, value }, rest))
         }
         _ => Err(ReadFault::Malformed),
@@ -146,25 +143,25 @@ fn left_at<'a>(key: &[u8], bytes: &'a [u8], alloc: Global) -> Result<(Write, &'a
 
 /// The write at the front, and the bytes after it.
 #[tactic(auto, unfolding(crate::specs::Parts::write_at))]
-fn write_at(bytes: &[u8], alloc: Global) -> Result<(Write, &[u8]), ReadFault>
+fn write_at(alloc: Global, bytes: &[u8]) -> Result<(Write, &[u8]), ReadFault>
     ensures ok { IfOk result (λ p. write_at bytes.now ≡ Some (p.0, p.1.now)) }
     ensures err { IfErr result (λ e. e ≡ ReadFault.Malformed → write_at bytes.now ≡ None) }
 {
     let Some((key, rest)) = key_at(bytes) else {
         return Err(ReadFault::Malformed);
     };
-    left_at(key, rest, alloc)
+    left_at(alloc, key, rest)
 }
 
 /// N writes, with nothing after them.
-fn writes_in(count: u8, bytes: &[u8], alloc: Global) -> Result<Writes, ReadFault>
+fn writes_in(alloc: Global, count: u8, bytes: &[u8]) -> Result<Writes, ReadFault>
     ensures ok { IfOk result (λ writes. all_of write_at count bytes.now ≡ Some writes) }
     ensures err { IfErr result (λ e. e ≡ ReadFault.Malformed → all_of write_at count bytes.now ≡ None) }
 {
     let mut writes = Vec::new(alloc);
     let mut rest = bytes;
     for _ in 0..count {
-        let (write, behind) = write_at(rest, alloc)?;
+        let (write, behind) = write_at(alloc, rest)?;
         writes.push(write)?;
         rest = behind;
     }
@@ -176,12 +173,12 @@ fn writes_in(count: u8, bytes: &[u8], alloc: Global) -> Result<Writes, ReadFault
 }
 
 /// Writes after their number, with nothing after them.
-pub fn writes_of(bytes: &[u8], alloc: Global) -> Result<Writes, ReadFault>
+pub fn writes_of(alloc: Global, bytes: &[u8]) -> Result<Writes, ReadFault>
     ensures ok { IfOk result (λ writes. writes_of bytes.now ≡ Some writes) }
     ensures err { IfErr result (λ e. e ≡ ReadFault.Malformed → writes_of bytes.now ≡ None) }
 {
     match bytes {
-        [count, rest @ ..] if *count >= 1 && *count <= 64 => writes_in(*count, rest, alloc),
+        [count, rest @ ..] if *count >= 1 && *count <= 64 => writes_in(alloc, *count, rest),
         _ => Err(ReadFault::Malformed),
     }
 }

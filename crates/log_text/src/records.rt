@@ -6,9 +6,9 @@ ghost use Rattle.log_text.specs.Reading.{below, branch_record, case_record, pair
 
 use crate::form::{LogForm, LogFormat};
 use crate::names::name_at;
-use crate::parts::{LIMIT, bytes_of, key_at, reports_of, tickets_of, value_at, writes_of};
+use crate::parts::{bytes_of, key_at, reports_of, tickets_of, value_at, writes_of};
 use byteorder::{BigEndian, ByteOrder};
-use protocol::{BranchName, Case, Kind, LogRecord, Outcome, ProcessId, Record};
+use protocol::{BranchName, Case, Kind, LogRecord, NUMBERS, Outcome, ProcessId, Record};
 use std::alloc::{AllocError, AllocFailed, Global};
 use thiserror::Error;
 
@@ -53,27 +53,27 @@ fn below(bytes: &[u8]) -> Option<u64>
         return None;
     }
     let number = BigEndian::read_u64(bytes);
-    if number < LIMIT { Some(number) } else { None }
+    if number < NUMBERS { Some(number) } else { None }
 }
 
 /// A record of a case, by its kind and what is left after its name.
 fn case_record(
+    alloc: Global,
     kind: u8,
     parent: Option<ProcessId>,
     case: Case,
     rest: &[u8],
-    alloc: Global,
 ) -> Result<LogRecord, ReadFault>
     ensures ok { IfOk result (λ r. case_record kind parent case rest.now ≡ Some r) }
     ensures err { IfErr result (λ e. e ≡ ReadFault.Malformed → case_record kind parent case rest.now ≡ None) }
 {
     let entry = match kind {
-        0x02 => Record::Collecting(case, tickets_of(rest, alloc)?),
-        0x03 => Record::Prepare(case, tickets_of(rest, alloc)?),
-        0x04 => Record::Commit(case, tickets_of(rest, alloc)?),
-        0x05 => Record::Abort(case, tickets_of(rest, alloc)?),
+        0x02 => Record::Collecting(case, tickets_of(alloc, rest)?),
+        0x03 => Record::Prepare(case, tickets_of(alloc, rest)?),
+        0x04 => Record::Commit(case, tickets_of(alloc, rest)?),
+        0x05 => Record::Abort(case, tickets_of(alloc, rest)?),
         0x06 if rest.is_empty() => Record::End(case, None),
-        0x07 => Record::End(case, Some(reports_of(rest, alloc)?)),
+        0x07 => Record::End(case, Some(reports_of(alloc, rest)?)),
         0x08 if rest.is_empty() => Record::Cleared(case),
         _ => return Err(ReadFault::Malformed),
     };
@@ -82,13 +82,13 @@ fn case_record(
 
 /// A coordinator's record after its kind.
 #[tactic(auto, unfolding(crate::specs::Reading::coordinator_record))]
-fn coordinator_record(kind: u8, payload: &[u8], alloc: Global) -> Result<LogRecord, ReadFault>
+fn coordinator_record(alloc: Global, kind: u8, payload: &[u8]) -> Result<LogRecord, ReadFault>
     ensures ok { IfOk result (λ r. coordinator_record kind payload.now ≡ Some r) }
     ensures err { IfErr result (λ e. e ≡ ReadFault.Malformed → coordinator_record kind payload.now ≡ None) }
 {
     match name_at(payload) {
         Some(((parent, BranchName::Case(case)), rest)) => case_record(
-            kind, parent, case, rest, alloc,
+            alloc, kind, parent, case, rest,
         ),
         _ => Err(ReadFault::Malformed),
     }
@@ -96,17 +96,17 @@ fn coordinator_record(kind: u8, payload: &[u8], alloc: Global) -> Result<LogReco
 
 /// A record of a branch, by its kind and what is left after its name.
 fn branch_record(
+    alloc: Global,
     kind: u8,
     branch: BranchName,
     rest: &[u8],
-    alloc: Global,
 ) -> Result<Record, ReadFault>
     ensures ok { IfOk result (λ r. branch_record kind branch rest.now ≡ Some r) }
     ensures err { IfErr result (λ e. e ≡ ReadFault.Malformed → branch_record kind branch rest.now ≡ None) }
 {
     Ok(match (kind, rest) {
-        (0x11, _) => Record::Prepared(branch, writes_of(rest, alloc)?),
-        (0x14, _) => Record::Direct(branch, writes_of(rest, alloc)?),
+        (0x11, _) => Record::Prepared(branch, writes_of(alloc, rest)?),
+        (0x14, _) => Record::Direct(branch, writes_of(alloc, rest)?),
         (0x12, []) => Record::Committed(branch),
         (0x13, []) => Record::RolledBack(branch),
         (0x15, []) => Record::HeurCommit(branch),
@@ -119,7 +119,7 @@ fn branch_record(
 }
 
 /// A manager's Pair: a key and a value, with nothing after them.
-fn pair_record(payload: &[u8], alloc: Global) -> Result<LogRecord, ReadFault>
+fn pair_record(alloc: Global, payload: &[u8]) -> Result<LogRecord, ReadFault>
     ensures ok { IfOk result (λ r. pair_by (key_at payload.now) ≡ Some r) }
     ensures err { IfErr result (λ e. e ≡ ReadFault.Malformed → pair_by (key_at payload.now) ≡ None) }
 {
@@ -128,7 +128,7 @@ fn pair_record(payload: &[u8], alloc: Global) -> Result<LogRecord, ReadFault>
     };
     match value_at(rest) {
         Some((value, [])) => Ok(LogRecord {
-            entry: Record::Pair(bytes_of(key, alloc)?, bytes_of(value, alloc)?),
+            entry: Record::Pair(bytes_of(alloc, key)?, bytes_of(alloc, value)?),
             parent: None,
         }),
         _ => Err(ReadFault::Malformed),
@@ -137,7 +137,7 @@ fn pair_record(payload: &[u8], alloc: Global) -> Result<LogRecord, ReadFault>
 
 /// A manager's record after its kind.
 #[tactic(auto, unfolding(crate::specs::Reading::manager_record))]
-fn manager_record(kind: u8, payload: &[u8], alloc: Global) -> Result<LogRecord, ReadFault>
+fn manager_record(alloc: Global, kind: u8, payload: &[u8]) -> Result<LogRecord, ReadFault>
     ensures ok { IfOk result (λ r. manager_record kind payload.now ≡ Some r) }
     ensures err { IfErr result (λ e. e ≡ ReadFault.Malformed → manager_record kind payload.now ≡ None) }
 {
@@ -151,12 +151,12 @@ fn manager_record(kind: u8, payload: &[u8], alloc: Global) -> Result<LogRecord, 
         });
     }
     if kind == 0x1a {
-        return pair_record(payload, alloc);
+        return pair_record(alloc, payload);
     }
     let Some(((parent, branch), rest)) = name_at(payload) else {
         return Err(ReadFault::Malformed);
     };
-    let entry = branch_record(kind, branch, rest, alloc)?;
+    let entry = branch_record(alloc, kind, branch, rest)?;
     Ok(LogRecord { entry, parent })
 }
 
@@ -190,10 +190,10 @@ fn opened_boot(form: LogForm, payload: &[u8]) -> Option<u64>
 /// second format also where Opened says that the log is another's.
 #[tactic(auto, unfolding(crate::specs::Reading::read_record))]
 pub fn read_record(
+    alloc: Global,
     form: LogForm,
     kind: u8,
     payload: &[u8],
-    alloc: Global,
 ) -> Result<LogRecord, ReadFault>
     ensures ok { IfOk result (λ r. read_record form kind payload.now ≡ Some r) }
     ensures err { IfErr result (λ e. e ≡ ReadFault.Malformed → read_record form kind payload.now ≡ None) }
@@ -208,7 +208,7 @@ pub fn read_record(
         });
     }
     match form.kind {
-        Kind::Coordinator => coordinator_record(kind, payload, alloc),
-        Kind::Manager => manager_record(kind, payload, alloc),
+        Kind::Coordinator => coordinator_record(alloc, kind, payload),
+        Kind::Manager => manager_record(alloc, kind, payload),
     }
 }

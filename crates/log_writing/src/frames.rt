@@ -10,11 +10,8 @@ ghost use Rattle.log_records.specs.Sights.{IsRecord};
 ghost use Rattle.log_writing.specs.Writes.{NotFramed};
 
 use log_text::Frame;
-use protocol::{Case, ProcessId, Record, StepError, Ticket};
+use protocol::{Case, NUMBERS, ProcessId, Record, StepError, Ticket};
 use std::alloc::Global;
-
-/// What numbers in a log are below.
-const NUMBERS: u64 = 1 << 63;
 
 /// How many tickets a record can name.
 const MOST_TICKETS: usize = 255;
@@ -69,9 +66,9 @@ fn is_writable(entry: &Record, parent: Option<ProcessId>) -> bool
 /// The frame of a coordinator's record, as the log of a process below this parent holds it. Exhausted: no log
 /// holds the record, since it names more than 255 tickets, or has a number of 2^63 or more.
 pub fn coordinator_frame(
+    alloc: Global,
     entry: &Record,
     parent: Option<ProcessId>,
-    alloc: Global,
 ) -> Result<Frame, StepError>
     ensures spells { IfOk result (λ frame. frame_record frame ≡ in_log parent entry.now) }
     ensures sound { IfOk result (λ frame. IsRecord AnyKind.Coordinator (frame_record frame)) }
@@ -81,5 +78,5 @@ pub fn coordinator_frame(
     if !is_writable(entry, parent) {
         return Err(StepError::Exhausted);
     }
-    Ok(Frame::of(entry, parent, alloc)?)
+    Ok(Frame::of(alloc, entry, parent)?)
 }

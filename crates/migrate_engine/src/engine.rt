@@ -85,7 +85,7 @@ fn migrate(alloc: Global, entry: &TreeProcess, bytes: &[u8]) -> Result<ProcessLo
     ensures err { IfErr result (λ e. NotMigrated entry.now bytes.now e) }
 {
     let store = MemoryStore::from_bytes(copy_of(alloc, bytes)?);
-    match RecLog::migrate(store, entry.id, entry.kind, alloc) {
+    match RecLog::migrate(alloc, store, entry.id, entry.kind) {
         Ok(store) => Ok(ProcessLog {
             process: entry.id,
             bytes: Sequence::from_vec(copy_of(alloc, store.bytes())?),

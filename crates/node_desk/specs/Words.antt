@@ -41,7 +41,7 @@ joining_from child _ = None
 abbrev pub joining_by : Envelope → Option Joining
 joining_by e = joining_from e.from e.message
 
--- the same by a message with its number, if there is one
+-- who has joined, by a message with its number, if there is one
 abbrev pub joining_of : Option (ℕ × Envelope) → Option Joining
 joining_of (Some sent) = joining_by sent.1
 joining_of None = None

@@ -305,7 +305,7 @@ pub record Resolves (s : NodeState) (name text : List ℕ) : Type 0 where
   pub finds : FindsInLog s of answer
   pub told : text ≡ name_text s.manner name answer
 
--- the same of bytes, which are a name if they are a text
+-- this tells what is to be done with a branch whose name is these bytes, or an error if they are no text
 abbrev pub TellsName : NodeState → List ℕ → List ℕ → Type 0
 TellsName s name text =
     (IsUtf8 name × Resolves s name text) ⊎ ((IsUtf8 name → ⊥) × (text ≡ error_text s.manner NoText))

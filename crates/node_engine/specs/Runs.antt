@@ -50,7 +50,7 @@ pub record Stand : Type 0 where
   pub held : Known
   pub state : NodeState
 
--- the same, by its parts
+-- where a node has come to, by its parts
 abbrev pub stand : Known → Known → NodeState → Stand
 stand left held state = record { left = left; held = held; state = state }
 
@@ -195,7 +195,7 @@ abbrev pub EndsEarly : Stand → Reaction → Stand → NodeFailure → Type 0
 EndsEarly start opening now e =
     (StopsOpening start opening now e ⊎ Stops start opening now e) ⊎ StopsEnding start opening now e
 
--- the same of a node that is let go: it came to some state
+-- a node that is let go did not end in order, with this left and held: it came to some state
 abbrev pub EndedEarly : Stand → Reaction → Known → Known → NodeFailure → Type 0
 EndedEarly start opening left held e =
     (s : NodeState) × EndsEarly start opening (record { left = left; held = held; state = s }) e

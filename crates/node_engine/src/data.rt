@@ -24,7 +24,7 @@ pub(crate) fn pairs_in(
 ) -> Result<Option<Vec<(Bytes, Bytes)>>, AllocError>
     ensures { IfOk result (λ pairs. DataAre records.items (option_map (λ v. v.items) pairs)) }
 {
-    match replay(records, alloc) {
+    match replay(alloc, records) {
         Ok(replayed) => Ok(Some(pairs_of(&replayed)?)),
         Err(ReplayError::Memory) => Err(AllocError),
         Err(ReplayError::Malformed | ReplayError::Exhausted) => Ok(None),

@@ -52,24 +52,6 @@ pub struct Serving<L: LogStore> {
     pub(crate) name: Option<String>,
 }
 
-/// The process of an act: its case's ticket's child, or the root.
-fn process_of(root: ProcessId, act: &Act) -> ProcessId
-    ensures { result ≡ process_of_act root act.now }
-{
-    match act {
-        Act::Begin(_) => root,
-        Act::Join(case, _)
-        | Act::Work(case, _, _)
-        | Act::Ask(case)
-        | Act::Decide(case, _)
-        | Act::Forget(case) => match case.ticket {
-            None => case.txn.root,
-            Some(ticket) => ticket.child,
-        },
-        Act::Commit(txn) | Act::Abort(txn) => txn.root,
-    }
-}
-
 /// The answer to what is refused. After a failed device, or without memory, there is none.
 fn refusal(alloc: Global, manner: Manner, error: StepError) -> Result<Vec<u8>, NodeFailure>
     ensures text { IfOk result (λ text. text.items ≡ refused_text manner error) }
@@ -185,7 +167,7 @@ impl<L: LogStore> Serving<L> {
         ensures err { IfErr result (TakesFor (process_of_act (root_of self.old.tree) act.now)
             (state_of self.old) (state_of self.new) (ActInput act.now)) }
     {
-        if self.is(process_of(self.tree.root(), act)) {
+        if self.is(act.process(self.tree.root())) {
             self.make(InputRef::Act(act))
         } else {
             refusal(self.alloc, self.manner, StepError::NoSuch)

@@ -117,7 +117,7 @@ fn copied_log(
     ensures { IfOk result (CopyOpens (form_by entry.now) bytes.now) }
 {
     let copy = MemoryStore::from_bytes(Vec::from_slice(alloc, bytes)?);
-    match RecLog::open(copy, entry.id, kind_of(entry.kind, entry.parent), alloc) {
+    match RecLog::open(alloc, copy, entry.id, kind_of(entry.kind, entry.parent)) {
         Ok(log) => Ok(Some(log)),
         Err((LogOpenError::Damaged(_), _)) => Ok(None),
         Err((LogOpenError::OldFormat, _)) => Ok(None),

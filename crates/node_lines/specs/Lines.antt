@@ -27,7 +27,7 @@ head_at line = do
   way ← way_at q.0
   Some (number, way, q.1)
 
--- the same, as its parts are read
+-- the number, the sender and the receiver of a message, and its text, as they are read
 abbrev pub head_view : ℕ × (ProcessId × ProcessId) × Bor (List ℕ) → ℕ × (ProcessId × ProcessId) × List ℕ
 head_view (number, way, text) = (number, way, text.now)
 

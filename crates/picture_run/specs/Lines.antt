@@ -28,7 +28,7 @@ abbrev pub refused_lines : Option Event → List (List ℕ)
 refused_lines None = []
 refused_lines (Some event) = event_text event ∷ []
 
--- the event that was refused: that after so many, if one was
+-- the event that was refused: the one at this place, if one was
 abbrev pub refused_in : List Event → Option (ℕ × StepError) → Option Event
 refused_in events None = None
 refused_in events (Some refusal) = slice_get events refusal.0

@@ -48,7 +48,7 @@ opening_of s = record {
   logged = record { subject = Boot 1; kind = Opened; forced = true };
 }
 
--- The text is a picture of these steps of a tree, of a run of so many events. It has an arrow for each
+-- The text is a picture of these steps of a tree, of a run of N events. It has an arrow for each
 -- delivery, with all of its message, from the line of its sender and the row of the step that sent it to the
 -- line of its receiver and the row of the step that it made; of one that left long before, only where it ends
 -- is said. It has a mark for each record, filled where it was forced, at the line of its process and the row

@@ -76,7 +76,7 @@ fn application_in(room: PictureRoom) -> u64 {
     width_of(room.events).saturating_add(70)
 }
 
-/// N pixels, of which a picture with room for so many characters as `WIDE` has less than 2^32.
+/// N pixels, of which a picture with room for as many characters as `WIDE` has less than 2^32.
 fn pixels(number: u64) -> u32
     ensures { result ≡ min number (2 ^ 32 - 1) }
 {
@@ -87,7 +87,7 @@ fn pixels(number: u64) -> u32
 }
 
 impl PictureFrame {
-    /// A picture of N processes on so many levels, with this room, and so many entries in its legend.
+    /// A picture with this many processes and levels, this room, and this many entries in its legend.
     pub fn new(processes: u32, levels: u32, room: PictureRoom, keys: u64) -> PictureFrame
         ensures apart { 0 < result.grid.gap }
         ensures processes { result.processes ≡ processes }

@@ -104,7 +104,7 @@ asked_in (Ack d o fs) = asked_of d
 asked_in (Inquire d) = asked_of d
 asked_in _ = None
 
--- the same of any input; an act looks for none
+-- the child's ticket that an input looks for, with its transaction; an act looks for none
 abbrev pub asked_by : Input → Option (Txn × Ticket)
 asked_by (ActInput a) = None
 asked_by (MessageInput k m) = asked_in m

@@ -21,7 +21,8 @@ pub record InputFails (old new : WorldState) (q : ProcessId) (input : Input) (x 
   pub writes : WritesBelow fails.before.place.role fails.broken.breaks.0.written
   pub entry : x ≡ fault_entry q (Handles input) (input_fault fails.before fails.behind)
 
--- the same under the message with this number
+-- the device of the receiver failed under the message with this number, at a coordinator below the root
+-- under a record, and this is the entry of it
 abbrev pub MessageFails : WorldState → WorldState → ℕ → Option Envelope → JournalEntry → Type 0
 MessageFails old new k None x = ⊥
 MessageFails old new k (Some l) x = InputFails old new l.to (MessageInput k l.message) x

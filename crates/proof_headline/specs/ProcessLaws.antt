@@ -27,7 +27,8 @@ ProcessLaws tree = (es : List Made) (w : World) → IsRun tree es w → WorldHol
     → world_makes tree w m ≡ Some (e, w')
     → StepKeeps (place_of tree m.step.process) w.net e.messages (w.at m.step.process) (w'.at m.step.process)
 
--- The same of coordinators alone.
+-- The laws of the coordinators of a tree: if a run has led to a world in which the world's invariant holds,
+-- each step of each coordinator keeps this.
 abbrev pub CoordinatorLaws : List TreeProcess → Type 0
 CoordinatorLaws tree = (es : List Made) (w : World) → IsRun tree es w → WorldHolds tree w
     → (m : Move) (e : Effect) (w' : World) → IsCoordinator (role_of tree m.step.process)

@@ -73,7 +73,7 @@ abbrev pub EntersEnd : WorldState → WorldState → ProcessId → Happening →
 EntersEnd s t q h (Ok reaction) = Enters s t q h reaction s.delivered
 EntersEnd s t q h (Err e) = Silent s t
 
--- the same of a trim
+-- the reaction to a trim is entered; of a refusal nothing is
 abbrev pub EntersTrim : WorldState → WorldState → ProcessId → Result ℕ StepError → Type 0
 EntersTrim s t q (Ok remain) = Enters s t q Trimming (trim_reaction remain) s.delivered
 EntersTrim s t q (Err e) = Silent s t
@@ -164,7 +164,7 @@ pub record Unanswered (s t : WorldState) : Type 0 where
 -- Starts.
 
 -- A node started over what it found in the file that one before it left, as `start` says. Its restart is
--- entered with so many bytes as were found after those that were forced.
+-- entered with as many bytes as were found after those that were forced.
 pub record Started (s t : WorldState) : Type 0 where
   pub entry : TreeProcess
   pub listed : find (λ e. same_process e.id entry.id) s.tree ≡ Some entry

@@ -78,8 +78,8 @@ pub record IsUnknownUnderAbort (r : Reading) : Type 0 where
   pub nothing : (r.end_kept ≡ true)
       ⊎ ((r.abort_kept ≡ true) ⊎ ((r.commit_kept ≡ false) × (r.own_prepare_kept ≡ false)))
 
--- The same under Presumed Commit: it ended, or a Commit stands, or an Abort that owes this ticket nothing,
--- or no Collecting.
+-- The parent knows nothing of the case, under Presumed Commit: it ended, or a Commit stands, or an Abort
+-- that owes this ticket nothing, or no Collecting.
 pub record IsUnknownUnderCommit (r : Reading) : Type 0 where
   pub up : r.failed ≡ false
   pub closed : is_live r.phase ≡ false

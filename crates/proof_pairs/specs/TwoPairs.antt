@@ -52,7 +52,7 @@ pub record OneStep : Type 0 where
   pub commits_above : Together (λ a b. Unit {0}) CascadedMoves.commits_above CascadedMoves.commits_above
   -- PREPARE: the case asks its own children.
   pub asks_its_children : Together (λ a b. ParentMoves.MayAskForVotes b) same ParentMoves.asks_for_votes
-  -- The same, with Collecting forced first.
+  -- PREPARE: the case forces Collecting first, and then asks its own children.
   pub collects_its_children : Together (λ a b. ParentMoves.MayAskForVotes b) same ParentMoves.collects_votes
   -- All its children voted: the promise, and YES.
   pub promises : Together (λ a b. CascadedMoves.MayPromise b) ChildMoves.votes_yes CascadedMoves.promises
@@ -60,38 +60,38 @@ pub record OneStep : Type 0 where
   pub reads_empty : Together (λ a b. Unit {0}) ChildMoves.votes_read CascadedMoves.reads_empty
   -- All its children voted READ: READ.
   pub reads : Together (λ a b. Unit {0}) ChildMoves.votes_read CascadedMoves.reads_up
-  -- The same, with End after Collecting.
+  -- All its children voted READ: End after Collecting, and READ.
   pub reads_collected : Together (λ a b. Unit {0}) ChildMoves.votes_read CascadedMoves.reads_up_collected
   -- A child voted NO: NO.
   pub hears_no : Together (λ a b. ParentMoves.MayHearNo b) ChildMoves.votes_no ParentMoves.hears_no
-  -- The same, with its Abort forced.
+  -- A child voted NO: its Abort is forced, and NO.
   pub hears_no_forced : Together (λ a b. ParentMoves.MayHearNo b) ChildMoves.votes_no
       ParentMoves.hears_no_forced
   -- Another child voted NO: NO.
   pub aborts_by_no : Together (λ a b. ParentMoves.MayAbort b) ChildMoves.votes_no ParentMoves.aborts
-  -- The same, with its Abort forced.
+  -- Another child voted NO: its Abort is forced, and NO.
   pub aborts_by_no_forced : Together (λ a b. ParentMoves.MayAbort b) ChildMoves.votes_no
       ParentMoves.aborts_forced
   -- ABORT while it waits for votes.
   pub aborts : Together (λ a b. ParentMoves.MayAbort b) ChildMoves.drops ParentMoves.aborts
-  -- The same, with its Abort forced, and an ACK.
+  -- ABORT while it waits for votes: its Abort is forced, and an ACK.
   pub aborts_forced : Together (λ a b. ParentMoves.MayAbort b) ChildMoves.drops_and_acknowledges
       ParentMoves.aborts_forced
   -- ABORT while it is Active.
   pub gives_up : Together (λ a b. Unit {0}) ChildMoves.drops ParentMoves.gives_up
-  -- The same, with an ACK.
+  -- ABORT while it is Active, and an ACK.
   pub gives_up_and_acknowledges : Together (λ a b. Unit {0}) ChildMoves.drops_and_acknowledges
       ParentMoves.gives_up
   -- COMMIT finds it Prepared; Commit is forced.
   pub passes_commit_forced : Together (λ a b. CascadedMoves.MayPassCommit b) ChildMoves.commits_forced
       CascadedMoves.passes_commit_forced
-  -- The same, with Commit unforced.
+  -- COMMIT finds it Prepared; Commit is unforced.
   pub passes_commit : Together (λ a b. CascadedMoves.MayPassCommit b) ChildMoves.commits
       CascadedMoves.passes_commit
   -- ABORT finds it Prepared; Abort is unforced.
   pub passes_abort : Together (λ a b. CascadedMoves.MayPassAbort b) ChildMoves.rolls_back
       CascadedMoves.passes_abort
-  -- The same, with Abort forced.
+  -- ABORT finds it Prepared; Abort is forced.
   pub passes_abort_forced : Together (λ a b. CascadedMoves.MayPassAbort b) ChildMoves.rolls_back_forced
       CascadedMoves.passes_abort_forced
   -- The second version: COMMIT, or ABORT, finds it Prepared, and its ACK waits; ABORT finds it waiting for
@@ -129,7 +129,7 @@ pub record OneStep : Type 0 where
   -- A restart forces what is left and answers.
   pub reopens_naming : Together (λ a b. ParentCrash.MayReopenParent b) ChildCrash.child_reopens
       ParentCrash.parent_reopens_naming
-  -- The same, where an undecided case aborts.
+  -- A restart forces what is left and answers; an undecided case aborts.
   pub reopens : Together (λ a b. ParentCrash.MayReopenParent b) ChildCrash.child_reopens
       ParentCrash.parent_reopens
   -- The cut of a restart: both lose the same records.

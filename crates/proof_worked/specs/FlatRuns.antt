@@ -49,7 +49,7 @@ flat_pa_commit =
           ∷ [];
     }
 
--- the same under Presumed Commit, which needs no acknowledgement
+-- two managers join, work, promise and commit under Presumed Commit, which needs no acknowledgement
 abbrev pub flat_pc_commit : WorkedRun
 flat_pc_commit =
     record {
@@ -136,7 +136,7 @@ late_no_vote_pa =
           ∷ [];
     }
 
--- the same under Presumed Commit, where the abort is acknowledged
+-- one manager missed its work and votes NO under Presumed Commit: the abort is acknowledged
 abbrev pub late_no_vote_pc : WorkedRun
 late_no_vote_pc =
     record {

@@ -215,7 +215,7 @@ cascaded_pa_commit =
           ∷ [];
     }
 
--- the same, up to where the cascaded coordinator is in doubt and the root has committed
+-- a commit through a cascaded coordinator, up to where that one is in doubt and the root has committed
 abbrev pub cascaded_in_doubt_pa : WorkedRun
 cascaded_in_doubt_pa =
     record {

@@ -2,6 +2,7 @@
 
 ghost use Rattle.std.specs.Prelude.{◌≡◌, IfOk};
 ghost use Rattle.protocol.specs.Errors.{step_error_number};
+ghost use Rattle.protocol.specs.Plays.{process_of_act};
 
 use crate::lists::Sequence;
 use crate::messages::{Envelopes, Message, Op};
@@ -44,6 +45,21 @@ impl Act {
             Act::Decide(case, outcome) => Act::Decide(*case, *outcome),
             Act::Forget(case) => Act::Forget(*case),
         })
+    }
+
+    /// The process whose act it is in a tree with this root: its case's, or the root.
+    pub fn process(&self, root: ProcessId) -> ProcessId
+        ensures { result ≡ process_of_act root self.now }
+    {
+        match self {
+            Act::Begin(_) => root,
+            Act::Join(case, _)
+            | Act::Work(case, _, _)
+            | Act::Ask(case)
+            | Act::Decide(case, _)
+            | Act::Forget(case) => case.process(),
+            Act::Commit(txn) | Act::Abort(txn) => txn.root,
+        }
     }
 }
 

@@ -16,7 +16,9 @@ pub use events::{
 };
 pub use lists::Sequence;
 pub use messages::{Envelope, Envelopes, Finding, Findings, Message, Op};
-pub use names::{Case, Kind, Outcome, Presumption, ProcessId, Ticket, Tickets, Txn};
+pub use names::{
+    Case, Kind, LAST_NUMBER, NUMBERS, Outcome, Presumption, ProcessId, Ticket, Tickets, Txn,
+};
 pub use records::{
     BranchName, LogRecord, Record, RecordKind, Reports, ShownRecord, Subject, Write, Writes,
 };

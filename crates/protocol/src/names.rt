@@ -16,6 +16,12 @@ use std::fmt;
 use std::hash::{Hash, Hasher};
 use xa_xid::digest::mixed;
 
+/// Boots, the numbers of transactions and of tickets, and commits are below this in a log.
+pub const NUMBERS: u64 = 1 << 63;
+
+/// The largest of them. Nothing more is numbered once it is reached.
+pub const LAST_NUMBER: u64 = NUMBERS - 1;
+
 /// A process of the tree, by its number.
 #[derive(Clone, Copy, Debug, PartialEq, Eq, PartialOrd, Ord, Hash)]
 pub struct ProcessId(pub u32);

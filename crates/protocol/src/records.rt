@@ -40,7 +40,7 @@ impl Write {
 }
 
 /// A copy of the writes.
-fn copied_writes(writes: &[Write], alloc: Global) -> Result<Writes, AllocError>
+fn copied_writes(alloc: Global, writes: &[Write]) -> Result<Writes, AllocError>
     ensures { IfOk result (λ copy. copy ≡ writes.now) }
 {
     let mut copy = Vec::new(alloc);
@@ -161,12 +161,12 @@ impl Record {
             ),
             Record::Cleared(case) => Record::Cleared(*case),
             Record::Prepared(branch, writes) => {
-                Record::Prepared(*branch, copied_writes(writes.as_slice(), alloc)?)
+                Record::Prepared(*branch, copied_writes(alloc, writes.as_slice())?)
             }
             Record::Committed(branch) => Record::Committed(*branch),
             Record::RolledBack(branch) => Record::RolledBack(*branch),
             Record::Direct(branch, writes) => {
-                Record::Direct(*branch, copied_writes(writes.as_slice(), alloc)?)
+                Record::Direct(*branch, copied_writes(alloc, writes.as_slice())?)
             }
             Record::HeurCommit(branch) => Record::HeurCommit(*branch),
             Record::HeurRollback(branch) => Record::HeurRollback(*branch),

@@ -56,7 +56,7 @@ row_of call.Commit s ws d = outcome_row s d
 row_of call.Rollback s ws d = outcome_row s d
 row_of _ s ws d = (code.Ok, S0)
 
--- the same of a branch as it is
+-- what a call answers that finishes a branch as it is, and the state after it
 abbrev pub row_for : ManagerSight → Xid → Call → Code × BranchState
 row_for m x c = row_of c (state_at m.tables x) (m.writes x) (m.decided x)
 
@@ -87,7 +87,7 @@ written_by call.Rollback S5 b ws d = tells b AbortedOutcome d.told
 written_by call.Forget S5 b ws d = forced (Forgot b)
 written_by _ s b ws d = []
 
--- the same of a branch as it is
+-- what a call that finishes a branch as it is writes of it
 abbrev pub written_for : ManagerSight → Xid → Call → List Written
 written_for m x c = written_by c (state_at m.tables x) (name_in x).1 (m.writes x) (m.decided x)
 

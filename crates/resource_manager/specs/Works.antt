@@ -19,7 +19,7 @@ state_refusal S1 obstacle = obstacle
 state_refusal S4 obstacle = Some RollbackOnly
 state_refusal _ obstacle = Some NotAssociated
 
--- the same of a thread, which may be active in no branch
+-- why a thread may not do an operation, by the branch in which it is active, if there is one
 abbrev pub refusal_by : ManagerSight → Op → Option Xid → Option WorkError
 refusal_by m op None = Some NotAssociated
 refusal_by m op (Some x) = state_refusal (state_at m.tables x) (obstacle m x op)

@@ -160,11 +160,11 @@ pub(crate) fn device_failed(alloc: Global, path: &str, trouble: &Trouble) -> End
 
 /// Whether these bytes begin as the log of this process: with a header and a record of its own.
 fn begins_as(
+    alloc: Global,
     entry: &TreeProcess,
     store: MemoryStore,
-    alloc: Global,
 ) -> (bool, Option<MemoryStore>) {
-    match RecLog::open(store, entry.id, entry.kind, alloc) {
+    match RecLog::open(alloc, store, entry.id, entry.kind) {
         Ok(_) => (true, None),
         Err((log_records::LogOpenError::Damaged(place), store)) => (
             place > FIRST_FRAME,
@@ -189,7 +189,7 @@ pub(crate) fn is_of_another(
         if entry.id == me.id {
             continue;
         }
-        match begins_as(entry, store, alloc) {
+        match begins_as(alloc, entry, store) {
             (true, _) => return Ok(true),
             (false, Some(back)) => store = back,
             (false, None) => return Ok(false),
@@ -253,7 +253,7 @@ pub(crate) fn judged(
 /// not reached.
 fn is_ahead(alloc: Global, me: &TreeProcess, bytes: &[u8]) -> Result<bool, AllocError> {
     let copy = MemoryStore::from_bytes(Vec::from_slice(alloc, bytes)?);
-    match RecLog::open(copy, me.id, me.kind, alloc) {
+    match RecLog::open(alloc, copy, me.id, me.kind) {
         Ok(log) => {
             let records = log.records(alloc)?;
             Ok(!are_numbered(&records))

@@ -53,11 +53,11 @@ use xa_engine::run_xa;
 enum Request {
     /// The events of a tree script, and what is written of them.
     Tree(TreeOutput),
-    /// The same, its trace, and the data that it leaves.
+    /// The events of a tree script, its trace, and the data that it leaves.
     Data,
-    /// The same, its trace with the number of its event before each line.
+    /// The events of a tree script, and its trace with the number of its event before each line.
     Events,
-    /// The same, a picture of its run, or of a part of it.
+    /// The events of a tree script, and a picture of its run, or of a part of it.
     Picture(Option<PicturePart>),
     /// The events of a tree script, on processes that run at the same time.
     Run(RunWords),
@@ -704,7 +704,7 @@ fn run<R: Read, T: Threads + Wait + Sync>(
         Request::Tree(output) => number(run_tree(alloc, output, reader, &mut writer)),
         Request::Data => leaving::perform(alloc, reader, &mut writer),
         Request::Events => numbering::perform(alloc, reader, &mut writer),
-        Request::Run(run) => number(running::start(threads, alloc, run, reader, &mut writer)),
+        Request::Run(run) => number(running::start(alloc, threads, run, reader, &mut writer)),
         Request::Xa => number(run_xa(alloc, reader, &mut writer)),
         Request::Log => number(run_log(alloc, reader, &mut writer)),
         Request::Migrate => number(run_migrate(alloc, reader, &mut writer)),

@@ -119,7 +119,7 @@ fn migrated(
     let Ok(copy) = Vec::from_slice(alloc, bytes) else {
         return Err(no_memory(alloc, path));
     };
-    match RecLog::migrate(MemoryStore::from_bytes(copy), me.id, me.kind, alloc) {
+    match RecLog::migrate(alloc, MemoryStore::from_bytes(copy), me.id, me.kind) {
         Ok(store) => changed(alloc, path, &store, bytes),
         Err((error, _store)) => Err(not_migrated(alloc, path, tree, me, bytes, error)),
     }

@@ -88,8 +88,8 @@ fn count(workers: u8) -> usize
 
 /// Runs it.
 pub(crate) fn start<T: Threads + Wait + Sync, R: Read, W: Write>(
-    threads: &T,
     alloc: Global,
+    threads: &T,
     run: RunWords,
     reader: &mut R,
     writer: &mut W,

@@ -97,7 +97,8 @@ abbrev pub IsGivenWhere : ℕ → Option Case → Type 0
 IsGivenWhere boot None = ⊤
 IsGivenWhere boot (Some c) = IsGivenBy boot c
 
--- the same of the case that promises by what a record under this parent says, where it does
+-- if a record under this parent says that a case of the process's own promised, the case has a ticket of a
+-- boot that is at most this
 abbrev pub ReachesBy : Place → ℕ → Option ProcessId → Saying → Type 0
 ReachesBy place boot q (PromisesOf b) = IsGivenWhere boot (own_case place q b)
 ReachesBy place boot q _ = ⊤
@@ -127,7 +128,8 @@ Recalls Decided o d = o ≡ Some d.outcome
 Recalls (ToldOf told) o d = o ≡ Some d.outcome
 Recalls _ o d = ⊤
 
--- the same of a case
+-- what the records say that an operator decided of a case, if the last of them says that he did: for the
+-- process, and for its manager
 abbrev pub RecallsCase : List Record → Case → Type 0
 RecallsCase rs c = Recalls (mark_of (CaseBranch c) rs) (case_decision rs c) (decision_of (CaseBranch c) rs)
 
@@ -198,12 +200,12 @@ abbrev pub PromisesBy : ReplayedCases → ReplayedCases → ProcessId → Option
 PromisesBy old new p None = new ≡ old
 PromisesBy old new p (Some c) = (mid : ReplayedCases) × AddsCase old mid c × Promises mid new p c
 
--- the same of one that an operator decided
+-- what a case of the process's own that an operator decided makes of the cases; another branch leaves them
 abbrev pub DecidesBy : ReplayedCases → ReplayedCases → Option Outcome → Option Case → Type 0
 DecidesBy old new told None = new ≡ old
 DecidesBy old new told (Some c) = (mid : ReplayedCases) × AddsCase old mid c × DecidesCase mid new c told
 
--- the same of one that is finished
+-- what a case of the process's own that is finished makes of the cases; another branch leaves them
 abbrev pub EndsBy : ReplayedCases → ReplayedCases → Option Case → Type 0
 EndsBy old new None = new ≡ old
 EndsBy old new (Some c) = (mid : ReplayedCases) × AddsCase old mid c × FinishesCase mid new c
@@ -237,7 +239,7 @@ abbrev pub PromisesWhere : ReplayedCases → Option Case → Type 0
 PromisesWhere s None = ⊤
 PromisesWhere s (Some c) = CanPromise s c
 
--- the same of one that an operator decides, or that is told an outcome
+-- an operator can decide a case of the process's own, or it can be told this outcome, if there is one
 abbrev pub DecidesWhere : ReplayedCases → Option Outcome → Option Case → Type 0
 DecidesWhere s told None = ⊤
 DecidesWhere s told (Some c) = CanDecide s told c
@@ -265,7 +267,7 @@ is_asked (Some b) = awaits b.stage
 abbrev pub asks_by : ProcessId → ProcessId → Case → Option LiveBranch → List Envelope
 asks_by me p c o = if is_asked o then post me p (Inquire c) ∷ [] else []
 
--- the same of a case in a table
+-- an inquiry of a case in a table, if it asks for its outcome
 abbrev pub asks : ProcessId → ProcessId → BranchTable → Case → List Envelope
 asks me p t c = asks_by me p c (branch_in t c)
 

@@ -14,11 +14,13 @@ use crate::branch::LiveBranch;
 use crate::cases::ReplayedCases;
 use crate::names::RebuildError;
 use crate::table::LiveBranches;
-use protocol::{Case, Envelope, Envelopes, LogRecord, Message, ProcessId, Sequence, Tree};
+use protocol::{
+    Case, Envelope, Envelopes, LAST_NUMBER, LogRecord, Message, ProcessId, Sequence, Tree,
+};
 use std::alloc::{AllocError, Global};
 
 /// The last boot that another can follow.
-const LAST_BOOT: u64 = (1 << 63) - 2;
+const LAST_BOOT: u64 = LAST_NUMBER - 1;
 
 /// What the records of a log leave of a subordinate: its live branches, in doubt or decided by an operator;
 /// an inquiry for each of them that was not told its outcome, in order of the cases' first records; and the
@@ -82,9 +84,9 @@ fn kept_of(branches: &LiveBranches, case: &Case) -> Option<LiveBranch>
 
 /// The live branches, which are of these cases and promised, as a table made again.
 fn copied(
+    alloc: Global,
     branches: &LiveBranches,
     cases: &[Case],
-    alloc: Global,
 ) -> Result<LiveBranches, AllocError>
     requires promised { HavePromised branches.now }
     requires listed { AreLiveOf branches.now cases.now }
@@ -117,11 +119,11 @@ fn asks(branches: &LiveBranches, case: &Case) -> bool
 
 /// An inquiry for each of these cases that asks for its outcome.
 fn inquiries(
+    alloc: Global,
     me: ProcessId,
     parent: ProcessId,
     branches: &LiveBranches,
     cases: &[Case],
-    alloc: Global,
 ) -> Result<Envelopes, AllocError>
     ensures { IfOk result (λ messages. messages ≡ flat_map (asks me parent branches.now) cases.now) }
 {
@@ -143,12 +145,12 @@ fn inquiries(
 /// written them, as with a ticket of a boot that they have not reached. Exhausted: no boot below 2^63 comes
 /// after the last one. With an error what was remembered is gone.
 pub fn rebuild(
+    alloc: Global,
     me: ProcessId,
     parent: ProcessId,
     tree: &Tree,
     remembered: RememberedBranches,
     records: &[LogRecord],
-    alloc: Global,
 ) -> Result<(RebuiltBranches, RememberedBranches), RebuildError>
     requires { IsOfSome (leaf_place me parent tree.now) parent remembered }
     ensures ok { IfOk result (λ r. (ls : List AnyRecord)
@@ -171,8 +173,8 @@ pub fn rebuild(
     if cases.newest > boot {
         return Err(RebuildError::Unfit);
     }
-    let messages = inquiries(me, parent, &cases.branches, cases.order.as_slice(), alloc)?;
-    let branches = copied(&cases.branches, cases.order.as_slice(), alloc)?;
+    let messages = inquiries(alloc, me, parent, &cases.branches, cases.order.as_slice())?;
+    let branches = copied(alloc, &cases.branches, cases.order.as_slice())?;
     cases.boot = boot + 1;
     Ok((
         RebuiltBranches {

@@ -96,7 +96,7 @@ abbrev pub decided_at : ManagerSight → Option LiveBranch → Option Outcome
 decided_at m None = None
 decided_at m (Some b) = Some (m.decided b.xid).outcome
 
--- the same as any process is seen: its log and its boot are its manager's
+-- a manager's process, as any process is seen: its log and its boot are its manager's
 abbrev pub core_of : SubState → CoreState
 core_of s =
     record {

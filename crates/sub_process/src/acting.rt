@@ -51,7 +51,7 @@ impl<M: ResourceManager> Subordinate<M> {
             return Err(StepError::NotInDoubt);
         }
         let inquiry = Message::Inquire(case);
-        Ok(reply(self.me, self.parent, inquiry, self.alloc)?)
+        Ok(reply(self.alloc, self.me, self.parent, inquiry)?)
     }
 
     /// An act. A case in doubt is asked about, and decided by an operator; one that is decided is asked

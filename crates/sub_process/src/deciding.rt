@@ -31,10 +31,10 @@ fn decision_kind(outcome: Outcome) -> RecordKind
 }
 
 /// One forced record, and no message.
-fn logged_alone(kind: RecordKind, case: Case, alloc: Global) -> Result<Reaction, AllocError>
+fn logged_alone(alloc: Global, kind: RecordKind, case: Case) -> Result<Reaction, AllocError>
     ensures { IfOk result (λ reaction. reaction ≡ logged_alone kind case) }
 {
-    let written = logged(kind, case, true, alloc)?;
+    let written = logged(alloc, kind, case, true)?;
     Ok(Reaction {
         written,
         ..silence(alloc)
@@ -94,7 +94,7 @@ impl<M: ResourceManager> Subordinate<M> {
         ensures err { IfErr result (NotActed (seen M.sight self.old) (seen M.sight self.new)
             (act.Decide case outcome)) }
     {
-        let reaction = logged_alone(decision_kind(outcome), case, self.alloc)?;
+        let reaction = logged_alone(self.alloc, decision_kind(outcome), case)?;
         match decide(&mut self.manager, xid, outcome) {
             Ok(()) => {
                 self.branches.decide(key, None);
@@ -142,13 +142,13 @@ impl<M: ResourceManager> Subordinate<M> {
     {
         let found = self.findings(case, xid, outcome)?;
         let reaction = ends_by(
+            self.alloc,
             self.me,
             self.parent,
             case,
             RecordKind::Told,
             outcome,
             found,
-            self.alloc,
         )?;
         match tell(&mut self.manager, xid, outcome) {
             Ok(()) => {
@@ -177,7 +177,7 @@ impl<M: ResourceManager> Subordinate<M> {
     {
         if is_same(told, outcome) {
             let found = self.findings(case, xid, outcome)?;
-            Ok(acknowledges(self.me, self.parent, case, outcome, found, self.alloc)?)
+            Ok(acknowledges(self.alloc, self.me, self.parent, case, outcome, found)?)
         } else {
             Ok(silence(self.alloc))
         }
@@ -221,7 +221,7 @@ impl<M: ResourceManager> Subordinate<M> {
         ensures err { IfErr result (NotActed (seen M.sight self.old)
             (seen M.sight self.new) (act.Forget case)) }
     {
-        let reaction = logged_alone(RecordKind::Forgot, case, self.alloc)?;
+        let reaction = logged_alone(self.alloc, RecordKind::Forgot, case)?;
         match forget(&mut self.manager, xid) {
             Ok(()) => {
                 self.branches.remove(key);

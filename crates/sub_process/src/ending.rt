@@ -21,12 +21,12 @@ use xa_xid::Xid;
 
 /// The acknowledgement of an outcome, with what was found, where the outcome has one.
 fn acknowledgement(
+    alloc: Global,
     me: ProcessId,
     parent: ProcessId,
     case: Case,
     outcome: Outcome,
     findings: Findings,
-    alloc: Global,
 ) -> Result<Envelopes, AllocError>
     ensures { IfOk result (λ messages. messages ≡ acknowledged me parent case outcome findings) }
 {
@@ -39,19 +39,19 @@ fn acknowledgement(
 
 /// The record of an outcome, and its acknowledgement, with what was found.
 pub(crate) fn ends_by(
+    alloc: Global,
     me: ProcessId,
     parent: ProcessId,
     case: Case,
     kind: RecordKind,
     outcome: Outcome,
     findings: Findings,
-    alloc: Global,
 ) -> Result<Reaction, AllocError>
     ensures { IfOk result (λ reaction. reaction ≡ outcome_reply kind case outcome findings me parent) }
 {
     let forced = outcome.is_acknowledged(case.txn.presumption);
-    let written = logged(kind, case, forced, alloc)?;
-    let messages = acknowledgement(me, parent, case, outcome, findings, alloc)?;
+    let written = logged(alloc, kind, case, forced)?;
+    let messages = acknowledgement(alloc, me, parent, case, outcome, findings)?;
     Ok(Reaction {
         written,
         messages,
@@ -61,16 +61,16 @@ pub(crate) fn ends_by(
 
 /// The acknowledgement of an outcome alone, with what was found.
 pub(crate) fn acknowledges(
+    alloc: Global,
     me: ProcessId,
     parent: ProcessId,
     case: Case,
     outcome: Outcome,
     findings: Findings,
-    alloc: Global,
 ) -> Result<Reaction, AllocError>
     ensures { IfOk result (λ reaction. reaction ≡ shown [] (acknowledged me parent case outcome findings)) }
 {
-    let messages = acknowledgement(me, parent, case, outcome, findings, alloc)?;
+    let messages = acknowledgement(alloc, me, parent, case, outcome, findings)?;
     Ok(Reaction {
         messages,
         ..silence(alloc)
@@ -96,7 +96,7 @@ impl<M: ResourceManager> Subordinate<M> {
         ensures err { IfErr result (NotHeard (seen M.sight self.old) (seen M.sight self.new)
             (message.Prepare case works)) }
     {
-        let reaction = reply(self.me, self.parent, Message::No(case), self.alloc)?;
+        let reaction = reply(self.alloc, self.me, self.parent, Message::No(case))?;
         match rollback(&mut self.manager, xid) {
             Ok(()) => {
                 self.branches.remove(key);
@@ -123,12 +123,12 @@ impl<M: ResourceManager> Subordinate<M> {
     {
         let found = Sequence::new(self.alloc);
         let reaction = acknowledges(
+            self.alloc,
             self.me,
             self.parent,
             case,
             Outcome::Aborted,
             found,
-            self.alloc,
         )?;
         match rollback(&mut self.manager, xid) {
             Ok(()) => {
@@ -155,13 +155,13 @@ impl<M: ResourceManager> Subordinate<M> {
             (seen M.sight self.new) (message.Abort case)) }
     {
         let reaction = ends_by(
+            self.alloc,
             self.me,
             self.parent,
             case,
             RecordKind::RolledBack,
             Outcome::Aborted,
             Sequence::new(self.alloc),
-            self.alloc,
         )?;
         match rollback(&mut self.manager, xid) {
             Ok(()) => {
@@ -188,13 +188,13 @@ impl<M: ResourceManager> Subordinate<M> {
             (seen M.sight self.new) (message.Commit case)) }
     {
         let reaction = ends_by(
+            self.alloc,
             self.me,
             self.parent,
             case,
             RecordKind::Committed,
             Outcome::Committed,
             Sequence::new(self.alloc),
-            self.alloc,
         )?;
         match commit(&mut self.manager, xid) {
             Ok(()) => {

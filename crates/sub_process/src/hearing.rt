@@ -24,7 +24,7 @@ impl<M: ResourceManager> Subordinate<M> {
             (acknowledged self.now.me self.now.parent case outcome (unknown_findings this_version case))) }
     {
         let found = unknown_findings(self.alloc, case)?;
-        acknowledges(self.me, self.parent, case, outcome, found, self.alloc)
+        acknowledges(self.alloc, self.me, self.parent, case, outcome, found)
     }
 
     /// PREPARE: an Active case votes, one that promised says YES again, and of any other nothing is known.
@@ -36,18 +36,18 @@ impl<M: ResourceManager> Subordinate<M> {
             (message.Prepare case works)) }
     {
         let Some((key, branch)) = find_branch(&self.branches, &case) else {
-            return Ok(reply(self.me, self.parent, Message::No(case), self.alloc)?);
+            return Ok(reply(self.alloc, self.me, self.parent, Message::No(case))?);
         };
         let xid = branch.xid;
         match branch.stage {
             BranchStage::Prepared => Ok(reply(
+                self.alloc,
                 self.me,
                 self.parent,
                 Message::Yes(case),
-                self.alloc,
             )?),
             BranchStage::Heuristic { .. } => {
-                Ok(reply(self.me, self.parent, Message::Yes(case), self.alloc)?)
+                Ok(reply(self.alloc, self.me, self.parent, Message::Yes(case))?)
             }
             BranchStage::Active { done, spoiled, .. } => {
                 if done == works && !spoiled {

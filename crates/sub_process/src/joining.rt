@@ -78,10 +78,10 @@ impl<M: ResourceManager> Subordinate<M> {
     {
         let ticket = self.next_ticket();
         let joined = reply(
+            self.alloc,
             self.me,
             self.parent,
             Message::Joined(case, ticket),
-            self.alloc,
         )?;
         if self.start(case, ticket)? {
             Ok(joined)
@@ -102,7 +102,7 @@ impl<M: ResourceManager> Subordinate<M> {
         match self.branches.ticket_for(&case) {
             Some(ticket) => {
                 let message = Message::Joined(case, ticket);
-                Ok(reply(self.me, self.parent, message, self.alloc)?)
+                Ok(reply(self.alloc, self.me, self.parent, message)?)
             }
             None => self.issue(case),
         }

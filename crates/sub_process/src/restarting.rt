@@ -36,7 +36,7 @@ use sub_branches::{RebuildError, RebuiltBranches, RememberedBranches, rebuild};
 use xa_codes::Flags;
 
 /// The record of a boot, as a reaction shows it.
-fn opened(boot: u64, alloc: Global) -> Result<Sequence<ShownRecord>, AllocError>
+fn opened(alloc: Global, boot: u64) -> Result<Sequence<ShownRecord>, AllocError>
     ensures { IfOk result (λ written. written
         ≡ record { kind = kind.Opened; subject = subject.Boot boot; forced = true } ∷ []) }
 {
@@ -86,12 +86,12 @@ impl<M: ResourceManager> Subordinate<M> {
         let Front { size, remembered } = front;
         let records = self.manager.kept_after(size, keep)?;
         match rebuild(
+            self.alloc,
             self.me,
             self.parent,
             &self.tree,
             remembered,
             &records,
-            self.alloc,
         ) {
             Ok(rebuilt) => Ok(rebuilt),
             Err(RebuildError::Memory) => Err(StepError::Memory),
@@ -122,7 +122,7 @@ impl<M: ResourceManager> Subordinate<M> {
             (left_by (M.sight self.now.manager).log keep)) }
     {
         let (rebuilt, remembered) = self.rebuilt(front, keep)?;
-        let written = opened(rebuilt.boot + 1, self.alloc)?;
+        let written = opened(self.alloc, rebuilt.boot + 1)?;
         Ok((rebuilt, written, remembered))
     }
 
@@ -214,12 +214,12 @@ fn rebuilt_before<M: ResourceManager>(
 {
     let records = left_before(manager)?;
     match rebuild(
+        alloc,
         me,
         parent,
         tree,
         RememberedBranches::nothing(alloc),
         &records,
-        alloc,
     ) {
         Ok((rebuilt, remembered)) => {
             drop(remembered);
@@ -229,7 +229,8 @@ fn rebuilt_before<M: ResourceManager>(
     }
 }
 
-/// The same, and the record of the boot after them, as a reaction shows it.
+/// What the records before the boot leave, and the record of that boot, as a reaction shows it. The errors
+/// are those of `rebuild`.
 fn ready_before<M: ResourceManager>(
     alloc: Global,
     me: ProcessId,
@@ -245,7 +246,7 @@ fn ready_before<M: ResourceManager>(
         (left_before (M.sight manager.now))) }
 {
     let rebuilt = rebuilt_before(alloc, me, parent, tree, manager)?;
-    let written = opened(rebuilt.boot + 1, alloc)?;
+    let written = opened(alloc, rebuilt.boot + 1)?;
     Ok((rebuilt, written))
 }
 

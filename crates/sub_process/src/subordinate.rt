@@ -19,15 +19,12 @@ ghost use Rattle.sub_process.specs.Steps.{data_answer, state};
 ghost use Rattle.protocol.specs.declared.events.Input.{Input};
 
 use log_text::HEADER_SIZE;
-use protocol::{Case, ProcessId, Standing, Tree};
+use protocol::{Case, LAST_NUMBER, ProcessId, Standing, Tree};
 use resource_manager::ResourceManager;
 use std::alloc::Global;
 use std::marker::Model;
 use sub_branches::{BranchStage, LiveBranch, LiveBranches, RememberedBranches};
 use xa_codes::Flags;
-
-/// The largest number of a ticket.
-const LAST_NUMBER: u64 = (1 << 63) - 1;
 
 /// The front of a log as a restart remembers it: how many bytes it has, and what its records say.
 #[derive(Drop)]

@@ -19,12 +19,12 @@ use xa_xid::Xid;
 
 /// A reaction with these records and one message, for which there is room. It takes no memory.
 fn says(
+    alloc: Global,
     written: Sequence<ShownRecord>,
     mut room: Vec<Envelope>,
     from: ProcessId,
     to: ProcessId,
     message: Message,
-    alloc: Global,
 ) -> Reaction
     requires empty { room.items ≡ [] }
     requires room { vec_len room < vec_capacity room }
@@ -55,7 +55,7 @@ impl<M: ResourceManager> Subordinate<M> {
             (message.Prepare case works)) }
     {
         let room = Vec::with_capacity(self.alloc, 1)?;
-        let written = logged(RecordKind::Prepared, case, true, self.alloc)?;
+        let written = logged(self.alloc, RecordKind::Prepared, case, true)?;
         let vote = match promise(&mut self.manager, xid) {
             Ok(vote) => vote,
             Err(error) => return Err(error),
@@ -65,12 +65,12 @@ impl<M: ResourceManager> Subordinate<M> {
                 self.branches.remove(key);
                 let none = Sequence::new(self.alloc);
                 let read = Message::Read(case);
-                Ok(says(none, room, self.me, self.parent, read, self.alloc))
+                Ok(says(self.alloc, none, room, self.me, self.parent, read))
             }
             _ => {
                 self.branches.promise(key);
                 let yes = Message::Yes(case);
-                Ok(says(written, room, self.me, self.parent, yes, self.alloc))
+                Ok(says(self.alloc, written, room, self.me, self.parent, yes))
             }
         }
     }

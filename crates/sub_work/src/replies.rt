@@ -24,10 +24,10 @@ pub fn silence(alloc: Global) -> Reaction
 
 /// A reaction with one message.
 pub fn reply(
+    alloc: Global,
     from: ProcessId,
     to: ProcessId,
     message: Message,
-    alloc: Global,
 ) -> Result<Reaction, AllocError>
     ensures { IfOk result (λ reaction. reaction ≡ shown [] (post from to message ∷ [])) }
 {
@@ -40,10 +40,10 @@ pub fn reply(
 
 /// The record of a branch, as a reaction shows it.
 pub fn logged(
+    alloc: Global,
     kind: RecordKind,
     case: Case,
     forced: bool,
-    alloc: Global,
 ) -> Result<Sequence<ShownRecord>, AllocError>
     ensures { IfOk result (λ written. written
         ≡ record { kind = kind; subject = subject.Case case; forced = forced } ∷ []) }

@@ -16,10 +16,10 @@ fn empty_log(alloc: Global) -> Result<RecLog<MemoryStore>, Fail>
     ensures { IfOk result (λ log. log.sight.form.kind ≡ Coordinator) }
 {
     match RecLog::open(
+        alloc,
         MemoryStore::new(alloc),
         ProcessId(1),
         Kind::Coordinator,
-        alloc,
     ) {
         Ok(log) => Ok(log),
         Err(_) => Err(Fail::from("a log")),
@@ -27,11 +27,11 @@ fn empty_log(alloc: Global) -> Result<RecLog<MemoryStore>, Fail>
 }
 
 /// Appends an Opened of this boot.
-fn append_boot(log: &mut RecLog<MemoryStore>, boot: u64, alloc: Global) -> Result<(), Fail>
+fn append_boot(alloc: Global, log: &mut RecLog<MemoryStore>, boot: u64) -> Result<(), Fail>
     requires { log.old.sight.form.kind ≡ Coordinator }
     ensures { log.new.sight.form ≡ log.old.sight.form }
 {
-    let frame = coordinator_frame(&Record::Opened(boot), None, alloc)?;
+    let frame = coordinator_frame(alloc, &Record::Opened(boot), None)?;
     log.reserve(frame.size())?;
     if log.failed() || log.append(&frame).is_err() {
         return Err(Fail::from("a record that is appended"));
@@ -41,15 +41,15 @@ fn append_boot(log: &mut RecLog<MemoryStore>, boot: u64, alloc: Global) -> Resul
 
 /// What opening the log's bytes answers: how many records they are, or why they are refused.
 fn opened_again(
-    log: &RecLog<MemoryStore>,
     alloc: Global,
+    log: &RecLog<MemoryStore>,
 ) -> Result<Result<usize, LogOpenError>, Fail> {
     let text = log.text(alloc)?;
     match RecLog::open(
+        alloc,
         MemoryStore::from_bytes(text),
         ProcessId(1),
         Kind::Coordinator,
-        alloc,
     ) {
         Ok(again) => Ok(Ok(again.records(alloc)?.len())),
         Err((error, _store)) => Ok(Err(error)),
@@ -60,24 +60,24 @@ fn opened_again(
 fn the_highest_boot_opens_again(rt: HostRuntime) -> Result<(), Fail> {
     let alloc = rt.alloc();
     let mut log = empty_log(alloc)?;
-    append_boot(&mut log, 1, alloc)?;
-    append_boot(&mut log, (1 << 63) - 1, alloc)?;
-    assert!(rt; opened_again(&log, alloc)? == Ok(2));
+    append_boot(alloc, &mut log, 1)?;
+    append_boot(alloc, &mut log, (1 << 63) - 1)?;
+    assert!(rt; opened_again(alloc, &log)? == Ok(2));
     Ok(())
 }
 
 #[test]
 fn a_boot_above_the_highest_makes_no_frame(rt: HostRuntime) {
     let alloc = rt.alloc();
-    assert!(rt; coordinator_frame(&Record::Opened(1 << 63), None, alloc).is_err());
+    assert!(rt; coordinator_frame(alloc, &Record::Opened(1 << 63), None).is_err());
 }
 
 #[test]
 fn records_out_of_order_are_refused_where_they_are_opened(rt: HostRuntime) -> Result<(), Fail> {
     let alloc = rt.alloc();
     let mut log = empty_log(alloc)?;
-    append_boot(&mut log, 2, alloc)?;
-    append_boot(&mut log, 1, alloc)?;
-    assert!(rt; opened_again(&log, alloc)? == Err(LogOpenError::Damaged(23)));
+    append_boot(alloc, &mut log, 2)?;
+    append_boot(alloc, &mut log, 1)?;
+    assert!(rt; opened_again(alloc, &log)? == Err(LogOpenError::Damaged(23)));
     Ok(())
 }

@@ -34,13 +34,13 @@ enum Answer {
 /// Whose log it is.
 const ROOT: ProcessId = ProcessId(1);
 
-fn answer_to(text: &[u8], alloc: Global) -> Option<Answer> {
+fn answer_to(alloc: Global, text: &[u8]) -> Option<Answer> {
     let bytes = Vec::from_slice(alloc, text).ok()?;
     match RecLog::open(
+        alloc,
         MemoryStore::from_bytes(bytes),
         ROOT,
         Kind::Coordinator,
-        alloc,
     ) {
         Ok(log) => Some(Answer::Records(log.records(alloc).ok()?.len())),
         Err((LogOpenError::Damaged(place), _store)) => Some(Answer::Damaged(place)),
@@ -59,34 +59,34 @@ fn with_byte(place: usize, value: u8) -> [u8; 126]
 }
 
 /// Whether the text with one byte set to a value is damaged at a place.
-fn is_damaged(place: usize, value: u8, at: usize, alloc: Global) -> bool
+fn is_damaged(alloc: Global, place: usize, value: u8, at: usize) -> bool
     requires { place < 126 }
 {
-    answer_to(&with_byte(place, value), alloc) == Some(Answer::Damaged(at))
+    answer_to(alloc, &with_byte(place, value)) == Some(Answer::Damaged(at))
 }
 
 #[test]
 fn pinned_damage(rt: HostRuntime) {
     let alloc = rt.alloc();
-    assert!(rt; is_damaged(0, 0x53, 0, alloc));
-    assert!(rt; is_damaged(5, 0x02, 5, alloc));
-    assert!(rt; is_damaged(21, 0x02, 5, alloc));
-    assert!(rt; is_damaged(22, 0x01, 5, alloc));
-    assert!(rt; is_damaged(23, 0x7f, 23, alloc));
-    assert!(rt; is_damaged(27, 0x42, 23, alloc));
-    assert!(rt; is_damaged(27, 0x44, 23, alloc));
+    assert!(rt; is_damaged(alloc, 0, 0x53, 0));
+    assert!(rt; is_damaged(alloc, 5, 0x02, 5));
+    assert!(rt; is_damaged(alloc, 21, 0x02, 5));
+    assert!(rt; is_damaged(alloc, 22, 0x01, 5));
+    assert!(rt; is_damaged(alloc, 23, 0x7f, 23));
+    assert!(rt; is_damaged(alloc, 27, 0x42, 23));
+    assert!(rt; is_damaged(alloc, 27, 0x44, 23));
     let mut long = with_byte(26, 0xff);
     long[27] = 0xff;
-    assert!(rt; answer_to(&long, alloc) == Some(Answer::Records(1)));
+    assert!(rt; answer_to(alloc, &long) == Some(Answer::Records(1)));
 }
 
 /// Whether a text with one byte set to a value is answered as it must: the header's damage is at 0, but for
 /// the first format's number, any other at a frame's first byte up to that place.
-fn is_answered(place: usize, value: u8, alloc: Global) -> bool
+fn is_answered(alloc: Global, place: usize, value: u8) -> bool
     requires { place < 126 }
 {
     let same = COMMITTED[place] == value;
-    match answer_to(&with_byte(place, value), alloc) {
+    match answer_to(alloc, &with_byte(place, value)) {
         Some(Answer::Records(count)) if same => count == 3,
         Some(Answer::Records(count)) => place >= 5 && count <= 3,
         Some(Answer::Damaged(0)) => !same && place < 5,
@@ -100,7 +100,7 @@ fn is_answered(place: usize, value: u8, alloc: Global) -> bool
 fn each_byte_set_to_each_value(rt: HostRuntime) {
     for place in 0..126 {
         for value in 0..=255 {
-            assert!(rt; is_answered(place, value, rt.alloc()), "{place} {value}");
+            assert!(rt; is_answered(rt.alloc(), place, value), "{place} {value}");
         }
     }
 }
@@ -118,6 +118,6 @@ fn cut_at_each_byte(rt: HostRuntime) {
         } else {
             3
         };
-        assert!(rt; answer_to(&COMMITTED[..size], rt.alloc()) == Some(Answer::Records(count)));
+        assert!(rt; answer_to(rt.alloc(), &COMMITTED[..size]) == Some(Answer::Records(count)));
     }
 }

@@ -13,44 +13,44 @@ use std::alloc::Global;
 use std::test::Fail;
 
 /// A store with the log of a commit, which fails at its first call of this kind.
-fn failing(torn: &[u8], call: StoreCall, alloc: Global) -> Result<FaultStore, Fail> {
+fn failing(alloc: Global, torn: &[u8], call: StoreCall) -> Result<FaultStore, Fail> {
     let mut text = Vec::from_slice(alloc, &COMMITTED)?;
     text.extend_from_slice(torn)?;
     Ok(FaultStore::new(MemoryStore::from_bytes(text), call, 1, 0))
 }
 
 /// The log in a store, which has not failed.
-fn opened<L: LogStore + Drop>(store: L, alloc: Global) -> Result<RecLog<L>, Fail>
+fn opened<L: LogStore + Drop>(alloc: Global, store: L) -> Result<RecLog<L>, Fail>
     ensures { IfOk result (λ log. log.sight.form.kind ≡ Coordinator) }
 {
-    match RecLog::open(store, ProcessId(1), Kind::Coordinator, alloc) {
+    match RecLog::open(alloc, store, ProcessId(1), Kind::Coordinator) {
         Ok(log) => Ok(log),
         Err(_) => Err(Fail::from("a log")),
     }
 }
 
 /// The log of a commit, whose device fails at the first call of this kind.
-fn failing_log(call: StoreCall, alloc: Global) -> Result<RecLog<FaultStore>, Fail>
+fn failing_log(alloc: Global, call: StoreCall) -> Result<RecLog<FaultStore>, Fail>
     ensures { IfOk result (λ log. log.sight.form.kind ≡ Coordinator) }
 {
-    opened(failing(&[], call, alloc)?, alloc)
+    opened(alloc, failing(alloc, &[], call)?)
 }
 
 /// Whether a trim answers that the device failed.
-fn trim_fails(log: &mut RecLog<FaultStore>, alloc: Global) -> bool
+fn trim_fails(alloc: Global, log: &mut RecLog<FaultStore>) -> bool
     requires { log.old.sight.form.kind ≡ Coordinator }
 {
-    !log.failed() && log.trim(&[], alloc) == Err(LogError::Device) && log.failed()
+    !log.failed() && log.trim(alloc, &[]) == Err(LogError::Device) && log.failed()
 }
 
 /// A trim whose device fails leaves the log as it was, and failed; a restart takes it up again.
 #[test]
 fn a_failed_trim_leaves_the_old_log(rt: HostRuntime) -> Result<(), Fail> {
     let alloc = rt.alloc();
-    let mut log = failing_log(StoreCall::Replace, alloc)?;
-    assert!(rt; trim_fails(&mut log, alloc));
+    let mut log = failing_log(alloc, StoreCall::Replace)?;
+    assert!(rt; trim_fails(alloc, &mut log));
     assert_eq!(rt; log.records(alloc)?.len(), 3);
-    assert!(rt; log.restart(0, &[], alloc) == Ok(()));
+    assert!(rt; log.restart(alloc, 0, &[]) == Ok(()));
     assert!(rt; !log.failed() && log.records(alloc)?.len() == 3);
     Ok(())
 }
@@ -64,19 +64,19 @@ fn force_fails(log: &mut RecLog<FaultStore>) -> bool {
 #[test]
 fn a_failed_force_fails_the_log(rt: HostRuntime) -> Result<(), Fail> {
     let alloc = rt.alloc();
-    let mut log = failing_log(StoreCall::Force, alloc)?;
+    let mut log = failing_log(alloc, StoreCall::Force)?;
     assert!(rt; force_fails(&mut log));
     assert_eq!(rt; log.records(alloc)?.len(), 3);
     Ok(())
 }
 
 /// Restarts the log with the record of its second boot; what the crash takes is all that is not forced.
-fn restarts(log: &mut RecLog<FaultStore>, alloc: Global) -> Result<bool, Fail>
+fn restarts(alloc: Global, log: &mut RecLog<FaultStore>) -> Result<bool, Fail>
     requires { log.old.sight.form.kind ≡ Coordinator }
     ensures { log.new.sight.form ≡ log.old.sight.form }
 {
-    let frames = [coordinator_frame(&Record::Opened(2), None, alloc)?];
-    Ok(log.restart(0, &frames, alloc) == Ok(()))
+    let frames = [coordinator_frame(alloc, &Record::Opened(2), None)?];
+    Ok(log.restart(alloc, 0, &frames) == Ok(()))
 }
 
 /// A restart whose force fails leaves its record after the others, not forced, and the log has failed: the
@@ -84,12 +84,12 @@ fn restarts(log: &mut RecLog<FaultStore>, alloc: Global) -> Result<bool, Fail>
 #[test]
 fn a_failed_restart_goes_on_at_the_next(rt: HostRuntime) -> Result<(), Fail> {
     let alloc = rt.alloc();
-    let mut log = failing_log(StoreCall::Force, alloc)?;
-    assert!(rt; !restarts(&mut log, alloc)? && log.failed());
+    let mut log = failing_log(alloc, StoreCall::Force)?;
+    assert!(rt; !restarts(alloc, &mut log)? && log.failed());
     assert_eq!(rt; log.records(alloc)?.len(), 4);
-    assert_eq!(rt; log.kept(0, alloc)?.len(), 3);
-    assert!(rt; restarts(&mut log, alloc)? && !log.failed());
-    assert_eq!(rt; log.kept(0, alloc)?.len(), 4);
+    assert_eq!(rt; log.kept(alloc, 0)?.len(), 3);
+    assert!(rt; restarts(alloc, &mut log)? && !log.failed());
+    assert_eq!(rt; log.kept(alloc, 0)?.len(), 4);
     Ok(())
 }
 
@@ -98,18 +98,18 @@ fn a_failed_restart_goes_on_at_the_next(rt: HostRuntime) -> Result<(), Fail> {
 #[test]
 fn a_failed_open_hands_the_store_back(rt: HostRuntime) -> Result<(), Fail> {
     let alloc = rt.alloc();
-    let store = failing(&[4, 0], StoreCall::Replace, alloc)?;
-    let Err((error, store)) = RecLog::open(store, ProcessId(1), Kind::Coordinator, alloc) else {
+    let store = failing(alloc, &[4, 0], StoreCall::Replace)?;
+    let Err((error, store)) = RecLog::open(alloc, store, ProcessId(1), Kind::Coordinator) else {
         return Err(Fail::from("a store handed back"));
     };
     assert!(rt; error == LogOpenError::Device && store.failures() == 1);
-    assert_eq!(rt; opened(store, alloc)?.records(alloc)?.len(), 3);
+    assert_eq!(rt; opened(alloc, store)?.records(alloc)?.len(), 3);
     Ok(())
 }
 
 /// Writes a log again, without records.
-fn emptied(log: &mut RecLog<MemoryStore>, alloc: Global) -> bool {
-    !log.failed() && log.rewrite(&[], alloc) == Ok(())
+fn emptied(alloc: Global, log: &mut RecLog<MemoryStore>) -> bool {
+    !log.failed() && log.rewrite(alloc, &[]) == Ok(())
 }
 
 /// A rewrite leaves what it is given alone.
@@ -117,8 +117,8 @@ fn emptied(log: &mut RecLog<MemoryStore>, alloc: Global) -> bool {
 fn a_rewrite_leaves_what_it_is_given(rt: HostRuntime) -> Result<(), Fail> {
     let alloc = rt.alloc();
     let store = MemoryStore::from_bytes(Vec::from_slice(alloc, &COMMITTED)?);
-    let mut log = opened(store, alloc)?;
-    assert!(rt; emptied(&mut log, alloc));
+    let mut log = opened(alloc, store)?;
+    assert!(rt; emptied(alloc, &mut log));
     assert!(rt; log.records(alloc)?.is_empty());
     Ok(())
 }

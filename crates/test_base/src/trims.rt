@@ -16,36 +16,36 @@ use std::test::Fail;
 const LIVE: usize = 95;
 
 /// The log of these bytes.
-fn opened(text: &[u8], alloc: Global) -> Result<RecLog<MemoryStore>, Fail>
+fn opened(alloc: Global, text: &[u8]) -> Result<RecLog<MemoryStore>, Fail>
     ensures { IfOk result (λ log. log.sight.form.kind ≡ Coordinator) }
 {
     let store = MemoryStore::from_bytes(Vec::from_slice(alloc, text)?);
-    match RecLog::open(store, ProcessId(1), Kind::Coordinator, alloc) {
+    match RecLog::open(alloc, store, ProcessId(1), Kind::Coordinator) {
         Ok(log) => Ok(log),
         Err(_) => Err(Fail::from("a log")),
     }
 }
 
 /// Restarts it with the record of this boot; what the crash takes is all that is not forced.
-fn restarted(log: &mut RecLog<MemoryStore>, boot: u64, alloc: Global) -> Result<bool, Fail>
+fn restarted(alloc: Global, log: &mut RecLog<MemoryStore>, boot: u64) -> Result<bool, Fail>
     requires { log.old.sight.form.kind ≡ Coordinator }
     ensures { log.new.sight.form ≡ log.old.sight.form }
 {
-    let frames = [coordinator_frame(&Record::Opened(boot), None, alloc)?];
-    Ok(log.restart(0, &frames, alloc) == Ok(()))
+    let frames = [coordinator_frame(alloc, &Record::Opened(boot), None)?];
+    Ok(log.restart(alloc, 0, &frames) == Ok(()))
 }
 
 /// Appends a record.
 fn append(
+    alloc: Global,
     log: &mut RecLog<MemoryStore>,
     entry: &Record,
     parent: Option<ProcessId>,
-    alloc: Global,
 ) -> Result<bool, Fail>
     requires { log.old.sight.form.kind ≡ Coordinator }
     ensures { log.new.sight.form ≡ log.old.sight.form }
 {
-    let frame = coordinator_frame(entry, parent, alloc)?;
+    let frame = coordinator_frame(alloc, entry, parent)?;
     log.reserve(frame.size())?;
     if log.failed() {
         return Ok(false);
@@ -54,15 +54,15 @@ fn append(
 }
 
 /// Appends the End of the case.
-fn end(log: &mut RecLog<MemoryStore>, alloc: Global) -> Result<bool, Fail>
+fn end(alloc: Global, log: &mut RecLog<MemoryStore>) -> Result<bool, Fail>
     requires { log.old.sight.form.kind ≡ Coordinator }
     ensures { log.new.sight.form ≡ log.old.sight.form }
 {
-    let records = opened(&COMMITTED, alloc)?.records(alloc)?;
+    let records = opened(alloc, &COMMITTED)?.records(alloc)?;
     let [_, _, LogRecord { entry, parent }] = records.as_slice() else {
         return Ok(false);
     };
-    append(log, entry, *parent, alloc)
+    append(alloc, log, entry, *parent)
 }
 
 /// Forces all.
@@ -73,23 +73,23 @@ fn forced(log: &mut RecLog<MemoryStore>) -> bool
 }
 
 /// How many records a trim leaves.
-fn trimmed(log: &mut RecLog<MemoryStore>, alloc: Global) -> Option<usize>
+fn trimmed(alloc: Global, log: &mut RecLog<MemoryStore>) -> Option<usize>
     requires { log.old.sight.form.kind ≡ Coordinator }
     ensures { log.new.sight.form ≡ log.old.sight.form }
 {
     if log.failed() {
         return None;
     }
-    log.trim(&[], alloc).ok()
+    log.trim(alloc, &[]).ok()
 }
 
 /// Opened and Commit stay, and after an End the Opened alone.
 #[test]
 fn a_trim_behind_an_opening(rt: HostRuntime) -> Result<(), Fail> {
     let alloc = rt.alloc();
-    assert!(rt; trimmed(&mut opened(&COMMITTED[..LIVE], alloc)?, alloc) == Some(2));
-    let mut log = opened(&COMMITTED, alloc)?;
-    assert!(rt; trimmed(&mut log, alloc) == Some(1));
+    assert!(rt; trimmed(alloc, &mut opened(alloc, &COMMITTED[..LIVE])?) == Some(2));
+    let mut log = opened(alloc, &COMMITTED)?;
+    assert!(rt; trimmed(alloc, &mut log) == Some(1));
     assert_eq!(rt; log.text(alloc)?.as_slice(), &COMMITTED[..23]);
     Ok(())
 }
@@ -98,8 +98,8 @@ fn a_trim_behind_an_opening(rt: HostRuntime) -> Result<(), Fail> {
 #[test]
 fn a_trim_behind_an_opening_without_a_torn_tail(rt: HostRuntime) -> Result<(), Fail> {
     let alloc = rt.alloc();
-    let mut log = opened(&COMMITTED[..LIVE + 20], alloc)?;
-    assert!(rt; trimmed(&mut log, alloc) == Some(2));
+    let mut log = opened(alloc, &COMMITTED[..LIVE + 20])?;
+    assert!(rt; trimmed(alloc, &mut log) == Some(2));
     assert_eq!(rt; log.text(alloc)?.as_slice(), &COMMITTED[..LIVE]);
     Ok(())
 }
@@ -108,10 +108,10 @@ fn a_trim_behind_an_opening_without_a_torn_tail(rt: HostRuntime) -> Result<(), F
 #[test]
 fn a_trim_behind_a_restart(rt: HostRuntime) -> Result<(), Fail> {
     let alloc = rt.alloc();
-    let mut log = opened(&COMMITTED[..LIVE], alloc)?;
-    assert!(rt; restarted(&mut log, 2, alloc)? && trimmed(&mut log, alloc) == Some(2));
-    assert!(rt; end(&mut log, alloc)? && forced(&mut log) && restarted(&mut log, 3, alloc)?);
-    assert!(rt; trimmed(&mut log, alloc) == Some(1));
+    let mut log = opened(alloc, &COMMITTED[..LIVE])?;
+    assert!(rt; restarted(alloc, &mut log, 2)? && trimmed(alloc, &mut log) == Some(2));
+    assert!(rt; end(alloc, &mut log)? && forced(&mut log) && restarted(alloc, &mut log, 3)?);
+    assert!(rt; trimmed(alloc, &mut log) == Some(1));
     Ok(())
 }
 
@@ -120,10 +120,10 @@ fn a_trim_behind_a_restart(rt: HostRuntime) -> Result<(), Fail> {
 #[test]
 fn a_trim_behind_a_lost_end(rt: HostRuntime) -> Result<(), Fail> {
     let alloc = rt.alloc();
-    let mut log = opened(&COMMITTED[..LIVE], alloc)?;
-    assert!(rt; end(&mut log, alloc)? && restarted(&mut log, 2, alloc)?);
-    assert!(rt; trimmed(&mut log, alloc) == Some(2));
-    assert!(rt; end(&mut log, alloc)? && trimmed(&mut log, alloc) == Some(1));
+    let mut log = opened(alloc, &COMMITTED[..LIVE])?;
+    assert!(rt; end(alloc, &mut log)? && restarted(alloc, &mut log, 2)?);
+    assert!(rt; trimmed(alloc, &mut log) == Some(2));
+    assert!(rt; end(alloc, &mut log)? && trimmed(alloc, &mut log) == Some(1));
     Ok(())
 }
 
@@ -131,9 +131,9 @@ fn a_trim_behind_a_lost_end(rt: HostRuntime) -> Result<(), Fail> {
 #[test]
 fn a_trim_behind_a_torn_end(rt: HostRuntime) -> Result<(), Fail> {
     let alloc = rt.alloc();
-    let mut log = opened(&COMMITTED[..LIVE], alloc)?;
-    let frames = [coordinator_frame(&Record::Opened(2), None, alloc)?];
-    assert!(rt; end(&mut log, alloc)? && log.restart(20, &frames, alloc) == Ok(()));
-    assert!(rt; trimmed(&mut log, alloc) == Some(2));
+    let mut log = opened(alloc, &COMMITTED[..LIVE])?;
+    let frames = [coordinator_frame(alloc, &Record::Opened(2), None)?];
+    assert!(rt; end(alloc, &mut log)? && log.restart(alloc, 20, &frames) == Ok(()));
+    assert!(rt; trimmed(alloc, &mut log) == Some(2));
     Ok(())
 }

@@ -15,7 +15,7 @@ use xa_xid::Xid;
 
 /// The child below the root, over an empty key store.
 fn opened(alloc: Global) -> Result<Subordinate<KvManager<MemoryStore>>, AllocError> {
-    match KvManager::create(MemoryStore::new(alloc), CHILD, alloc) {
+    match KvManager::create(alloc, MemoryStore::new(alloc), CHILD) {
         Ok(manager) => {
             let tree = Tree::from_vec(Vec::new(alloc));
             Ok(Subordinate::open(alloc, CHILD, ROOT, tree, manager))
@@ -29,7 +29,7 @@ fn told(
     alloc: Global,
     refused: Vec<Xid>,
 ) -> Result<Subordinate<RefusingManager<KvManager<MemoryStore>>>, AllocError> {
-    match KvManager::create(MemoryStore::new(alloc), CHILD, alloc) {
+    match KvManager::create(alloc, MemoryStore::new(alloc), CHILD) {
         Ok(manager) => {
             let tree = Tree::from_vec(Vec::new(alloc));
             let manager = RefusingManager::new(manager, refused);

@@ -186,7 +186,7 @@ fn migrate(rt: &HostRuntime, tree: &Tree) -> Option<&'static str> {
     let Ok(store) = opened(rt) else {
         return Some("a log of the first format is not opened again");
     };
-    if RecLog::migrate(store, ProcessId(1), Kind::Coordinator, rt.alloc()).is_err() {
+    if RecLog::migrate(rt.alloc(), store, ProcessId(1), Kind::Coordinator).is_err() {
         return Some("a log of the first format is not migrated");
     }
     let Ok(store) = opened(rt) else {

@@ -64,7 +64,7 @@ fn started(alloc: Global, tree: &Tree, place: usize, log: Vec<u8>) -> Option<(No
 }
 
 /// What a crash leaves of a node's log: of the bytes of its unforced records some.
-fn left_of(node: &Node, alloc: Global, chance: &mut Chance) -> Option<Vec<u8>> {
+fn left_of(alloc: Global, node: &Node, chance: &mut Chance) -> Option<Vec<u8>> {
     let mut log = node.node().log_text().ok()?;
     let mut unforced = 0usize;
     for size in node.node().unforced_sizes(alloc).ok()?.iter() {
@@ -153,7 +153,7 @@ impl Trial {
     /// What a crash leaves of the log at this place.
     fn left_at(&mut self, place: usize) -> Option<Vec<u8>> {
         let node = self.nodes.get(place)?;
-        left_of(node, self.alloc, &mut self.chance)
+        left_of(self.alloc, node, &mut self.chance)
     }
 
     /// A node takes the place of another, which is let go.

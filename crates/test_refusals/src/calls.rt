@@ -107,7 +107,8 @@ fn call_refused(
     goes_on(alloc, script, manager, place.checked_add(1)?)?.then_some(Called::Refused)
 }
 
-/// The same at a manager that makes the requests before it first.
+/// Makes the requests before a place, and then the request at it with the nth allocation refused. None if
+/// that one does not end as it has to.
 fn make_and_call(
     alloc: Global,
     refuser: &mut Refuser,
@@ -120,7 +121,8 @@ fn make_and_call(
     call_refused(alloc, refuser, script, manager, place, nth)
 }
 
-/// The same at a manager that opens for it.
+/// Opens a manager, and makes the requests up to a place there, the last with the nth allocation refused.
+/// None if that one does not end as it has to.
 fn open_and_call(
     alloc: Global,
     refuser: &mut Refuser,

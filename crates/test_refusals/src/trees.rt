@@ -143,7 +143,8 @@ fn run_refused(
     }
 }
 
-/// The same in a tree that opens for it.
+/// Runs the script's events in a tree that opens for it, with the nth allocation refused. None if the run
+/// is not as it has to be.
 fn open_and_run(
     alloc: Global,
     refuser: &mut Refuser,

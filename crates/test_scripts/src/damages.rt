@@ -28,10 +28,10 @@ enum Answer {
 fn answer_to(alloc: Global, owner: Owner, text: &[u8]) -> Option<Answer> {
     let bytes = Vec::from_slice(alloc, text).ok()?;
     match RecLog::open(
+        alloc,
         MemoryStore::from_bytes(bytes),
         owner.process,
         owner.kind,
-        alloc,
     ) {
         Ok(log) => Some(Answer::Records(log.records(alloc).ok()?.len())),
         Err((LogOpenError::Damaged(place), _store)) => Some(Answer::Damaged(place)),

@@ -41,7 +41,7 @@ fn left_of(
 ) -> Option<Left> {
     let store = MemoryStore::from_bytes(Vec::from_slice(alloc, bytes).ok()?);
     let store = FaultStore::new(store, StoreCall::Replace, nth, keep);
-    match RecLog::migrate(store, entry.id, entry.kind, alloc) {
+    match RecLog::migrate(alloc, store, entry.id, entry.kind) {
         Ok(store) => Left::of(alloc, &store, false),
         Err((MigrateError::Device, store)) => Left::of(alloc, &store, true),
         Err(_) => None,

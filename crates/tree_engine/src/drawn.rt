@@ -113,7 +113,8 @@ fn drawn(
     }
 }
 
-/// The same, and how the run ended.
+/// The picture of a run of these events from these logs, and how the run ended. Exhausted: it would have
+/// 2^32 rows or more.
 fn drawn_run(
     alloc: Global,
     run: &Run,

@@ -19,7 +19,7 @@ fn push_count(out: &mut Vec<u8>, word: &str, count: u64) -> Result<(), AllocErro
     push_number(out, count)
 }
 
-/// The same, if there is any.
+/// A word and a number after it, if the number is above 0.
 #[tactic(auto, unfolding(crate::specs::Texts::kind_text))]
 fn push_kind(out: &mut Vec<u8>, word: &str, count: u64) -> Result<(), AllocError>
     ensures { OnOk result (out.new.items ≡ out.old.items ++ kind_text word.now count) }

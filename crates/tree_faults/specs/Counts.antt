@@ -34,7 +34,7 @@ pub record KeepsCount (s : CoreState) (bytes : Option ℕ) (count : ℕ) : Type 
   pub keeps : KeepsBytes s bytes keep
   pub count_is : count ≡ records_kept s keep
 
--- the same, if there is such a process
+-- a restart of a process, if there is one, that names these bytes keeps N unforced records
 abbrev pub KeepsAt : Option ℕ → Option CoreState → ℕ → Type 0
 KeepsAt bytes None count = ⊤
 KeepsAt bytes (Some s) count = KeepsCount s bytes count

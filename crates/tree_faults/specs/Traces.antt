@@ -44,7 +44,8 @@ abbrev pub AddsUntil : WorldState → FaultsSight → Event → WorldState → F
 AddsUntil old f event new g Device = ShowsFault old f event new g
 AddsUntil old f event new g _ = AddsToTrace old f new g []
 
--- the same of a list of events, N of which were made
+-- the device failed in the event after N that were made, and the entry of that step is in the trace after
+-- what was entered
 pub record ShowsFaultAfter (old : WorldState) (f : FaultsSight) (events : List Event) (n : ℕ)
     (new : WorldState)
     (g : FaultsSight) : Type 0 where

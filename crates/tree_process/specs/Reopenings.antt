@@ -55,7 +55,7 @@ form_by e = log_form e.id (kind_by e.kind e.parent)
 abbrev pub place_by : List TreeProcess → TreeProcess → Place
 place_by tree e = record { me = e.id; role = role_by e.kind e.parent; tree = tree }
 
--- the same of the process of an entry of the tree
+-- the process of an entry of the tree is the restart of whatever process left these records
 abbrev pub ReopensAs : List TreeProcess → TreeProcess → List ℕ → ℕ → ℕ → CoreState → ManagerData → Reaction
     → Type 0
 ReopensAs tree e bytes forced failures s values reaction =
@@ -112,7 +112,7 @@ pub record NoneWrote (p : LogForm) (place : Place) (bytes : List ℕ) (forced fa
   pub opens : OpensLog p bytes forced failures log
   pub unfit : AreFit place (records_of log.sight.kept) → ⊥
 
--- the same, as a refusal
+-- the refusal Unfit: no subordinate which sits here can have written the records of the log in a store
 abbrev pub NotWritten : {L : Type 0} → (L → List ℕ) → (L → ℕ) → (L → ℕ) → LogForm → Place → L
     → ProcessReopenError → Type 0
 NotWritten bytes forced failures p place store Unfit =

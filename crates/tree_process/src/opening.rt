@@ -136,7 +136,7 @@ fn empty_log<L: LogStore + Drop>(
     ensures err { IfErr result (λ e. ProcessNotOpened L.bytes L.failures me (Some store) e.0) }
     ensures handed_back { IfErr result (λ e. HandsStoreBack L.failures store e.1 e.0) }
 {
-    match RecLog::open(store, me, Kind::Coordinator, alloc) {
+    match RecLog::open(alloc, store, me, Kind::Coordinator) {
         Ok(log) => Ok(log),
         Err((error, store)) => Err((of_log(me, error), store)),
     }
@@ -179,7 +179,7 @@ fn open_manager<L: LogStore + Drop>(
     ensures err { IfErr result (λ e. ProcessNotOpened L.bytes L.failures me (Some store) e.0) }
     ensures handed_back { IfErr result (λ e. HandsStoreBack L.failures store e.1 e.0) }
 {
-    match KvManager::create(store, me, alloc) {
+    match KvManager::create(alloc, store, me) {
         Ok(manager) => Ok(Process::Manager(Subordinate::open(alloc, me, parent, tree, manager))),
         Err((error, store)) => Err((of_manager(me, error), store)),
     }

@@ -124,7 +124,7 @@ fn left_log<L: LogStore + Drop>(
     ensures handed_back { IfErr result (λ e. HandsLogBack L.bytes L.forced L.failures
         (log_form me kind.Coordinator) store e.1 e.0) }
 {
-    match RecLog::open(store, me, Kind::Coordinator, alloc) {
+    match RecLog::open(alloc, store, me, Kind::Coordinator) {
         Ok(log) => Ok(log),
         Err((error, store)) => Err((of_log(error), store)),
     }
@@ -142,7 +142,7 @@ fn left_manager<L: LogStore + Drop>(
     ensures handed_back { IfErr result (λ e. HandsLogBack L.bytes L.forced L.failures
         (log_form me kind.Manager) store e.1 e.0) }
 {
-    match KvManager::restore(store, me, alloc) {
+    match KvManager::restore(alloc, store, me) {
         Ok(manager) => Ok(manager),
         Err((error, store)) => Err((of_manager(error), store)),
     }
@@ -224,7 +224,8 @@ pub fn reopen_over<L: LogStore + Drop>(
     }
 }
 
-/// The same, where the store is let go with a refusal.
+/// The process of an entry over the log in a store, with what it logs and sends as it restarts. With a
+/// refusal the store is let go. The errors are those of `reopen_over`.
 pub fn reopen_node<L: LogStore + Drop>(
     alloc: Global,
     entry: &TreeProcess,

@@ -16,7 +16,7 @@ fn size_of(alloc: Global, record: &LogRecord) -> Result<u64, AllocError>
     requires { FitsFrame record.now }
     ensures { IfOk result (λ size. size ≡ record_size record.now) }
 {
-    let frame = Frame::of(&record.entry, record.parent, alloc)?;
+    let frame = Frame::of(alloc, &record.entry, record.parent)?;
     Ok(frame.size() as u64)
 }
 

@@ -112,7 +112,8 @@ pub record HoldsPromises (left : List LogRecord) (behind : ManagerData) : Type 0
   pub held : HoldWrites (writes_left left) behind.holders
   pub known : (x : Xid) → behind.known x ≡ is_left left x
 
--- the same of a process of this role; a coordinator has no data
+-- after a restart where these records are left, a manager's data have what its branches in doubt promised;
+-- a coordinator has no data
 abbrev pub RestartsData : Role → List LogRecord → ManagerData → Type 0
 RestartsData (AtLeaf p) left behind = HoldsPromises left behind
 RestartsData _ left behind = ⊤

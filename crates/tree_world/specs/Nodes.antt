@@ -35,7 +35,7 @@ pub record NodesSight : Type 0 where
 abbrev pub nodes_at : {L : Type 0} → List (ProcessId × Process L) → ProcessId → Option CoreState
 nodes_at ns q = option_map core_of (node_in ns q)
 
--- the same, and their data
+-- what each process keeps, and its data
 abbrev pub kept_at : {L : Type 0} → List (ProcessId × Process L) → NodesSight
 kept_at ns = record { node_at = nodes_at ns; data_at = λ q. data_in (node_in ns q) }
 
@@ -74,7 +74,7 @@ pub record BreaksAt (old new : NodesSight) (q : ProcessId) (input : Input) : Typ
   pub answers : AnswersData before.place.role (old.data_at q) before answer input
   pub broken : IsBroken before behind answer input
 
--- the same, and at a coordinator below the root it failed under a record
+-- the device of the process failed under an input, and at a coordinator below the root under a record
 pub record BreaksUnder (old new : NodesSight) (q : ProcessId) (input : Input) : Type 0 where
   pub before : CoreState
   pub behind : CoreState

@@ -82,7 +82,8 @@ abbrev pub stranger_or : Bool → ℕ → Option ℕ → Option ℕ
 stranger_or true place more = more
 stranger_or false place more = Some place
 
--- the same of these records, if the log has reached this boot before them
+-- the place of the first of these records that may not be there, if one may not, and if the log has reached
+-- this boot before them
 unfoldable pub first_stranger : (ℕ → LogRecord → Bool) → ℕ → List Placed → Option ℕ
 first_stranger home boot [] = None
 first_stranger home boot (x ∷ xs) =

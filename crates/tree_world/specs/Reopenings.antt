@@ -44,7 +44,7 @@ logs_in bytes (e ∷ es) [] q = []
 logs_in bytes (e ∷ es) (s ∷ ss) q =
     if same_process e.id q then records_read (read_as e.id e.kind (bytes s)) else logs_in bytes es ss q
 
--- the same of stores that hold logs of the second format
+-- the log of each process of the tree, as the bytes of the store at its place read by the second format
 abbrev pub ready_logs : {L : Type 0} → (L → List ℕ) → List TreeProcess → List L → ProcessId → List LogRecord
 ready_logs bytes [] stores q = []
 ready_logs bytes (e ∷ es) [] q = []

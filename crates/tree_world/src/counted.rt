@@ -85,8 +85,8 @@ fn form_by<L: LogStore>(node: &Process<L>) -> LogForm
 /// Adds the frames of these records in a log of this form.
 #[tactic(auto, unfolding(log_text::specs::Payloads::records_text))]
 fn push_records(
-    bytes: &mut Vec<u8>,
     alloc: Global,
+    bytes: &mut Vec<u8>,
     form: LogForm,
     records: &[LogRecord],
 ) -> Result<(), AllocError>
@@ -95,7 +95,7 @@ fn push_records(
     ensures { OnOk result (bytes.new.items ≡ bytes.old.items ++ records_text form records.now) }
 {
     for record in records {
-        let frame = Frame::of(&record.entry, record.parent, alloc)?;
+        let frame = Frame::of(alloc, &record.entry, record.parent)?;
         frame.push(form, bytes)?;
     }
     Ok(())
@@ -109,7 +109,7 @@ fn whole_bytes<L: LogStore>(alloc: Global, node: &Process<L>) -> Result<Vec<u8>,
     let records = node.records()?;
     let form = form_by(node);
     let mut bytes = Vec::from_slice(alloc, &form.format.header())?;
-    push_records(&mut bytes, alloc, form, &records)?;
+    push_records(alloc, &mut bytes, form, &records)?;
     Ok(bytes)
 }
 
@@ -143,7 +143,7 @@ fn count_after(before: Count, made: &Result<Reaction, StepError>) -> Option<Coun
     }
 }
 
-/// The same of a restart.
+/// The count once a process restarted: all of its records are forced. None if it is not known.
 fn count_after_restart(before: Count, made: &Result<(u64, Reaction), StepError>) -> Option<Count>
     ensures ok { IfOk made.now (λ r. IfSome result (λ count. count
         ≡ all_forced ((before.forced + r.0) + length r.1.written))) }
@@ -155,7 +155,7 @@ fn count_after_restart(before: Count, made: &Result<(u64, Reaction), StepError>)
     }
 }
 
-/// The same of a trim.
+/// The count once a process's log was trimmed: all that remains is forced. None if it was not trimmed.
 fn count_after_trim(made: &Result<u64, StepError>) -> Option<Count>
     ensures ok { IfOk made.now (λ remain. result ≡ Some (all_forced remain)) }
     ensures err { OnErr made.now (result ≡ None) }

@@ -181,7 +181,8 @@ impl<L: LogStore + Drop> World<L> {
 }
 
 impl World<MemoryStore> {
-    /// The same over stores in memory. Memory is the only refusal that comes.
+    /// A tree whose processes have opened empty logs, over stores in memory. Memory is the only refusal
+    /// that comes.
     pub fn new(alloc: Global, tree: Tree) -> Result<World<MemoryStore>, ProcessOpenError>
         requires { IsTree tree }
         ensures opened { IfOk result (λ world. IsOpenedTree (state world) tree) }

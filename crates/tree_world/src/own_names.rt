@@ -180,7 +180,7 @@ fn stranger_in(
     let mut boot = 0;
     let mut rest = frames;
     while let Some((kind, payload, behind)) = first_frame(form.format, rest) {
-        let read = match read_record(form, kind, payload, alloc) {
+        let read = match read_record(alloc, form, kind, payload) {
             Ok(read) => read,
             Err(ReadFault::Malformed) => return Ok(None),
             Err(ReadFault::Memory) => return Err(AllocError),
@@ -209,7 +209,7 @@ fn frames_of(bytes: &[u8]) -> &[u8]
 fn damage_in(alloc: Global, form: LogForm, bytes: &[u8]) -> Result<Option<usize>, AllocError>
     ensures { IfOk result (λ damage. damage ≡ damage_in (read_log form bytes.now)) }
 {
-    match find(form, bytes, alloc) {
+    match find(alloc, form, bytes) {
         Ok(_) => Ok(None),
         Err(LogOpenError::Damaged(place)) => Ok(Some(place)),
         Err(_) => Err(AllocError),

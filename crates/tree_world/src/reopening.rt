@@ -117,7 +117,7 @@ fn ready<L: LogStore + Drop>(
         Ok(Some(place)) => return Err((TreeReopenError::Damaged(entry.id, place), store)),
         Err(_) => return Err((TreeReopenError::Memory, store)),
     }
-    match RecLog::migrate(store, entry.id, entry.kind, alloc) {
+    match RecLog::migrate(alloc, store, entry.id, entry.kind) {
         Ok(store) => Ok(store),
         Err((error, store)) => Err((of_migration(entry.id, error), store)),
     }

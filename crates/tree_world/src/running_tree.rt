@@ -2,7 +2,6 @@
 
 ghost use Rattle.std.specs.Prelude.{◌≡◌, ◌≢◌, ◌<◌, [], Err, IfErr, IfOk, IsFalse, IsTrue, None, OnOk, length, map};
 ghost use Rattle.protocol.specs.declared.events.StepError.TheVariants.{Device};
-ghost use Rattle.protocol.specs.Plays.{process_of_act};
 ghost use Rattle.tree_state.specs.Steps.{trim_reaction};
 ghost use Rattle.tree_state.specs.Worlds.{Applies, Stops};
 ghost use Rattle.tree_state.specs.Runs.{EventsLead, LeadsUntil};
@@ -31,24 +30,6 @@ pub(crate) struct RunningTree<L: LogStore> {
     pub(crate) nodes: Nodes<L>,
     pub(crate) journal: Journal,
     pub(crate) faults: Faults,
-}
-
-/// The process of an act: its case's ticket's child, or the root.
-fn process_of(root: ProcessId, act: &Act) -> ProcessId
-    ensures { result ≡ process_of_act root act.now }
-{
-    match act {
-        Act::Begin(_) => root,
-        Act::Join(case, _)
-        | Act::Work(case, _, _)
-        | Act::Ask(case)
-        | Act::Decide(case, _)
-        | Act::Forget(case) => match case.ticket {
-            None => case.txn.root,
-            Some(ticket) => ticket.child,
-        },
-        Act::Commit(txn) | Act::Abort(txn) => txn.root,
-    }
 }
 
 /// What a trim shows: how many records remain. It takes no memory.
@@ -118,7 +99,7 @@ impl<L: LogStore> RunningTree<L> {
         self.make_next(event)
     }
 
-    /// The same, where all faults are counted.
+    /// Makes an event, with no fault left to count.
     fn make_next(&mut self, event: Event) -> Result<(), StepError>
         requires { self.old.faults.last ≡ None }
         ensures ok { OnOk result (Applies (running_state self.old) event (running_state self.new)) }
@@ -136,7 +117,7 @@ impl<L: LogStore> RunningTree<L> {
         }
     }
 
-    /// The same of an event that stays with its caller.
+    /// Makes an event that stays with its caller, once it is counted what the last fault left.
     fn make_copy(&mut self, event: &Event) -> Result<(), StepError>
         requires { AreInPlace (running_state self.old) self.old.faults }
         ensures ok { OnOk result (Applies (running_state self.old) event.now (running_state self.new)) }
@@ -185,7 +166,7 @@ impl<L: LogStore> RunningTree<L> {
             (running_state self.new) self.new.faults) }
     {
         self.journal.make_room()?;
-        let process = process_of(self.tree.root(), &act);
+        let process = act.process(self.tree.root());
         let (before, made) = self.nodes.step(process, InputRef::Act(&act));
         if is_fault(&made) {
             self.faults.note(process, FaultCause::Act(act), before);
@@ -210,7 +191,7 @@ impl<L: LogStore> RunningTree<L> {
         self.deliver_ready(number)
     }
 
-    /// The same, where a step can be entered.
+    /// Delivers the message with this number, with room in the journal for a step.
     fn deliver_ready(&mut self, number: u64) -> Result<(), StepError>
         requires ready { IsReadyJournal self.old.journal }
         requires counted { self.old.faults.last ≡ None }

@@ -13,7 +13,8 @@ use protocol::ProcessId;
 use std::alloc::{AllocError, Global};
 
 impl<L: LogStore> Nodes<L> {
-    /// The same of a process; none, if there is no such process.
+    /// How many bytes each record of a process's log takes that is not forced, in order; none, if there is
+    /// no such process.
     pub(crate) fn unforced_sizes(
         &self,
         alloc: Global,

@@ -42,7 +42,8 @@ ReactsByRows old new t x call plan to answer = MatchResult plan
     (λ row. Walks old new t x call row to answer)
     (λ refusal. (answer ≡ refusal) × SameStates old new)
 
--- the same of a manager as it is
+-- the state of a branch after an end, by the manager's tables: active while another thread is active in it,
+-- and lost if its work failed
 abbrev pub left_state : States → Xid → Bool → BranchState
 left_state m x lost = left_by lost (has_active m.associations x)
 

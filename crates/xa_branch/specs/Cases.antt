@@ -25,7 +25,7 @@ open_cases t = map (λ e. e.0) t.decisions
 abbrev pub decision_in : DecisionTable → Xid → Option Decision
 decision_in t x = lookup (same x) t.decisions
 
--- the same; where no operator decided, this says nothing
+-- the decision of a branch; if no operator decided it, this says nothing
 abbrev pub decision_or : Option Decision → Decision
 decision_or o = unwrap_or o (decided_as Aborted)
 

@@ -24,7 +24,7 @@ impl Decision {
         }
     }
 
-    /// The same after an outcome that comes: the first one counts.
+    /// The decision after an outcome that comes: the first one that the branch was told counts.
     pub fn told_behind(self, outcome: Outcome) -> Self
         ensures { result ≡ told_behind outcome self }
     {

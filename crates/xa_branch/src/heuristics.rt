@@ -53,7 +53,8 @@ impl Heuristics {
         self.decisions.get(xid).copied()
     }
 
-    /// The same; where no operator decided the branch, what this gives says nothing.
+    /// What an operator decided of a branch, and what it was told since. If none decided it, what this
+    /// gives says nothing.
     pub fn known(&self, xid: &Xid) -> Decision
         ensures { result ≡ decision_or (decision_in self.now xid.now) }
     {

@@ -92,7 +92,7 @@ const PROCESS: ProcessId = ProcessId(1);
 pub fn first_manager(alloc: Global) -> Result<Manager, AllocError>
     ensures { IfOk result (λ manager. IsFreshManager manager) }
 {
-    match KvManager::restore(MemoryStore::new(alloc), PROCESS, alloc) {
+    match KvManager::restore(alloc, MemoryStore::new(alloc), PROCESS) {
         Ok(manager) => Ok(manager),
         Err((RestoreError::Log(LogOpenError::Memory), _store)) => Err(AllocError),
         Err((RestoreError::Log(LogOpenError::Device), _store)) => unreachable!(),

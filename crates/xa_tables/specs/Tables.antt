@@ -46,7 +46,8 @@ assoc_rows _ _ = []
 abbrev pub left : List (Code × BranchState)
 left = (code.Ok, S1) ∷ (code.Ok, S2) ∷ []
 
--- the same where the manager may not migrate
+-- a branch after an end for migration, which the manager may refuse: active while another thread is active
+-- in it, else idle
 abbrev pub moved : List (Code × BranchState)
 moved = (code.Ok, S1) ∷ (code.Ok, S2) ∷ (code.NoMigrate, S1) ∷ (code.NoMigrate, S2) ∷ []
 

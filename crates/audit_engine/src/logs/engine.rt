@@ -68,7 +68,7 @@ fn shown(
     for entry in entries {
         let bytes = bytes_of(logs, entry.id);
         let form = LogForm::of_bytes(bytes, entry.id, entry.kind);
-        match find(form, bytes, alloc) {
+        match find(alloc, form, bytes) {
             Ok(found) => push_held(alloc, &mut out, form, bytes, found)?,
             Err(LogOpenError::Damaged(place)) => {
                 return Ok((damaged(alloc, entry.id, place)?, Status::Refused));

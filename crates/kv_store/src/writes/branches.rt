@@ -124,7 +124,7 @@ impl BranchWrites {
         ensures ok { OnOk result (LeavesWrites self.old self.new xid.now writes.now) }
         ensures err { OnErr result (SameWrites self.old self.new) }
     {
-        let list = copied(writes, self.alloc)?;
+        let list = copied(self.alloc, writes)?;
         self.lists.insert(*xid, list)?;
         Ok(())
     }

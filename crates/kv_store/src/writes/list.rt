@@ -53,7 +53,7 @@ pub(crate) fn put(list: &mut Vec<Write>, write: Write)
 }
 
 /// A copy of the writes.
-pub(crate) fn copied(writes: &[Write], alloc: Global) -> Result<Vec<Write>, AllocError>
+pub(crate) fn copied(alloc: Global, writes: &[Write]) -> Result<Vec<Write>, AllocError>
     ensures { IfOk result (λ copy. copy.items ≡ writes.now) }
 {
     let mut copy = Vec::with_capacity(alloc, writes.len())?;

@@ -164,7 +164,7 @@ impl Seen {
         }
     }
 
-    /// The last boot, if there was one.
+    /// The boot of the last Opened that was taken; None before the first.
     pub fn boot(&self) -> Option<u64>
         ensures { result ≡ self.now.boot }
     {

@@ -51,7 +51,7 @@ pub record IsRootPair (tree : List TreeProcess) (x : Txn) (t : Ticket) : Type 0 
   pub root : role_of tree x.root ≡ AtRoot
   pub child_elsewhere : same_process x.root t.child ≡ false
 
--- The same, and the device fails in it.
+-- A message is delivered to a process, and its device fails in that step.
 abbrev pub fails_at : ProcessId → ℕ → Message → DataAnswer → Fault → Move
 fails_at q i message a f = record {
   step = record { process = q; happening = Handles (MessageInput i message); fault = Some f };

@@ -37,7 +37,7 @@ pub fn runs_go_on()
         → IsTree s.tree → e ≢ Device → Follows es w s → LeadsUntil s events n e t → GoesOn es w t }
 {}
 
-/// The same where devices fail. A tree whose processes have opened empty logs stands for the run with no
+/// Runs go on after device faults. A tree whose processes have opened empty logs stands for the run with no
 /// moves, and a state that stands for a run, and has entered no step in which a device failed, for one in
 /// which devices may have failed. Where it so stands, what an event makes of it, what a refused event
 /// leaves, whatever refused it, and what lists of events lead to stand for one that goes on; and the

@@ -38,8 +38,9 @@ CoordinatorRows = (tree : List TreeProcess) (es : List Made) (w : World) → NoO
     Coordinates (place_of tree q) (w.net ++ e.messages) (w'.at q)
     → ParentStep (place_of tree q) w.net e.messages (w.at q) (w'.at q))
 
--- The same, and also where the device fails in the input, whatever of its records was appended, and
--- whatever was forced.
+-- If a run has led to a world in which the world's invariant holds, each input of a coordinator keeps the
+-- pairs below it, even if the device fails in it, whatever of its records was appended, and whatever was
+-- forced.
 abbrev pub CoordinatorInputs : Type 0
 CoordinatorInputs = (tree : List TreeProcess) (es : List Made) (w : World) → NoOwnParent tree
     → IsRun tree es w

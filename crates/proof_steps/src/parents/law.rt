@@ -8,8 +8,9 @@ pub fn coordinator_rows()
     ensures { CoordinatorRows }
 {}
 
-/// The same, and also where the device fails in the input, whatever of its records was appended and whatever
-/// of the log was forced.
+/// In every run of every tree in which the world's invariant holds, each input of a coordinator keeps the
+/// pairs below it, even if the device fails in it, whatever of its records was appended and whatever of the
+/// log was forced.
 pub fn coordinator_inputs()
     ensures { CoordinatorInputs }
 {}

@@ -81,7 +81,8 @@ two_are_asked p =
 abbrev pub one_has_joined : Presumption → List Play
 one_has_joined p = Acts (Begin p) ∷ Acts (Join (top p) (process 2)) ∷ Delivers 1 ∷ Delivers 2 ∷ []
 
--- the same: it has worked and promised, and the root has decided to commit, and tells it by message 6
+-- root 1 and manager 2, which has joined, worked and promised: the root has decided to commit, and tells it
+-- by message 6
 abbrev pub one_is_told : Presumption → List Play
 one_is_told p =
     one_has_joined p ++ Acts (Work (top p) (process 2) (Put (codes "x") (codes "1")))
@@ -105,7 +106,8 @@ cascade_is_asked p =
     ∷ Delivers 7
     ∷ []
 
--- The same with manager 4 below the root: the child of coordinator 2 votes YES by message 12.
+-- Root 1 with coordinator 2 and manager 4 below it, and manager 3 below 2: all are asked for their votes,
+-- and manager 3 votes YES by message 12.
 abbrev pub two_ways_asked : List Play
 two_ways_asked =
     Acts (Begin PresumeAbort)

@@ -1,8 +1,7 @@
 use Rattle.std.proofs.Common.{rules, ◌≡◌, IfErr, Some, subst, sym}
 use Rattle.coord_cases.specs.Cases.{live_at}
 use Rattle.coord_effects.specs.Rows.{seat_meant}
-use Rattle.coord_cases.specs.Asks.{Accepts, asked_row}
-use Rattle.coord_cases.specs.Takes.{RowNotTaken}
+use Rattle.coord_rows.specs.Asks.{Accepts, RowNotTaken, asked_row}
 use Rattle.coord_cases.proofs.Lent.{held_at, refuses_live, takes_live, view_at}
 use Rattle.coord_cases.proofs.taking.take_live.Goals as goal
 

@@ -19,8 +19,8 @@ returns-in-Direct-clause-ok c = OnOk-map c.commit.result
     (subst (AppliesCommit c.args.versions.now c.commit.new.versions) c.as_slice.ensures made))
     c.commit.ensures.ok
 
-pub returns-else-count-ge-COMMITS-clause-ok : goal.returns-else-count-ge-COMMITS-clause-ok
-returns-else-count-ge-COMMITS-clause-ok c =
+pub returns-else-count-ge-NUMBERS-clause-ok : goal.returns-else-count-ge-NUMBERS-clause-ok
+returns-else-count-ge-NUMBERS-clause-ok c =
     takes_base c.args.seen.now c.args.next.now c.in-Base.count c.args.versions.now
     c.new.result c.in-Base.is c.new.ensures
 
@@ -46,8 +46,8 @@ returns-in-Direct-clause-before c = OnOk-map c.commit.result
     (λ made. keeps_direct c.args.next.now c.in-Direct.field-0 c.in-Direct.writes _ _ _
     c.in-Direct.is made) c.commit.ensures.ok
 
-pub returns-else-count-ge-COMMITS-clause-before : goal.returns-else-count-ge-COMMITS-clause-before
-returns-else-count-ge-COMMITS-clause-before c = keeps_base c.args.versions.now c.new.result c.in-Base.count
+pub returns-else-count-ge-NUMBERS-clause-before : goal.returns-else-count-ge-NUMBERS-clause-before
+returns-else-count-ge-NUMBERS-clause-before c = keeps_base c.args.versions.now c.new.result c.in-Base.count
     c.args.next.now.entry c.in-Base.is c.new.ensures
 
 pub returns-in_ok-set-in-Pair-clause-before : goal.returns-in_ok-set-in-Pair-clause-before

@@ -3,7 +3,7 @@ use Rattle.protocol.specs.declared.events.Input.{Input}
 use Rattle.protocol.specs.Standings.{unknown_view}
 use Rattle.process_state.specs.Turns.{Takes}
 use Rattle.coord_effects.specs.Rows.{DoesRow, seat_meant}
-use Rattle.coord_cases.specs.Asks.{asked_row}
+use Rattle.coord_rows.specs.Asks.{asked_row}
 use Rattle.coord_process.specs.Meets.{RetiresAs, met}
 use Rattle.coord_process.specs.States.{state}
 use Rattle.coord_process.specs.Turned.{Turned}

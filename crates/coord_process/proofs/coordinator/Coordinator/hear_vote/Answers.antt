@@ -1,6 +1,6 @@
 use Rattle.std.proofs.Common.{rules}
 use Rattle.process_state.specs.Turns.{vote_turn}
-use Rattle.coord_cases.specs.declared.asked.CaseInput.TheVariants.{Vote}
+use Rattle.coord_rows.specs.declared.asked.CaseInput.TheVariants.{Vote}
 use Rattle.coord_process.specs.declared.turn.Met.TheVariants.{Nothing}
 use Rattle.coord_process.specs.States.{state}
 use Rattle.coord_process.specs.Meets.{HearsOf}

@@ -5,9 +5,9 @@ use Rattle.process_state.specs.States.{SameCore}
 use Rattle.process_state.specs.Turns.{Takes}
 use Rattle.coord_effects.specs.declared.seat.OwnCase.{OwnCase}
 use Rattle.coord_effects.specs.Rows.{seat_meant}
-use Rattle.coord_cases.specs.Asks.{asked_row, is_retiring}
+use Rattle.coord_rows.specs.Asks.{RowNotTaken, asked_row, is_retiring}
 use Rattle.coord_cases.specs.Cases.{view_in}
-use Rattle.coord_cases.specs.Takes.{RowNotTaken, TakesRowOf}
+use Rattle.coord_cases.specs.Takes.{TakesRowOf}
 use Rattle.coord_cases.proofs.Framed.{made_error}
 use Rattle.coord_process.specs.States.{CoordinatorValue, state}
 use Rattle.coord_process.specs.Meets.{RetiresAs, met}

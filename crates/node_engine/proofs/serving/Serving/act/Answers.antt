@@ -13,9 +13,9 @@ returns-then-is-clause-ok g c =
     mine_ok (λ text. text.items) (same_process (process_of_act (root_of c.args.self.now.tree) c.args.act.now)
     c.args.self.now.me) (state_of c.args.self.now)
     (state_of c.make.new.self) (ActInput c.args.act.now) c.make.result
-    (process_tested c.process_of.result (process_of_act (root_of c.args.self.now.tree) c.args.act.now)
+    (process_tested c.process.result (process_of_act (root_of c.args.self.now.tree) c.args.act.now)
     c.args.self.now.me
-    c.is.result true (c.process_of.ensures ∙ ap
+    c.is.result true (c.process.ensures ∙ ap
     (λ (r : ProcessId). process_of_act r c.args.act.now) c.root.ensures)
     c.is.ensures c.if-is.true) c.make.ensures.ok
 
@@ -24,9 +24,9 @@ returns-then-is-clause-err g c =
     mine_err (same_process (process_of_act (root_of c.args.self.now.tree) c.args.act.now)
     c.args.self.now.me) (state_of c.args.self.now)
     (state_of c.make.new.self) (ActInput c.args.act.now) c.make.result
-    (process_tested c.process_of.result (process_of_act (root_of c.args.self.now.tree) c.args.act.now)
+    (process_tested c.process.result (process_of_act (root_of c.args.self.now.tree) c.args.act.now)
     c.args.self.now.me
-    c.is.result true (c.process_of.ensures ∙ ap
+    c.is.result true (c.process.ensures ∙ ap
     (λ (r : ProcessId). process_of_act r c.args.act.now) c.root.ensures)
     c.is.ensures c.if-is.true) c.make.ensures.err
 
@@ -36,9 +36,9 @@ returns-else-is-clause-ok g c =
     (process_of_act (root_of c.args.self.now.tree) c.args.act.now)
     c.args.self.now.me) (state_of c.args.self.now)
     (state_of c.args.self.now) (ActInput c.args.act.now) c.refusal.result
-    (process_tested c.process_of.result (process_of_act (root_of c.args.self.now.tree) c.args.act.now)
+    (process_tested c.process.result (process_of_act (root_of c.args.self.now.tree) c.args.act.now)
     c.args.self.now.me
-    c.is.result false (c.process_of.ensures ∙ ap (λ (r : ProcessId). process_of_act r c.args.act.now)
+    c.is.result false (c.process.ensures ∙ ap (λ (r : ProcessId). process_of_act r c.args.act.now)
     c.root.ensures)
     c.is.ensures c.if-is.false) refl c.refusal.ensures.text
 
@@ -47,8 +47,8 @@ returns-else-is-clause-err g c =
     others_err (same_process (process_of_act (root_of c.args.self.now.tree) c.args.act.now)
     c.args.self.now.me) (state_of c.args.self.now)
     (state_of c.args.self.now) (ActInput c.args.act.now) c.refusal.result
-    (process_tested c.process_of.result (process_of_act (root_of c.args.self.now.tree) c.args.act.now)
+    (process_tested c.process.result (process_of_act (root_of c.args.self.now.tree) c.args.act.now)
     c.args.self.now.me
-    c.is.result false (c.process_of.ensures ∙ ap (λ (r : ProcessId). process_of_act r c.args.act.now)
+    c.is.result false (c.process.ensures ∙ ap (λ (r : ProcessId). process_of_act r c.args.act.now)
     c.root.ensures)
     c.is.ensures c.if-is.false) refl c.refusal.ensures.err

@@ -4,7 +4,7 @@ use Rattle.coord_effects.specs.Rows.{DoesRow, seat_meant}
 use Rattle.coord_rows.proofs.AnyView.{at_view}
 use Rattle.coord_records.proofs.Inquiries.{answers_are}
 use Rattle.coord_records.specs.Answers.{answer_of, answers_by}
-use Rattle.coord_cases.proofs.rows.on_inquiry.Goals as goal
+use Rattle.coord_rows.proofs.rows.on_inquiry.Goals as goal
 
 pub returns-in-Some : goal.returns-in-Some
 returns-in-Some c =

@@ -1,7 +1,7 @@
 //! What an input asks of a case.
 
 ghost use Rattle.std.specs.Prelude.{◌≡◌};
-ghost use Rattle.coord_cases.specs.Asks.{is_retiring};
+ghost use Rattle.coord_rows.specs.Asks.{is_retiring};
 
 use protocol::{Finding, Op, Outcome, ProcessId, Ticket, Vote};
 
@@ -34,7 +34,7 @@ pub enum CaseInput<'a> {
 }
 
 /// Whether it ends the time of the case's ticket: PREPARE or ABORT.
-pub(crate) fn retires(asked: CaseInput) -> bool
+pub fn retires(asked: CaseInput) -> bool
     ensures { result ≡ is_retiring asked.entry }
 {
     match asked {

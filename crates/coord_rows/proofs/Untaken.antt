@@ -11,7 +11,7 @@ use Rattle.coord_effects.specs.declared.effect.RowEffect.{RowEffect}
 use Rattle.coord_effects.specs.declared.seat.OwnCase.{OwnCase}
 use Rattle.coord_effects.specs.Rows.{NotWritten, seat_meant}
 use Rattle.coord_rows.specs.Works.{NotSent}
-use Rattle.coord_cases.specs.Takes.{RowNotTaken}
+use Rattle.coord_rows.specs.Asks.{RowNotTaken}
 
 -- no log holds its records
 pub unwritten_so : (s : OwnCase) (row : Row) (r : Result RowEffect StepError)

@@ -2,11 +2,11 @@ use Rattle.std.proofs.Common.{rules, ◌≡◌, ap}
 use Rattle.protocol.specs.Standings.{unknown_view}
 use Rattle.protocol.specs.CoordinatorRows.{unknown_abort, unknown_commit, unknown_prepare}
 use Rattle.coord_effects.specs.Rows.{seat_meant}
-use Rattle.coord_cases.specs.declared.asked.CaseInput.{CaseInput}
-use Rattle.coord_cases.specs.declared.asked.CaseInput.TheVariants.{Aborts, Commits, Prepare}
-use Rattle.coord_cases.specs.Asks.{asked_row}
+use Rattle.coord_rows.specs.declared.asked.CaseInput.{CaseInput}
+use Rattle.coord_rows.specs.declared.asked.CaseInput.TheVariants.{Aborts, Commits, Prepare}
+use Rattle.coord_rows.specs.Asks.{asked_row}
 use Rattle.coord_rows.proofs.AnyView.{at_view}
-use Rattle.coord_cases.proofs.rows.answer.Goals as goal
+use Rattle.coord_rows.proofs.rows.answer.Goals as goal
 use Rattle.process_state.specs.Turns.{this_version}
 
 pub returns-in-Prepare : goal.returns-in-Prepare

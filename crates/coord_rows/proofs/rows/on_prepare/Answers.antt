@@ -2,7 +2,7 @@ use Rattle.std.proofs.Common.{rules, ◌≡◌, ap, subst, sym}
 use Rattle.protocol.specs.declared.standings.Standing.TheVariants.{Aborting, Unknown}
 use Rattle.protocol.specs.CoordinatorRows.{on_prepare}
 use Rattle.coord_effects.specs.Rows.{DoesRow, seat_meant}
-use Rattle.coord_cases.proofs.rows.on_prepare.Goals as goal
+use Rattle.coord_rows.proofs.rows.on_prepare.Goals as goal
 
 pub returns-in_ok-aborting_prepare-in-Aborting-clause-ok : goal.returns-in_ok-aborting_prepare-in-Aborting-clause-ok
 returns-in_ok-aborting_prepare-in-Aborting-clause-ok c =

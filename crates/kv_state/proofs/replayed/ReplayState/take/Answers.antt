@@ -1,6 +1,6 @@
 use Rattle.kv_state.specs.Replays.{TakeFails, error_of}
 use Rattle.kv_state.proofs.Passes.{passed_on, refused_take}
-use Rattle.kv_state.proofs.replayed.Replay.take.Goals as goal
+use Rattle.kv_state.proofs.replayed.ReplayState.take.Goals as goal
 
 pub returns-in_err-take-2-clause-err : goal.returns-in_err-take-2-clause-err
 returns-in_err-take-2-clause-err c =

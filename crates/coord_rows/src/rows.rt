@@ -7,17 +7,17 @@ ghost use Rattle.protocol.specs.Standings.{unknown_view};
 ghost use Rattle.protocol.specs.SameViews.{SameView};
 ghost use Rattle.process_state.specs.Turns.{this_version};
 ghost use Rattle.coord_effects.specs.Rows.{DoesRow, NotWritten, seat_meant};
-ghost use Rattle.coord_cases.specs.Asks.{Accepts, asked_row, is_for_any};
-ghost use Rattle.coord_cases.specs.Takes.{RowNotTaken};
+ghost use Rattle.coord_rows.specs.Asks.{Accepts, RowNotTaken, asked_row, is_for_any};
 
+use crate::active::{active_abort, active_commit, active_join, active_joined, active_work};
 use crate::asked::CaseInput;
-use coord_case::Live;
-use coord_rows::{
-    OwnCase, Reason, RowEffect, aborting_prepare, active_abort, active_commit, active_join,
-    active_joined, active_work, collecting_abort, collecting_vote, decided_ack, decided_inquiry,
-    on_abort, on_commit, prepared_ask, prepared_prepare, unknown_abort, unknown_commit,
-    unknown_prepare,
+use crate::collecting::{collecting_abort, collecting_vote};
+use crate::decided::{
+    aborting_prepare, decided_ack, decided_inquiry, unknown_abort, unknown_commit, unknown_prepare,
 };
+use crate::outcomes::{on_abort, on_commit};
+use coord_case::Live;
+use coord_effects::{OwnCase, Reason, RowEffect, prepared_ask, prepared_prepare};
 use protocol::{Finding, Outcome, Standing, StepError, Ticket, Vote};
 use std::alloc::{AllocError, Global};
 

@@ -3,9 +3,14 @@ use Rattle.std.specs.Prelude.{◌≡◌, ⊤, Bool, true, false, ◌++◌}
 use Rattle.protocol.specs.Records.{in_list}
 use Rattle.protocol.specs.Standings.{CoordinatorView}
 use Rattle.protocol.specs.CoordinatorRows.{Row, Seat, ByAct, active_abort, active_commit, active_join, active_work, collecting_abort, on_abort, on_ack, on_commit, on_inquiry, on_joined, on_prepare, on_vote, prepared_ask}
+use Rattle.protocol.specs.declared.events.StepError.{StepError}
+use Rattle.protocol.specs.declared.events.StepError.TheVariants.{Exhausted, Memory}
+use Rattle.protocol.specs.declared.names.Kind.TheVariants.{Coordinator}
+use Rattle.process_state.specs.Bounds.{FitsBounds}
 use Rattle.process_state.specs.Turns.{this_version}
-use Rattle.coord_cases.specs.declared.asked.CaseInput.{CaseInput}
-use Rattle.coord_cases.specs.declared.asked.CaseInput.TheVariants.{Join, Work, Commit, AbortActive, AbortCollecting, Ask, Joined, Vote, Ack, Inquire, Prepare, Commits, Aborts}
+use Rattle.coord_effects.specs.declared.seat.OwnCase.{OwnCase}
+use Rattle.coord_rows.specs.declared.asked.CaseInput.{CaseInput}
+use Rattle.coord_rows.specs.declared.asked.CaseInput.TheVariants.{Join, Work, Commit, AbortActive, AbortCollecting, Ask, Joined, Vote, Ack, Inquire, Prepare, Commits, Aborts}
 
 -- the row that is met by what is asked of a case
 abbrev pub asked_row : Seat → CaseInput → CoordinatorView → Row
@@ -48,3 +53,9 @@ is_for_any Prepare = true
 is_for_any Commits = true
 is_for_any Aborts = true
 is_for_any _ = false
+
+-- why the row is not taken: memory was refused, or what it does is beyond the bounds of numbers
+abbrev pub RowNotTaken : OwnCase → Row → StepError → Type 0
+RowNotTaken s row Memory = ⊤
+RowNotTaken s row Exhausted = FitsBounds Coordinator s.parent row.written row.messages → ⊥
+RowNotTaken s row e = ⊥

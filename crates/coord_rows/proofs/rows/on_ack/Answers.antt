@@ -4,8 +4,8 @@ use Rattle.protocol.specs.declared.standings.Standing.TheVariants.{Committing, A
 use Rattle.protocol.specs.CoordinatorRows.{decided_ack, on_ack}
 use Rattle.process_state.specs.Turns.{this_version}
 use Rattle.coord_effects.specs.Rows.{DoesRow, NotWritten, seat_meant}
-use Rattle.coord_cases.proofs.rows.on_ack.Goals.{in-Committed+in-Committing-1, in-Aborted+in-Aborting-1}
-use Rattle.coord_cases.proofs.rows.on_ack.Goals as goal
+use Rattle.coord_rows.proofs.rows.on_ack.Goals.{in-Committed+in-Committing-1, in-Aborted+in-Aborting-1}
+use Rattle.coord_rows.proofs.rows.on_ack.Goals as goal
 
 pub returns-in-Committed-Committing-clause-ok : goal.returns-in-Committed-Committing-clause-ok
 returns-in-Committed-Committing-clause-ok c =
